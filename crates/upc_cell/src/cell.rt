@@ -1,0 +1,139 @@
+ghost use Rattle.std.specs.Prelude.{◌≡◌, ◌≢◌, ◌/◌, ◌↔◌, length, IfOk, IfErr, IsOk, IsTrue};
+ghost use Rattle.upc_cell.specs.Header.{header_number, gfc_of, vpi_of, vci_of, pti_of, clp_of};
+ghost use Rattle.upc_cell.specs.Tagged.{tagged_form};
+
+use crate::vc::Vc;
+use byteorder::{BigEndian, ByteOrder};
+use std::marker::Model;
+use thiserror::Error;
+
+/// How many octets a cell has without its header error check: four of header, 48 of payload.
+pub const CELL_OCTETS: usize = 52;
+
+/// Why octets are no cell.
+#[derive(Clone, Copy, PartialEq, Eq, Debug, Error)]
+pub enum CellFault {
+    /// There are this many octets, and not 52.
+    #[error("1 WrongLength {0}")]
+    WrongLength(usize),
+}
+
+/// A cell at the user network interface: 52 octets, the header error check taken off before
+/// (ITU-T I.361). Octets 0 to 3 are the header, octets 4 to 51 the payload.
+///
+/// Contracts see a cell as the list of its octets.
+#[derive(Clone, Copy, PartialEq, Eq, Debug)]
+pub struct Cell {
+    octets: [u8; 52],
+}
+
+impl Model for Cell {
+    ghost use Rattle.std.specs.Prelude.{ℕ, List};
+
+    ghost Value = { List ℕ };
+
+    ghost view = { λ c. c.octets };
+
+    ghost inverse = { λ octets. record { octets = octets } };
+}
+
+impl From<[u8; 52]> for Cell {
+    ghost from_gives = { λ octets cell. cell ≡ octets };
+
+    /// The cell of these octets, which are as many as a cell has.
+    fn from(octets: [u8; 52]) -> Cell {
+        Cell { octets }
+    }
+}
+
+impl Cell {
+    /// The cell of these octets.
+    ///
+    /// # Errors
+    ///
+    /// `WrongLength` with the number of octets, exactly where it isn't 52.
+    pub fn from_bytes(octets: &[u8]) -> Result<Cell, CellFault>
+        ensures accepted { IsOk result ↔ (length octets.now ≡ 52) }
+        ensures cell { IfOk result (λ cell. cell ≡ octets.now) }
+        ensures fault { IfErr result (λ fault. fault ≡ CellFault.WrongLength (length octets.now)) }
+    {
+        if octets.len() != CELL_OCTETS {
+            return Err(CellFault::WrongLength(octets.len()));
+        }
+        let mut whole = [0u8; 52];
+        whole.copy_from_slice(octets);
+        Ok(Cell { octets: whole })
+    }
+
+    /// The 52 octets.
+    pub fn bytes(&self) -> &[u8; 52]
+        ensures { result.now ≡ self.now }
+    {
+        &self.octets
+    }
+
+    /// Octets 0 to 3 as one number, octet 0 highest.
+    fn header(&self) -> u32
+        ensures { result ≡ header_number self.now }
+    {
+        BigEndian::read_u32(self.bytes())
+    }
+
+    /// Generic flow control, 0 to 15.
+    pub fn gfc(&self) -> u8
+        ensures { result ≡ gfc_of self.now }
+    {
+        (self.header() >> 28) as u8
+    }
+
+    /// Virtual path identifier, 0 to 255.
+    pub fn vpi(&self) -> u16
+        ensures { result ≡ vpi_of self.now }
+    {
+        (self.header() >> 20 & 0xff) as u16
+    }
+
+    /// Virtual channel identifier, 0 to 65535.
+    pub fn vci(&self) -> u16
+        ensures { result ≡ vci_of self.now }
+    {
+        (self.header() >> 4 & 0xffff) as u16
+    }
+
+    /// Payload type, 0 to 7: 0 to 3 are user data, 4 and 5 are OAM F5 of a segment and from end to end.
+    pub fn pti(&self) -> u8
+        ensures { result ≡ pti_of self.now }
+    {
+        (self.header() >> 1 & 7) as u8
+    }
+
+    /// Cell loss priority: true for a cell of low priority, which has the bit 1.
+    pub fn clp(&self) -> bool
+        ensures { IsTrue result ↔ (clp_of self.now ≡ 1) }
+    {
+        self.header() & 1 == 1
+    }
+
+    /// The virtual connection that the header names.
+    pub fn vc(&self) -> Vc
+        ensures vpi { result.vpi ≡ vpi_of self.now }
+        ensures vci { result.vci ≡ vci_of self.now }
+    {
+        Vc {
+            vpi: self.vpi(),
+            vci: self.vci(),
+        }
+    }
+
+    /// The tagged cell: the same octets, with cell loss priority 1.
+    pub fn tagged(&self) -> Cell
+        ensures form { result ≡ tagged_form self.now }
+        ensures priority { clp_of result ≡ 1 }
+        ensures others { header_number result / 2 ≡ header_number self.now / 2 }
+    {
+        let mut octets = self.octets;
+        // The seven high bits stay; as numbers, so that the contract reads as the code does.
+        octets[3] = octets[3] / 2 * 2 + 1;
+        Cell { octets }
+    }
+}

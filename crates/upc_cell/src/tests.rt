@@ -1,0 +1,71 @@
+use super::*;
+use std::test::Fail;
+
+/// A cell with this header and a payload of zeros.
+fn cell_of(header: [u8; 4]) -> Result<Cell, CellFault> {
+    let mut octets = [0u8; 52];
+    octets[0] = header[0];
+    octets[1] = header[1];
+    octets[2] = header[2];
+    octets[3] = header[3];
+    Cell::from_bytes(&octets)
+}
+
+#[test]
+fn user_data_and_oam_cells_of_one_connection(rt: HostRuntime) -> Result<(), Fail> {
+    let user = cell_of([0x00, 0x10, 0x06, 0x40])?;
+    assert_eq!(rt; (user.gfc(), user.vpi(), user.vci()), (0, 1, 100));
+    assert_eq!(rt; (user.pti(), user.clp()), (0, false));
+    let low = cell_of([0x00, 0x10, 0x06, 0x41])?;
+    assert_eq!(rt; (low.pti(), low.clp()), (0, true));
+    let oam = cell_of([0x00, 0x10, 0x06, 0x4a])?;
+    assert_eq!(rt; (oam.pti(), oam.clp()), (5, false));
+    assert_eq!(rt; oam.vc(), Vc::new(1, 100)?);
+    Ok(())
+}
+
+#[test]
+fn each_field_at_its_highest(rt: HostRuntime) -> Result<(), Fail> {
+    let cell = cell_of([0xff, 0xff, 0xff, 0xff])?;
+    assert_eq!(rt; (cell.gfc(), cell.vpi(), cell.vci()), (15, 255, 65535));
+    assert_eq!(rt; (cell.pti(), cell.clp()), (7, true));
+    Ok(())
+}
+
+#[test]
+fn a_tagged_cell_differs_in_its_priority_alone(rt: HostRuntime) -> Result<(), Fail> {
+    let cell = cell_of([0xf0, 0x10, 0x06, 0x4a])?;
+    assert_eq!(rt; cell.tagged(), cell_of([0xf0, 0x10, 0x06, 0x4b])?);
+    assert_eq!(rt; cell.tagged().tagged(), cell.tagged());
+    assert_eq!(rt; cell.bytes()[3], 0x4a);
+    Ok(())
+}
+
+#[test]
+fn octets_of_another_number_are_no_cell(rt: HostRuntime) -> Result<(), Fail> {
+    assert_eq!(rt;
+        Cell::from_bytes(&[0; 51]).err(),
+        Some(CellFault::WrongLength(51))
+    );
+    assert_eq!(rt;
+        Cell::from_bytes(&[0; 53]).err(),
+        Some(CellFault::WrongLength(53))
+    );
+    assert_eq!(rt;
+        Cell::from_bytes(&[]).err(),
+        Some(CellFault::WrongLength(0))
+    );
+    let text = format!(in rt.alloc(); "{}", CellFault::WrongLength(51))?;
+    assert_eq!(rt; text.as_str(), "1 WrongLength 51");
+    Ok(())
+}
+
+#[test]
+fn a_path_above_255_is_refused(rt: HostRuntime) -> Result<(), Fail> {
+    assert_eq!(rt; Vc::new(256, 0), Err(VcFault::VpiTooLarge));
+    let last = Vc::new(255, 65535)?;
+    assert_eq!(rt; (last.vpi, last.vci), (255, 65535));
+    assert!(rt; Vc::new(1, 200)? < Vc::new(2, 100)?);
+    assert!(rt; Vc::new(1, 100)? < Vc::new(1, 101)?);
+    Ok(())
+}
