@@ -1,0 +1,101 @@
+-- Octets either spell a code or have a fault.
+use Rattle.std.proofs.Common.{◌≡◌, ◌≢◌, ℕ, zero, suc, ◌+◌, ◌*◌, ◌/◌, ◌%◌, ◌<◌, ◌≤◌, ◌⊎◌, inl, inr, ◌==◌, Bool, true, false, if◌then◌else◌, List, [], ◌∷◌, length, take, drop, refl, sym, ◌∙◌, ap, subst, arith, length-take, length-drop, drop-drop}
+use Rattle.std.specs.Prelude.{IfSome}
+use Rattle.std.proofs.lemmas.Bool.{cases_lt}
+use Rattle.std.proofs.lemmas.Bool.Decides.{eqb_tells}
+use Rattle.bpf_code.specs.Decoding.{IsFaultOf}
+use Rattle.bpf_code.specs.Fields.{code_in, jt_in, jf_in, k_in}
+use Rattle.bpf_code.specs.Spelling.{Spells, SpellsCode, eight_at, IsFirstUnknown}
+use Rattle.bpf_code.specs.Table.{code_of, jt_of, jf_of, k_of}
+use Rattle.bpf_code.specs.declared.decoder.DecodeFault.{DecodeFault}
+use Rattle.bpf_code.specs.declared.decoder.DecodeFault.TheVariants.{Ragged, UnknownCode, NoMemory}
+use Rattle.bpf_code.specs.declared.instr.Instr.{Instr}
+use Rattle.bpf_code.specs.declared.instr.Instr.TheVariants.{LoadAbs, Branch, RetK}
+use Rattle.bpf_code.specs.declared.instr.By.TheVariants.{Imm}
+use Rattle.bpf_code.specs.declared.instr.Size.TheVariants.{Word, Half, Octet}
+use Rattle.bpf_code.specs.declared.instr.Test.TheVariants.{Eq}
+use Rattle.bpf_code.proofs.Rows.{row_at, row_at-fields}
+
+-- the fields of the instruction that these fields lead to are these
+record Owns (jt jf k : ℕ) (i : Instr) : Type 0 where
+  jt_own : IfSome (jt_of i) (λ offset. jt ≡ offset)
+  jf_own : IfSome (jf_of i) (λ offset. jf ≡ offset)
+  k_own : IfSome (k_of i) (λ operand. k ≡ operand)
+
+either : (jt jf k : ℕ) (b : Bool) (i j : Instr) → Owns jt jf k i → Owns jt jf k j → Owns jt jf k (if b then i else j)
+either jt jf k true i j p q = p
+either jt jf k false i j p q = q
+
+row_at-owns : (code jt jf k : ℕ) → Owns jt jf k (row_at code jt jf k)
+unfolding row_at
+row_at-owns code jt jf k =
+    either jt jf k (code == 0x0020) (LoadAbs Word k) _ (record { jt_own = tt; jf_own = tt; k_own = refl })
+    (either jt jf k (code == 0x0028) (LoadAbs Half k) _ (record { jt_own = tt; jf_own = tt; k_own = refl })
+    (either jt jf k (code == 0x0030) (LoadAbs Octet k) _ (record { jt_own = tt; jf_own = tt; k_own = refl })
+    (either jt jf k (code == 0x0015) (Branch Eq (Imm k) jt jf) (RetK k) (record { jt_own = refl; jf_own = refl; k_own = refl })
+    (record { jt_own = tt; jf_own = tt; k_own = refl }))))
+
+-- eight octets spell an instruction, or none
+spelled_or_not : (octets : List ℕ) → length octets ≡ 8 → ((i : Instr) × Spells octets i) ⊎ ((i : Instr) → Spells octets i → ⊥)
+spelled_or_not octets eight =
+    let code = code_in octets in
+    let jt = jt_in octets in
+    let jf = jf_in octets in
+    let k = k_in octets in
+    let row = row_at code jt jf k in
+    let own = row_at-owns code jt jf k in
+    elim (eqb_tells code (code_of row)) [
+      | inl same ↦ inl (row, record { eight = eight; code = same.1; jt = own.jt_own; jf = own.jf_own; k = own.k_own })
+      | inr other ↦ inr (λ i spells. other.1 (spells.code ∙ ap code_of (sym (row_at-fields code jt jf k i spells.code spells.jt spells.jf spells.k))))
+    ]
+
+-- the eights of a list whose first eight are gone
+later : (octets : List ℕ) (place : ℕ) → eight_at (drop 8 octets) place ≡ eight_at octets (suc place)
+later octets place =
+    let moved : 8 + 8 * place ≡ 8 * suc place = omega arith in
+    ap (λ ys. take 8 ys) (drop-drop (8 * place) 8 octets ∙ ap (λ n. drop n octets) moved)
+
+cut : (count : ℕ) (octets : List ℕ) → length octets ≡ 8 * count
+    → ((code : List Instr) × SpellsCode octets code) ⊎ ((at : ℕ) × (code : ℕ) × IsFirstUnknown octets at code)
+cut zero [] sized = inl ([], refl)
+cut zero (o ∷ os) sized = absurd (omega arith)
+cut (suc count) octets sized =
+    let left = length-drop 8 octets in
+    let front = length-take 8 octets in
+    elim (spelled_or_not (take 8 octets) (omega arith)) [
+      | inr nothing ↦ inr (0, code_in (take 8 octets), record { within = omega arith; there = refl; unknown = nothing; before = λ earlier lt. absurd (omega arith) })
+      | inl here ↦ elim (cut count (drop 8 octets) (omega arith)) [
+        | inl behind ↦ inl (here.0 ∷ behind.0, (here.1, behind.1))
+        | inr behind ↦
+            let first = behind.2 in
+            let h = first.within in
+            let P : List ℕ → Type 0 = λ eight. (i : Instr) → Spells eight i → ⊥ in
+            inr (suc behind.0, behind.1, record {
+              within = omega arith;
+              there = ap code_in (sym (later octets behind.0)) ∙ first.there;
+              unknown = subst P (later octets behind.0) first.unknown;
+              before = before octets here.0 here.1 behind.0 first.before;
+            })
+      ]
+    ]
+  where
+    before : (octets : List ℕ) (i : Instr) → Spells (take 8 octets) i → (at : ℕ)
+        → ((earlier : ℕ) → earlier < at → (j : Instr) × Spells (eight_at (drop 8 octets) earlier) j)
+        → (earlier : ℕ) → earlier < suc at → (j : Instr) × Spells (eight_at octets earlier) j
+    before octets i spells at behind zero lt = (i, spells)
+    before octets i spells at behind (suc earlier) lt =
+        let found = behind earlier (omega arith) in
+        let P : List ℕ → Type 0 = λ eight. Spells eight found.0 in
+        (found.0, subst P (later octets earlier) found.1)
+
+pub code-or_fault : (octets : List ℕ) → ((code : List Instr) × SpellsCode octets code) ⊎ ((fault : DecodeFault) × (fault ≢ NoMemory) × IsFaultOf octets fault)
+code-or_fault octets =
+    elim (cases_lt 0 (length octets % 8)) [
+      | inl ragged ↦ inr (Ragged, (λ e. cc), ragged)
+      | inr le ↦
+          let whole : length octets % 8 ≡ 0 = omega arith in
+          elim (cut (length octets / 8) octets (omega arith)) [
+            | inl spelled ↦ inl spelled
+            | inr unknown ↦ inr (UnknownCode unknown.0 unknown.1, (λ e. cc), (whole, unknown.2))
+          ]
+    ]

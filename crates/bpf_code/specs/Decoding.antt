@@ -1,0 +1,11 @@
+-- When octets are no code.
+use Rattle.std.specs.Prelude.{◌≡◌, ◌<◌, ◌%◌, ℕ, List, length}
+use Rattle.bpf_code.specs.Spelling.{IsFirstUnknown}
+use Rattle.bpf_code.specs.declared.decoder.DecodeFault.{DecodeFault}
+use Rattle.bpf_code.specs.declared.decoder.DecodeFault.TheVariants.{Ragged, UnknownCode, NoMemory}
+
+-- The octets have the fault.
+abbrev pub IsFaultOf : List ℕ → DecodeFault → Type 0
+IsFaultOf octets Ragged = 0 < length octets % 8
+IsFaultOf octets (UnknownCode at code) = (length octets % 8 ≡ 0) × IsFirstUnknown octets at code
+IsFaultOf octets NoMemory = Unit {0}

@@ -1,0 +1,7 @@
+pub mod Decoding
+pub mod Fields
+pub mod Flow
+pub mod Operands
+pub mod Scratch
+pub mod Spelling
+pub mod Table

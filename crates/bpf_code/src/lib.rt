@@ -1,0 +1,14 @@
+//! Classic BPF instructions and the eight octets that spell each of them.
+#![tactic(auto)]
+
+mod decoder;
+mod encoder;
+mod instr;
+pub mod laws;
+
+pub use decoder::{DecodeFault, decode, decode_one};
+pub use encoder::encode_one;
+pub use instr::{By, Instr, Size, Test};
+
+#[cfg(test)]
+mod tests;
