@@ -1,0 +1,4 @@
+pub mod FirstFault
+pub mod Places
+pub mod InOrder
+pub mod Decided

@@ -1,0 +1,33 @@
+-- The static check of a classic BPF program: Linux's checks, of which the one of scratch words goes
+-- by the paths through the code, so that nothing is asked of reads that no path reaches.
+use Rattle.std.specs.Prelude.{ℕ, ◌-◌, ◌<◌, ◌≤◌, List, length}
+use Rattle.bpf_code.specs.declared.instr.Instr.{Instr}
+use Rattle.bpf_code.specs.Flow.{StandsAt, IsReturn, JumpsTo}
+use Rattle.bpf_code.specs.Operands.{DividesBy, ShiftsBy}
+use Rattle.bpf_code.specs.Scratch.{NamesWord}
+use Rattle.bpf_verify.specs.Paths.{IsWrittenAt}
+
+-- A program has 1 to 4096 instructions.
+pub record IsSized (code : List Instr) : Type 0 where
+  pub least : 0 < length code
+  pub most : length code ≤ 4096
+
+-- What is asked of an instruction by itself, at a place of a code of so many instructions: that its
+-- scratch word is one of the sixteen, its constant divisor isn't 0, its constant shift is less than
+-- the 32 bits of a register, and each of its targets is a place of the code.
+pub record IsSound (size place : ℕ) (i : Instr) : Type 0 where
+  pub scratch : (word : ℕ) → NamesWord i word → word < 16
+  pub divisor : (divisor : ℕ) → DividesBy i divisor → 0 < divisor
+  pub shift : (count : ℕ) → ShiftsBy i count → count < 32
+  pub targets : (target : ℕ) → JumpsTo place i target → target < size
+
+-- The last instruction is a return.
+abbrev pub EndsInReturn : List Instr → Type 0
+EndsInReturn code = (i : Instr) × StandsAt code (length code - 1) i × IsReturn i
+
+-- A code that the check accepts.
+pub record IsAccepted (code : List Instr) : Type 0 where
+  pub sized : IsSized code
+  pub sound : (place : ℕ) (i : Instr) → StandsAt code place i → IsSound (length code) place i
+  pub ends : EndsInReturn code
+  pub written : (place : ℕ) → IsWrittenAt code place

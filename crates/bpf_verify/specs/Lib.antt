@@ -1,0 +1,4 @@
+pub mod Accepted
+pub mod Faults
+pub mod Paths
+pub mod Walks

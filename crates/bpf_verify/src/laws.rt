@@ -1,0 +1,32 @@
+//! Laws over the definitions of the check. Each is the contract of a function that does nothing.
+
+ghost use Rattle.std.specs.Prelude.{◌≡◌, ℕ, ◌↔◌, ◌⊎◌, List};
+ghost use Rattle.bpf_code.specs.declared.instr.Instr.{Instr};
+ghost use Rattle.bpf_verify.specs.declared.fault.Fault.{Fault};
+ghost use Rattle.bpf_verify.specs.Accepted.{IsAccepted};
+ghost use Rattle.bpf_verify.specs.Faults.{FailsFirst};
+ghost use Rattle.bpf_verify.specs.Paths.{IsWrittenAt};
+ghost use Rattle.bpf_verify.specs.Walks.{IsWrittenOnEveryWalk};
+
+/// Every path to a read passed a store of its word exactly where, of every list of places that
+/// begins at 0, goes from successor to successor and ends in a read, an earlier place stores the word.
+pub fn paths_are_walks()
+    ensures { (code : List Instr)
+        → ((place : ℕ) → IsWrittenAt code place) ↔ IsWrittenOnEveryWalk code }
+{}
+
+/// Of two faults that come first in a code, both are the same.
+pub fn one_fault_comes_first()
+    ensures { (code : List Instr) (one other : Fault)
+        → FailsFirst code one → FailsFirst code other → one ≡ other }
+{}
+
+/// A code is accepted exactly where no fault comes first.
+pub fn accepted_without_fault()
+    ensures { (code : List Instr) → IsAccepted code ↔ ((fault : Fault) → ¬ FailsFirst code fault) }
+{}
+
+/// Every code is accepted, or some fault comes first in it.
+pub fn a_code_is_accepted_or_faulty()
+    ensures { (code : List Instr) → IsAccepted code ⊎ ((fault : Fault) × FailsFirst code fault) }
+{}
