@@ -1,0 +1,5 @@
+pub mod HasValue
+pub mod OneValue
+pub mod Reached
+pub mod RunStates
+pub mod RunSteps
