@@ -1,0 +1,5 @@
+pub mod SlotLemmas
+pub mod PastLemmas
+pub mod ReadyLemmas
+pub mod ChangeLemmas
+pub mod PlaceLemmas

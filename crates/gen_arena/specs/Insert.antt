@@ -1,0 +1,13 @@
+-- What an insert changes.
+use Rattle.std.specs.Prelude.{◌≡◌, ◌+◌, List, Some, IsTrue, slice_get, slice_set}
+use Rattle.gen_arena.specs.Slot.{Slot, full_slot}
+use Rattle.gen_arena.specs.Free.{is_free}
+use Rattle.gen_arena.specs.declared.id.Id.{Id}
+
+-- the id's slot was free, its generation has grown by one to the id's, and it has the value; all other slots are as before
+pub record Inserts {T : Type 0} (old new : List (Slot T)) (id : Id) (value : T) : Type 0 where
+  pub taken : Slot T
+  pub stood : slice_get old id.slot ≡ Some taken
+  pub was_free : IsTrue (is_free taken)
+  pub next : id.generation ≡ taken.generation + 1
+  pub after : new ≡ slice_set old id.slot (full_slot id.generation value)

@@ -1,0 +1,163 @@
+use super::*;
+use std::alloc::Global;
+use std::fmt::Debug;
+use std::hash::Hash;
+use std::process::Abort;
+use std::sync::atomic::{AtomicU64, Ordering};
+use std::test::Fail;
+
+fn id(slot: u16, generation: u32) -> Id {
+    Id { slot, generation }
+}
+
+fn is_key<K: Copy + Ord + Hash + Debug>() {}
+
+fn is_sent<S: Send>() {}
+
+fn is_shared<S: Sync>() {}
+
+// An arena may be sent to another thread where its values may.
+fn arena_is_sent<T: Send>() {
+    is_sent::<Arena<T>>();
+}
+
+// It may be shared by threads where its values may.
+fn arena_is_shared<T: Sync>() {
+    is_shared::<Arena<T>>();
+}
+
+#[test]
+fn an_id_is_a_key_and_an_arena_crosses_threads() {
+    is_key::<Id>();
+    arena_is_sent::<u32>();
+    arena_is_shared::<u32>();
+}
+
+fn refill_two_slots<T: Copy + Eq + Debug>(
+    rt: &impl Abort,
+    alloc: Global,
+    a: T,
+    b: T,
+    c: T,
+) -> Result<(), Fail> {
+    let mut arena = Arena::new(alloc, 2)?;
+    let first = arena.insert(a)?;
+    let second = arena.insert(b)?;
+    assert_eq!(rt; (first.generation, second.generation), (1, 1));
+    assert!(rt; first.slot < 2 && second.slot < 2 && first.slot != second.slot);
+    assert_eq!(rt; arena.insert(c), Err(c));
+    assert_eq!(rt; arena.remove(first), Some(a));
+    assert_eq!(rt; arena.get(first).copied(), None);
+    assert_eq!(rt; arena.remove(first), None);
+    assert_eq!(rt; arena.insert(c), Ok(id(first.slot, 2)));
+    assert_eq!(rt; arena.get(first).copied(), None);
+    assert_eq!(rt; arena.get(second).copied(), Some(b));
+    assert_eq!(rt; arena.get(id(first.slot, 2)).copied(), Some(c));
+    assert_eq!(rt; arena.free(), 0);
+    Ok(())
+}
+
+#[derive(Clone, Copy, PartialEq, Eq, Debug)]
+struct Sizeless;
+
+#[test]
+fn a_refilled_slot_has_the_next_generation(rt: HostRuntime) -> Result<(), Fail> {
+    refill_two_slots(&rt, rt.alloc(), 10u32, 20, 30)?;
+    refill_two_slots(&rt, rt.alloc(), Sizeless, Sizeless, Sizeless)
+}
+
+#[test]
+fn ids_that_were_never_given_name_nothing(rt: HostRuntime) -> Result<(), Fail> {
+    let mut arena = Arena::new(rt.alloc(), 2)?;
+    let only = arena.insert(7u32)?;
+    assert!(rt; arena.holds(only));
+    for stranger in [id(2, 1), id(only.slot, 0), id(only.slot, 2)] {
+        assert!(rt; !arena.holds(stranger), "{stranger:?}");
+        assert_eq!(rt; arena.get(stranger).copied(), None, "{stranger:?}");
+    }
+    Ok(())
+}
+
+#[test]
+fn an_arena_of_no_slots_is_refused(rt: HostRuntime) -> Result<(), Fail> {
+    assert_eq!(rt;
+        Arena::<u32>::new(rt.alloc(), 0).err(),
+        Some(ArenaFault::NoSlots)
+    );
+    assert_eq!(rt;
+        Arena::<u32>::new_from(rt.alloc(), 0, 3).err(),
+        Some(ArenaFault::NoSlots)
+    );
+    let texts = format!(in rt.alloc(); "{}, {}", ArenaFault::NoSlots, ArenaFault::NoMemory)?;
+    assert_eq!(rt; texts.as_str(), "1 NoSlots, 2 NoMemory");
+    Ok(())
+}
+
+#[test]
+fn a_slot_that_used_the_greatest_generation_is_never_free_again(
+    rt: HostRuntime,
+) -> Result<(), Fail> {
+    let mut arena = Arena::new_from(rt.alloc(), 1, 4294967294)?;
+    assert_eq!(rt; arena.free(), 1);
+    let last = arena.insert(7u32)?;
+    assert_eq!(rt; last.generation, 4294967295);
+    assert_eq!(rt; arena.remove(last), Some(7));
+    assert_eq!(rt; arena.free(), 0);
+    assert_eq!(rt; arena.insert(8), Err(8));
+    let mut worn = Arena::new_from(rt.alloc(), 2, 4294967295)?;
+    assert_eq!(rt; worn.free(), 0);
+    assert_eq!(rt; worn.insert(9u32), Err(9));
+    Ok(())
+}
+
+#[derive(Debug)]
+struct Counted<'a> {
+    drops: &'a AtomicU64,
+}
+
+impl Drop for Counted<'_> {
+    fn drop(self) {
+        let Counted { drops } = self;
+        drops.fetch_add(1, Ordering::SeqCst);
+    }
+}
+
+#[test]
+fn each_live_value_is_dropped_once_with_the_arena(rt: HostRuntime) -> Result<(), Fail> {
+    let kept = AtomicU64::new(0);
+    let removed = AtomicU64::new(0);
+    let refilled = AtomicU64::new(0);
+    let mut arena = Arena::new(rt.alloc(), 3)?;
+    let first = arena.insert(Counted { drops: &removed })?;
+    arena.insert(Counted { drops: &kept })?;
+    drop(arena.remove(first));
+    assert_eq!(rt; removed.load(Ordering::SeqCst), 1);
+    arena.insert(Counted { drops: &refilled })?;
+    assert_eq!(rt;
+        (kept.load(Ordering::SeqCst), refilled.load(Ordering::SeqCst)),
+        (0, 0)
+    );
+    drop(arena);
+    assert_eq!(rt; removed.load(Ordering::SeqCst), 1);
+    assert_eq!(rt;
+        (kept.load(Ordering::SeqCst), refilled.load(Ordering::SeqCst)),
+        (1, 1)
+    );
+    Ok(())
+}
+
+// The example of the README.
+#[test]
+fn a_session_is_looked_up_by_its_id(rt: HostRuntime) -> Result<(), Fail> {
+    let mut sessions = Arena::new(rt.alloc(), 100)?;
+    let ann = sessions.insert("ann")?;
+    assert_eq!(rt; sessions.get(ann).copied(), Some("ann"));
+
+    // Ann leaves. Whoever gets her slot next has another id, and hers names nobody again.
+    assert_eq!(rt; sessions.remove(ann), Some("ann"));
+    let bob = sessions.insert("bob")?;
+    assert_ne!(rt; bob, ann);
+    assert!(rt; !sessions.holds(ann));
+    assert_eq!(rt; sessions.free(), 99);
+    Ok(())
+}
