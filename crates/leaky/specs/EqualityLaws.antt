@@ -1,0 +1,125 @@
+-- `==` of rates, levels and contracts says that they are equal. The laws of their comparisons stand
+-- on this.
+use Rattle.std.specs.Prelude.{◌≡◌, ℕ, ◌+◌, ◌<◌, ◌≤◌, ◌^◌, true, ◌&&◌, ◌==◌, refl}
+use Rattle.std.proofs.Common.{◌∙◌, subst, ap}
+use Rattle.std.specs.Bool.{Decides}
+use Rattle.std.specs.Cmp.{unsigned_Decides}
+use Rattle.std.specs.Coded.{le_prop}
+use Rattle.std.proofs.lemmas.Bool.{false≢true}
+use Rattle.std.proofs.lemmas.Bool.Decides.{Decides-and}
+use Rattle.leaky.specs.declared.gcra.Gcra.{Gcra}
+use Rattle.leaky.specs.declared.levels.Levels.{Levels}
+use Rattle.leaky.specs.declared.contract.Contract.{Contract}
+use Rattle.leaky.specs.declared.contract.Contract.TheVariants.{Cbr1, Vbr1, Vbr2, Vbr3}
+use Rattle.leaky.specs.Equality.{gcra_eq, levels_eq, contract_eq}
+
+-- the rate of these numbers
+abbrev gcra_of : (increment limit : ℕ) → 0 < increment → increment ≤ 2 ^ 48 → limit ≤ 2 ^ 48 → Gcra
+gcra_of increment limit x y z = record {
+  increment = increment;
+  limit = limit;
+  increment_above_zero = x;
+  increment_bounded = y;
+  limit_bounded = z;
+}
+
+-- it does not matter how the facts about the numbers were shown
+gcra_of-alike : (a : Gcra) (x : 0 < a.increment) (y : a.increment ≤ 2 ^ 48) (z : a.limit ≤ 2 ^ 48)
+    → a ≡ gcra_of a.increment a.limit x y z
+gcra_of-alike a x y z = λ i. record {
+  increment = a.increment;
+  limit = a.limit;
+  increment_above_zero = le_prop a.increment_above_zero x i;
+  increment_bounded = le_prop a.increment_bounded y i;
+  limit_bounded = le_prop a.limit_bounded z i;
+}
+
+-- so rates with equal numbers are equal
+pub gcra_same : (a b : Gcra) → a.increment ≡ b.increment → a.limit ≡ b.limit → a ≡ b
+gcra_same a b increments limits =
+    let OfIncrement : ℕ → Type 0 = λ i.
+    (x : 0 < i) (y : i ≤ 2 ^ 48) (z : a.limit ≤ 2 ^ 48) → a ≡ gcra_of i a.limit x y z in
+    let OfLimit : ℕ → Type 0 = λ l.
+    (x : 0 < b.increment) (y : b.increment ≤ 2 ^ 48) (z : l ≤ 2 ^ 48)
+    → a ≡ gcra_of b.increment l x y z in
+    let alike = subst OfLimit limits (subst OfIncrement increments (gcra_of-alike a)) in
+    alike b.increment_above_zero b.increment_bounded b.limit_bounded
+
+-- `==` of rates says that they are equal
+pub gcra_eq_decides : (a b : Gcra) → Decides (gcra_eq a b) (a ≡ b)
+gcra_eq_decides a b =
+    let both =
+    Decides-and (a.increment == b.increment) (a.limit == b.limit)
+    (unsigned_Decides a.increment b.increment) (unsigned_Decides a.limit b.limit)
+    in (
+      λ e. let same = both.0 e in gcra_same a b same.0 same.1,
+      λ e. both.1 (ap (λ x. x.increment) e, ap (λ x. x.limit) e),
+    )
+
+-- the levels of these theoretical arrival times
+abbrev levels_of : (first second : ℕ) → first ≤ 2 ^ 62 + 2 ^ 49 → second ≤ 2 ^ 62 + 2 ^ 49 → Levels
+levels_of first second x y = record {
+  first = first;
+  second = second;
+  first_bounded = x;
+  second_bounded = y;
+}
+
+-- nor does it here
+levels_of-alike : (a : Levels) (x : a.first ≤ 2 ^ 62 + 2 ^ 49) (y : a.second ≤ 2 ^ 62 + 2 ^ 49)
+    → a ≡ levels_of a.first a.second x y
+levels_of-alike a x y = λ i. record {
+  first = a.first;
+  second = a.second;
+  first_bounded = le_prop a.first_bounded x i;
+  second_bounded = le_prop a.second_bounded y i;
+}
+
+-- so levels with equal theoretical arrival times are equal
+pub levels_same : (a b : Levels) → a.first ≡ b.first → a.second ≡ b.second → a ≡ b
+levels_same a b firsts seconds =
+    let OfFirst : ℕ → Type 0 = λ i.
+    (x : i ≤ 2 ^ 62 + 2 ^ 49) (y : a.second ≤ 2 ^ 62 + 2 ^ 49) → a ≡ levels_of i a.second x y in
+    let OfSecond : ℕ → Type 0 = λ i.
+    (x : b.first ≤ 2 ^ 62 + 2 ^ 49) (y : i ≤ 2 ^ 62 + 2 ^ 49) → a ≡ levels_of b.first i x y in
+    let alike = subst OfSecond seconds (subst OfFirst firsts (levels_of-alike a)) in
+    alike b.first_bounded b.second_bounded
+
+-- `==` of levels says that they are equal
+pub levels_eq_decides : (a b : Levels) → Decides (levels_eq a b) (a ≡ b)
+levels_eq_decides a b =
+    let both =
+    Decides-and (a.first == b.first) (a.second == b.second)
+    (unsigned_Decides a.first b.first) (unsigned_Decides a.second b.second)
+    in (
+      λ e. let same = both.0 e in levels_same a b same.0 same.1,
+      λ e. both.1 (ap (λ x. x.first) e, ap (λ x. x.second) e),
+    )
+
+-- two pairs of rates
+pairs-decide : (a b c d : Gcra) → Decides (gcra_eq a c && gcra_eq b d) ((a ≡ c) × (b ≡ d))
+pairs-decide a b c d =
+    Decides-and (gcra_eq a c) (gcra_eq b d) (gcra_eq_decides a c) (gcra_eq_decides b d)
+
+-- contracts that `==` finds equal are equal
+contract_eq_true : (a b : Contract) → contract_eq a b ≡ true → a ≡ b
+contract_eq_true (Cbr1 a) (Cbr1 b) e = ap Cbr1 ((gcra_eq_decides a b).0 e)
+contract_eq_true (Vbr1 a b) (Vbr1 c d) e =
+    let same = (pairs-decide a b c d).0 e in ap (λ peak. Vbr1 peak b) same.0 ∙ ap (Vbr1 c) same.1
+contract_eq_true (Vbr2 a b) (Vbr2 c d) e =
+    let same = (pairs-decide a b c d).0 e in ap (λ peak. Vbr2 peak b) same.0 ∙ ap (Vbr2 c) same.1
+contract_eq_true (Vbr3 a b) (Vbr3 c d) e =
+    let same = (pairs-decide a b c d).0 e in ap (λ peak. Vbr3 peak b) same.0 ∙ ap (Vbr3 c) same.1
+contract_eq_true _ _ e = absurd (false≢true e)
+
+-- `==` finds a contract equal to itself
+contract_eq_same : (a : Contract) → contract_eq a a ≡ true
+contract_eq_same (Cbr1 a) = (gcra_eq_decides a a).1 refl
+contract_eq_same (Vbr1 a b) = (pairs-decide a b a b).1 (refl, refl)
+contract_eq_same (Vbr2 a b) = (pairs-decide a b a b).1 (refl, refl)
+contract_eq_same (Vbr3 a b) = (pairs-decide a b a b).1 (refl, refl)
+
+-- `==` of contracts says that they are equal
+pub contract_eq_decides : (a b : Contract) → Decides (contract_eq a b) (a ≡ b)
+contract_eq_decides a b =
+    (contract_eq_true a b, λ e. subst (λ other. contract_eq a other ≡ true) e (contract_eq_same a))

@@ -1,0 +1,76 @@
+-- What ties the definitions to the standard and to one another.
+use Rattle.std.specs.Prelude.{◌≡◌, ℕ, ◌+◌, ◌^◌, ◌≤◌, ◌↔◌, Bool, IfSome, List, map, All}
+use Rattle.leaky.specs.declared.gcra.Gcra.{Gcra}
+use Rattle.leaky.specs.declared.levels.Levels.{Levels}
+use Rattle.leaky.specs.declared.contract.Contract.{Contract}
+use Rattle.leaky.specs.Moments.{GoesOn}
+use Rattle.leaky.specs.Bucket.{Bucket, opening, conformances, conforming}
+use Rattle.leaky.specs.Scheduling.{scheduled}
+use Rattle.leaky.specs.Tolerance.{tolerance_of, spaced}
+use Rattle.leaky.specs.Bursts.{count_within, burst_bound, AllFill}
+use Rattle.leaky.specs.Contract.{Buckets, peak_of, second_of, buckets_after}
+use Rattle.leaky.specs.Arrivals.{Arrival, buckets_left, first_charges, second_charges}
+use Rattle.leaky.specs.Agreement.{Agrees, IsChargedBy}
+
+-- virtual scheduling begun at TAT = X + LCT gives the leaky bucket's verdicts on every list of
+-- moments that begin at or after LCT and don't go back
+abbrev pub SchedulingGivesTheBucketsVerdicts : Type 0
+SchedulingGivesTheBucketsVerdicts = (gcra : Gcra) (bucket : Bucket) (moments : List ℕ)
+    → GoesOn bucket.charged moments
+    → scheduled gcra (bucket.level + bucket.charged) moments ≡ conformances gcra bucket moments
+
+-- of the conforming cells at most 1 + (d + tau) div T have moments within any span d, from any
+-- bucket and for moments that don't go back
+abbrev pub BurstsAreBounded : Type 0
+BurstsAreBounded = (gcra : Gcra) (bucket : Bucket) (earliest : ℕ) (moments : List ℕ)
+    → GoesOn earliest moments
+    → (first span : ℕ)
+    → count_within first span (conforming gcra bucket moments) ≤ burst_bound gcra span
+
+-- the same bound for any cells that fill one bucket, whatever it was that kept other conforming
+-- cells from filling it
+abbrev pub FillingsAreBounded : Type 0
+FillingsAreBounded = (gcra : Gcra) (bucket : Bucket) (earliest : ℕ) (moments : List ℕ)
+    → GoesOn earliest moments
+    → AllFill gcra bucket moments
+    → (first span : ℕ)
+    → count_within first span moments ≤ burst_bound gcra span
+
+-- of these charges no more lie in the span than the rate allows
+abbrev pub IsBounded : ℕ → ℕ → List ℕ → Gcra → Type 0
+IsBounded first span charges gcra = count_within first span charges ≤ burst_bound gcra span
+
+-- the same bound for the cells that charge either bucket of a contract
+abbrev pub ContractsBoundBursts : Type 0
+ContractsBoundBursts = (contract : Contract) (buckets : Buckets)
+    → (earliest : ℕ) (arrivals : List Arrival)
+    → GoesOn earliest (map (λ a. a.moment) arrivals)
+    → (first span : ℕ)
+    → IsBounded first span (first_charges contract buckets arrivals) (peak_of contract)
+    × IfSome (second_of contract) (IsBounded first span (second_charges contract buckets arrivals))
+
+-- any levels stand for some buckets that were charged at 0 at the latest
+abbrev pub LevelsStandForBuckets : Type 0
+LevelsStandForBuckets = (levels : Levels)
+    → (buckets : Buckets) × Agrees levels buckets × IsChargedBy buckets 0
+
+-- cells up to the last moment leave buckets that some levels stand for as such buckets
+abbrev pub LevelsFollowBuckets : Type 0
+LevelsFollowBuckets = (contract : Contract) (levels : Levels) (buckets : Buckets)
+    → (arrivals : List Arrival)
+    → Agrees levels buckets
+    → All (λ a. a.moment ≤ 2 ^ 62) arrivals
+    → (after : Levels) × Agrees after (buckets_left contract buckets arrivals)
+
+-- no cell leaves a bucket charged after the cell's own moment
+abbrev pub ChargesKeepUp : Type 0
+ChargesKeepUp = (contract : Contract) (buckets : Buckets) (clp : Bool) (moment : ℕ)
+    → IsChargedBy buckets moment
+    → IsChargedBy (buckets_after contract buckets clp moment) moment
+
+-- so many cells at the peak rate conform, from an empty bucket of the sustainable rate, exactly where
+-- the burst tolerance for so many is at most the bucket's limit
+abbrev pub TolerancesAreExact : Type 0
+TolerancesAreExact = (gcra : Gcra) (mbs tp first : ℕ)
+    → tp ≤ gcra.increment
+    → AllFill gcra opening (spaced mbs tp first) ↔ (tolerance_of mbs gcra.increment tp ≤ gcra.limit)

@@ -1,0 +1,13 @@
+-- The traffic control of a cell stream, in the words of ITU-T I.371, annex A.
+pub mod Moments
+pub mod Bucket
+pub mod Scheduling
+pub mod Bursts
+pub mod Contract
+pub mod Arrivals
+pub mod Agreement
+pub mod Tolerance
+pub mod Equality
+pub mod EqualityLaws
+pub mod Faults
+pub mod Laws

@@ -1,0 +1,62 @@
+ghost use Rattle.std.specs.Prelude.{◌≡◌, ◌+◌, ◌^◌, ◌≤◌};
+
+/// The state of one contract: for each of its two buckets the theoretical arrival time, the moment
+/// in ticks at which the next cell is due at the agreed rate. With moments up to 2^62 it is at most
+/// 2^62 + 2^49.
+#[derive(Clone, Copy, Debug)]
+pub struct Levels {
+    /// The theoretical arrival time of bucket 1.
+    pub first: u64,
+    /// The theoretical arrival time of bucket 2, which stays where the contract has no such bucket.
+    pub second: u64,
+    pub ghost first_bounded: { first ≤ 2 ^ 62 + 2 ^ 49 },
+    pub ghost second_bounded: { second ≤ 2 ^ 62 + 2 ^ 49 },
+}
+
+impl Levels {
+    ghost use Rattle.leaky.specs.Contract.{opening_buckets};
+    ghost use Rattle.leaky.specs.Agreement.{Agrees};
+
+    /// The state before the first cell: both theoretical arrival times are 0.
+    #[inline]
+    pub fn new() -> Self
+        ensures first { result.first ≡ 0 }
+        ensures second { result.second ≡ 0 }
+        ensures opening { Agrees result opening_buckets }
+    {
+        Levels {
+            first: 0,
+            second: 0,
+        }
+    }
+}
+
+impl Default for Levels {
+    ghost is_default = { λ levels. (levels.first ≡ 0) × (levels.second ≡ 0) };
+
+    fn default() -> Levels {
+        Levels::new()
+    }
+}
+
+impl PartialEq for Levels {
+    ghost use Rattle.std.specs.Cmp.{decided, partial_equiv_from_equiv};
+    ghost use Rattle.leaky.specs.Equality.{levels_eq};
+    ghost use Rattle.leaky.specs.EqualityLaws.{levels_eq_decides};
+
+    ghost eq = { levels_eq };
+
+    ghost laws = { partial_equiv_from_equiv (decided levels_eq levels_eq_decides) };
+
+    fn eq(&self, other: &Levels) -> bool {
+        self.first == other.first && self.second == other.second
+    }
+}
+
+impl Eq for Levels {
+    ghost use Rattle.std.specs.Cmp.{decided};
+    ghost use Rattle.leaky.specs.Equality.{levels_eq};
+    ghost use Rattle.leaky.specs.EqualityLaws.{levels_eq_decides};
+
+    ghost laws = { decided levels_eq levels_eq_decides };
+}

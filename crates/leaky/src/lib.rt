@@ -1,0 +1,21 @@
+//! Leaky buckets: the generic cell rate algorithm of ITU-T I.371, annex A, and four traffic
+//! contracts over it.
+#![tactic(auto)]
+
+mod contract;
+mod gcra;
+pub mod laws;
+mod levels;
+mod policing;
+mod tolerance;
+mod verdict;
+
+pub use contract::Contract;
+pub use gcra::{Gcra, GcraFault, MOST_TICKS};
+pub use levels::Levels;
+pub use policing::{LAST_MOMENT, judge};
+pub use tolerance::{BtFault, burst_tolerance};
+pub use verdict::Verdict;
+
+#[cfg(test)]
+mod tests;
