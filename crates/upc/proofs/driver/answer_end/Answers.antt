@@ -1,0 +1,31 @@
+-- The last octets are the last line.
+use Rattle.std.proofs.Common.{◌<◌, length, sym, ◌∙◌, arith, rules}
+use Rattle.std.proofs.lemmas.Result.{IfOk-weaker}
+use Rattle.std.proofs.lemmas.Grind.{common_steps}
+use Rattle.upc.specs.Printing.{too_long}
+use Rattle.upc.proofs.PrintingLemmas.{end-over, end-ends, end-goes}
+use Rattle.upc.proofs.driver.answer_end.Goals as goal
+
+pub returns-then-is_over_limits : goal.returns-then-is_over_limits
+returns-then-is_over_limits g c =
+    let some : 0 < length c.args.octets.now = grind (arith, common_steps) in
+    let m = g.M.Machine in (
+      too_long,
+      c.in_ok-answer_too_long.ensures,
+      end-over m.steps m.closes c.args.met (m.world c.args.machine.now) c.args.octets.now some c.requires.no_feed (sym c.is_over_limits.ensures ∙ c.if-is_over_limits.true),
+    )
+
+pub returns-in-Ends : goal.returns-in-Ends
+returns-in-Ends g c =
+    let some : 0 < length c.args.octets.now = grind (arith, common_steps) in
+    let m = g.M.Machine in
+    end-ends m.steps m.closes c.args.met (m.world c.args.machine.now) (m.world c.answer.new.self) c.args.octets.now c.args.answers.now.items c.answer.new.answers.items some c.requires.no_feed (sym c.is_over_limits.ensures ∙ c.if-is_over_limits.false)
+    (rw c.in-Ends.is at c.in_ok-answer.ensures)
+
+pub returns-in-GoesOn : goal.returns-in-GoesOn
+returns-in-GoesOn g c =
+    let some : 0 < length c.args.octets.now = grind (arith, common_steps) in
+    let m = g.M.Machine in
+    IfOk-weaker c.close-in-GoesOn.result _ _
+    (λ done closed. end-goes m.steps m.closes c.args.met (m.world c.args.machine.now) (m.world c.answer.new.self) c.args.octets.now c.args.answers.now.items c.answer.new.answers.items c.close-in-GoesOn.new.answers.items done some c.requires.no_feed (sym c.is_over_limits.ensures ∙ c.if-is_over_limits.false)
+    (rw c.in-GoesOn.is at c.in_ok-answer.ensures) closed) c.close-in-GoesOn.ensures

@@ -1,0 +1,37 @@
+-- The fault lines: where the fault was found, its number and its name, and what it says of the place.
+use Rattle.std.specs.Prelude.{ℕ, List, [], ◌∷◌, ◌++◌, codes, decimal}
+use Rattle.bpf_code.specs.declared.decoder.DecodeFault.{DecodeFault}
+use Rattle.bpf_code.specs.declared.decoder.DecodeFault.TheVariants.{Ragged, UnknownCode, NoMemory}
+use Rattle.bpf_verify.specs.declared.fault.Fault.{Fault}
+use Rattle.bpf_verify.specs.declared.fault.Fault.TheVariants as fault
+use Rattle.upc.specs.Hexadecimal.{four_digits}
+
+-- A line ends by a line feed.
+abbrev pub line : List ℕ → List ℕ
+line text = text ++ codes "\n"
+
+abbrev pub bad_line : List ℕ
+bad_line = codes "fault script 1 BadLine\n"
+
+abbrev pub bad_hex : List ℕ
+bad_hex = codes "fault script 3 BadHex\n"
+
+abbrev pub no_program : List ℕ
+no_program = codes "fault script 4 NoProgram\n"
+
+-- Octets of another number than 52 are no cell.
+abbrev pub wrong_length : ℕ → List ℕ
+wrong_length octets = line (codes "fault cell 1 WrongLength " ++ decimal octets)
+
+-- Why octets are no code; want of memory has no line.
+abbrev pub decode_fault : DecodeFault → List ℕ
+decode_fault Ragged = codes "fault decode 1 Ragged\n"
+decode_fault (UnknownCode at code) = line (codes "fault decode 2 UnknownCode " ++ decimal at ++ codes " " ++ four_digits code)
+decode_fault NoMemory = []
+
+-- Why a code is no program.
+abbrev pub verify_fault : Fault → List ℕ
+verify_fault fault.Empty = codes "fault verify 1 Empty\n"
+verify_fault fault.TooLong = codes "fault verify 2 TooLong\n"
+verify_fault (fault.JumpOutside at) = line (codes "fault verify 6 JumpOutside " ++ decimal at)
+verify_fault fault.NoReturn = codes "fault verify 7 NoReturn\n"

@@ -1,0 +1,15 @@
+pub mod Device
+pub mod Lines
+pub mod Words
+pub mod Printing
+pub mod Window
+pub mod Turn
+pub mod Progress
+pub mod Outcome
+pub mod Hexadecimal
+pub mod FaultLines
+pub mod Eval
+pub mod CellWord
+pub mod Choice
+pub mod Said
+pub mod EvalLaws

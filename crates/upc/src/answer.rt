@@ -1,0 +1,102 @@
+//! The answer lines of the subcommands, each added at the end of the answers.
+ghost use Rattle.std.specs.Prelude.{◌≡◌, ◌≢◌, ◌<◌, ◌++◌, ◌^◌, codes, decimal, length, OnOk};
+ghost use Rattle.upc.specs.FaultLines.{line, wrong_length, decode_fault, verify_fault};
+ghost use Rattle.upc.specs.Hexadecimal.{four_digits};
+
+use bpf_code::DecodeFault;
+use bpf_verify::Fault;
+use std::alloc::AllocError;
+
+/// Adds a number in decimal digits.
+fn add_number(answers: &mut Vec<u8>, number: usize) -> Result<(), AllocError>
+    ensures { OnOk result (answers.new.items ≡ answers.old.items ++ decimal number) }
+{
+    answers.extend_from_slice(itoa::Buffer::new().format(number).as_bytes())?;
+    Ok(())
+}
+
+/// Adds a text, a number and the line's end.
+#[tactic(auto, using(std::proofs::lemmas::List::append_assoc))]
+fn add_numbered(answers: &mut Vec<u8>, text: &[u8], number: usize) -> Result<(), AllocError>
+    ensures { OnOk result (answers.new.items ≡ answers.old.items ++ line (text.now ++ decimal number)) }
+{
+    answers.extend_from_slice(text)?;
+    add_number(answers, number)?;
+    answers.push(b'\n')?;
+    Ok(())
+}
+
+/// Adds the answer to an accepted program of so many instructions.
+pub fn add_accepted(answers: &mut Vec<u8>, instructions: usize) -> Result<(), AllocError>
+    ensures { OnOk result (answers.new.items ≡ answers.old.items ++ line (codes "accepted " ++ decimal instructions)) }
+{
+    add_numbered(answers, b"accepted ", instructions)
+}
+
+/// Adds the value that a program gave, and the number of instructions that it began.
+#[tactic(auto, using(std::proofs::lemmas::List::append_assoc))]
+pub fn add_value(answers: &mut Vec<u8>, value: u32, steps: u32) -> Result<(), AllocError>
+    ensures { OnOk result (answers.new.items ≡ answers.old.items ++ line (codes "value " ++ decimal value ++ codes " steps " ++ decimal steps)) }
+{
+    answers.extend_from_slice(b"value ")?;
+    add_number(answers, value as usize)?;
+    answers.extend_from_slice(b" steps ")?;
+    add_number(answers, steps as usize)?;
+    answers.push(b'\n')?;
+    Ok(())
+}
+
+/// Adds the answer to octets that are no cell.
+pub fn add_wrong_length(answers: &mut Vec<u8>, octets: usize) -> Result<(), AllocError>
+    ensures { OnOk result (answers.new.items ≡ answers.old.items ++ wrong_length octets) }
+{
+    add_numbered(answers, b"fault cell 1 WrongLength ", octets)
+}
+
+/// Adds the answer to a code of eight octets that spell no instruction, which stand at this place.
+#[tactic(auto, using(std::proofs::lemmas::List::append_assoc))]
+fn add_unknown_code(answers: &mut Vec<u8>, at: usize, code: u16) -> Result<(), AllocError>
+    ensures { OnOk result (answers.new.items ≡ answers.old.items ++ decode_fault (DecodeFault.UnknownCode at code)) }
+{
+    answers.extend_from_slice(b"fault decode 2 UnknownCode ")?;
+    add_number(answers, at)?;
+    answers.push(b' ')?;
+    let [high, low] = code.to_be_bytes();
+    let mut digits = [0; 4];
+    if hex::encode_to_slice([high, low].as_slice(), &mut digits).is_err() {
+        unreachable!();
+    }
+    answers.extend_from_slice(&digits)?;
+    answers.push(b'\n')?;
+    Ok(())
+}
+
+/// Adds the answer to octets that are no code.
+pub fn add_decode_fault(answers: &mut Vec<u8>, fault: DecodeFault) -> Result<(), AllocError>
+    ensures { fault ≢ DecodeFault.NoMemory → OnOk result (answers.new.items ≡ answers.old.items ++ decode_fault fault) }
+{
+    match fault {
+        DecodeFault::Ragged => {
+            answers.extend_from_slice(b"fault decode 1 Ragged\n")?;
+            Ok(())
+        }
+        DecodeFault::UnknownCode { at, code } => add_unknown_code(answers, at, code),
+        DecodeFault::NoMemory => Err(AllocError),
+    }
+}
+
+/// Adds the answer to a code that is no program.
+pub fn add_verify_fault(answers: &mut Vec<u8>, fault: Fault) -> Result<(), AllocError>
+    ensures { OnOk result (answers.new.items ≡ answers.old.items ++ verify_fault fault) }
+{
+    let text: &[u8] = match fault {
+        Fault::Empty => b"fault verify 1 Empty\n",
+        Fault::TooLong => b"fault verify 2 TooLong\n",
+        Fault::JumpOutside { at } => {
+            return add_numbered(answers, b"fault verify 6 JumpOutside ", at);
+        }
+        Fault::NoReturn => b"fault verify 7 NoReturn\n",
+    };
+    answers.extend_from_slice(text)?;
+    Ok(())
+}

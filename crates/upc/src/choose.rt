@@ -1,0 +1,188 @@
+//! What the words after the program's name ask for, as the crate `clap` reads them.
+ghost use Rattle.std.specs.Prelude.{◌≡◌, List, ℕ, [], IfOk, IfErr, IfSome, IsErrAnd, IsOkAnd, IsSome, codes, map, option_map};
+ghost use Rattle.std.specs.String.{string_bytes};
+ghost use Rattle.clap.specs.Values.{kind_of};
+ghost use Rattle.clap.specs.Simple.{app_of, new_app};
+ghost use Rattle.clap.specs.Kinds.{FailsBy};
+ghost use Rattle.upc.specs.Choice.{Asks, IsChoiceOf, IsChosen, IsStopFor, StopsAt, behind_name, choice_named, faults_in};
+ghost use Rattle.upc.specs.Choice.{subcommand_in, upc_app, with_name};
+
+use clap::error::ErrorKind;
+use clap::{Command, Error};
+use std::alloc::{AllocError, Global};
+
+/// What the program is to do: one choice for each subcommand.
+#[derive(Clone, Copy, Debug, PartialEq, Eq)]
+pub enum Choice {
+    /// Run one BPF program on each cell that is read, and print its value and steps.
+    Eval,
+}
+
+/// Why the words lead to no choice. A text is `clap`'s own, whole, with its last line feed.
+#[derive(Debug, Drop)]
+pub enum Stop {
+    /// Help was asked for: its text is for the standard output, and the exit status is 0.
+    Help(String),
+    /// A word is wrong, or one too many: the text is for the standard error, the status is 2.
+    Words(String),
+    /// A request for memory was refused: the status is 3.
+    NoMemory,
+}
+
+/// What the words after the program's own name ask for. The one word is a subcommand's name, and
+/// no word asks for what `eval` does; `clap`'s own forms of help are help, and each other word and
+/// each further word is refused. As everywhere in `clap`, the mark `--` ends the options and is no
+/// word of its own, so it may stand last.
+pub fn choose(alloc: Global, words: Vec<String>) -> Result<Choice, Stop>
+    ensures chosen { IfOk result (IsChosen (map string_bytes words.items)) }
+    ensures faultless { IfOk result (λ _. faults_in (map string_bytes words.items) ≡ []) }
+    ensures asked { IfOk result (Asks (map string_bytes words.items)) }
+    ensures stopped { IfErr result (StopsAt (map string_bytes words.items)) }
+    ensures taken { faults_in (map string_bytes words.items) ≡ []
+        → IfErr result (λ stop. stop ≡ Stop.NoMemory) }
+    ensures granted { (choice : Choice) → Asks (map string_bytes words.items) choice
+        → IfErr result (λ stop. stop ≡ Stop.NoMemory) }
+{
+    let Ok(words) = behind_own_name(alloc, words) else {
+        return Err(Stop::NoMemory);
+    };
+    let Ok(command) = own_command(alloc) else {
+        return Err(Stop::NoMemory);
+    };
+    let found = found_in(command, words.as_slice());
+    answer_to(alloc, found)
+}
+
+// `clap` takes the first word for the program's name.
+fn behind_own_name(alloc: Global, mut words: Vec<String>) -> Result<Vec<String>, AllocError>
+    ensures { IfOk result (λ all. map string_bytes all.items ≡ behind_name (map string_bytes words.items)) }
+{
+    let name = String::from_str(alloc, "upc")?;
+    words.insert(0, name)?;
+    Ok(words)
+}
+
+#[tactic(auto, unfolding(crate::specs::Choice::upc_app))]
+fn own_command<'a>(alloc: Global) -> Result<Command<'a>, AllocError>
+    ensures { IfOk result (λ command. app_of command ≡ upc_app) }
+{
+    let command = bare_command(alloc);
+    with_subcommand(
+        alloc,
+        command,
+        "eval",
+        "Run a BPF program on each ATM cell and print its value and steps",
+    )
+}
+
+fn bare_command<'a>(alloc: Global) -> Command<'a>
+    ensures { app_of result ≡ new_app (codes "upc") }
+{
+    Command::new(alloc, "upc").about("Usage parameter control of ATM cells by BPF programs")
+}
+
+#[tactic(auto, unfolding(crate::specs::Choice::with_name))]
+fn with_subcommand<'a>(
+    alloc: Global,
+    command: Command<'a>,
+    name: &'a str,
+    about: &'a str,
+) -> Result<Command<'a>, AllocError>
+    ensures { IfOk result (λ more. app_of more ≡ with_name (app_of command.entry) name.entry.now) }
+{
+    command.subcommand(Command::new(alloc, name).about(about))
+}
+
+// The name of the subcommand in the words, where `clap` takes them.
+fn found_in<'a>(command: Command<'a>, words: &'a [String]) -> Result<Option<&'a str>, Error>
+    requires { app_of command ≡ upc_app }
+    ensures kinds { (given : List (List ℕ)) → map string_bytes words.entry.now ≡ behind_name given
+        → FailsBy (faults_in given) result }
+    ensures name { (given : List (List ℕ)) → map string_bytes words.entry.now ≡ behind_name given
+        → IfOk result (λ name. option_map (λ text. text.now) name ≡ subcommand_in given) }
+{
+    match command.try_get_matches_from(words) {
+        Ok(matches) => Ok(matches.subcommand_name()),
+        Err(error) => Err(error),
+    }
+}
+
+fn answer_to(alloc: Global, found: Result<Option<&str>, Error>) -> Result<Choice, Stop>
+    requires { IfOk found (λ name. IfSome name (λ text. IsSome (choice_named text.now))) }
+    ensures named { IfOk found.entry (λ name. IsOkAnd result (IsChoiceOf (option_map (λ text. text.now) name))) }
+    ensures stopped { IfErr found.entry (λ error. IsErrAnd result (IsStopFor (kind_of error))) }
+{
+    match found {
+        Ok(None) => Ok(Choice::Eval),
+        Ok(Some(name)) => Ok(named(name).unwrap()),
+        Err(error) => Err(stop_for(alloc, error)),
+    }
+}
+
+fn named(name: &str) -> Option<Choice>
+    ensures { result ≡ choice_named name.now }
+{
+    match name {
+        "eval" => Some(Choice::Eval),
+        _ => None,
+    }
+}
+
+fn stop_for(alloc: Global, error: Error) -> Stop
+    ensures { IsStopFor (kind_of error) result }
+{
+    let kind = error.kind();
+    let Ok(text) = error.to_string(alloc) else {
+        return Stop::NoMemory;
+    };
+    match kind {
+        ErrorKind::OutOfMemory => Stop::NoMemory,
+        ErrorKind::DisplayHelp => Stop::Help(text),
+        _ => Stop::Words(text),
+    }
+}
+
+#[cfg(test)]
+mod tests {
+    use super::*;
+    use std::test::Fail;
+
+    fn chosen_by(alloc: Global, line: &str) -> Result<Result<Choice, Stop>, AllocError> {
+        let mut words = Vec::new(alloc);
+        for word in line.split_whitespace() {
+            let word = String::from_str(alloc, word)?;
+            words.push(word)?;
+        }
+        Ok(choose(alloc, words))
+    }
+
+    #[test]
+    fn no_word_and_eval_choose_eval(rt: HostRuntime) -> Result<(), Fail> {
+        for line in ["", "eval"] {
+            let answer = chosen_by(rt.alloc(), line)?;
+            assert!(rt; matches!(&answer, Ok(Choice::Eval)), "{line}");
+        }
+        Ok(())
+    }
+
+    #[test]
+    fn other_and_further_words_are_refused(rt: HostRuntime) -> Result<(), Fail> {
+        for line in ["bogus", "eval extra", "--version"] {
+            let answer = chosen_by(rt.alloc(), line)?;
+            assert!(rt; matches!(&answer, Err(Stop::Words(_))), "{line}");
+        }
+        Ok(())
+    }
+
+    #[test]
+    fn help_names_the_subcommands(rt: HostRuntime) -> Result<(), Fail> {
+        for line in ["--help", "-h", "help"] {
+            let answer = chosen_by(rt.alloc(), line)?;
+            let Err(Stop::Help(text)) = &answer else {
+                return Err(Fail::new("this is no help"));
+            };
+            assert!(rt; text.as_str().contains("\n  eval "), "{line}");
+        }
+        Ok(())
+    }
+}

@@ -1,0 +1,231 @@
+//! The run of a machine over the lines of an input: the one loop of every subcommand that reads lines.
+ghost use Rattle.std.specs.Prelude.{◌≡◌, ◌≢◌, ℕ, ◌+◌, ◌<◌, ◌≤◌, ◌++◌, ◌||◌, List, [], true, Ok, Err, length, slice_index, nat_le, nat_lt, IfOk, OnOk, OnErr};
+ghost use Rattle.upc.specs.Device.{IsPart, Moves, one_more};
+ghost use Rattle.upc.specs.Window.{window_room};
+ghost use Rattle.upc.specs.Lines.{lines_of, most_lines, most_octets};
+ghost use Rattle.upc.specs.Printing.{Prints, IsFront, too_long};
+ghost use Rattle.upc.specs.Progress.{Passes};
+ghost use Rattle.upc.specs.Outcome.{read_failures, write_failures};
+ghost use Rattle.upc.specs.declared.outcome.Done.{Done as TheDone};
+
+use crate::device::{Failed, Input, Output};
+use crate::giving::give_answers;
+use crate::line::before_return;
+use crate::machine::{Machine, Turn};
+use crate::outcome::{Done, RunFault};
+use crate::window::Window;
+use std::alloc::{AllocError, Global};
+
+/// The most lines of an input.
+const MOST_LINES: u32 = 1000000;
+
+/// The most octets of a line, its carriage return counted and its line feed not.
+const MOST_OCTETS: usize = 70000;
+
+/// So many octets of answers are given at once, without waiting for more.
+const ENOUGH: usize = 65536;
+
+/// The answer to a line over the limits.
+const TOO_LONG: &[u8; 23] = b"fault script 5 TooLong\n";
+
+/// Whether a line of this length, with so many lines before it, is over the limits.
+fn is_over_limits(met: u32, octets: usize) -> bool
+    ensures { result ≡ (nat_le most_lines met || nat_lt most_octets octets) }
+{
+    met >= MOST_LINES || octets > MOST_OCTETS
+}
+
+/// Adds the answer to a line over the limits.
+fn answer_too_long(answers: &mut Vec<u8>) -> Result<(), AllocError>
+    ensures { OnOk result (answers.new.items ≡ answers.old.items ++ too_long) }
+{
+    answers.extend_from_slice(TOO_LONG)?;
+    Ok(())
+}
+
+/// Answers a line that a line feed ended.
+fn answer_line<M: Machine>(
+    machine: &mut M,
+    met: u32,
+    octets: &[u8],
+    answers: &mut Vec<u8>,
+) -> Result<Turn, AllocError>
+    requires { M.is_sound (M.world machine.old) }
+    ensures passes { IfOk result (λ turn. Passes M.steps M.closes met (M.world machine.old)
+        (record { octets = octets.now; ended = true }) turn (M.world machine.new) answers.old.items answers.new.items) }
+    ensures sound { IfOk result (λ turn. turn ≡ Turn.GoesOn → M.is_sound (M.world machine.new)) }
+    ensures within { IfOk result (λ turn. turn ≡ Turn.GoesOn → (met < most_lines) × (length octets.now ≤ most_octets)) }
+{
+    if is_over_limits(met, octets.len()) {
+        answer_too_long(answers)?;
+        return Ok(Turn::Ends);
+    }
+    machine.answer(before_return(octets), answers)
+}
+
+/// Answers the octets behind the last line feed, if there are any, and the end of the input.
+fn answer_end<M: Machine>(
+    machine: &mut M,
+    met: u32,
+    octets: &[u8],
+    answers: &mut Vec<u8>,
+) -> Result<Done, AllocError>
+    requires sound { M.is_sound (M.world machine.old) }
+    requires no_feed { (k : ℕ) → k < length octets.now → slice_index octets.now k ≢ 10 }
+    ensures { IfOk result (λ done. (here : List ℕ) × (answers.new.items ≡ answers.old.items ++ here)
+        × Prints M.steps M.closes met (M.world machine.old) (lines_of octets.now) here done) }
+{
+    if octets.is_empty() {
+        return machine.close(answers);
+    }
+    if is_over_limits(met, octets.len()) {
+        answer_too_long(answers)?;
+        return Ok(Done::Ended);
+    }
+    match machine.answer(octets, answers)? {
+        Turn::Ends => Ok(Done::Ended),
+        Turn::GoesOn => machine.close(answers),
+    }
+}
+
+/// Gives what is answered, and then takes more from the input into the window.
+fn refill<I: Input, O: Output>(
+    window: &mut Window,
+    input: &mut I,
+    output: &mut O,
+    answers: &mut Vec<u8>,
+) -> Result<usize, RunFault>
+    requires { length window.old ≤ most_octets }
+    ensures octets { I.is_known → IfOk result (λ _. window.old ++ I.rest input.old ≡ window.new ++ I.rest input.new) }
+    ensures count { IfOk result (λ count. length window.new ≡ length window.old + count) }
+    ensures bounded { length window.new ≤ window_room }
+    ensures same { result ≡ Ok 0 → window.new ≡ window.old }
+    ensures end { I.is_known → result ≡ Ok 0 → I.rest input.new ≡ [] }
+    ensures given { O.is_known → OnOk result (O.held output.new ≡ O.held output.old ++ answers.old.items) }
+    ensures none { OnOk result (answers.new.items ≡ []) }
+    ensures front { O.is_known → OnErr result (IsPart (O.held output.old) (O.held output.new) answers.old.items) }
+    ensures reading { I.failures input.new ≡ read_failures result (I.failures input.old) }
+    ensures writing { O.failures output.new ≡ write_failures result (O.failures output.old) }
+{
+    if give_answers(output, answers).is_err() {
+        return Err(RunFault::WriteFailed);
+    }
+    match window.fill(input) {
+        Ok(count) => Ok(count),
+        Err(_) => Err(RunFault::ReadFailed),
+    }
+}
+
+/// Gives the last answers of a run.
+fn give_last<O: Output>(output: &mut O, answers: &mut Vec<u8>, done: Done) -> Result<Done, RunFault>
+    ensures done { IfOk result (λ value. value ≡ done) }
+    ensures given { O.is_known → OnOk result (O.held output.new ≡ O.held output.old ++ answers.old.items) }
+    ensures front { O.is_known → OnErr result (IsPart (O.held output.old) (O.held output.new) answers.old.items) }
+    ensures fault { OnErr result (result ≡ Err RunFault.WriteFailed) }
+    ensures writing { O.failures output.new ≡ write_failures result (O.failures output.old) }
+{
+    match give_answers(output, answers) {
+        Ok(()) => Ok(done),
+        Err(_) => Err(RunFault::WriteFailed),
+    }
+}
+
+/// Gives what is answered, where that is enough for a call of the output.
+fn give_if_enough<O: Output>(output: &mut O, answers: &mut Vec<u8>) -> Result<(), Failed>
+    ensures moved { O.is_known → OnOk result (Moves (O.held output.old) (O.held output.new) answers.old.items answers.new.items) }
+    ensures front { O.is_known → OnErr result (IsPart (O.held output.old) (O.held output.new) answers.old.items) }
+    ensures calm { OnOk result (O.failures output.new ≡ O.failures output.old) }
+    ensures failed { OnErr result (O.failures output.new ≡ one_more (O.failures output.old)) }
+{
+    if answers.len() < ENOUGH {
+        return Ok(());
+    }
+    give_answers(output, answers)
+}
+
+/// Ends a run by a line over the limits.
+fn end_too_long<O: Output>(output: &mut O, answers: &mut Vec<u8>) -> Result<Done, RunFault>
+    ensures done { IfOk result (λ done. done ≡ Done.Ended) }
+    ensures given { O.is_known → OnOk result (O.held output.new ≡ O.held output.old ++ (answers.old.items ++ too_long)) }
+    ensures front { O.is_known → OnErr result (IsPart (O.held output.old) (O.held output.new) (answers.old.items ++ too_long)) }
+    ensures fault { result ≢ Err RunFault.ReadFailed }
+    ensures writing { O.failures output.new ≡ write_failures result (O.failures output.old) }
+{
+    match answer_too_long(answers) {
+        Err(_) => Err(RunFault::NoMemory),
+        Ok(()) => give_last(output, answers, Done::Ended),
+    }
+}
+
+/// Answers what waits at the end of the input, and gives the last answers.
+fn finish<O: Output, M: Machine>(
+    output: &mut O,
+    machine: &mut M,
+    met: u32,
+    octets: &[u8],
+    answers: &mut Vec<u8>,
+) -> Result<Done, RunFault>
+    requires sound { M.is_sound (M.world machine.old) }
+    requires no_feed { (k : ℕ) → k < length octets.now → slice_index octets.now k ≢ 10 }
+    ensures given { O.is_known → IfOk result (λ done. (here : List ℕ) × (O.held output.new ≡ O.held output.old ++ (answers.old.items ++ here))
+        × Prints M.steps M.closes met (M.world machine.old) (lines_of octets.now) here done) }
+    ensures front { O.is_known → OnErr result ((here : List ℕ) × (done : TheDone) × IsPart (O.held output.old) (O.held output.new) (answers.old.items ++ here)
+        × Prints M.steps M.closes met (M.world machine.old) (lines_of octets.now) here done) }
+    ensures fault { result ≢ Err RunFault.ReadFailed }
+    ensures writing { O.failures output.new ≡ write_failures result (O.failures output.old) }
+{
+    match answer_end(machine, met, octets, answers) {
+        Err(_) => Err(RunFault::NoMemory),
+        Ok(done) => give_last(output, answers, done),
+    }
+}
+
+/// Runs a machine over the lines of an input. Answers are gathered and given in large pieces, and
+/// whatever is answered is given before the input is asked for more.
+pub fn answer_lines<I: Input, O: Output, M: Machine>(
+    alloc: Global,
+    input: &mut I,
+    output: &mut O,
+    machine: &mut M,
+) -> Result<Done, RunFault>
+    requires { M.is_sound (M.world machine.old) }
+    ensures text { I.is_known → O.is_known → IfOk result (λ done. (text : List ℕ) × (O.held output.new ≡ O.held output.old ++ text)
+        × Prints M.steps M.closes 0 (M.world machine.old) (lines_of (I.rest input.old)) text done) }
+    ensures front { I.is_known → O.is_known → OnErr result ((text : List ℕ) × (O.held output.new ≡ O.held output.old ++ text)
+        × IsFront (Prints M.steps M.closes 0 (M.world machine.old) (lines_of (I.rest input.old))) text) }
+    ensures reading { I.failures input.new ≡ read_failures result (I.failures input.old) }
+    ensures writing { O.failures output.new ≡ write_failures result (O.failures output.old) }
+{
+    let Ok(mut window) = Window::new(alloc) else {
+        return Err(RunFault::NoMemory);
+    };
+    let mut answers = Vec::new(alloc);
+    let mut met: u32 = 0;
+    loop {
+        match window.find_line() {
+            Some(count) => {
+                match answer_line(machine, met, &window.octets()[..count], &mut answers) {
+                    Err(_) => return Err(RunFault::NoMemory),
+                    Ok(Turn::Ends) => return give_last(output, &mut answers, Done::Ended),
+                    Ok(Turn::GoesOn) => {}
+                }
+                window.skip(count + 1);
+                met += 1;
+                if give_if_enough(output, &mut answers).is_err() {
+                    return Err(RunFault::WriteFailed);
+                }
+            }
+            None => {
+                let waiting = window.octets().len();
+                if waiting > 0 && is_over_limits(met, waiting) {
+                    return end_too_long(output, &mut answers);
+                }
+                match refill(&mut window, input, output, &mut answers) {
+                    Err(fault) => return Err(fault),
+                    Ok(0) => return finish(output, machine, met, window.octets(), &mut answers),
+                    Ok(_) => {}
+                }
+            }
+        }
+    }
+}

@@ -1,0 +1,74 @@
+//! `upc`: the usage parameter control of an ATM line card, as a program over standard input and
+//! standard output.
+#![tactic(auto)]
+
+mod answer;
+mod choose;
+mod device;
+mod driver;
+mod eval;
+mod giving;
+mod hexadecimal;
+mod line;
+mod machine;
+mod outcome;
+mod status;
+mod stream;
+#[cfg(test)]
+mod tests;
+mod window;
+mod words;
+
+use choose::{Choice, Stop, choose};
+use eval::eval_bytes;
+use outcome::RunFault;
+use status::exit_status;
+use std::io;
+use std::process::ExitCode;
+use stream::{Giving, Taking};
+
+fn main(rt: HostRuntime) -> ExitCode {
+    let words = match words_after_name(&rt) {
+        Ok(words) => words,
+        Err(error) if error.kind() == io::ErrorKind::InvalidData => {
+            let _ = eprintln!(rt; "error: a word is not UTF-8");
+            return ExitCode::from(2);
+        }
+        Err(_) => return failed(&rt, RunFault::NoMemory),
+    };
+    match choose(rt.alloc(), words) {
+        Ok(Choice::Eval) => run_eval(&rt),
+        Err(Stop::Help(text)) => match print!(rt; "{text}") {
+            Ok(()) => ExitCode::SUCCESS,
+            Err(_) => failed(&rt, RunFault::WriteFailed),
+        },
+        Err(Stop::Words(text)) => {
+            let _ = eprint!(rt; "{text}");
+            ExitCode::from(2)
+        }
+        Err(Stop::NoMemory) => failed(&rt, RunFault::NoMemory),
+    }
+}
+
+/// The words behind the program's own name.
+fn words_after_name(rt: &HostRuntime) -> io::Result<Vec<String>> {
+    let words = std::env::args(rt)?.skip(1).collect(rt.alloc())?;
+    Ok(words)
+}
+
+/// Runs `eval` over the standard streams, which the program itself buffers.
+fn run_eval(rt: &HostRuntime) -> ExitCode {
+    let mut input = Taking::new(rt.stdin());
+    let mut output = Giving::new(rt.stdout());
+    let ended = eval_bytes(rt.alloc(), &mut input, &mut output);
+    match ended {
+        Ok(_) => ExitCode::from(exit_status(&ended)),
+        Err(fault) => failed(rt, fault),
+    }
+}
+
+/// Says on the standard error why a call failed.
+fn failed(rt: &HostRuntime, fault: RunFault) -> ExitCode {
+    let _ = eprintln!(rt; "upc: {fault}");
+    ExitCode::from(exit_status(&Err(fault)))
+}

@@ -1,0 +1,125 @@
+//! Devices that move one octet a call, and fail at a call of one's choice.
+ghost use Rattle.std.specs.Prelude.{◌≡◌, drop};
+
+use crate::device::{Failed, Input, Output};
+use crate::eval::eval_bytes;
+use crate::outcome::{Done, RunFault};
+use std::alloc::Global;
+use std::test::Fail;
+
+const INPUT: &[u8; 83] =
+    b"0030000000000003001500010000004a00060000000000020006000000000001\n00100640\n0010064a\n";
+
+const TEXT: &[u8; 43] = b"accepted 4\nvalue 1 steps 3\nvalue 2 steps 3\n";
+
+/// Gives one octet a call, and fails once so many calls have gone well.
+#[derive(Drop)]
+struct Dropper<'a> {
+    octets: &'a [u8],
+    calls: usize,
+    failures: u64,
+}
+
+impl Input for Dropper<'_> {
+    ghost is_known = { Unit {0} };
+
+    ghost rest = { λ dropper. dropper.octets.now };
+
+    ghost failures = { λ dropper. dropper.failures };
+
+    fn take(&mut self, room: &mut [u8]) -> Result<usize, Failed> {
+        if self.calls == 0 {
+            self.failures = self.failures.wrapping_add(1);
+            return Err(Failed);
+        }
+        self.calls -= 1;
+        let count = self.octets.len().min(room.len()).min(1);
+        let (front, behind) = self.octets.split_at(count);
+        room[..count].copy_from_slice(front);
+        self.octets = behind;
+        Ok(count)
+    }
+}
+
+/// Takes one octet a call, and fails once so many calls have gone well.
+#[derive(Drop)]
+struct Catcher {
+    held: Vec<u8>,
+    calls: usize,
+    failures: u64,
+}
+
+impl Output for Catcher {
+    ghost is_known = { Unit {0} };
+
+    ghost held = { λ catcher. catcher.held.items };
+
+    ghost failures = { λ catcher. catcher.failures };
+
+    fn give(&mut self, octets: &[u8]) -> Result<usize, Failed> {
+        let [first, ..] = octets else {
+            return Ok(0);
+        };
+        if self.calls == 0 || self.held.push(*first).is_err() {
+            self.failures = self.failures.wrapping_add(1);
+            return Err(Failed);
+        }
+        self.calls -= 1;
+        Ok(1)
+    }
+}
+
+/// Runs `eval` over such devices: how it ends, and what was written.
+fn run(alloc: Global, takes: usize, gives: usize) -> (Result<Done, RunFault>, Vec<u8>) {
+    let mut input = Dropper {
+        octets: INPUT,
+        calls: takes,
+        failures: 0,
+    };
+    let mut output = Catcher {
+        held: Vec::new(alloc),
+        calls: gives,
+        failures: 0,
+    };
+    let ended = eval_bytes(alloc, &mut input, &mut output);
+    (ended, output.held)
+}
+
+#[test]
+fn one_octet_a_call_gives_the_same_text(rt: HostRuntime) -> Result<(), Fail> {
+    let (ended, text) = run(rt.alloc(), 1000, 1000);
+    assert_eq!(rt; ended, Ok(Done::Whole));
+    assert_eq!(rt; text.as_slice(), TEXT.as_slice());
+    Ok(())
+}
+
+#[test]
+fn a_write_that_fails_leaves_the_octets_before_it(rt: HostRuntime) -> Result<(), Fail> {
+    for gives in 0..TEXT.len() {
+        let (ended, text) = run(rt.alloc(), 1000, gives);
+        assert_eq!(rt; ended, Err(RunFault::WriteFailed));
+        assert_eq!(rt; text.as_slice(), &TEXT[..gives]);
+    }
+    let (ended, _text) = run(rt.alloc(), 1000, TEXT.len());
+    assert_eq!(rt; ended, Ok(Done::Whole));
+    Ok(())
+}
+
+#[test]
+fn a_read_that_fails_leaves_the_answers_before_it(rt: HostRuntime) -> Result<(), Fail> {
+    for takes in 0..INPUT.len() {
+        let (ended, text) = run(rt.alloc(), takes, 1000);
+        assert_eq!(rt; ended, Err(RunFault::ReadFailed));
+        let answered = if takes < 65 {
+            0
+        } else if takes < 74 {
+            11
+        } else if takes < 83 {
+            27
+        } else {
+            43
+        };
+        assert_eq!(rt; text.as_slice(), &TEXT[..answered]);
+    }
+    Ok(())
+}

@@ -1,0 +1,71 @@
+//! The most lines of an input, and the most octets of a line.
+use super::expect;
+use crate::outcome::Done;
+use std::alloc::{AllocError, Global};
+use std::test::Fail;
+
+const NO_PROGRAM: &[u8; 25] = b"fault script 4 NoProgram\n";
+
+const TOO_LONG: &[u8; 23] = b"fault script 5 TooLong\n";
+
+/// So many times the octet, and then the end.
+fn line_of(alloc: Global, octet: u8, count: usize, end: &[u8]) -> Result<Vec<u8>, AllocError> {
+    let mut line = vec![in alloc; octet; count]?;
+    line.extend_from_slice(end)?;
+    Ok(line)
+}
+
+#[test]
+fn a_line_has_at_most_70000_octets(rt: HostRuntime) -> Result<(), Fail> {
+    let rows: [(usize, &[u8], &[u8]); 8] = [
+        (70000, b"", NO_PROGRAM),
+        (70000, b"\n", NO_PROGRAM),
+        (69999, b"\r\n", NO_PROGRAM),
+        (69999, b"\r", NO_PROGRAM),
+        (70001, b"", TOO_LONG),
+        (70001, b"\n", TOO_LONG),
+        (70000, b"\r\n", TOO_LONG),
+        (200000, b"\n", TOO_LONG),
+    ];
+    for (count, end, text) in rows {
+        let line = line_of(rt.alloc(), b'#', count, end)?;
+        expect(&rt, rt.alloc(), &line, text, Done::Ended)?;
+    }
+    Ok(())
+}
+
+#[test]
+fn an_input_has_at_most_1000000_lines(rt: HostRuntime) -> Result<(), Fail> {
+    let mut input = line_of(rt.alloc(), b'\n', 999999, b"0006000000000007\n")?;
+    expect(&rt, rt.alloc(), &input, b"accepted 1\n", Done::Whole)?;
+    input.push(b'\n')?;
+    expect(
+        &rt,
+        rt.alloc(),
+        &input,
+        b"accepted 1\nfault script 5 TooLong\n",
+        Done::Ended,
+    )?;
+    Ok(())
+}
+
+#[test]
+fn what_was_answered_before_a_line_over_the_limits_stays(rt: HostRuntime) -> Result<(), Fail> {
+    let mut input = Vec::from_slice(rt.alloc(), b"0006000000000007\n00100640\n")?;
+    input.extend_from_slice(&line_of(rt.alloc(), b'0', 70001, b"\n00100640\n")?)?;
+    let text = b"accepted 1\nvalue 7 steps 1\nfault script 5 TooLong\n";
+    expect(&rt, rt.alloc(), &input, text, Done::Ended)?;
+    Ok(())
+}
+
+#[test]
+fn more_answers_than_are_gathered_at_once(rt: HostRuntime) -> Result<(), Fail> {
+    let mut input = Vec::from_slice(rt.alloc(), b"0006000000000007\n")?;
+    let mut text = Vec::from_slice(rt.alloc(), b"accepted 1\n")?;
+    for _ in 0..20000 {
+        input.extend_from_slice(b"00100640\n")?;
+        text.extend_from_slice(b"value 7 steps 1\n")?;
+    }
+    expect(&rt, rt.alloc(), &input, &text, Done::Whole)?;
+    Ok(())
+}

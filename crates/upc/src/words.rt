@@ -1,0 +1,58 @@
+//! The words of a line.
+ghost use Rattle.std.specs.Prelude.{◌≡◌, ◌<◌, ◌∷◌, [], length, slice_index, false, MatchOption};
+ghost use Rattle.upc.specs.Said.{IsSaid};
+ghost use Rattle.upc.specs.Words.{words_of, is_blank};
+
+use memchr::memchr2;
+
+/// The line from its first octet on that is neither a space nor a tab.
+fn after_blanks(line: &[u8]) -> &[u8]
+    ensures same { words_of result.now ≡ words_of line.now }
+    ensures begins { 0 < length result.now → is_blank (slice_index result.now 0) ≡ false }
+{
+    let mut rest = line;
+    while let [b' ' | b'\t', behind @ ..] = rest {
+        rest = behind;
+    }
+    rest
+}
+
+/// The first word of a line and what stands behind it; none where the line has no words.
+pub fn first_word(line: &[u8]) -> Option<(&[u8], &[u8])>
+    ensures { MatchOption result (words_of line.now ≡ []) (λ found. words_of line.now ≡ found.0.now ∷ words_of found.1.now) }
+{
+    let line = after_blanks(line);
+    if line.is_empty() {
+        return None;
+    }
+    match memchr2(b' ', b'\t', line) {
+        Some(end) => Some((&line[..end], &line[end + 1..])),
+        None => Some((line, &[])),
+    }
+}
+
+/// What a line asks, as far as its words are counted.
+pub enum Said<'a> {
+    /// Nothing: the line has no words, or is a remark.
+    Nothing,
+    /// One word.
+    Word(&'a [u8]),
+    /// More than one word.
+    Words,
+}
+
+/// What a line asks.
+pub fn lone_word(line: &[u8]) -> Said<'_>
+    ensures { IsSaid (words_of line.now) result }
+{
+    let Some((word, rest)) = first_word(line) else {
+        return Said::Nothing;
+    };
+    if let [b'#', ..] = word {
+        return Said::Nothing;
+    }
+    match first_word(rest) {
+        None => Said::Word(word),
+        Some(_) => Said::Words,
+    }
+}
