@@ -1,5 +1,5 @@
 -- Octets either spell a code or have a fault.
-use Rattle.std.proofs.Common.{◌≡◌, ◌≢◌, ℕ, zero, suc, ◌+◌, ◌*◌, ◌/◌, ◌%◌, ◌<◌, ◌≤◌, ◌⊎◌, inl, inr, ◌==◌, Bool, true, false, if◌then◌else◌, List, [], ◌∷◌, length, take, drop, refl, sym, ◌∙◌, ap, subst, arith, length-take, length-drop, drop-drop}
+use Rattle.std.proofs.Common.{◌≡◌, ◌≢◌, ℕ, zero, suc, ◌+◌, ◌*◌, ◌/◌, ◌%◌, ◌<◌, ◌⊎◌, inl, inr, ◌==◌, Bool, true, false, if◌then◌else◌, List, [], ◌∷◌, length, take, drop, refl, sym, ◌∙◌, ap, subst, arith, length-take, length-drop, drop-drop}
 use Rattle.std.specs.Prelude.{IfSome}
 use Rattle.std.proofs.lemmas.Bool.{cases_lt}
 use Rattle.std.proofs.lemmas.Bool.Decides.{eqb_tells}
@@ -10,10 +10,11 @@ use Rattle.bpf_code.specs.Table.{code_of, jt_of, jf_of, k_of}
 use Rattle.bpf_code.specs.declared.decoder.DecodeFault.{DecodeFault}
 use Rattle.bpf_code.specs.declared.decoder.DecodeFault.TheVariants.{Ragged, UnknownCode, NoMemory}
 use Rattle.bpf_code.specs.declared.instr.Instr.{Instr}
-use Rattle.bpf_code.specs.declared.instr.Instr.TheVariants.{LoadAbs, Branch, RetK}
-use Rattle.bpf_code.specs.declared.instr.By.TheVariants.{Imm}
+use Rattle.bpf_code.specs.declared.instr.By.TheVariants.{Imm, X}
+use Rattle.bpf_code.specs.declared.instr.Instr.TheVariants.{LoadAbs, LoadInd, LoadImm, LoadMem, LoadLen, LdxImm, LdxMem, LdxLen, LdxMsh, Store, StoreX, Alu, Neg, Jump, Branch, RetK, RetA, Tax, Txa}
+use Rattle.bpf_code.specs.declared.instr.Op.TheVariants.{Add, Sub, Mul, Div, Or, And, Lsh, Rsh}
 use Rattle.bpf_code.specs.declared.instr.Size.TheVariants.{Word, Half, Octet}
-use Rattle.bpf_code.specs.declared.instr.Test.TheVariants.{Eq}
+use Rattle.bpf_code.specs.declared.instr.Test.TheVariants.{Eq, Gt, Ge, Set}
 use Rattle.bpf_code.proofs.Rows.{row_at, row_at-fields}
 
 -- the fields of the instruction that these fields lead to are these
@@ -22,18 +23,63 @@ record Owns (jt jf k : ℕ) (i : Instr) : Type 0 where
   jf_own : IfSome (jf_of i) (λ offset. jf ≡ offset)
   k_own : IfSome (k_of i) (λ operand. k ≡ operand)
 
-either : (jt jf k : ℕ) (b : Bool) (i j : Instr) → Owns jt jf k i → Owns jt jf k j → Owns jt jf k (if b then i else j)
-either jt jf k true i j p q = p
-either jt jf k false i j p q = q
+module _ (jt jf k : ℕ) where
+  own : (i : Instr) → IfSome (jt_of i) (λ offset. jt ≡ offset) → IfSome (jf_of i) (λ offset. jf ≡ offset) → IfSome (k_of i) (λ operand. k ≡ operand) → Owns jt jf k i
+  own i t f o = record { jt_own = t; jf_own = f; k_own = o }
 
-row_at-owns : (code jt jf k : ℕ) → Owns jt jf k (row_at code jt jf k)
-unfolding row_at
-row_at-owns code jt jf k =
-    either jt jf k (code == 0x0020) (LoadAbs Word k) _ (record { jt_own = tt; jf_own = tt; k_own = refl })
-    (either jt jf k (code == 0x0028) (LoadAbs Half k) _ (record { jt_own = tt; jf_own = tt; k_own = refl })
-    (either jt jf k (code == 0x0030) (LoadAbs Octet k) _ (record { jt_own = tt; jf_own = tt; k_own = refl })
-    (either jt jf k (code == 0x0015) (Branch Eq (Imm k) jt jf) (RetK k) (record { jt_own = refl; jf_own = refl; k_own = refl })
-    (record { jt_own = tt; jf_own = tt; k_own = refl }))))
+  -- one row of the table above the rows below it
+  row : (b : Bool) (i j : Instr) → IfSome (jt_of i) (λ offset. jt ≡ offset) → IfSome (jf_of i) (λ offset. jf ≡ offset) → IfSome (k_of i) (λ operand. k ≡ operand) → Owns jt jf k j → Owns jt jf k (if b then i else j)
+  row true i j t f o below = own i t f o
+  row false i j t f o below = below
+
+  row_at-owns : (code : ℕ) → Owns jt jf k (row_at code jt jf k)
+  unfolding row_at
+  row_at-owns code =
+      row (code == 0x0020) (LoadAbs Word k) _ tt tt refl (
+      row (code == 0x0028) (LoadAbs Half k) _ tt tt refl (
+      row (code == 0x0030) (LoadAbs Octet k) _ tt tt refl (
+      row (code == 0x0040) (LoadInd Word k) _ tt tt refl (
+      row (code == 0x0048) (LoadInd Half k) _ tt tt refl (
+      row (code == 0x0050) (LoadInd Octet k) _ tt tt refl (
+      row (code == 0x0000) (LoadImm k) _ tt tt refl (
+      row (code == 0x0060) (LoadMem k) _ tt tt refl (
+      row (code == 0x0080) LoadLen _ tt tt tt (
+      row (code == 0x0001) (LdxImm k) _ tt tt refl (
+      row (code == 0x0061) (LdxMem k) _ tt tt refl (
+      row (code == 0x0081) LdxLen _ tt tt tt (
+      row (code == 0x00b1) (LdxMsh k) _ tt tt refl (
+      row (code == 0x0002) (Store k) _ tt tt refl (
+      row (code == 0x0003) (StoreX k) _ tt tt refl (
+      row (code == 0x0004) (Alu Add (Imm k)) _ tt tt refl (
+      row (code == 0x0014) (Alu Sub (Imm k)) _ tt tt refl (
+      row (code == 0x0024) (Alu Mul (Imm k)) _ tt tt refl (
+      row (code == 0x0034) (Alu Div (Imm k)) _ tt tt refl (
+      row (code == 0x0044) (Alu Or (Imm k)) _ tt tt refl (
+      row (code == 0x0054) (Alu And (Imm k)) _ tt tt refl (
+      row (code == 0x0064) (Alu Lsh (Imm k)) _ tt tt refl (
+      row (code == 0x0074) (Alu Rsh (Imm k)) _ tt tt refl (
+      row (code == 0x000c) (Alu Add X) _ tt tt tt (
+      row (code == 0x001c) (Alu Sub X) _ tt tt tt (
+      row (code == 0x002c) (Alu Mul X) _ tt tt tt (
+      row (code == 0x003c) (Alu Div X) _ tt tt tt (
+      row (code == 0x004c) (Alu Or X) _ tt tt tt (
+      row (code == 0x005c) (Alu And X) _ tt tt tt (
+      row (code == 0x006c) (Alu Lsh X) _ tt tt tt (
+      row (code == 0x007c) (Alu Rsh X) _ tt tt tt (
+      row (code == 0x0084) Neg _ tt tt tt (
+      row (code == 0x0005) (Jump k) _ tt tt refl (
+      row (code == 0x0015) (Branch Eq (Imm k) jt jf) _ refl refl refl (
+      row (code == 0x0025) (Branch Gt (Imm k) jt jf) _ refl refl refl (
+      row (code == 0x0035) (Branch Ge (Imm k) jt jf) _ refl refl refl (
+      row (code == 0x0045) (Branch Set (Imm k) jt jf) _ refl refl refl (
+      row (code == 0x001d) (Branch Eq X jt jf) _ refl refl tt (
+      row (code == 0x002d) (Branch Gt X jt jf) _ refl refl tt (
+      row (code == 0x003d) (Branch Ge X jt jf) _ refl refl tt (
+      row (code == 0x004d) (Branch Set X jt jf) _ refl refl tt (
+      row (code == 0x0006) (RetK k) _ tt tt refl (
+      row (code == 0x0016) RetA _ tt tt tt (
+      row (code == 0x0007) Tax _ tt tt tt (
+      own Txa tt tt tt))))))))))))))))))))))))))))))))))))))))))))
 
 -- eight octets spell an instruction, or none
 spelled_or_not : (octets : List ℕ) → length octets ≡ 8 → ((i : Instr) × Spells octets i) ⊎ ((i : Instr) → Spells octets i → ⊥)
@@ -43,7 +89,7 @@ spelled_or_not octets eight =
     let jf = jf_in octets in
     let k = k_in octets in
     let row = row_at code jt jf k in
-    let own = row_at-owns code jt jf k in
+    let own = row_at-owns jt jf k code in
     elim (eqb_tells code (code_of row)) [
       | inl same ↦ inl (row, record { eight = eight; code = same.1; jt = own.jt_own; jf = own.jf_own; k = own.k_own })
       | inr other ↦ inr (λ i spells. other.1 (spells.code ∙ ap code_of (sym (row_at-fields code jt jf k i spells.code spells.jt spells.jf spells.k))))
@@ -70,12 +116,16 @@ cut (suc count) octets sized =
             let first = behind.2 in
             let h = first.within in
             let P : List ℕ → Type 0 = λ eight. (i : Instr) → Spells eight i → ⊥ in
-            inr (suc behind.0, behind.1, record {
-              within = omega arith;
-              there = ap code_in (sym (later octets behind.0)) ∙ first.there;
-              unknown = subst P (later octets behind.0) first.unknown;
-              before = before octets here.0 here.1 behind.0 first.before;
-            })
+            inr (
+              suc behind.0,
+              behind.1,
+              record {
+                within = omega arith;
+                there = ap code_in (sym (later octets behind.0)) ∙ first.there;
+                unknown = subst P (later octets behind.0) first.unknown;
+                before = before octets here.0 here.1 behind.0 first.before;
+              },
+            )
       ]
     ]
   where

@@ -4,10 +4,16 @@ ghost use Rattle.bpf_code.specs.Decoding.{IsFaultOf};
 ghost use Rattle.bpf_code.specs.Fields.{code_in};
 ghost use Rattle.bpf_code.specs.Spelling.{IsFirstUnknown, Spells, SpellsCode};
 ghost use Rattle.bpf_code.specs.Table.{code_of};
+ghost use Rattle.bpf_code.specs.declared.instr.By.{By};
 ghost use Rattle.bpf_code.specs.declared.instr.Instr.{Instr};
+ghost use Rattle.bpf_code.specs.declared.instr.Op.{Op};
+ghost use Rattle.bpf_code.specs.declared.instr.Test.{Test};
 
+use crate::instr::By::{Imm, X};
+use crate::instr::Instr;
+use crate::instr::Op::{Add, And, Div, Lsh, Mul, Or, Rsh, Sub};
 use crate::instr::Size::{Half, Octet, Word};
-use crate::instr::{By, Instr, Test};
+use crate::instr::Test::{Eq, Ge, Gt, Set};
 use byteorder::{BigEndian, ByteOrder};
 use std::alloc::Global;
 use thiserror::Error;
@@ -27,25 +33,75 @@ pub enum DecodeFault {
     NoMemory,
 }
 
+/// The arithmetic or the branch whose code is in the octets, by the instruction table.
+fn operation(octets: &[u8; 8]) -> Option<Instr>
+    ensures spelled { IfSome result (λ i. Spells octets.now i) }
+    ensures no_arithmetic { IfNone result ((op : Op) (by : By) → code_of (Instr.Alu op by) ≢ code_in octets.now) }
+    ensures no_branch { IfNone result ((test : Test) (by : By) (jt jf : ℕ) →
+        code_of (Instr.Branch test by jt jf) ≢ code_in octets.now) }
+{
+    let (jt, jf) = (octets[2], octets[3]);
+    let imm = Imm(BigEndian::read_u32(&octets[4..]));
+    let arithmetic = |op, by| Instr::Alu { op, by };
+    let branch = |test, by| Instr::Branch { test, by, jt, jf };
+    Some(match BigEndian::read_u16(octets) {
+        0x0004 => arithmetic(Add, imm),
+        0x0014 => arithmetic(Sub, imm),
+        0x0024 => arithmetic(Mul, imm),
+        0x0034 => arithmetic(Div, imm),
+        0x0044 => arithmetic(Or, imm),
+        0x0054 => arithmetic(And, imm),
+        0x0064 => arithmetic(Lsh, imm),
+        0x0074 => arithmetic(Rsh, imm),
+        0x000c => arithmetic(Add, X),
+        0x001c => arithmetic(Sub, X),
+        0x002c => arithmetic(Mul, X),
+        0x003c => arithmetic(Div, X),
+        0x004c => arithmetic(Or, X),
+        0x005c => arithmetic(And, X),
+        0x006c => arithmetic(Lsh, X),
+        0x007c => arithmetic(Rsh, X),
+        0x0015 => branch(Eq, imm),
+        0x0025 => branch(Gt, imm),
+        0x0035 => branch(Ge, imm),
+        0x0045 => branch(Set, imm),
+        0x001d => branch(Eq, X),
+        0x002d => branch(Gt, X),
+        0x003d => branch(Ge, X),
+        0x004d => branch(Set, X),
+        _ => return None,
+    })
+}
+
 /// The instruction whose code is in the octets, by the instruction table.
 fn instruction(octets: &[u8; 8]) -> Option<Instr>
     ensures spelled { IfSome result (λ i. Spells octets.now i) }
     ensures no_row { IfNone result ((i : Instr) → code_of i ≢ code_in octets.now) }
 {
-    let (jt, jf) = (octets[2], octets[3]);
     let k = BigEndian::read_u32(&octets[4..]);
     Some(match BigEndian::read_u16(octets) {
         0x0020 => Instr::LoadAbs { size: Word, k },
         0x0028 => Instr::LoadAbs { size: Half, k },
         0x0030 => Instr::LoadAbs { size: Octet, k },
-        0x0015 => Instr::Branch {
-            test: Test::Eq,
-            by: By::Imm(k),
-            jt,
-            jf,
-        },
+        0x0040 => Instr::LoadInd { size: Word, k },
+        0x0048 => Instr::LoadInd { size: Half, k },
+        0x0050 => Instr::LoadInd { size: Octet, k },
+        0x0000 => Instr::LoadImm(k),
+        0x0060 => Instr::LoadMem(k),
+        0x0080 => Instr::LoadLen,
+        0x0001 => Instr::LdxImm(k),
+        0x0061 => Instr::LdxMem(k),
+        0x0081 => Instr::LdxLen,
+        0x00b1 => Instr::LdxMsh(k),
+        0x0002 => Instr::Store(k),
+        0x0003 => Instr::StoreX(k),
+        0x0084 => Instr::Neg,
+        0x0005 => Instr::Jump(k),
         0x0006 => Instr::RetK(k),
-        _ => return None,
+        0x0016 => Instr::RetA,
+        0x0007 => Instr::Tax,
+        0x0087 => Instr::Txa,
+        _ => return operation(octets),
     })
 }
 

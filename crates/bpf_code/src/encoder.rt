@@ -1,9 +1,9 @@
-ghost use Rattle.std.specs.Prelude.{◌≡◌, unwrap_or};
+ghost use Rattle.std.specs.Prelude.{◌≡◌, ◌≤◌, ◌+◌, ℕ, unwrap_or};
 ghost use Rattle.bpf_code.specs.Spelling.{Spells, UnusedAreZero};
 ghost use Rattle.bpf_code.specs.Table.{code_of, jt_of, jf_of, k_of};
 
-use crate::instr::Size::{Half, Octet, Word};
-use crate::instr::{By, Instr, Test};
+use crate::instr::By::{self, Imm, X};
+use crate::instr::{Instr, Op, Size, Test};
 use byteorder::{BigEndian, ByteOrder};
 
 /// The fields of an instruction, 0 where it doesn't use them.
@@ -14,27 +14,126 @@ struct Fields {
     k: u32,
 }
 
+/// What the size adds to the code of a load.
+fn size_bits(size: Size) -> u16
+    ensures absolute { (k : ℕ) → code_of (Instr.LoadAbs size k) ≡ 0x0020 + result }
+    ensures indirect { (k : ℕ) → code_of (Instr.LoadInd size k) ≡ 0x0040 + result }
+    ensures small { result ≤ 0x10 }
+{
+    match size {
+        Size::Word => 0x00,
+        Size::Half => 0x08,
+        Size::Octet => 0x10,
+    }
+}
+
+/// What the operation adds to the code of arithmetic.
+fn op_bits(op: Op) -> u16
+    ensures by_constant { (k : ℕ) → code_of (Instr.Alu op (By.Imm k)) ≡ 0x0004 + result }
+    ensures by_x { code_of (Instr.Alu op By.X) ≡ 0x000c + result }
+    ensures small { result ≤ 0x70 }
+{
+    match op {
+        Op::Add => 0x00,
+        Op::Sub => 0x10,
+        Op::Mul => 0x20,
+        Op::Div => 0x30,
+        Op::Or => 0x40,
+        Op::And => 0x50,
+        Op::Lsh => 0x60,
+        Op::Rsh => 0x70,
+    }
+}
+
+/// What the test adds to the code of a branch.
+fn test_bits(test: Test) -> u16
+    ensures by_constant { (k jt jf : ℕ) → code_of (Instr.Branch test (By.Imm k) jt jf) ≡ 0x0005 + result }
+    ensures by_x { (jt jf : ℕ) → code_of (Instr.Branch test By.X jt jf) ≡ 0x000d + result }
+    ensures small { result ≤ 0x40 }
+{
+    match test {
+        Test::Eq => 0x10,
+        Test::Gt => 0x20,
+        Test::Ge => 0x30,
+        Test::Set => 0x40,
+    }
+}
+
 impl Fields {
-    /// The fields of the instruction, by the instruction table.
+    /// A code alone.
+    fn plain(code: u16) -> Fields
+        ensures { result ≡ record { code = code; jt = 0; jf = 0; k = 0 } }
+    {
+        Fields::with_k(code, 0)
+    }
+
+    /// A code with its operand.
+    fn with_k(code: u16, k: u32) -> Fields
+        ensures { result ≡ record { code = code; jt = 0; jf = 0; k = k } }
+    {
+        Fields {
+            code,
+            jt: 0,
+            jf: 0,
+            k,
+        }
+    }
+
+    /// The fields of arithmetic.
+    fn of_arithmetic(op: Op, by: By) -> Fields
+        ensures code { result.code ≡ code_of (Instr.Alu op by) }
+        ensures jt { result.jt ≡ 0 }
+        ensures jf { result.jf ≡ 0 }
+        ensures k { result.k ≡ unwrap_or (k_of (Instr.Alu op by)) 0 }
+    {
+        match by {
+            Imm(k) => Fields::with_k(0x0004 + op_bits(op), k),
+            X => Fields::plain(0x000c + op_bits(op)),
+        }
+    }
+
+    /// The fields of a branch.
+    fn of_branch(test: Test, by: By, jt: u8, jf: u8) -> Fields
+        ensures code { result.code ≡ code_of (Instr.Branch test by jt jf) }
+        ensures jt { result.jt ≡ jt }
+        ensures jf { result.jf ≡ jf }
+        ensures k { result.k ≡ unwrap_or (k_of (Instr.Branch test by jt jf)) 0 }
+    {
+        let (code, k) = match by {
+            Imm(k) => (0x0005 + test_bits(test), k),
+            X => (0x000d + test_bits(test), 0),
+        };
+        Fields { code, jt, jf, k }
+    }
+
+    /// The fields of an instruction, by the instruction table.
     fn of(instr: Instr) -> Fields
         ensures code { result.code ≡ code_of instr }
         ensures jt { result.jt ≡ unwrap_or (jt_of instr) 0 }
         ensures jf { result.jf ≡ unwrap_or (jf_of instr) 0 }
         ensures k { result.k ≡ unwrap_or (k_of instr) 0 }
     {
-        let (code, jt, jf, k) = match instr {
-            Instr::LoadAbs { size: Word, k } => (0x0020, 0, 0, k),
-            Instr::LoadAbs { size: Half, k } => (0x0028, 0, 0, k),
-            Instr::LoadAbs { size: Octet, k } => (0x0030, 0, 0, k),
-            Instr::Branch {
-                test: Test::Eq,
-                by: By::Imm(k),
-                jt,
-                jf,
-            } => (0x0015, jt, jf, k),
-            Instr::RetK(k) => (0x0006, 0, 0, k),
-        };
-        Fields { code, jt, jf, k }
+        match instr {
+            Instr::LoadAbs { size, k } => Fields::with_k(0x0020 + size_bits(size), k),
+            Instr::LoadInd { size, k } => Fields::with_k(0x0040 + size_bits(size), k),
+            Instr::LoadImm(k) => Fields::with_k(0x0000, k),
+            Instr::LoadMem(k) => Fields::with_k(0x0060, k),
+            Instr::LoadLen => Fields::plain(0x0080),
+            Instr::LdxImm(k) => Fields::with_k(0x0001, k),
+            Instr::LdxMem(k) => Fields::with_k(0x0061, k),
+            Instr::LdxLen => Fields::plain(0x0081),
+            Instr::LdxMsh(k) => Fields::with_k(0x00b1, k),
+            Instr::Store(k) => Fields::with_k(0x0002, k),
+            Instr::StoreX(k) => Fields::with_k(0x0003, k),
+            Instr::Alu { op, by } => Fields::of_arithmetic(op, by),
+            Instr::Neg => Fields::plain(0x0084),
+            Instr::Jump(k) => Fields::with_k(0x0005, k),
+            Instr::Branch { test, by, jt, jf } => Fields::of_branch(test, by, jt, jf),
+            Instr::RetK(k) => Fields::with_k(0x0006, k),
+            Instr::RetA => Fields::plain(0x0016),
+            Instr::Tax => Fields::plain(0x0007),
+            Instr::Txa => Fields::plain(0x0087),
+        }
     }
 }
 

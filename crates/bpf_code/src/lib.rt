@@ -8,7 +8,7 @@ pub mod laws;
 
 pub use decoder::{DecodeFault, decode, decode_one};
 pub use encoder::encode_one;
-pub use instr::{By, Instr, Size, Test};
+pub use instr::{By, Instr, Op, Size, Test};
 
 #[cfg(test)]
 mod tests;

@@ -1,4 +1,6 @@
+pub mod Arithmetic
 pub mod Memory
+pub mod Operand
 pub mod Packet
 pub mod Registers
 pub mod Runs

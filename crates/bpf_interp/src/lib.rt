@@ -1,8 +1,11 @@
 //! The machine that runs checked classic BPF programs on ATM cells.
 #![tactic(auto)]
 
+mod arithmetic;
 pub mod laws;
 mod machine;
+mod packet;
+mod registers;
 
 pub use machine::{Outcome, run};
 

@@ -1,51 +1,132 @@
 use crate::{Outcome, run};
-use bpf_code::{By, Instr, Size, Test};
+use bpf_code::{By, Instr, Op, Size, Test};
 use bpf_verify::verify;
 use std::alloc::Global;
 use std::test::Fail;
 use upc_cell::Cell;
 
-/// The outcome of a code on the cell with this header and a payload of zeros.
-fn outcome(alloc: Global, code: &[Instr], header: [u8; 4]) -> Result<Outcome, Fail> {
-    let program = verify(code.to_vec(alloc)?)?;
+/// A cell of user data on VPI 1, VCI 100.
+const USER: [u8; 4] = [0x00, 0x10, 0x06, 0x40];
+
+/// The same connection's end-to-end OAM.
+const OAM: [u8; 4] = [0x00, 0x10, 0x06, 0x4a];
+
+/// The cell with this header, a payload of zeros, and 01 02 03 04 at its end.
+fn cell_of(header: [u8; 4]) -> Result<Cell, Fail> {
     let mut octets = [0; 52];
     octets[..4].copy_from_slice(&header);
-    Ok(run(&program, &Cell::from_bytes(&octets)?))
+    for last in 1..=4u8 {
+        octets[47 + last as usize] = last;
+    }
+    Ok(Cell::from_bytes(&octets)?)
+}
+
+/// The value and the steps of a code on the cell with this header.
+fn outcome(alloc: Global, code: &[Instr], header: [u8; 4]) -> Result<(u32, u32), Fail> {
+    let program = verify(code.to_vec(alloc)?)?;
+    let Outcome { value, steps } = run(&program, &cell_of(header)?);
+    Ok((value, steps))
+}
+
+fn load(size: Size, k: u32) -> Instr {
+    Instr::LoadAbs { size, k }
+}
+
+fn alu(op: Op, by: By) -> Instr {
+    Instr::Alu { op, by }
 }
 
 #[test]
-fn a_branch_picks_its_return(rt: HostRuntime) -> Result<(), Fail> {
+fn a_program_tells_user_data_from_oam(rt: HostRuntime) -> Result<(), Fail> {
     let code = [
-        Instr::LoadAbs {
-            size: Size::Octet,
-            k: 3,
-        },
+        load(Size::Octet, 3),
+        alu(Op::And, By::Imm(0xe)),
         Instr::Branch {
-            test: Test::Eq,
-            by: By::Imm(0x4a),
-            jt: 0,
-            jf: 1,
+            test: Test::Ge,
+            by: By::Imm(8),
+            jt: 1,
+            jf: 0,
         },
-        Instr::RetK(2),
         Instr::RetK(1),
+        Instr::RetK(2),
     ];
-    let user = outcome(rt.alloc(), &code, [0x00, 0x10, 0x06, 0x40])?;
-    assert_eq!(rt; user, Outcome { value: 1, steps: 3 });
-    let oam = outcome(rt.alloc(), &code, [0x00, 0x10, 0x06, 0x4a])?;
-    assert_eq!(rt; oam, Outcome { value: 2, steps: 3 });
+    assert_eq!(rt; outcome(rt.alloc(), &code, USER)?, (1, 4));
+    assert_eq!(rt; outcome(rt.alloc(), &code, OAM)?, (2, 4));
     Ok(())
 }
 
 #[test]
-fn a_load_past_the_cell_ends_with_0(rt: HostRuntime) -> Result<(), Fail> {
+fn loads_end_at_the_end_of_the_cell(rt: HostRuntime) -> Result<(), Fail> {
+    let code = [load(Size::Octet, 52), Instr::RetK(1)];
+    assert_eq!(rt; outcome(rt.alloc(), &code, USER)?, (0, 1));
+    let code = [load(Size::Word, 48), Instr::RetA];
+    assert_eq!(rt; outcome(rt.alloc(), &code, USER)?, (16909060, 2));
+    let code = [load(Size::Word, 49), Instr::RetA];
+    assert_eq!(rt; outcome(rt.alloc(), &code, USER)?, (0, 1));
+    Ok(())
+}
+
+#[test]
+fn an_offset_by_x_does_not_wrap(rt: HostRuntime) -> Result<(), Fail> {
     let code = [
-        Instr::LoadAbs {
+        Instr::LdxImm(0xffffffff),
+        Instr::LoadInd {
             size: Size::Octet,
-            k: 52,
+            k: 1,
         },
-        Instr::RetK(1),
+        Instr::RetK(7),
     ];
-    let past = outcome(rt.alloc(), &code, [0x00, 0x10, 0x06, 0x40])?;
-    assert_eq!(rt; past, Outcome { value: 0, steps: 1 });
+    assert_eq!(rt; outcome(rt.alloc(), &code, USER)?, (0, 2));
+    Ok(())
+}
+
+#[test]
+fn arithmetic_has_its_limits(rt: HostRuntime) -> Result<(), Fail> {
+    let by_zero = [Instr::LdxImm(0), alu(Op::Div, By::X), Instr::RetK(1)];
+    assert_eq!(rt; outcome(rt.alloc(), &by_zero, USER)?, (0, 2));
+    let shifted = [
+        Instr::LdxImm(32),
+        Instr::LoadImm(1),
+        alu(Op::Lsh, By::X),
+        Instr::RetA,
+    ];
+    assert_eq!(rt; outcome(rt.alloc(), &shifted, USER)?, (0, 4));
+    let negative = [Instr::LoadImm(1), Instr::Neg, Instr::RetA];
+    assert_eq!(rt; outcome(rt.alloc(), &negative, USER)?, (4294967295, 3));
+    Ok(())
+}
+
+#[test]
+fn a_header_length_is_four_times_four_bits(rt: HostRuntime) -> Result<(), Fail> {
+    let code = [Instr::LdxMsh(2), Instr::Txa, Instr::RetA];
+    assert_eq!(rt; outcome(rt.alloc(), &code, USER)?, (24, 3));
+    Ok(())
+}
+
+#[test]
+fn scratch_words_hold_what_was_stored(rt: HostRuntime) -> Result<(), Fail> {
+    let code = [
+        Instr::LoadImm(5),
+        Instr::Store(15),
+        Instr::LdxImm(9),
+        Instr::StoreX(0),
+        Instr::LdxMem(15),
+        Instr::LoadMem(0),
+        alu(Op::Sub, By::X),
+        Instr::RetA,
+    ];
+    assert_eq!(rt; outcome(rt.alloc(), &code, USER)?, (4, 8));
+    let unreached = [Instr::RetK(0), Instr::LoadMem(3), Instr::RetA];
+    assert_eq!(rt; outcome(rt.alloc(), &unreached, USER)?, (0, 1));
+    Ok(())
+}
+
+#[test]
+fn the_longest_program_takes_a_step_an_instruction(rt: HostRuntime) -> Result<(), Fail> {
+    let mut code = vec![in rt.alloc(); Instr::Jump(0); 4096]?;
+    if let Some(last) = code.last_mut() {
+        *last = Instr::RetK(7);
+    }
+    assert_eq!(rt; outcome(rt.alloc(), &code, USER)?, (7, 4096));
     Ok(())
 }

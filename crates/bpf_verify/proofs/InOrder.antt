@@ -1,5 +1,6 @@
 -- A path with the latest place first, and the same places in order.
-use Rattle.std.proofs.Common.{◌≡◌, ℕ, ◌+◌, ◌<◌, inl, inr, List, [], ◌∷◌, ◌++◌, length, Some, Any, slice_get, refl, sym, ap, subst, ◌∙◌, arith, length-append}
+use Rattle.std.proofs.Common.{◌≡◌, ℕ, ◌+◌, ◌<◌, inl, inr, List, [], ◌∷◌, ◌++◌, length, Some, Any, slice_get, refl, sym, ap, subst, ◌∙◌, arith, length-append, reverse}
+use Rattle.std.proofs.lemmas.List.{reverse-append}
 use Rattle.std.proofs.lemmas.Bool.{cases_lt}
 use Rattle.std.proofs.lemmas.Option.{same_Some, slice_get_within}
 use Rattle.bpf_code.specs.declared.instr.Instr.{Instr}
@@ -82,6 +83,19 @@ path-from_walk code [] place walk = same_Some place 0 walk.begins
 path-from_walk code (latest ∷ passed) place walk =
     let parts = walk_before code (in_order passed) latest place walk in
     (path-from_walk code passed latest parts.0, parts.1)
+
+in_order-reverse : (xs : List ℕ) → in_order xs ≡ reverse xs
+unfolding in_order
+in_order-reverse [] = refl
+in_order-reverse (x ∷ xs) = ap (λ l. l ++ x ∷ []) (in_order-reverse xs) ∙ sym (reverse-append (x ∷ []) xs)
+
+pub path_is_walk : (code : List Instr) (passed : List ℕ) (place : ℕ) → IsPath code passed place → IsWalk code (reverse passed ++ place ∷ [])
+path_is_walk code passed place path =
+    subst (λ l. IsWalk code (l ++ place ∷ [])) (in_order-reverse passed) (walk-from_path code passed place path)
+
+pub walk_is_path : (code : List Instr) (passed : List ℕ) (place : ℕ) → IsWalk code (reverse passed ++ place ∷ []) → IsPath code passed place
+walk_is_path code passed place walk =
+    path-from_walk code passed place (subst (λ l. IsWalk code (l ++ place ∷ [])) (sym (in_order-reverse passed)) walk)
 
 -- the scratch check over paths says what the scratch check over walks says
 pub walks-from_paths : (code : List Instr) → ((place : ℕ) → IsWrittenAt code place) → IsWrittenOnEveryWalk code

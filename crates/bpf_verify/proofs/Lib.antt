@@ -1,4 +1,7 @@
-pub mod FirstFault
-pub mod Places
-pub mod InOrder
 pub mod Decided
+pub mod FirstFault
+pub mod InOrder
+pub mod Masks
+pub mod Onward
+pub mod Places
+pub mod Visit

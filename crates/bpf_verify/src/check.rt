@@ -1,10 +1,12 @@
-ghost use Rattle.std.specs.Prelude.{◌≡◌, ◌+◌, ◌<◌, ◌≤◌, ◌↔◌, length, IsOk, IsTrue, IfOk, IfErr, IfSome, IfNone};
+ghost use Rattle.std.specs.Prelude.{◌≡◌, ◌↔◌, IsOk, IsTrue, IfOk, IfErr, IfSome, IfNone};
 ghost use Rattle.bpf_code.specs.Flow.{IsReturn};
-ghost use Rattle.bpf_verify.specs.Accepted.{IsAccepted, IsSized, IsSound};
-ghost use Rattle.bpf_verify.specs.Faults.{FailsFirst, IsFaultOf, IsSoundBelow};
+ghost use Rattle.bpf_verify.specs.Accepted.{IsAccepted};
+ghost use Rattle.bpf_verify.specs.Faults.{FailsFirst};
 
 use crate::fault::{Fault, Refused};
 use crate::program::Program;
+use crate::scratch::first_unwritten;
+use crate::soundness::first_unsound;
 use bpf_code::Instr;
 
 /// How many instructions a program has at most.
@@ -44,49 +46,12 @@ fn first_fault(code: &[Instr]) -> Option<Fault>
     if !is_return(code[code.len() - 1]) {
         return Some(Fault::NoReturn);
     }
-    None
-}
-
-/// The fault of the first instruction that is not sound, if there is one.
-fn first_unsound(code: &[Instr]) -> Option<Fault>
-    requires { IsSized code.now }
-    ensures none { IfNone result (IsSoundBelow code.now (length code.now)) }
-    ensures some { IfSome result (FailsFirst code.now) }
-{
-    for (at, instr) in code.iter().enumerate() {
-        if let Some(fault) = fault_of(*instr, at, code.len()) {
-            return Some(fault);
-        }
-    }
-    None
-}
-
-/// What an instruction breaks by itself, at a place of a code of so many instructions.
-fn fault_of(instr: Instr, at: usize, size: usize) -> Option<Fault>
-    requires { at < size }
-    ensures none { IfNone result (IsSound size at instr) }
-    ensures some { IfSome result (IsFaultOf size at instr) }
-{
-    match instr {
-        Instr::Branch { jt, jf, .. } => {
-            let furthest = u32::from(jt.max(jf));
-            is_outside(furthest, at, size).then_some(Fault::JumpOutside { at })
-        }
-        _ => None,
-    }
-}
-
-/// Whether a jump over so many instructions leads to no place of the code.
-fn is_outside(skipped: u32, at: usize, size: usize) -> bool
-    requires { at < size }
-    ensures { IsTrue result ↔ (size ≤ at + 1 + skipped) }
-{
-    skipped as usize >= size - at - 1
+    first_unwritten(code)
 }
 
 /// Whether an instruction ends the program.
 fn is_return(instr: Instr) -> bool
     ensures { IsTrue result ↔ IsReturn instr }
 {
-    matches!(instr, Instr::RetK(_))
+    matches!(instr, Instr::RetK(_) | Instr::RetA)
 }

@@ -1,16 +1,23 @@
 //! Laws over the definitions of the check. Each is the contract of a function that does nothing.
 
-ghost use Rattle.std.specs.Prelude.{◌≡◌, ℕ, ◌↔◌, ◌⊎◌, List};
+ghost use Rattle.std.specs.Prelude.{◌≡◌, ℕ, ◌↔◌, ◌⊎◌, List, [], ◌∷◌, ◌++◌, reverse};
 ghost use Rattle.bpf_code.specs.declared.instr.Instr.{Instr};
 ghost use Rattle.bpf_verify.specs.declared.fault.Fault.{Fault};
 ghost use Rattle.bpf_verify.specs.Accepted.{IsAccepted};
 ghost use Rattle.bpf_verify.specs.Faults.{FailsFirst};
-ghost use Rattle.bpf_verify.specs.Paths.{IsWrittenAt};
-ghost use Rattle.bpf_verify.specs.Walks.{IsWrittenOnEveryWalk};
+ghost use Rattle.bpf_verify.specs.Paths.{IsPath, IsWrittenAt};
+ghost use Rattle.bpf_verify.specs.Walks.{IsWalk, IsWrittenOnEveryWalk};
 
-/// Every path to a read passed a store of its word exactly where, of every list of places that
-/// begins at 0, goes from successor to successor and ends in a read, an earlier place stores the word.
+/// A path is a list of places that begins at 0 and goes from successor to successor: the places that
+/// it passed, in order, and the place that it reaches.
 pub fn paths_are_walks()
+    ensures { (code : List Instr) (passed : List ℕ) (place : ℕ)
+        → IsPath code passed place ↔ IsWalk code (reverse passed ++ place ∷ []) }
+{}
+
+/// Every path to a read has passed a store of its word exactly where, of every list of places that
+/// begins at 0, goes from successor to successor and ends in a read, an earlier place stores the word.
+pub fn written_on_paths_is_written_on_walks()
     ensures { (code : List Instr)
         → ((place : ℕ) → IsWrittenAt code place) ↔ IsWrittenOnEveryWalk code }
 {}

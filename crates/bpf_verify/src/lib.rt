@@ -5,6 +5,8 @@ mod check;
 mod fault;
 pub mod laws;
 mod program;
+mod scratch;
+mod soundness;
 
 pub use check::{MAX_INSTRUCTIONS, verify};
 pub use fault::{Fault, Refused};

@@ -1,5 +1,7 @@
 use super::*;
-use bpf_code::{By, Instr, Size, Test};
+use bpf_code::{By, Instr, Op, Size, Test};
+use std::alloc::{AllocError, Global};
+use std::process::Abort;
 use std::test::Fail;
 
 /// `ldb [offset]`
@@ -8,6 +10,11 @@ fn load_octet(offset: u32) -> Instr {
         size: Size::Octet,
         k: offset,
     }
+}
+
+/// Arithmetic with a constant or with X
+fn alu(op: Op, by: By) -> Instr {
+    Instr::Alu { op, by }
 }
 
 /// `jeq #number` over so many instructions
@@ -20,9 +27,67 @@ fn jump_if_equal(number: u32, jt: u8, jf: u8) -> Instr {
     }
 }
 
+/// The fault of a code, if it is refused.
+fn fault_in(code: Vec<Instr>) -> Option<Fault> {
+    verify(code).err().map(|refused| refused.fault)
+}
+
+/// That a code comes back with this fault, and that the fault has this line.
+fn assert_refused(
+    rt: &impl Abort,
+    code: Vec<Instr>,
+    fault: Fault,
+    line: &str,
+    alloc: Global,
+) -> Result<(), AllocError> {
+    let copy = code.clone()?;
+    match verify(code) {
+        Ok(_) => assert!(rt; false, "accepted in place of {line}"),
+        Err(refused) => {
+            assert_eq!(rt; refused.fault, fault);
+            assert_eq!(rt; format!(in alloc; "{refused}")?.as_str(), line);
+            assert_eq!(rt; refused.code.as_slice(), copy.as_slice());
+        }
+    }
+    Ok(())
+}
+
 #[test]
-fn each_fault_comes_with_its_place(rt: HostRuntime) -> Result<(), Fail> {
+fn each_fault_of_an_instruction_has_its_place(rt: HostRuntime) -> Result<(), Fail> {
     let alloc = rt.alloc();
+    let divided = alu(Op::Div, By::Imm(0));
+    for (code, fault, line) in [
+        // The first instruction that is not sound decides, before the return at the end is asked for.
+        (
+            vec![in alloc; Instr::LoadMem(16), divided]?,
+            Fault::BadScratch { at: 0 },
+            "3 BadScratch 0",
+        ),
+        (
+            vec![in alloc; divided, Instr::RetK(1)]?,
+            Fault::ZeroDivisor { at: 0 },
+            "4 ZeroDivisor 0",
+        ),
+        (
+            vec![in alloc; alu(Op::Lsh, By::Imm(32)), Instr::RetA]?,
+            Fault::BadShift { at: 0 },
+            "5 BadShift 0",
+        ),
+        (
+            vec![in alloc; jump_if_equal(0, 1, 0), Instr::RetK(1)]?,
+            Fault::JumpOutside { at: 0 },
+            "6 JumpOutside 0",
+        ),
+    ] {
+        assert_refused(&rt, code, fault, line, alloc)?;
+    }
+    Ok(())
+}
+
+#[test]
+fn each_fault_of_a_code_has_its_line(rt: HostRuntime) -> Result<(), Fail> {
+    let alloc = rt.alloc();
+    let either_way = jump_if_equal(0, 0, 1);
     for (code, fault, line) in [
         (vec![in alloc;]?, Fault::Empty, "1 Empty"),
         (
@@ -31,40 +96,89 @@ fn each_fault_comes_with_its_place(rt: HostRuntime) -> Result<(), Fail> {
             "2 TooLong",
         ),
         (
-            vec![in alloc; jump_if_equal(0, 1, 0), Instr::RetK(1)]?,
-            Fault::JumpOutside { at: 0 },
-            "6 JumpOutside 0",
-        ),
-        (
             vec![in alloc; load_octet(0)]?,
             Fault::NoReturn,
             "7 NoReturn",
         ),
+        (
+            vec![in alloc; either_way, Instr::Store(0), Instr::LoadMem(0), Instr::RetA]?,
+            Fault::Unwritten { at: 2, word: 0 },
+            "8 Unwritten 2 0",
+        ),
+    ] {
+        assert_refused(&rt, code, fault, line, alloc)?;
+    }
+    Ok(())
+}
+
+#[test]
+fn accepted_codes_are_handed_through(rt: HostRuntime) -> Result<(), Fail> {
+    let alloc = rt.alloc();
+    let either_way = jump_if_equal(0x4a, 0, 1);
+    for code in [
+        vec![in alloc; load_octet(3), either_way, Instr::RetK(2), Instr::RetK(1)]?,
+        // No path leads past the first return, so nothing is asked of the read.
+        vec![in alloc; Instr::RetK(0), Instr::LoadMem(3), Instr::RetA]?,
+        // A division by X is the machine's matter.
+        vec![in alloc; Instr::LdxImm(0), alu(Op::Div, By::X), Instr::RetK(1)]?,
     ] {
         let copy = code.clone()?;
         match verify(code) {
-            Ok(_) => assert!(rt; false, "accepted in place of {line}"),
-            Err(refused) => {
-                assert_eq!(rt; refused.fault, fault);
-                assert_eq!(rt; format!(in alloc; "{refused}")?.as_str(), line);
-                assert_eq!(rt; refused.code.as_slice(), copy.as_slice());
-            }
+            Ok(program) => assert_eq!(rt; program.code(), copy.as_slice()),
+            Err(refused) => assert!(rt; false, "refused: {refused}"),
         }
     }
     Ok(())
 }
 
 #[test]
-fn a_code_of_lawful_jumps_is_accepted_and_handed_through(rt: HostRuntime) -> Result<(), Fail> {
-    let code = [
-        load_octet(3),
-        jump_if_equal(0x4a, 0, 1),
-        Instr::RetK(2),
-        Instr::RetK(1),
-    ];
-    match verify(code.to_vec(rt.alloc())?) {
-        Ok(program) => assert_eq!(rt; program.code(), code.as_slice()),
-        Err(refused) => assert!(rt; false, "refused: {refused}"),
+fn jumps_reach_as_far_as_the_code(rt: HostRuntime) -> Result<(), Fail> {
+    let alloc = rt.alloc();
+    for (returns, fault) in [(256, None), (255, Some(Fault::JumpOutside { at: 0 }))] {
+        let mut code = vec![in alloc; jump_if_equal(0, 255, 0)]?;
+        for _ in 0..returns {
+            code.push(Instr::RetK(1))?;
+        }
+        assert_eq!(rt; fault_in(code), fault, "before {returns} returns");
     }
+    let far = vec![in alloc; Instr::Jump(u32::MAX), Instr::RetK(1)]?;
+    assert_eq!(rt; fault_in(far), Some(Fault::JumpOutside { at: 0 }));
+    Ok(())
+}
+
+#[test]
+fn the_longest_code_has_4096_instructions(rt: HostRuntime) -> Result<(), Fail> {
+    let alloc = rt.alloc();
+    for (jumps, fault) in [(4095, None), (4096, Some(Fault::TooLong))] {
+        let mut code = vec![in alloc; Instr::Jump(0); jumps]?;
+        code.push(Instr::RetK(7))?;
+        assert_eq!(rt; fault_in(code), fault, "behind {jumps} jumps");
+    }
+    Ok(())
+}
+
+/// A store of word 15, a thousand branches each of which may leave out a store of word 0, and a read.
+fn ladder(alloc: Global, read: u32) -> Result<Vec<Instr>, AllocError> {
+    let mut code = vec![in alloc; Instr::Store(15)]?;
+    for _ in 0..1000 {
+        code.push(Instr::Branch {
+            test: Test::Set,
+            by: By::Imm(1),
+            jt: 0,
+            jf: 1,
+        })?;
+        code.push(Instr::Store(0))?;
+    }
+    code.push(Instr::LoadMem(read))?;
+    code.push(Instr::RetA)?;
+    Ok(code)
+}
+
+#[test]
+fn a_word_is_written_where_every_path_stores_it(rt: HostRuntime) -> Result<(), Fail> {
+    let alloc = rt.alloc();
+    let missing = Some(Fault::Unwritten { at: 2001, word: 0 });
+    assert_eq!(rt; fault_in(ladder(alloc, 15)?), None);
+    assert_eq!(rt; fault_in(ladder(alloc, 0)?), missing);
     Ok(())
 }

@@ -1,17 +1,16 @@
 -- One turn of the run over lines: what was said still leads to an answer to the whole input.
-use Rattle.std.proofs.Common.{◌≡◌, ◌≢◌, ℕ, ◌+◌, ◌<◌, ◌≤◌, ◌||◌, nat_le, nat_lt, Bool, true, false, List, [], ◌∷◌, ◌++◌, Option, Some, None, Result, Ok, Err, IfOk, length, get_or, take, drop, refl, ap, sym, ◌∙◌, subst, arith, append_assoc, append-nil}
+use Rattle.std.proofs.Common.{◌≡◌, ◌≢◌, ℕ, ◌+◌, ◌<◌, ◌≤◌, ◌||◌, nat_le, nat_lt, Bool, true, false, List, [], ◌∷◌, ◌++◌, Result, Ok, Err, IfOk, length, get_or, take, drop, refl, ap, sym, ◌∙◌, subst, arith, append_assoc}
 use Rattle.std.specs.Result.{is_err, OnErr, OnOk}
 use Rattle.std.proofs.lemmas.List.{take-append-drop, drop_more, length-take, get_or-take}
 use Rattle.std.proofs.lemmas.Bool.Decides.{nat_tests}
 use Rattle.upc.specs.Lines.{Line, lines_of, is_over, most_lines, most_octets}
-use Rattle.upc.specs.Device.{IsPart, Moves}
+use Rattle.upc.specs.Device.{IsPart}
 use Rattle.upc.specs.Printing.{Steps, Closes, Prints, IsFront, too_long}
-use Rattle.upc.specs.Progress.{Leads, PassesBy, Passes}
+use Rattle.upc.specs.Progress.{Leads, Passes}
 use Rattle.upc.specs.declared.outcome.Done.{Done}
 use Rattle.upc.specs.declared.outcome.Done.TheVariants.{Ended}
-use Rattle.upc.specs.declared.machine.Turn.{Turn}
 use Rattle.upc.specs.declared.machine.Turn.TheVariants.{GoesOn, Ends}
-use Rattle.upc.proofs.LinesLemmas.{NoFeed, lines-at_feed, lines-first, FirstLine}
+use Rattle.upc.proofs.LinesLemmas.{NoFeed, lines-at_feed, lines-first}
 use Rattle.upc.proofs.PrintingLemmas.{Total, some-text, prints-over}
 
 -- octets with a line feed at a place: the line before it, and what stands behind

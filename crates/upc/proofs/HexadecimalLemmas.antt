@@ -1,5 +1,5 @@
 -- How many octets a word spells, and what was decoded into a room.
-use Rattle.std.proofs.Common.{◌≡◌, ◌≢◌, ℕ, ◌+◌, ◌*◌, ◌==◌, Bool, true, false, if◌then◌else◌, List, [], ◌++◌, Option, Some, None, Result, Ok, Err, length, replicate, refl, ap, sym, ◌∙◌, subst, arith}
+use Rattle.std.proofs.Common.{◌≡◌, ◌≢◌, ℕ, ◌*◌, if◌then◌else◌, List, ◌++◌, Some, Result, Ok, Err, length, replicate, ap, sym, ◌∙◌}
 use Rattle.std.specs.Result.{MatchResult, result_ok}
 use Rattle.std.proofs.lemmas.Bool.{eq-eqb, ne_eqb}
 use Rattle.hex.specs.Hex.{decode_of, decode_sized}

@@ -7,3 +7,4 @@ pub mod WordsLemmas
 pub mod HexadecimalLemmas
 pub mod Choosing
 pub mod PlainWords
+pub mod OneText

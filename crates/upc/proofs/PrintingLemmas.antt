@@ -1,15 +1,13 @@
 -- Texts of lines: that there is one, and how one grows line by line.
-use Rattle.std.proofs.Common.{◌≡◌, ◌≢◌, ℕ, ◌+◌, ◌<◌, ◌≤◌, Bool, true, false, List, [], ◌∷◌, ◌++◌, Option, Some, None, length, refl, ap, sym, ◌∙◌, subst, arith, append_assoc, append-nil}
-use Rattle.std.specs.Bool.{MatchBool}
+use Rattle.std.proofs.Common.{◌≡◌, ℕ, ◌+◌, ◌<◌, Bool, true, false, List, [], ◌∷◌, ◌++◌, Option, Some, None, length, refl, ap, sym, ◌∙◌, append_assoc, append-nil}
 use Rattle.std.specs.Option.{MatchOption}
-use Rattle.std.proofs.lemmas.Bool.Decides.{leb_tells}
-use Rattle.upc.specs.Lines.{Line, lines_of, said, is_over, most_lines, most_octets}
-use Rattle.upc.specs.Printing.{Steps, Closes, Prints, IsFront, too_long}
-use Rattle.upc.specs.Progress.{Leads, PassesBy, Passes}
-use Rattle.upc.specs.Turn.{Answers, AnswersEnd, next_of}
+use Rattle.upc.specs.Lines.{Line, lines_of, said, is_over}
+use Rattle.upc.specs.Printing.{Steps, Closes, Prints, too_long}
+use Rattle.upc.specs.Progress.{Passes}
+use Rattle.upc.specs.Turn.{Answers, AnswersEnd}
 use Rattle.upc.proofs.LinesLemmas.{NoFeed, lines-of_rest}
 use Rattle.upc.specs.declared.outcome.Done.{Done}
-use Rattle.upc.specs.declared.outcome.Done.TheVariants.{Whole, Ended}
+use Rattle.upc.specs.declared.outcome.Done.TheVariants.{Ended}
 use Rattle.upc.specs.declared.machine.Turn.{Turn}
 use Rattle.upc.specs.declared.machine.Turn.TheVariants.{GoesOn, Ends}
 

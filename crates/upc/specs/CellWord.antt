@@ -1,5 +1,5 @@
 -- What a word stands for on a cell line.
-use Rattle.std.specs.Prelude.{◌≡◌, ◌≢◌, ℕ, List, length, Option, Some, None}
+use Rattle.std.specs.Prelude.{◌≡◌, ◌≢◌, ℕ, List, length, Some, None}
 use Rattle.upc.specs.Hexadecimal.{octets_of, cell_of}
 use Rattle.upc.specs.declared.hexadecimal.CellWord.{CellWord}
 use Rattle.upc.specs.declared.hexadecimal.CellWord.TheVariants.{OfCell, OfOthers, NoDigits}

@@ -1,7 +1,7 @@
 -- The text of `upc eval`. The first line with words is a program; each later one is a cell, which is
 -- answered by the program's value. A world is what the lines so far have given: no program yet, or an
 -- accepted code.
-use Rattle.std.specs.Prelude.{◌≡◌, ◌≢◌, ℕ, ◌==◌, if◌then◌else◌, List, [], ◌∷◌, ◌++◌, length, codes, decimal, Option, Some, None, MatchOption, MatchBool, ◌⊎◌}
+use Rattle.std.specs.Prelude.{◌≡◌, ◌≢◌, ℕ, ◌==◌, List, [], ◌∷◌, ◌++◌, length, codes, decimal, Option, Some, None, MatchOption, MatchBool, ◌⊎◌}
 use Rattle.bpf_code.specs.Decoding.{IsFaultOf}
 use Rattle.bpf_code.specs.Spelling.{SpellsCode}
 use Rattle.bpf_code.specs.declared.decoder.DecodeFault.{DecodeFault}

@@ -1,5 +1,5 @@
 -- The fault lines: where the fault was found, its number and its name, and what it says of the place.
-use Rattle.std.specs.Prelude.{ℕ, List, [], ◌∷◌, ◌++◌, codes, decimal}
+use Rattle.std.specs.Prelude.{ℕ, List, [], ◌++◌, codes, decimal}
 use Rattle.bpf_code.specs.declared.decoder.DecodeFault.{DecodeFault}
 use Rattle.bpf_code.specs.declared.decoder.DecodeFault.TheVariants.{Ragged, UnknownCode, NoMemory}
 use Rattle.bpf_verify.specs.declared.fault.Fault.{Fault}
@@ -33,5 +33,9 @@ decode_fault NoMemory = []
 abbrev pub verify_fault : Fault → List ℕ
 verify_fault fault.Empty = codes "fault verify 1 Empty\n"
 verify_fault fault.TooLong = codes "fault verify 2 TooLong\n"
+verify_fault (fault.BadScratch at) = line (codes "fault verify 3 BadScratch " ++ decimal at)
+verify_fault (fault.ZeroDivisor at) = line (codes "fault verify 4 ZeroDivisor " ++ decimal at)
+verify_fault (fault.BadShift at) = line (codes "fault verify 5 BadShift " ++ decimal at)
 verify_fault (fault.JumpOutside at) = line (codes "fault verify 6 JumpOutside " ++ decimal at)
 verify_fault fault.NoReturn = codes "fault verify 7 NoReturn\n"
+verify_fault (fault.Unwritten at word) = line (codes "fault verify 8 Unwritten " ++ decimal at ++ codes " " ++ decimal word)

@@ -1,9 +1,9 @@
 -- The text that is printed for an input, line by line. How a line is answered is left to the
 -- subcommand: it moves from world to world, and a line that ends the run leads to none.
-use Rattle.std.specs.Prelude.{◌≡◌, ℕ, ◌+◌, List, [], ◌∷◌, ◌++◌, codes, Option, Some, None, MatchOption, MatchBool}
+use Rattle.std.specs.Prelude.{◌≡◌, ℕ, ◌+◌, List, [], ◌∷◌, ◌++◌, codes, Option, MatchOption, MatchBool}
 use Rattle.upc.specs.Lines.{Line, said, is_over}
 use Rattle.upc.specs.declared.outcome.Done.{Done}
-use Rattle.upc.specs.declared.outcome.Done.TheVariants.{Whole, Ended}
+use Rattle.upc.specs.declared.outcome.Done.TheVariants.{Ended}
 
 -- From a world, a line that says these octets may be answered by this text and lead to the next world.
 abbrev pub Steps : Type 0 → Type 1

@@ -1,5 +1,5 @@
 -- The words of a line: the longest runs of octets that are neither spaces nor tabs.
-use Rattle.std.specs.Prelude.{ℕ, ◌==◌, ◌||◌, Bool, true, false, not, if◌then◌else◌, List, [], ◌∷◌, filter}
+use Rattle.std.specs.Prelude.{ℕ, ◌==◌, ◌||◌, Bool, true, false, if◌then◌else◌, List, [], ◌∷◌, filter}
 
 -- Spaces (32) and tabs (9) part words, and no other octet does.
 abbrev pub is_blank : ℕ → Bool

@@ -15,6 +15,14 @@ fn add_number(answers: &mut Vec<u8>, number: usize) -> Result<(), AllocError>
     Ok(())
 }
 
+/// Adds a text.
+fn add_text(answers: &mut Vec<u8>, text: &[u8]) -> Result<(), AllocError>
+    ensures { OnOk result (answers.new.items ≡ answers.old.items ++ text.now) }
+{
+    answers.extend_from_slice(text)?;
+    Ok(())
+}
+
 /// Adds a text, a number and the line's end.
 #[tactic(auto, using(std::proofs::lemmas::List::append_assoc))]
 fn add_numbered(answers: &mut Vec<u8>, text: &[u8], number: usize) -> Result<(), AllocError>
@@ -76,27 +84,37 @@ pub fn add_decode_fault(answers: &mut Vec<u8>, fault: DecodeFault) -> Result<(),
     ensures { fault ≢ DecodeFault.NoMemory → OnOk result (answers.new.items ≡ answers.old.items ++ decode_fault fault) }
 {
     match fault {
-        DecodeFault::Ragged => {
-            answers.extend_from_slice(b"fault decode 1 Ragged\n")?;
-            Ok(())
-        }
+        DecodeFault::Ragged => add_text(answers, b"fault decode 1 Ragged\n"),
         DecodeFault::UnknownCode { at, code } => add_unknown_code(answers, at, code),
         DecodeFault::NoMemory => Err(AllocError),
     }
+}
+
+/// Adds the answer to a read of a scratch word that some path to its place doesn't store.
+#[tactic(auto, using(std::proofs::lemmas::List::append_assoc))]
+fn add_unwritten(answers: &mut Vec<u8>, at: usize, word: u32) -> Result<(), AllocError>
+    ensures { OnOk result (answers.new.items ≡ answers.old.items ++ verify_fault (Fault.Unwritten at word)) }
+{
+    answers.extend_from_slice(b"fault verify 8 Unwritten ")?;
+    add_number(answers, at)?;
+    answers.push(b' ')?;
+    add_number(answers, word as usize)?;
+    answers.push(b'\n')?;
+    Ok(())
 }
 
 /// Adds the answer to a code that is no program.
 pub fn add_verify_fault(answers: &mut Vec<u8>, fault: Fault) -> Result<(), AllocError>
     ensures { OnOk result (answers.new.items ≡ answers.old.items ++ verify_fault fault) }
 {
-    let text: &[u8] = match fault {
-        Fault::Empty => b"fault verify 1 Empty\n",
-        Fault::TooLong => b"fault verify 2 TooLong\n",
-        Fault::JumpOutside { at } => {
-            return add_numbered(answers, b"fault verify 6 JumpOutside ", at);
-        }
-        Fault::NoReturn => b"fault verify 7 NoReturn\n",
-    };
-    answers.extend_from_slice(text)?;
-    Ok(())
+    match fault {
+        Fault::Empty => add_text(answers, b"fault verify 1 Empty\n"),
+        Fault::TooLong => add_text(answers, b"fault verify 2 TooLong\n"),
+        Fault::BadScratch { at } => add_numbered(answers, b"fault verify 3 BadScratch ", at),
+        Fault::ZeroDivisor { at } => add_numbered(answers, b"fault verify 4 ZeroDivisor ", at),
+        Fault::BadShift { at } => add_numbered(answers, b"fault verify 5 BadShift ", at),
+        Fault::JumpOutside { at } => add_numbered(answers, b"fault verify 6 JumpOutside ", at),
+        Fault::NoReturn => add_text(answers, b"fault verify 7 NoReturn\n"),
+        Fault::Unwritten { at, word } => add_unwritten(answers, at, word),
+    }
 }

@@ -9,6 +9,7 @@ mod driver;
 mod eval;
 mod giving;
 mod hexadecimal;
+mod laws;
 mod line;
 mod machine;
 mod outcome;

@@ -1,5 +1,5 @@
 //! Programs and cells with the lines that they are answered by.
-use super::expect;
+use super::{evaluated, expect};
 use crate::outcome::Done;
 use std::test::Fail;
 
@@ -33,7 +33,7 @@ fn a_load_behind_the_cell_ends_with_0(rt: HostRuntime) -> Result<(), Fail> {
 
 #[test]
 fn a_program_line_with_a_fault_ends_the_run(rt: HostRuntime) -> Result<(), Fail> {
-    let rows: [(&[u8], &[u8]); 8] = [
+    let rows: [(&[u8], &[u8]); 14] = [
         (
             b"000000000000000000000000\n00100640\n",
             b"fault decode 1 Ragged\n",
@@ -43,14 +43,35 @@ fn a_program_line_with_a_fault_ends_the_run(rt: HostRuntime) -> Result<(), Fail>
             b"fault decode 2 UnknownCode 0 000e\n",
         ),
         (
-            b"0005000000000000\n",
-            b"fault decode 2 UnknownCode 0 0005\n",
+            b"0094000000000007\n",
+            b"fault decode 2 UnknownCode 0 0094\n",
+        ),
+        (b"0005000000000000\n", b"fault verify 6 JumpOutside 0\n"),
+        (
+            b"00050000ffffffff0006000000000001\n",
+            b"fault verify 6 JumpOutside 0\n",
+        ),
+        (
+            b"00600000000000100034000000000000\n",
+            b"fault verify 3 BadScratch 0\n",
+        ),
+        (
+            b"00340000000000000006000000000001\n",
+            b"fault verify 4 ZeroDivisor 0\n",
+        ),
+        (
+            b"00640000000000200016000000000000\n",
+            b"fault verify 5 BadShift 0\n",
         ),
         (
             b"00150001000000000006000000000001\n",
             b"fault verify 6 JumpOutside 0\n",
         ),
         (b"0030000000000000\n", b"fault verify 7 NoReturn\n"),
+        (
+            b"0015000100000000000200000000000000600000000000000016000000000000\n",
+            b"fault verify 8 Unwritten 2 0\n",
+        ),
         (b"0006000000000001 00\n", b"fault script 1 BadLine\n"),
         (b"000600000000000g\n00100640\n", b"fault script 3 BadHex\n"),
         (b"00060\n", b"fault script 3 BadHex\n"),
@@ -97,6 +118,151 @@ fn a_whole_cell_has_104_digits(rt: HostRuntime) -> Result<(), Fail> {
         input.as_bytes(),
         b"accepted 2\nvalue 1 steps 2\n",
         Done::Whole,
+    )?;
+    Ok(())
+}
+
+#[test]
+fn a_value_for_each_kind_of_instruction(rt: HostRuntime) -> Result<(), Fail> {
+    let rows = [
+        // ldb [3]; and #0xe; jge #8; data: ret #1; oam: ret #2
+        (
+            "0030000000000003005400000000000e003501000000000800060000000000010006000000000002",
+            "accepted 5\nvalue 1 steps 4\n",
+        ),
+        // ldx #0; div x; ret #1
+        (
+            "0001000000000000003c0000000000000006000000000001",
+            "accepted 3\nvalue 0 steps 2\n",
+        ),
+        // ldx #-1; ldb [x+1]; ret #7
+        (
+            "00010000ffffffff00500000000000010006000000000007",
+            "accepted 3\nvalue 0 steps 2\n",
+        ),
+        // ldx #32; ld #1; lsh x; ret a
+        (
+            "00010000000000200000000000000001006c0000000000000016000000000000",
+            "accepted 4\nvalue 0 steps 4\n",
+        ),
+        // ld #1; neg; ret a
+        (
+            "000000000000000100840000000000000016000000000000",
+            "accepted 3\nvalue 4294967295 steps 3\n",
+        ),
+        // ldxb 4*([2]&0xf); txa; ret a
+        (
+            "00b100000000000200870000000000000016000000000000",
+            "accepted 3\nvalue 24 steps 3\n",
+        ),
+        // ret #0; ld M[3]; ret a
+        (
+            "000600000000000000600000000000030016000000000000",
+            "accepted 3\nvalue 0 steps 1\n",
+        ),
+    ];
+    for (program, text) in rows {
+        let input = format!(in rt.alloc(); "{program}\n00100640\n")?;
+        let (printed, _done) = evaluated(rt.alloc(), input.as_bytes())?;
+        assert_eq!(rt; printed.as_slice(), text.as_bytes(), "{program}");
+    }
+    Ok(())
+}
+
+#[test]
+fn a_word_at_the_end_of_a_cell(rt: HostRuntime) -> Result<(), Fail> {
+    let zeros = "0".repeat(rt.alloc(), 88)?;
+    let input = format!(in rt.alloc();
+        "00200000000000300016000000000000\n00100640{zeros}01020304\n"
+    )?;
+    expect(
+        &rt,
+        rt.alloc(),
+        input.as_bytes(),
+        b"accepted 2\nvalue 16909060 steps 2\n",
+        Done::Whole,
+    )?;
+    let past = format!(in rt.alloc();
+        "00200000000000310016000000000000\n00100640{zeros}01020304\n"
+    )?;
+    expect(
+        &rt,
+        rt.alloc(),
+        past.as_bytes(),
+        b"accepted 2\nvalue 0 steps 1\n",
+        Done::Whole,
+    )?;
+    Ok(())
+}
+
+#[test]
+fn the_longest_program(rt: HostRuntime) -> Result<(), Fail> {
+    let jumps = "0005000000000000".repeat(rt.alloc(), 4095)?;
+    let input = format!(in rt.alloc(); "{jumps}0006000000000007\n00100640\n")?;
+    expect(
+        &rt,
+        rt.alloc(),
+        input.as_bytes(),
+        b"accepted 4096\nvalue 7 steps 4096\n",
+        Done::Whole,
+    )?;
+    let longer = format!(in rt.alloc(); "0005000000000000{jumps}0006000000000007\n00100640\n")?;
+    expect(
+        &rt,
+        rt.alloc(),
+        longer.as_bytes(),
+        b"fault verify 2 TooLong\n",
+        Done::Ended,
+    )?;
+    Ok(())
+}
+
+#[test]
+fn branches_and_stores_on_the_way_to_a_read(rt: HostRuntime) -> Result<(), Fail> {
+    let ladder = "00450001000000010002000000000000".repeat(rt.alloc(), 1000)?;
+    let written = format!(in rt.alloc();
+        "000200000000000f{ladder}006000000000000f0016000000000000\n00100640\n"
+    )?;
+    expect(
+        &rt,
+        rt.alloc(),
+        written.as_bytes(),
+        b"accepted 2003\nvalue 0 steps 1003\n",
+        Done::Whole,
+    )?;
+    let unwritten = format!(in rt.alloc();
+        "000200000000000f{ladder}00600000000000000016000000000000\n00100640\n"
+    )?;
+    expect(
+        &rt,
+        rt.alloc(),
+        unwritten.as_bytes(),
+        b"fault verify 8 Unwritten 2001 0\n",
+        Done::Ended,
+    )?;
+    Ok(())
+}
+
+#[test]
+fn a_branch_over_255_places(rt: HostRuntime) -> Result<(), Fail> {
+    let returns = "0006000000000001".repeat(rt.alloc(), 254)?;
+    let far = format!(in rt.alloc();
+        "0015ff0000000000{returns}00060000000000010006000000000002\n00100640\n"
+    )?;
+    expect(
+        &rt,
+        rt.alloc(),
+        far.as_bytes(),
+        b"accepted 257\nvalue 2 steps 2\n",
+        Done::Whole,
+    )?;
+    let outside = format!(in rt.alloc(); "0015ff0000000000{returns}0006000000000002\n00100640\n")?;
+    expect(
+        &rt,
+        rt.alloc(),
+        outside.as_bytes(),
+        b"fault verify 6 JumpOutside 0\n",
+        Done::Ended,
     )?;
     Ok(())
 }

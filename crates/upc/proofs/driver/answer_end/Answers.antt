@@ -1,5 +1,5 @@
 -- The last octets are the last line.
-use Rattle.std.proofs.Common.{◌<◌, length, sym, ◌∙◌, arith, rules}
+use Rattle.std.proofs.Common.{◌<◌, length, sym, ◌∙◌, arith}
 use Rattle.std.proofs.lemmas.Result.{IfOk-weaker}
 use Rattle.std.proofs.lemmas.Grind.{common_steps}
 use Rattle.upc.specs.Printing.{too_long}

@@ -1,11 +1,11 @@
 -- Each turn keeps what the invariant says, and each end is an answer or the front of one.
-use Rattle.std.proofs.Common.{◌≡◌, ◌+◌, ℕ, Ok, List, [], ◌∷◌, ◌++◌, true, length, take, drop, refl, ap, sym, ◌∙◌, arith, append_assoc, append-nil, length-drop}
-use Rattle.std.proofs.lemmas.Result.{IfOk-weaker, IfErr-weaker, IfErr-at_err}
+use Rattle.std.proofs.Common.{◌≡◌, ◌+◌, Ok, [], ◌∷◌, ◌++◌, length, take, drop, refl, ap, sym, ◌∙◌, arith, append_assoc, append-nil, length-drop}
+use Rattle.std.proofs.lemmas.Result.{IfOk-weaker, IfErr-weaker}
 use Rattle.upc.specs.Lines.{lines_of}
-use Rattle.upc.specs.Printing.{Prints, IsFront, too_long}
+use Rattle.upc.specs.Printing.{Prints, too_long}
 use Rattle.upc.specs.declared.outcome.Done.TheVariants.{Ended}
 use Rattle.upc.proofs.PrintingLemmas.{Total}
-use Rattle.upc.proofs.DriverLemmas.{split-window, no-feed-front, leads-at, leads-said, leads-passed, leads-ended, leads-closed, leads-front, front-of-run, front-of-whole, long-text, IfOk-both, text-of-whole, text-of-closed, front-of-closed, given-text, at-err, at-ok, window-over, none-at}
+use Rattle.upc.proofs.DriverLemmas.{split-window, no-feed-front, leads-at, leads-said, leads-passed, leads-ended, leads-closed, leads-front, front-of-run, front-of-whole, IfOk-both, text-of-whole, text-of-closed, front-of-closed, given-text, at-err, at-ok, window-over, none-at}
 use Rattle.upc.proofs.driver.answer_lines.Goals as goal
 
 pub returns-in_default-clause-front : goal.returns-in_default-clause-front

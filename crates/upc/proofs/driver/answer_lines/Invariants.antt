@@ -1,7 +1,7 @@
 -- What was given and what waits to be given lead to an answer to the whole input.
-use Rattle.std.proofs.Common.{◌≡◌, ℕ, ◌+◌, ◌-◌, ◌*◌, ◌≤◌, List, ◌++◌, length}
+use Rattle.std.proofs.Common.{◌≡◌, ℕ, ◌-◌, ◌*◌, ◌≤◌, List, ◌++◌, length}
 use Rattle.upc.specs.Window.{window_room}
-use Rattle.upc.specs.Lines.{lines_of, most_lines}
+use Rattle.upc.specs.Lines.{most_lines}
 use Rattle.upc.specs.Progress.{Leads}
 use Rattle.upc.proofs.driver.answer_lines.Given as goal
 

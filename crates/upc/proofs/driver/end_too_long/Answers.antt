@@ -1,9 +1,8 @@
 -- What was gathered grew by the answer to a line over the limits.
-use Rattle.std.proofs.Common.{List, ℕ, ◌++◌}
+use Rattle.std.proofs.Common.{List, ℕ}
 use Rattle.std.proofs.lemmas.Result.{IfErr-weaker}
 use Rattle.std.proofs.Common.{subst}
 use Rattle.upc.specs.Device.{IsPart}
-use Rattle.upc.specs.Printing.{too_long}
 use Rattle.upc.proofs.driver.end_too_long.Goals as goal
 
 pub returns-in-Ok-clause-front : goal.returns-in-Ok-clause-front

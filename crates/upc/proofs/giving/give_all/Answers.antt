@@ -1,5 +1,5 @@
 -- What was given so far is the front of the octets.
-use Rattle.std.proofs.Common.{ℕ, sym, ◌∙◌, take, drop, length, length-take, arith}
+use Rattle.std.proofs.Common.{ℕ, sym, ◌∙◌, take, drop, length-take, arith}
 use Rattle.std.proofs.lemmas.List.{take-append-drop}
 use Rattle.upc.proofs.Ranges.{given-more}
 use Rattle.upc.proofs.giving.give_all.Goals as goal

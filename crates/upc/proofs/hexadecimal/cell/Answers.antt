@@ -1,5 +1,5 @@
 -- A word of another length spells octets that are no cell.
-use Rattle.std.proofs.Common.{◌≡◌, ◌≢◌, ℕ, List, length, sym, ◌∙◌, ap, arith}
+use Rattle.std.proofs.Common.{◌≡◌, ◌≢◌, length, sym, ◌∙◌, ap, arith}
 use Rattle.upc.proofs.HexadecimalLemmas.{spelled-length, cell-of_other}
 use Rattle.upc.proofs.hexadecimal.cell.Goals as goal
 

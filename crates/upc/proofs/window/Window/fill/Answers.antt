@@ -1,5 +1,5 @@
 -- After a refill the window begins at the buffer's front.
-use Rattle.std.proofs.Common.{◌≡◌, ◌-◌, ◌+◌, ℕ, refl, sym, ◌∙◌, ap, subst, arith, length, take}
+use Rattle.std.proofs.Common.{◌≡◌, ◌+◌, ℕ, refl, sym, ◌∙◌, ap, subst, arith, length, take}
 use Rattle.upc.specs.Window.{IsWindow}
 use Rattle.upc.specs.declared.window.Window.TheInside.{Inside}
 use Rattle.upc.proofs.WindowLemmas.{moved-to-front, refilled, written-over}

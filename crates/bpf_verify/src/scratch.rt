@@ -1,0 +1,115 @@
+//! Which scratch words are written wherever they are read.
+
+ghost use Rattle.std.specs.Prelude.{◌≡◌, ◌≢◌, ℕ, ◌+◌, ◌<◌, ◌↔◌, length, min, slice_index, IfSome, IfNone, Some};
+ghost use Rattle.std.specs.Int.{bit_at};
+ghost use Rattle.bpf_code.specs.Flow.{LeadsTo};
+ghost use Rattle.bpf_code.specs.Scratch.{ReadsWord, StoresWord};
+ghost use Rattle.bpf_verify.specs.Accepted.{IsSized, EndsInReturn};
+ghost use Rattle.bpf_verify.specs.Faults.{FailsFirst, IsSoundBelow};
+ghost use Rattle.bpf_verify.specs.Paths.{IsWrittenAt};
+
+use crate::check::MAX_INSTRUCTIONS;
+use crate::fault::Fault;
+use bpf_code::Instr;
+
+/// The first place that some path reaches without a store of the word that it reads, if there is one.
+///
+/// Each place has a mask of the words that every path to it stores, all of them as long as no path is
+/// known. Jumps go forward, so at the visit of a place its mask has met every path to it.
+pub(crate) fn first_unwritten(code: &[Instr]) -> Option<Fault>
+    requires sized { IsSized code.now }
+    requires sound { IsSoundBelow code.now (length code.now) }
+    requires ends { EndsInReturn code.now }
+    ensures none { IfNone result ((place : ℕ) → IsWrittenAt code.now place) }
+    ensures some { IfSome result (FailsFirst code.now) }
+{
+    let mut written = [u16::MAX; MAX_INSTRUCTIONS];
+    written[0] = 0;
+    for (at, instr) in code.iter().enumerate() {
+        let here = written[at];
+        if let Some(word) = unwritten_word(*instr, here) {
+            return Some(Fault::Unwritten { at, word });
+        }
+        pass_on(&mut written, at, *instr, with_stored(*instr, here));
+    }
+    None
+}
+
+/// The word that an instruction reads and a mask lacks.
+fn unwritten_word(instr: Instr, mask: u16) -> Option<u32>
+    requires { (word : ℕ) → ReadsWord instr word → word < 16 }
+    ensures none { IfNone result ((word : ℕ) → ReadsWord instr word → bit_at mask word ≡ 1) }
+    ensures some { IfSome result (λ word. ReadsWord instr word × (bit_at mask word ≡ 0)) }
+{
+    match word_read(instr) {
+        Some(word) if mask >> word & 1 == 0 => Some(word),
+        _ => None,
+    }
+}
+
+/// A mask with the word that an instruction stores.
+fn with_stored(instr: Instr, mask: u16) -> u16
+    requires { (word : ℕ) → StoresWord instr word → word < 16 }
+    ensures stored { (word : ℕ) → StoresWord instr word → bit_at result word ≡ 1 }
+    ensures others { (word : ℕ) → ¬ StoresWord instr word → bit_at result word ≡ bit_at mask word }
+{
+    match word_stored(instr) {
+        Some(word) => mask | 1 << word,
+        None => mask,
+    }
+}
+
+/// Hands the mask behind an instruction on to its successors. A return has none.
+fn pass_on(written: &mut [u16], at: usize, instr: Instr, mask: u16)
+    requires size { length written.old ≡ MAX_INSTRUCTIONS }
+    requires within { (next : ℕ) → LeadsTo at instr next → next < MAX_INSTRUCTIONS }
+    ensures successors { (next word : ℕ) → LeadsTo at instr next
+        → bit_at (slice_index written.new next) word
+        ≡ min (bit_at (slice_index written.old next) word) (bit_at mask word) }
+    ensures others { (place : ℕ) → ¬ LeadsTo at instr place
+        → slice_index written.new place ≡ slice_index written.old place }
+{
+    match instr {
+        Instr::Jump(skipped) => narrow(written, at, skipped, mask),
+        Instr::Branch { jt, jf, .. } => {
+            narrow(written, at, u32::from(jt), mask);
+            narrow(written, at, u32::from(jf), mask);
+        }
+        Instr::RetK(_) | Instr::RetA => {}
+        _ => narrow(written, at, 0, mask),
+    }
+}
+
+/// Leaves the place behind so many skipped instructions the words that a further path to it stores too.
+fn narrow(written: &mut [u16], at: usize, skipped: u32, mask: u16)
+    requires size { length written.old ≡ MAX_INSTRUCTIONS }
+    requires within { at + 1 + skipped < MAX_INSTRUCTIONS }
+    ensures place { (place word : ℕ) → place ≡ at + 1 + skipped
+        → bit_at (slice_index written.new place) word
+        ≡ min (bit_at (slice_index written.old place) word) (bit_at mask word) }
+    ensures others { (other : ℕ) → other ≢ at + 1 + skipped
+        → slice_index written.new other ≡ slice_index written.old other }
+{
+    let place = at + 1 + skipped as usize;
+    written[place] &= mask;
+}
+
+/// The scratch word that an instruction reads.
+fn word_read(instr: Instr) -> Option<u32>
+    ensures { (word : ℕ) → ReadsWord instr word ↔ (result ≡ Some word) }
+{
+    match instr {
+        Instr::LoadMem(word) | Instr::LdxMem(word) => Some(word),
+        _ => None,
+    }
+}
+
+/// The scratch word that an instruction stores.
+fn word_stored(instr: Instr) -> Option<u32>
+    ensures { (word : ℕ) → StoresWord instr word ↔ (result ≡ Some word) }
+{
+    match instr {
+        Instr::Store(word) | Instr::StoreX(word) => Some(word),
+        _ => None,
+    }
+}

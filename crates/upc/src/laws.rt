@@ -1,0 +1,12 @@
+//! Laws of the definitions: functions that do nothing, each for the sake of its contract.
+ghost use Rattle.std.specs.Prelude.{◌≡◌, ℕ, List};
+ghost use Rattle.upc.specs.Eval.{IsEvalText};
+ghost use Rattle.upc.specs.declared.outcome.Done.{Done as TheDone};
+
+/// An input has one text of `eval`, with one end: `eval_bytes` says which octets are written, and not
+/// only that they are some answer.
+pub fn an_input_has_one_eval_text()
+    ensures { (octets : List ℕ) (one other : List ℕ) (ends other_ends : TheDone)
+        → IsEvalText octets one ends → IsEvalText octets other other_ends
+        → (one ≡ other) × (ends ≡ other_ends) }
+{}
