@@ -2,3 +2,4 @@ pub mod Rows
 pub mod Spelled
 pub mod Fronts
 pub mod Total
+pub mod Plainly

@@ -24,6 +24,11 @@ abbrev pub SpellsCode : List ℕ → List Instr → Type 0
 SpellsCode octets [] = octets ≡ []
 SpellsCode octets (i ∷ code) = Spells (take 8 octets) i × SpellsCode (drop 8 octets) code
 
+-- Octets spell a code plainly where, besides, each field that an instruction doesn't use is 0.
+abbrev pub SpellsPlainly : List ℕ → List Instr → Type 0
+SpellsPlainly octets [] = octets ≡ []
+SpellsPlainly octets (i ∷ code) = Spells (take 8 octets) i × UnusedAreZero (take 8 octets) i × SpellsPlainly (drop 8 octets) code
+
 -- The eight octets at a place, which counts instructions from 0.
 abbrev pub eight_at : List ℕ → ℕ → List ℕ
 eight_at octets place = take 8 (drop (8 * place) octets)

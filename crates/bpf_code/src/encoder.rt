@@ -1,10 +1,12 @@
-ghost use Rattle.std.specs.Prelude.{◌≡◌, ◌≤◌, ◌+◌, ℕ, unwrap_or};
-ghost use Rattle.bpf_code.specs.Spelling.{Spells, UnusedAreZero};
+ghost use Rattle.std.specs.Prelude.{◌≡◌, ◌≤◌, ◌+◌, ℕ, unwrap_or, IfOk};
+ghost use Rattle.bpf_code.specs.Spelling.{Spells, SpellsPlainly, UnusedAreZero};
 ghost use Rattle.bpf_code.specs.Table.{code_of, jt_of, jf_of, k_of};
 
 use crate::instr::By::{self, Imm, X};
 use crate::instr::{Instr, Op, Size, Test};
 use byteorder::{BigEndian, ByteOrder};
+use std::alloc::Global;
+use thiserror::Error;
 
 /// The fields of an instruction, 0 where it doesn't use them.
 struct Fields {
@@ -147,4 +149,30 @@ pub fn encode_one(instr: Instr) -> [u8; 8]
     BigEndian::write_u16(&mut octets, code);
     BigEndian::write_u32(&mut octets[4..], k);
     octets
+}
+
+/// Why a code wasn't written.
+#[derive(Clone, Copy, Debug, PartialEq, Eq, Error)]
+pub enum EncodeFault {
+    /// Memory ran out.
+    #[error("1 NoMemory")]
+    NoMemory,
+}
+
+/// The octets that spell a code, eight octets an instruction. Fields that an instruction doesn't use
+/// are 0.
+///
+/// # Errors
+///
+/// `NoMemory` where memory was refused.
+pub fn encode(alloc: Global, code: &[Instr]) -> Result<Vec<u8>, EncodeFault>
+    ensures { IfOk result (λ octets. SpellsPlainly octets.items code.now) }
+{
+    let mut octets = Vec::with_capacity(alloc, 8 * code.len()).map_err(|_| EncodeFault::NoMemory)?;
+    for instr in code {
+        let Ok(()) = octets.extend_from_slice(&encode_one(*instr)) else {
+            return Err(EncodeFault::NoMemory);
+        };
+    }
+    Ok(octets)
 }

@@ -7,7 +7,7 @@ mod instr;
 pub mod laws;
 
 pub use decoder::{DecodeFault, decode, decode_one};
-pub use encoder::encode_one;
+pub use encoder::{EncodeFault, encode, encode_one};
 pub use instr::{By, Instr, Op, Size, Test};
 
 #[cfg(test)]

@@ -1,4 +1,4 @@
-use crate::{By, DecodeFault, Instr, Op, Size, Test, decode, decode_one, encode_one};
+use crate::{By, DecodeFault, Instr, Op, Size, Test, decode, decode_one, encode, encode_one};
 use std::test::Fail;
 
 /// The operand that the table's test writes into every instruction.
@@ -114,7 +114,7 @@ fn unused_fields_are_written_as_0(rt: HostRuntime) {
 }
 
 #[test]
-fn a_program_is_read_in_order(rt: HostRuntime) -> Result<(), Fail> {
+fn a_program_is_read_and_written_in_order(rt: HostRuntime) -> Result<(), Fail> {
     // `ldb [3]`, `and #0xe`, `jge #8` with offsets 1 and 0, `ret #1`, `ret #2`
     let octets = [
         0x00, 0x30, 0x00, 0x00, 0x00, 0x00, 0x00, 0x03, 0x00, 0x54, 0x00, 0x00, 0x00, 0x00, 0x00,
@@ -138,6 +138,10 @@ fn a_program_is_read_in_order(rt: HostRuntime) -> Result<(), Fail> {
         Instr::RetK(2),
     ];
     assert_eq!(rt; code.as_slice(), expected.as_slice());
+    assert_eq!(rt;
+        encode(rt.alloc(), &expected)?.as_slice(),
+        octets.as_slice()
+    );
     Ok(())
 }
 
