@@ -6,7 +6,7 @@ use crate::outcome::{Done, RunFault};
 
 /// The exit status for how a call ended: 0 for a whole answer, 1 where a fault line ended it early,
 /// 3 where it failed.
-pub fn exit_status(ended: &Result<Done, RunFault>) -> u8
+pub fn status(ended: &Result<Done, RunFault>) -> u8
     ensures { result ≡ status_of ended.now }
 {
     match ended {

@@ -7,13 +7,13 @@ mod choose;
 mod device;
 mod driver;
 mod eval;
+mod exit;
 mod giving;
 mod hexadecimal;
 mod laws;
 mod line;
 mod machine;
 mod outcome;
-mod status;
 mod stream;
 #[cfg(test)]
 mod tests;
@@ -22,8 +22,8 @@ mod words;
 
 use choose::{Choice, Stop, choose};
 use eval::eval_bytes;
+use exit::status;
 use outcome::RunFault;
-use status::exit_status;
 use std::io;
 use std::process::ExitCode;
 use stream::{Giving, Taking};
@@ -63,7 +63,7 @@ fn run_eval(rt: &HostRuntime) -> ExitCode {
     let mut output = Giving::new(rt.stdout());
     let ended = eval_bytes(rt.alloc(), &mut input, &mut output);
     match ended {
-        Ok(_) => ExitCode::from(exit_status(&ended)),
+        Ok(_) => ExitCode::from(status(&ended)),
         Err(fault) => failed(rt, fault),
     }
 }
@@ -71,5 +71,5 @@ fn run_eval(rt: &HostRuntime) -> ExitCode {
 /// Says on the standard error why a call failed.
 fn failed(rt: &HostRuntime, fault: RunFault) -> ExitCode {
     let _ = eprintln!(rt; "upc: {fault}");
-    ExitCode::from(exit_status(&Err(fault)))
+    ExitCode::from(status(&Err(fault)))
 }
