@@ -36,7 +36,8 @@ fn add_numbered(answers: &mut Vec<u8>, text: &[u8], number: usize) -> Result<(),
 
 /// Adds the answer to an accepted program of so many instructions.
 pub fn add_accepted(answers: &mut Vec<u8>, instructions: usize) -> Result<(), AllocError>
-    ensures { OnOk result (answers.new.items ≡ answers.old.items ++ line (codes "accepted " ++ decimal instructions)) }
+    ensures { OnOk result
+        (answers.new.items ≡ answers.old.items ++ line (codes "accepted " ++ decimal instructions)) }
 {
     add_numbered(answers, b"accepted ", instructions)
 }
@@ -44,7 +45,8 @@ pub fn add_accepted(answers: &mut Vec<u8>, instructions: usize) -> Result<(), Al
 /// Adds the value that a program gave, and the number of instructions that it began.
 #[tactic(auto, using(std::proofs::lemmas::List::append_assoc))]
 pub fn add_value(answers: &mut Vec<u8>, value: u32, steps: u32) -> Result<(), AllocError>
-    ensures { OnOk result (answers.new.items ≡ answers.old.items ++ line (codes "value " ++ decimal value ++ codes " steps " ++ decimal steps)) }
+    ensures { OnOk result (answers.new.items ≡ answers.old.items
+        ++ line (codes "value " ++ decimal value ++ codes " steps " ++ decimal steps)) }
 {
     answers.extend_from_slice(b"value ")?;
     add_number(answers, value as usize)?;
@@ -64,7 +66,8 @@ pub fn add_wrong_length(answers: &mut Vec<u8>, octets: usize) -> Result<(), Allo
 /// Adds the answer to a code of eight octets that spell no instruction, which stand at this place.
 #[tactic(auto, using(std::proofs::lemmas::List::append_assoc))]
 fn add_unknown_code(answers: &mut Vec<u8>, at: usize, code: u16) -> Result<(), AllocError>
-    ensures { OnOk result (answers.new.items ≡ answers.old.items ++ decode_fault (DecodeFault.UnknownCode at code)) }
+    ensures { OnOk result
+        (answers.new.items ≡ answers.old.items ++ decode_fault (DecodeFault.UnknownCode at code)) }
 {
     answers.extend_from_slice(b"fault decode 2 UnknownCode ")?;
     add_number(answers, at)?;
@@ -81,7 +84,8 @@ fn add_unknown_code(answers: &mut Vec<u8>, at: usize, code: u16) -> Result<(), A
 
 /// Adds the answer to octets that are no code.
 pub fn add_decode_fault(answers: &mut Vec<u8>, fault: DecodeFault) -> Result<(), AllocError>
-    ensures { fault ≢ DecodeFault.NoMemory → OnOk result (answers.new.items ≡ answers.old.items ++ decode_fault fault) }
+    ensures { fault ≢ DecodeFault.NoMemory →
+        OnOk result (answers.new.items ≡ answers.old.items ++ decode_fault fault) }
 {
     match fault {
         DecodeFault::Ragged => add_text(answers, b"fault decode 1 Ragged\n"),
@@ -93,7 +97,8 @@ pub fn add_decode_fault(answers: &mut Vec<u8>, fault: DecodeFault) -> Result<(),
 /// Adds the answer to a read of a scratch word that some path to its place doesn't store.
 #[tactic(auto, using(std::proofs::lemmas::List::append_assoc))]
 fn add_unwritten(answers: &mut Vec<u8>, at: usize, word: u32) -> Result<(), AllocError>
-    ensures { OnOk result (answers.new.items ≡ answers.old.items ++ verify_fault (Fault.Unwritten at word)) }
+    ensures { OnOk result
+        (answers.new.items ≡ answers.old.items ++ verify_fault (Fault.Unwritten at word)) }
 {
     answers.extend_from_slice(b"fault verify 8 Unwritten ")?;
     add_number(answers, at)?;

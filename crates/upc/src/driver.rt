@@ -1,6 +1,6 @@
 //! The run of a machine over the lines of an input: the one loop of every subcommand that reads lines.
 ghost use Rattle.std.specs.Prelude.{◌≡◌, ◌≢◌, ℕ, ◌+◌, ◌<◌, ◌≤◌, ◌++◌, ◌||◌, List, [], true, Ok, Err, length, slice_index, nat_le, nat_lt, IfOk, OnOk, OnErr};
-ghost use Rattle.upc.specs.Device.{IsPart, Moves, one_more};
+ghost use Rattle.upc.specs.Device.{Adds, IsPart, Moves, one_more};
 ghost use Rattle.upc.specs.Window.{window_room};
 ghost use Rattle.upc.specs.Lines.{lines_of, most_lines, most_octets};
 ghost use Rattle.upc.specs.Printing.{Prints, IsFront, too_long};
@@ -72,8 +72,9 @@ fn answer_end<M: Machine>(
 ) -> Result<Done, AllocError>
     requires sound { M.is_sound (M.world machine.old) }
     requires no_feed { (k : ℕ) → k < length octets.now → slice_index octets.now k ≢ 10 }
-    ensures { IfOk result (λ done. (here : List ℕ) × (answers.new.items ≡ answers.old.items ++ here)
-        × Prints M.steps M.closes met (M.world machine.old) (lines_of octets.now) here done) }
+    ensures { IfOk result (λ done.
+        let last = Prints M.steps M.closes met (M.world machine.old) (lines_of octets.now) in
+        Adds (λ here. last here done) answers.old.items answers.new.items) }
 {
     if octets.is_empty() {
         return machine.close(answers);
@@ -101,9 +102,11 @@ fn refill<I: Input, O: Output>(
     ensures bounded { length window.new ≤ window_room }
     ensures same { result ≡ Ok 0 → window.new ≡ window.old }
     ensures end { I.is_known → result ≡ Ok 0 → I.rest input.new ≡ [] }
-    ensures given { O.is_known → OnOk result (O.held output.new ≡ O.held output.old ++ answers.old.items) }
+    ensures given { O.is_known → OnOk result
+        (O.held output.new ≡ O.held output.old ++ answers.old.items) }
     ensures none { OnOk result (answers.new.items ≡ []) }
-    ensures front { O.is_known → OnErr result (IsPart (O.held output.old) (O.held output.new) answers.old.items) }
+    ensures front { O.is_known → OnErr result
+        (IsPart (O.held output.old) (O.held output.new) answers.old.items) }
     ensures reading { I.failures input.new ≡ read_failures result (I.failures input.old) }
     ensures writing { O.failures output.new ≡ write_failures result (O.failures output.old) }
 {
@@ -119,8 +122,10 @@ fn refill<I: Input, O: Output>(
 /// Gives the last answers of a run.
 fn give_last<O: Output>(output: &mut O, answers: &mut Vec<u8>, done: Done) -> Result<Done, RunFault>
     ensures done { IfOk result (λ value. value ≡ done) }
-    ensures given { O.is_known → OnOk result (O.held output.new ≡ O.held output.old ++ answers.old.items) }
-    ensures front { O.is_known → OnErr result (IsPart (O.held output.old) (O.held output.new) answers.old.items) }
+    ensures given { O.is_known → OnOk result
+        (O.held output.new ≡ O.held output.old ++ answers.old.items) }
+    ensures front { O.is_known → OnErr result
+        (IsPart (O.held output.old) (O.held output.new) answers.old.items) }
     ensures fault { OnErr result (result ≡ Err RunFault.WriteFailed) }
     ensures writing { O.failures output.new ≡ write_failures result (O.failures output.old) }
 {
@@ -132,8 +137,10 @@ fn give_last<O: Output>(output: &mut O, answers: &mut Vec<u8>, done: Done) -> Re
 
 /// Gives what is answered, where that is enough for a call of the output.
 fn give_if_enough<O: Output>(output: &mut O, answers: &mut Vec<u8>) -> Result<(), Failed>
-    ensures moved { O.is_known → OnOk result (Moves (O.held output.old) (O.held output.new) answers.old.items answers.new.items) }
-    ensures front { O.is_known → OnErr result (IsPart (O.held output.old) (O.held output.new) answers.old.items) }
+    ensures moved { O.is_known → OnOk result
+        (Moves (O.held output.old) (O.held output.new) answers.old.items answers.new.items) }
+    ensures front { O.is_known → OnErr result
+        (IsPart (O.held output.old) (O.held output.new) answers.old.items) }
     ensures calm { OnOk result (O.failures output.new ≡ O.failures output.old) }
     ensures failed { OnErr result (O.failures output.new ≡ one_more (O.failures output.old)) }
 {
@@ -146,8 +153,10 @@ fn give_if_enough<O: Output>(output: &mut O, answers: &mut Vec<u8>) -> Result<()
 /// Ends a run by a line over the limits.
 fn end_too_long<O: Output>(output: &mut O, answers: &mut Vec<u8>) -> Result<Done, RunFault>
     ensures done { IfOk result (λ done. done ≡ Done.Ended) }
-    ensures given { O.is_known → OnOk result (O.held output.new ≡ O.held output.old ++ (answers.old.items ++ too_long)) }
-    ensures front { O.is_known → OnErr result (IsPart (O.held output.old) (O.held output.new) (answers.old.items ++ too_long)) }
+    ensures given { O.is_known → OnOk result
+        (O.held output.new ≡ O.held output.old ++ (answers.old.items ++ too_long)) }
+    ensures front { O.is_known → OnErr result
+        (IsPart (O.held output.old) (O.held output.new) (answers.old.items ++ too_long)) }
     ensures fault { result ≢ Err RunFault.ReadFailed }
     ensures writing { O.failures output.new ≡ write_failures result (O.failures output.old) }
 {
@@ -167,9 +176,11 @@ fn finish<O: Output, M: Machine>(
 ) -> Result<Done, RunFault>
     requires sound { M.is_sound (M.world machine.old) }
     requires no_feed { (k : ℕ) → k < length octets.now → slice_index octets.now k ≢ 10 }
-    ensures given { O.is_known → IfOk result (λ done. (here : List ℕ) × (O.held output.new ≡ O.held output.old ++ (answers.old.items ++ here))
+    ensures given { O.is_known → IfOk result (λ done. (here : List ℕ)
+        × (O.held output.new ≡ O.held output.old ++ (answers.old.items ++ here))
         × Prints M.steps M.closes met (M.world machine.old) (lines_of octets.now) here done) }
-    ensures front { O.is_known → OnErr result ((here : List ℕ) × (done : TheDone) × IsPart (O.held output.old) (O.held output.new) (answers.old.items ++ here)
+    ensures front { O.is_known → OnErr result ((here : List ℕ) × (done : TheDone)
+        × IsPart (O.held output.old) (O.held output.new) (answers.old.items ++ here)
         × Prints M.steps M.closes met (M.world machine.old) (lines_of octets.now) here done) }
     ensures fault { result ≢ Err RunFault.ReadFailed }
     ensures writing { O.failures output.new ≡ write_failures result (O.failures output.old) }
@@ -189,10 +200,14 @@ pub fn answer_lines<I: Input, O: Output, M: Machine>(
     machine: &mut M,
 ) -> Result<Done, RunFault>
     requires { M.is_sound (M.world machine.old) }
-    ensures text { I.is_known → O.is_known → IfOk result (λ done. (text : List ℕ) × (O.held output.new ≡ O.held output.old ++ text)
-        × Prints M.steps M.closes 0 (M.world machine.old) (lines_of (I.rest input.old)) text done) }
-    ensures front { I.is_known → O.is_known → OnErr result ((text : List ℕ) × (O.held output.new ≡ O.held output.old ++ text)
-        × IsFront (Prints M.steps M.closes 0 (M.world machine.old) (lines_of (I.rest input.old))) text) }
+    // What was written is an answer to the lines of the whole input, or a beginning of one.
+    ensures text { I.is_known → O.is_known → IfOk result (λ done.
+        let whole = Prints M.steps M.closes 0 (M.world machine.old) (lines_of (I.rest input.old)) in
+        Adds (λ text. whole text done) (O.held output.old) (O.held output.new)) }
+    ensures front { I.is_known → O.is_known → OnErr result
+        (let whole = Prints M.steps M.closes 0 (M.world machine.old) (lines_of (I.rest input.old)) in
+        Adds (IsFront whole) (O.held output.old) (O.held output.new)) }
+
     ensures reading { I.failures input.new ≡ read_failures result (I.failures input.old) }
     ensures writing { O.failures output.new ≡ write_failures result (O.failures output.old) }
 {

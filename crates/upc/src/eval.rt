@@ -1,5 +1,6 @@
 //! `upc eval`: one program, and its value on each cell.
-ghost use Rattle.std.specs.Prelude.{◌≡◌, ℕ, ◌∷◌, ◌++◌, List, [], Some, IfOk, OnOk, OnErr, option_map};
+ghost use Rattle.std.specs.Prelude.{◌≡◌, ◌∷◌, [], Some, IfOk, OnOk, OnErr, option_map};
+ghost use Rattle.upc.specs.Device.{Adds};
 ghost use Rattle.upc.specs.Eval.{CellLine, ChecksCode, ProgramLine, IsEvalText};
 ghost use Rattle.upc.specs.Outcome.{read_failures, write_failures};
 ghost use Rattle.upc.specs.Printing.{IsFront};
@@ -31,7 +32,7 @@ fn answer_cell(
     word: &[u8],
     answers: &mut Vec<u8>,
 ) -> Result<(), AllocError>
-    ensures { OnOk result ((here : List ℕ) × (answers.new.items ≡ answers.old.items ++ here) × CellLine program.now (word.now ∷ []) here) }
+    ensures { OnOk result (Adds (CellLine program.now (word.now ∷ [])) answers.old.items answers.new.items) }
 {
     match hexadecimal::cell(alloc, word)? {
         CellWord::OfCell(cell) => {
@@ -48,8 +49,8 @@ fn answer_cell(
 
 /// Checks the code of the program line, and answers it.
 fn check_code(code: Vec<Instr>, answers: &mut Vec<u8>) -> Result<Option<Program>, AllocError>
-    ensures { IfOk result (λ program. (here : List ℕ) × (answers.new.items ≡ answers.old.items ++ here)
-        × ChecksCode code.items here (option_map Some program)) }
+    ensures { IfOk result (λ program. Adds (λ here. ChecksCode code.items here (option_map Some program))
+        answers.old.items answers.new.items) }
 {
     match verify(code) {
         Ok(program) => {
@@ -69,8 +70,8 @@ fn read_program(
     word: &[u8],
     answers: &mut Vec<u8>,
 ) -> Result<Option<Program>, AllocError>
-    ensures { IfOk result (λ program. (here : List ℕ) × (answers.new.items ≡ answers.old.items ++ here)
-        × ProgramLine (word.now ∷ []) here (option_map Some program)) }
+    ensures { IfOk result (λ program. Adds (λ here. ProgramLine (word.now ∷ []) here (option_map Some program))
+        answers.old.items answers.new.items) }
 {
     let Some(octets) = hexadecimal::octets(alloc, word)? else {
         answers.extend_from_slice(BAD_HEX)?;
@@ -159,10 +160,12 @@ pub fn eval_bytes<I: Input, O: Output>(
     input: &mut I,
     output: &mut O,
 ) -> Result<Done, RunFault>
-    ensures text { I.is_known → O.is_known → IfOk result (λ done. (text : List ℕ) × (O.held output.new ≡ O.held output.old ++ text)
-        × IsEvalText (I.rest input.old) text done) }
-    ensures front { I.is_known → O.is_known → OnErr result ((text : List ℕ) × (O.held output.new ≡ O.held output.old ++ text)
-        × IsFront (IsEvalText (I.rest input.old)) text) }
+    // What was written is the text of the whole input, or a beginning of it.
+    ensures text { I.is_known → O.is_known → IfOk result (λ done.
+        Adds (λ text. IsEvalText (I.rest input.old) text done) (O.held output.old) (O.held output.new)) }
+    ensures front { I.is_known → O.is_known → OnErr result
+        (Adds (IsFront (IsEvalText (I.rest input.old))) (O.held output.old) (O.held output.new)) }
+
     ensures reading { I.failures input.new ≡ read_failures result (I.failures input.old) }
     ensures writing { O.failures output.new ≡ write_failures result (O.failures output.old) }
 {

@@ -38,7 +38,8 @@ pub trait Machine {
     /// Answers the end of the input, at the end of the answers.
     fn close(&mut self, answers: &mut Vec<u8>) -> Result<Done, AllocError>
         requires { is_sound (world self.old) }
-        ensures { IfOk result (λ done. AnswersEnd closes (world self.old) done answers.old.items answers.new.items) };
+        ensures { IfOk result (λ done.
+            AnswersEnd closes (world self.old) done answers.old.items answers.new.items) };
 
     ghost keeps_sound: { (before : World) (line : List ℕ) (here : List ℕ) (after : World) →
         is_sound before → steps before line here (Some after) → is_sound after };
@@ -46,5 +47,6 @@ pub trait Machine {
     ghost can_step: { (before : World) (line : List ℕ) → is_sound before →
         (here : List ℕ) × (next : Option World) × steps before line here next };
 
-    ghost can_close: { (before : World) → is_sound before → (here : List ℕ) × (done : TheDone) × closes before here done };
+    ghost can_close: { (before : World) → is_sound before →
+        (here : List ℕ) × (done : TheDone) × closes before here done };
 }

@@ -94,7 +94,8 @@ impl Window {
     /// input's end.
     pub fn fill<I: Input>(&mut self, input: &mut I) -> Result<usize, Failed>
         requires { length self.old ≤ 70000 }
-        ensures octets { I.is_known → IfOk result (λ _. self.old ++ I.rest input.old ≡ self.new ++ I.rest input.new) }
+        ensures octets { I.is_known → IfOk result
+            (λ _. self.old ++ I.rest input.old ≡ self.new ++ I.rest input.new) }
         ensures count { IfOk result (λ count. length self.new ≡ length self.old + count) }
         ensures bounded { length self.new ≤ window_room }
         ensures end { I.is_known → result ≡ Ok 0 → I.rest input.new ≡ [] }

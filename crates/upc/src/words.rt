@@ -19,7 +19,9 @@ fn after_blanks(line: &[u8]) -> &[u8]
 
 /// The first word of a line and what stands behind it; none where the line has no words.
 pub fn first_word(line: &[u8]) -> Option<(&[u8], &[u8])>
-    ensures { MatchOption result (words_of line.now ≡ []) (λ found. words_of line.now ≡ found.0.now ∷ words_of found.1.now) }
+    ensures { MatchOption result
+        (words_of line.now ≡ [])
+        (λ found. words_of line.now ≡ found.0.now ∷ words_of found.1.now) }
 {
     let line = after_blanks(line);
     if line.is_empty() {
