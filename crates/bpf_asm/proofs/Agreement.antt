@@ -1,0 +1,196 @@
+-- The map of labels, one line after the other.
+use Rattle.std.proofs.Common.{◌≡◌, ◌⊎◌, ℕ, zero, suc, ◌+◌, ◌≤◌, Bool, true, false, if◌then◌else◌, List, [], ◌∷◌, ◌++◌, length, map, Option, Some, None, Result, Ok, Err, IfOk, OnOk, is_ok, refl, sym, ap, ◌∙◌, subst, inl, inr, arith, append_assoc, length-append}
+use Rattle.std.proofs.lemmas.List.{map-append}
+use Rattle.std.specs.List.{cons_option}
+use Rattle.std.specs.Str.{bytes_eq}
+use Rattle.std.specs.Option.{is_none}
+use Rattle.std.proofs.lemmas.List.Elements.{filter_map-append}
+use Rattle.std.proofs.lemmas.Slice.Eq.{bytes_eq-Decides}
+use Rattle.bpf_asm.specs.Grammar.{AreLines, IsLine, Line}
+use Rattle.bpf_asm.specs.Labels.{EachLabelOnce, HasLabel, StandsFor, statement_count, statements_of}
+use Rattle.bpf_asm.specs.Seen.{line_seen}
+use Rattle.bpf_asm.specs.Spelling.{Statement}
+use Rattle.bpf_asm.specs.declared.reader.Said.{Said}
+use Rattle.bpf_asm.specs.Wholes.{AgreesWith, IsReadTo, IsTwice}
+
+some_line : (one other : Line) → Some one ≡ Some other → one ≡ other
+some_line one other e = cc
+
+some_name : (one other : List ℕ) → Some one ≡ Some other → one ≡ other
+some_name one other e = cc
+
+some_place : (one other : ℕ) → Some one ≡ Some other → one ≡ other
+some_place one other e = cc
+
+some_none : (place : ℕ) → Some place ≡ None → ⊥
+some_none place e = cc
+
+no_name : (name : List ℕ) → Some name ≡ None → ⊥
+no_name name e = cc
+
+-- the statements of lines and more lines
+pub statements_of-append : (lines more : List Line) → statements_of (lines ++ more) ≡ statements_of lines ++ statements_of more
+unfolding statements_of
+statements_of-append lines more = filter_map-append (λ (line : Line). line.statement) lines more
+
+-- a line of a front is one of the whole
+pub label_kept : (lines more : List Line) (at : ℕ) (name : List ℕ) → HasLabel lines at name → HasLabel (lines ++ more) at name
+label_kept [] more at name h = cc
+label_kept (line ∷ lines) more zero name h = h
+label_kept (line ∷ lines) more (suc at) name h = label_kept lines more at name h
+
+-- a line of the whole is the last or one of the front
+pub label_split : (lines : List Line) (line : Line) (at : ℕ) (name : List ℕ) → HasLabel (lines ++ line ∷ []) at name → HasLabel lines at name ⊎ ((at ≡ length lines) × (line.label ≡ Some name))
+label_split [] line zero name h = let same : line ≡ h.0 = some_line _ _ h.1 in inr (refl, ap (λ (l : Line). l.label) same ∙ h.2)
+label_split [] line (suc at) name h = cc
+label_split (first ∷ lines) line zero name h = inl h
+label_split (first ∷ lines) line (suc at) name h =
+    elim (label_split lines line at name h) [ inl f ↦ inl f | inr l ↦ inr (ap suc l.0, l.1) ]
+
+-- what stands in a front stands in the whole
+pub stands_kept : (lines more : List Line) (name : List ℕ) (place : ℕ) → StandsFor lines name place → StandsFor (lines ++ more) name place
+stands_kept lines more name place s = record {
+  before = s.before;
+  here = s.here;
+  behind = s.behind ++ more;
+  split = ap (λ (ls : List Line). ls ++ more) s.split ∙ append_assoc s.before (s.here ∷ s.behind) more;
+  named = s.named;
+  counted = s.counted;
+}
+
+-- the last line's label stands for the number of statements before it
+stands_last : (lines : List Line) (line : Line) (name : List ℕ) → line.label ≡ Some name → StandsFor (lines ++ line ∷ []) name (length (statements_of lines))
+stands_last lines line name e = record { before = lines; here = line; behind = []; split = refl; named = e; counted = refl }
+
+-- how many statements one line has
+pub statements_one : (line : Line) (s : Option Statement) → line.statement ≡ s → length (statements_of (line ∷ [])) ≡ statement_count s
+unfolding statements_of
+statements_one line None e = rw e refl
+statements_one line (Some s) e = rw e refl
+
+-- one line more
+pub count_more : (lines : List Line) (line : Line) → length (statements_of (lines ++ line ∷ [])) ≡ length (statements_of lines) + statement_count line.statement
+count_more lines line =
+    ap length (statements_of-append lines (line ∷ [])) ∙ length-append (statements_of lines) (statements_of (line ∷ [])) ∙ ap (λ (n : ℕ). length (statements_of lines) + n) (statements_one line line.statement refl)
+
+no_last : (lines : List Line) (line : Line) (at : ℕ) (name : List ℕ) → line.label ≡ None → HasLabel (lines ++ line ∷ []) at name → HasLabel lines at name
+no_last lines line at name n h = elim (label_split lines line at name h) [ inl f ↦ f | inr l ↦ absurd (no_name name (sym l.1 ∙ n)) ]
+
+both_once : (lines : List Line) (line : Line) (label : List ℕ) (one other : ℕ) (name : List ℕ) → line.label ≡ Some label → ((at : ℕ) → ¬ HasLabel lines at label) → EachLabelOnce lines → HasLabel lines one name ⊎ ((one ≡ length lines) × (line.label ≡ Some name)) → HasLabel lines other name ⊎ ((other ≡ length lines) × (line.label ≡ Some name)) → one ≡ other
+both_once lines line label one other name is new once (inl f) (inl g) = once one other name f g
+both_once lines line label one other name is new once (inl f) (inr g) = let same : name ≡ label = some_name _ _ (sym g.1 ∙ is) in absurd (new one (rw same at f))
+both_once lines line label one other name is new once (inr f) (inl g) = let same : name ≡ label = some_name _ _ (sym f.1 ∙ is) in absurd (new other (rw same at g))
+both_once lines line label one other name is new once (inr f) (inr g) = f.0 ∙ sym g.0
+
+put_stands : (lines : List Line) (line : Line) (label name : List ℕ) (places place : ℕ) → line.label ≡ Some label → places ≡ length (statements_of lines) → (old : Option ℕ) → (old ≡ Some place → StandsFor lines name place) → (t : Bool) → bytes_eq label name ≡ t → (if t then Some places else old) ≡ Some place → StandsFor (lines ++ line ∷ []) name place
+put_stands lines line label name places place is counted old stands true b e =
+    let same : label ≡ name = (bytes_eq-Decides label name).0 b in
+    let at : place ≡ length (statements_of lines) = sym (some_place places place e) ∙ counted in
+    rw at (stands_last lines line name (is ∙ ap (λ (n : List ℕ). Some n) same))
+put_stands lines line label name places place is counted old stands false b e = stands_kept lines (line ∷ []) name place (stands e)
+
+put_unknown : (lines : List Line) (line : Line) (label name : List ℕ) (places at : ℕ) → line.label ≡ Some label → (old : Option ℕ) → (old ≡ None → ¬ HasLabel lines at name) → (t : Bool) → bytes_eq label name ≡ t → (if t then Some places else old) ≡ None → HasLabel lines at name ⊎ ((at ≡ length lines) × (line.label ≡ Some name)) → ⊥
+put_unknown lines line label name places at is old unknown true b e h = some_none places e
+put_unknown lines line label name places at is old unknown false b e (inl f) = unknown e f
+put_unknown lines line label name places at is old unknown false b e (inr l) =
+    let same : label ≡ name = some_name _ _ (sym is ∙ l.1) in
+    let both : false ≡ true = sym b ∙ (bytes_eq-Decides label name).1 same in
+    cc
+
+-- the line at which a list falls apart has its label
+pub stands_label : (before : List Line) (here : Line) (behind : List Line) (name : List ℕ) → here.label ≡ Some name → HasLabel (before ++ here ∷ behind) (length before) name
+stands_label [] here behind name e = (here, refl, e)
+stands_label (first ∷ before) here behind name e = stands_label before here behind name e
+
+-- a label that stands for a place is some line's
+pub stands_has : (lines : List Line) (name : List ℕ) (place : ℕ) → StandsFor lines name place → (at : ℕ) × HasLabel lines at name
+stands_has lines name place s = (length s.before, subst (λ (ls : List Line). HasLabel ls (length s.before) name) (sym s.split) (stands_label s.before s.here s.behind name s.named))
+
+twice_by : (lines : List Line) (line : Line) (label : List ℕ) (old : Option ℕ) → line.label ≡ Some label → is_none old ≡ false → ((place : ℕ) → old ≡ Some place → StandsFor lines label place) → IsTwice lines line
+twice_by lines line label None is o stands = cc
+twice_by lines line label (Some place) is o stands = let h = stands_has lines label place (stands place refl) in (label, is, h.0, h.1)
+
+are_more : (done : List (List ℕ)) (lines : List Line) (octets : List ℕ) (line : Line) → IsLine octets line → AreLines done lines → AreLines (done ++ octets ∷ []) (lines ++ line ∷ [])
+are_more [] [] octets line is a = (is, refl)
+are_more [] (first ∷ lines) octets line is a = cc
+are_more (one ∷ done) [] octets line is a = absurd a
+are_more (one ∷ done) (first ∷ lines) octets line is a = (a.0, are_more done lines octets line is a.1)
+
+-- no lines
+pub agrees_none : (find : List ℕ → Option ℕ) → ((name : List ℕ) → find name ≡ None) → AgreesWith [] find 0
+unfolding statements_of
+agrees_none find none = record {
+  counted = refl;
+  once = λ one other label a b. cc;
+  stands = λ name place e. absurd (some_none place (sym e ∙ none name));
+  unknown = λ name e at h. cc;
+}
+
+-- a line without a label
+pub agrees_plain : (lines : List Line) (line : Line) (find : List ℕ → Option ℕ) (places : ℕ) → line.label ≡ None → AgreesWith lines find places → AgreesWith (lines ++ line ∷ []) find (places + statement_count line.statement)
+agrees_plain lines line find places n a = record {
+  counted = ap (λ (m : ℕ). m + statement_count line.statement) a.counted ∙ sym (count_more lines line);
+  once = λ one other label f g. a.once one other label (no_last lines line one label n f) (no_last lines line other label n g);
+  stands = λ name place e. stands_kept lines (line ∷ []) name place (a.stands name place e);
+  unknown = λ name e at h. a.unknown name e at (no_last lines line at name n h);
+}
+
+-- a line with a new label
+pub agrees_label : (lines : List Line) (line : Line) (label : List ℕ) (find found : List ℕ → Option ℕ) (places : ℕ) → line.label ≡ Some label → find label ≡ None → ((name : List ℕ) → found name ≡ (if bytes_eq label name then Some places else find name)) → AgreesWith lines find places → AgreesWith (lines ++ line ∷ []) found (places + statement_count line.statement)
+agrees_label lines line label find found places is new put a = record {
+  counted = ap (λ (m : ℕ). m + statement_count line.statement) a.counted ∙ sym (count_more lines line);
+  once = λ one other name f g. both_once lines line label one other name is (a.unknown label new) a.once (label_split lines line one name f) (label_split lines line other name g);
+  stands = λ name place e. put_stands lines line label name places place is a.counted (find name) (a.stands name place) (bytes_eq label name) refl (sym (put name) ∙ e);
+  unknown = λ name e at h. put_unknown lines line label name places at is (find name) (λ f. a.unknown name f at) (bytes_eq label name) refl (sym (put name) ∙ e) (label_split lines line at name h);
+}
+
+-- a line with an old label
+pub twice_is : (lines : List Line) (line : Line) (label : List ℕ) (find : List ℕ → Option ℕ) (places : ℕ) → line.label ≡ Some label → is_none (find label) ≡ false → AgreesWith lines find places → IsTwice lines line
+twice_is lines line label find places is old a = twice_by lines line label (find label) is old (a.stands label)
+
+-- nothing is read
+pub read_none : (source : List (List ℕ)) → IsReadTo source source [] 0
+read_none source = record { done = []; split = refl; said = refl; counted = refl }
+
+-- one line more is read
+pub read_more : (source left : List (List ℕ)) (octets : List ℕ) (lines : List Line) (line : Line) (count : ℕ) → IsLine octets line → IsReadTo source (octets ∷ left) lines count → IsReadTo source left (lines ++ line ∷ []) (count + 1)
+read_more source left octets lines line count is r = record {
+  done = r.done ++ octets ∷ [];
+  split = r.split ∙ sym (append_assoc r.done (octets ∷ []) left);
+  said = are_more r.done lines octets line is r.said;
+  counted = ap (λ (n : ℕ). n + 1) r.counted ∙ sym (length-append r.done (octets ∷ []));
+}
+
+-- what one clause of an answer tells of another
+pub if_ok : {A E : Type 0} (r : Result A E) (P Q : A → Type 0) → ((v : A) → P v → Q v) → IfOk r P → IfOk r Q
+if_ok (Ok v) P Q f h = f v h
+if_ok (Err e) P Q f h = tt
+
+-- what two of them tell
+pub if_ok_both : {A E : Type 0} (r : Result A E) (P R Q : A → Type 0) → ((v : A) → P v → R v → Q v) → IfOk r P → IfOk r R → IfOk r Q
+if_ok_both (Ok v) P R Q f h g = f v h g
+if_ok_both (Err e) P R Q f h g = tt
+
+-- nothing is there
+pub none_is : {A : Type 0} (o : Option A) → is_none o ≡ true → o ≡ None
+none_is None e = refl
+none_is (Some v) e = cc
+
+fewer_by : (s : Option Statement) (rest : List Statement) (count : ℕ) → length rest ≤ count → length (cons_option s rest) ≤ suc count
+fewer_by None rest count h = omega arith
+fewer_by (Some s) rest count h = omega arith
+
+-- no more statements than lines
+pub statements_fewer : (lines : List Line) → length (statements_of lines) ≤ length lines
+unfolding statements_of
+statements_fewer [] = omega arith
+statements_fewer (line ∷ lines) = fewer_by line.statement (statements_of lines) (length lines) (statements_fewer lines)
+
+-- a line was pushed
+pub pushed : {A B E F : Type 0} (m : Result A E) (r : Result B F) (items old kept : List Said) (said : Said) (find : List ℕ → Option ℕ) (places sum : ℕ) → is_ok m ≡ is_ok r → items ≡ (if is_ok r then kept ++ said ∷ [] else kept) → kept ≡ old → sum ≡ places → AgreesWith (map line_seen old ++ line_seen said ∷ []) find places → OnOk m (AgreesWith (map line_seen items) find sum)
+pushed (Err e) r items old kept said find places sum same i k n a = tt
+pushed (Ok v) (Err f) items old kept said find places sum same i k n a = cc
+pushed (Ok v) (Ok w) items old kept said find places sum same i k n a =
+    let all : map line_seen items ≡ map line_seen old ++ line_seen said ∷ [] =
+    ap (map line_seen) i ∙ ap (λ (xs : List Said). map line_seen (xs ++ said ∷ [])) k ∙ map-append line_seen old (said ∷ []) in
+    rw (all, n) a

@@ -1,0 +1,14 @@
+use Rattle.std.proofs.Common.{◌+◌, ◌≤◌, length}
+use Rattle.bpf_asm.specs.Lines.{lines_of}
+use Rattle.bpf_asm.specs.Wholes.{Agrees, IsReadTo, says}
+use Rattle.bpf_asm.proofs.assembler.read_source.Given as goal
+
+abbrev pub invariant-loop-line : goal.invariant-loop-line
+invariant-loop-line l = record {
+  agree : Agrees l.whole;
+  read : IsReadTo (lines_of l.source) (lines_of l.left) (says l.whole) l.count;
+  room : l.count + length l.left ≤ length l.source;
+}
+
+abbrev pub decreases-loop-line : goal.decreases-loop-line
+decreases-loop-line l = length l.left

@@ -1,0 +1,102 @@
+-- The one fault of a source without a meaning.
+use Rattle.std.specs.Prelude.{◌≡◌, ◌⊎◌, ◌+◌, ◌≤◌, ◌<◌, ℕ, List, [], ◌∷◌, ◌++◌, length, Some}
+use Rattle.bpf_asm.specs.Grammar.{Line, AreLines, IsLine}
+use Rattle.bpf_asm.specs.Labels.{EachLabelOnce, HasLabel, IsDangling, IsOffset, Operand, StandsFor, operands_of, statements_of}
+use Rattle.bpf_asm.specs.Lines.{lines_of}
+use Rattle.bpf_asm.specs.Spelling.{Statement}
+use Rattle.bpf_asm.specs.Tokens.{HasBadNumber}
+use Rattle.bpf_asm.specs.declared.fault.AsmKind.{AsmKind}
+use Rattle.bpf_asm.specs.declared.fault.AsmKind.TheVariants.{BadLine, BadNumber, LabelTwice, UnknownLabel, Backward, TooFar, DanglingLabel, NoMemory}
+use Rattle.bpf_asm.specs.declared.fault.AsmFault.{AsmFault}
+
+-- A line's own fault, behind lines that say these: a number that is none goes before a line that is
+-- none of the grammar, and that before a label of an earlier line.
+abbrev pub IsLineFault : List Line → List ℕ → AsmKind → Type 0
+IsLineFault before here BadNumber = HasBadNumber here
+IsLineFault before here BadLine = (¬ HasBadNumber here) × ((line : Line) → ¬ IsLine here line)
+IsLineFault before here LabelTwice =
+    (line : Line) × IsLine here line × (label : List ℕ) × (line.label ≡ Some label) × (earlier : ℕ) × HasLabel before earlier label
+IsLineFault before here _ = ⊥
+
+-- The first line that has a fault of its own. Lines count from 1.
+pub record IsFirstLineFault (source : List (List ℕ)) (fault : AsmFault) : Type 0 where
+  pub before : List (List ℕ)
+  pub here : List ℕ
+  pub behind : List (List ℕ)
+  pub split : source ≡ before ++ here ∷ behind
+  pub number : fault.line ≡ length before + 1
+  pub lines : List Line
+  pub said : AreLines before lines
+  pub once : EachLabelOnce lines
+  pub faulty : IsLineFault lines here fault.kind
+
+-- The first label behind which no instruction stands.
+pub record IsFirstDangling (lines : List Line) (fault : AsmFault) : Type 0 where
+  pub kind : fault.kind ≡ DanglingLabel
+  pub at : ℕ
+  pub number : fault.line ≡ at + 1
+  pub dangling : IsDangling lines at
+  pub followed : (earlier : ℕ) → earlier < at → ¬ IsDangling lines earlier
+
+-- The label operand of the instruction at a place has an offset.
+abbrev pub HasOffset : List Line → ℕ → Operand → Type 0
+HasOffset lines place operand = (offset : ℕ) × IsOffset lines place operand offset
+
+-- The fault of a label operand of the instruction at a place: no line has its label; the label's place
+-- is at most this one; the offset doesn't fit its field.
+abbrev pub IsOperandFault : List Line → ℕ → Operand → AsmKind → Type 0
+IsOperandFault lines place operand UnknownLabel = (at : ℕ) → ¬ HasLabel lines at operand.label
+IsOperandFault lines place operand Backward =
+    (target : ℕ) × StandsFor lines operand.label target × (target ≤ place)
+IsOperandFault lines place operand TooFar =
+    (target : ℕ) × StandsFor lines operand.label target × (place + 1 + operand.most < target)
+IsOperandFault lines place operand _ = ⊥
+
+-- Each of these operands has one.
+abbrev pub HasOffsets : List Line → ℕ → List Operand → Type 0
+HasOffsets lines place [] = Unit {0}
+HasOffsets lines place (operand ∷ more) = HasOffset lines place operand × HasOffsets lines place more
+
+-- The label operands of each of these statements, from a place on, have offsets.
+abbrev pub HaveOffsets : List Line → ℕ → List Statement → Type 0
+HaveOffsets lines place [] = Unit {0}
+HaveOffsets lines place (statement ∷ more) =
+    HasOffsets lines place (operands_of statement) × HaveOffsets lines (place + 1) more
+
+-- The first label operand of a statement that has no offset, from left to right.
+pub record IsStatementFault (lines : List Line) (place : ℕ) (statement : Statement) (kind : AsmKind) : Type 0 where
+  pub left : List Operand
+  pub operand : Operand
+  pub right : List Operand
+  pub order : operands_of statement ≡ left ++ operand ∷ right
+  pub well : HasOffsets lines place left
+  pub faulty : IsOperandFault lines place operand kind
+
+-- The first label operand that has no offset, by lines and in a line from left to right. Its line is
+-- the instruction's.
+pub record IsFirstOperandFault (lines : List Line) (fault : AsmFault) : Type 0 where
+  pub before : List Line
+  pub here : Line
+  pub behind : List Line
+  pub split : lines ≡ before ++ here ∷ behind
+  pub number : fault.line ≡ length before + 1
+  pub earlier : HaveOffsets lines 0 (statements_of before)
+  pub statement : Statement
+  pub stands : here.statement ≡ Some statement
+  pub faulty : IsStatementFault lines (length (statements_of before)) statement fault.kind
+
+-- A fault of labels, in lines that are lines of the grammar and have each label once: a label without
+-- an instruction goes before all faults of operands.
+pub record IsLabelFault (source : List (List ℕ)) (fault : AsmFault) : Type 0 where
+  pub lines : List Line
+  pub said : AreLines source lines
+  pub once : EachLabelOnce lines
+  pub faulty : IsFirstDangling lines fault ⊎ (((at : ℕ) → ¬ IsDangling lines at) × IsFirstOperandFault lines fault)
+
+-- The source has the fault; the faults of lines go before all faults of labels.
+abbrev pub IsFault : List ℕ → AsmFault → Type 0
+IsFault source fault = IsFirstLineFault (lines_of source) fault ⊎ IsLabelFault (lines_of source) fault
+
+-- Memory ran out, which has no line.
+abbrev pub IsOutOfMemory : AsmFault → Type 0
+IsOutOfMemory fault = (fault.line ≡ 0) × (fault.kind ≡ NoMemory)

@@ -1,0 +1,59 @@
+-- What labels stand for.
+use Rattle.std.specs.Prelude.{◌≡◌, ◌+◌, ◌≤◌, ℕ, List, [], ◌∷◌, ◌++◌, length, drop, Option, Some, None, slice_get}
+use Rattle.std.specs.List.{filter_map}
+use Rattle.bpf_asm.specs.Grammar.{Line}
+use Rattle.bpf_asm.specs.Spelling.{Statement, plain, jump, branch}
+
+-- The statements of lines, in order.
+unfoldable pub statements_of : List Line → List Statement
+statements_of lines = filter_map (λ line. line.statement) lines
+
+-- How many statements a line has.
+abbrev pub statement_count : Option Statement → ℕ
+statement_count None = 0
+statement_count (Some s) = 1
+
+-- The line, which counts from 0, has the label.
+abbrev pub HasLabel : List Line → ℕ → List ℕ → Type 0
+HasLabel lines at label = (line : Line) × (slice_get lines at ≡ Some line) × (line.label ≡ Some label)
+
+-- A label stands for the number of instruction lines before it, so one that is alone in its line
+-- names the next instruction.
+pub record StandsFor (lines : List Line) (label : List ℕ) (place : ℕ) : Type 0 where
+  pub before : List Line
+  pub here : Line
+  pub behind : List Line
+  pub split : lines ≡ before ++ here ∷ behind
+  pub named : here.label ≡ Some label
+  pub counted : place ≡ length (statements_of before)
+
+-- No label stands in two lines.
+abbrev pub EachLabelOnce : List Line → Type 0
+EachLabelOnce lines = (one other : ℕ) (label : List ℕ) → HasLabel lines one label → HasLabel lines other label → one ≡ other
+
+-- The line has a label, and no instruction stands there or behind.
+abbrev pub IsDangling : List Line → ℕ → Type 0
+IsDangling lines at = (label : List ℕ) × HasLabel lines at label × (statements_of (drop at lines) ≡ [])
+
+-- A label operand, and the largest offset that its field can hold.
+pub record Operand : Type 0 where
+  pub label : List ℕ
+  pub most : ℕ
+
+-- The label operands of a side of a branch.
+abbrev pub side : Option (List ℕ) → List Operand
+side None = []
+side (Some target) = record { label = target; most = 255 } ∷ []
+
+-- The label operands of a statement, from left to right: the field of `ja` has 32 bits, those of
+-- a branch have 8.
+abbrev pub operands_of : Statement → List Operand
+operands_of (plain i) = []
+operands_of (jump target) = record { label = target; most = 4294967295 } ∷ []
+operands_of (branch test by met unmet) = side met ++ side unmet
+
+-- The offset of a label operand in the instruction at a place: the label's place less that one, less
+-- one.
+pub record IsOffset (lines : List Line) (place : ℕ) (operand : Operand) (offset : ℕ) : Type 0 where
+  pub stands : StandsFor lines operand.label (place + 1 + offset)
+  pub fits : offset ≤ operand.most

@@ -1,0 +1,15 @@
+pub mod Faults
+pub mod Grammar
+pub mod Labels
+pub mod Lines
+pub mod Listing
+pub mod Meaning
+pub mod Numbers
+pub mod Pending
+pub mod Places
+pub mod Reading
+pub mod Seen
+pub mod Spelling
+pub mod Tokens
+pub mod Wholes
+pub mod Widths

@@ -1,0 +1,62 @@
+-- The listing of a code.
+use Rattle.std.specs.Prelude.{◌+◌, ◌≤◌, ◌<◌, ℕ, List, [], ◌∷◌, ◌++◌, length, Some, codes, decimal}
+use Rattle.bpf_asm.specs.Spelling.{Part, Statement, plain, jump, branch, spelling_octets, spellings}
+use Rattle.bpf_asm.specs.declared.fault.ListFault.{ListFault}
+use Rattle.bpf_asm.specs.declared.fault.ListFault.TheVariants.{JumpOutside, NoMemory}
+use Rattle.bpf_code.specs.Flow.{StandsAt, JumpsTo}
+use Rattle.bpf_code.specs.declared.instr.Instr.{Instr}
+use Rattle.bpf_code.specs.declared.instr.Instr.TheVariants.{Jump, Branch}
+
+-- The label of a place.
+abbrev pub label_at : ℕ → List ℕ
+label_at place = 76 ∷ decimal place
+
+-- The statement of the instruction at a place, with the labels of its targets.
+abbrev pub statement_at : ℕ → Instr → Statement
+statement_at place (Jump k) = jump (label_at (place + 1 + k))
+statement_at place (Branch test by jt jf) = branch test by (Some (label_at (place + 1 + jt))) (Some (label_at (place + 1 + jf)))
+statement_at place i = plain i
+
+-- The spelling that a listing uses.
+abbrev pub first_spelling : List (List Part) → List Part
+first_spelling [] = []
+first_spelling (spelling ∷ more) = spelling
+
+-- The octets that spell the instruction at a place.
+unfoldable pub instruction_text : ℕ → Instr → List ℕ
+instruction_text place i = spelling_octets (first_spelling (spellings (statement_at place i)))
+
+-- One line an instruction: its label, its spelling and a line feed.
+unfoldable pub line_text : ℕ → Instr → List ℕ
+line_text place i = label_at place ++ codes ": " ++ instruction_text place i ++ codes "\n"
+
+-- The lines of the code from a place on.
+unfoldable pub listing_from : ℕ → List Instr → List ℕ
+listing_from place [] = []
+listing_from place (i ∷ code) = line_text place i ++ listing_from (place + 1) code
+
+-- The listing of a code.
+abbrev pub listing_of : List Instr → List ℕ
+listing_of code = listing_from 0 code
+
+-- Every target of the instruction at a place is a place of a code of so many instructions.
+abbrev pub StaysWithin : ℕ → ℕ → Instr → Type 0
+StaysWithin count place i = (target : ℕ) → JumpsTo place i target → target < count
+
+-- Some target of the instruction at a place is no place of a code of so many instructions.
+abbrev pub Leaves : ℕ → ℕ → Instr → Type 0
+Leaves count place i = (target : ℕ) × JumpsTo place i target × (count ≤ target)
+
+-- No instruction leaves the code.
+abbrev pub NoneLeaves : List Instr → Type 0
+NoneLeaves code = (place : ℕ) (i : Instr) → StandsAt code place i → StaysWithin (length code) place i
+
+-- At the place is the first instruction that leaves the code.
+pub record IsFirstLeaving (code : List Instr) (place : ℕ) : Type 0 where
+  pub leaves : (i : Instr) × StandsAt code place i × Leaves (length code) place i
+  pub before : (earlier : ℕ) (i : Instr) → earlier < place → StandsAt code earlier i → StaysWithin (length code) earlier i
+
+-- The code has the fault.
+abbrev pub IsListFault : List Instr → ListFault → Type 0
+IsListFault code (JumpOutside place) = IsFirstLeaving code place
+IsListFault code NoMemory = Unit {0}

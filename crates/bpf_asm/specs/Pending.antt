@@ -1,0 +1,10 @@
+-- A label that no instruction follows yet.
+use Rattle.std.specs.Prelude.{ℕ, ◌<◌, List, Option, MatchOption, length}
+use Rattle.bpf_asm.specs.Grammar.{Line}
+use Rattle.bpf_asm.specs.Labels.{IsDangling}
+
+-- The first line of these with such a label, if there is one.
+abbrev pub IsPending : List Line → Option ℕ → Type 0
+IsPending lines pending =
+    MatchOption pending ((at : ℕ) → ¬ IsDangling lines at)
+    (λ at. (at < length lines) × IsDangling lines at × ((earlier : ℕ) → earlier < at → ¬ IsDangling lines earlier))

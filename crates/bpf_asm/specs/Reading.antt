@@ -1,0 +1,262 @@
+-- How the tokens of a line are read as a statement: the table of spellings turned round. That it is the
+-- table is a law.
+use Rattle.std.specs.Prelude.{ℕ, Bool, true, false, ◌==◌, if◌then◌else◌, List, [], ◌∷◌, Option, Some, None, codes}
+use Rattle.std.specs.Option.{option_and_then, option_map_or}
+use Rattle.std.specs.Str.{bytes_eq}
+use Rattle.bpf_asm.specs.Grammar.{Line}
+use Rattle.bpf_asm.specs.Spelling.{Statement, plain, jump, branch}
+use Rattle.bpf_asm.specs.Tokens.{Token, name, number, mark}
+use Rattle.bpf_code.specs.declared.instr.By.{By}
+use Rattle.bpf_code.specs.declared.instr.By.TheVariants.{Imm, X}
+use Rattle.bpf_code.specs.declared.instr.Instr.TheVariants.{LoadAbs, LoadInd, LoadImm, LoadMem, LoadLen, LdxImm, LdxMem, LdxLen, LdxMsh, Store, StoreX, Alu, Neg, RetK, RetA, Tax, Txa}
+use Rattle.bpf_code.specs.declared.instr.Op.{Op}
+use Rattle.bpf_code.specs.declared.instr.Op.TheVariants.{Add, Sub, Mul, Div, Or, And, Lsh, Rsh}
+use Rattle.bpf_code.specs.declared.instr.Size.{Size}
+use Rattle.bpf_code.specs.declared.instr.Size.TheVariants.{Word, Half, Octet}
+use Rattle.bpf_code.specs.declared.instr.Test.{Test}
+use Rattle.bpf_code.specs.declared.instr.Test.TheVariants.{Eq, Gt, Ge, Set}
+
+infixl 10 ◌>>=◌
+-- What is read next, where there is something.
+abbrev pub ◌>>=◌ : {A B : Type 0} → Option A → (A → Option B) → Option B
+found >>= next = option_and_then next found
+
+-- What is read, or else something else.
+abbrev pub or_else : {A : Type 0} → Option A → Option A → Option A
+or_else None other = other
+or_else (Some value) other = Some value
+
+-- No token is left.
+abbrev pub is_ended : List Token → Bool
+is_ended [] = true
+is_ended (token ∷ tokens) = false
+
+-- The value, where no token is left.
+abbrev pub ended : {A : Type 0} → A → List Token → Option A
+ended value tokens = if is_ended tokens then Some value else None
+
+-- What is behind an octet.
+abbrev pub cut_mark : ℕ → List Token → Option (List Token)
+cut_mark octet (mark found ∷ tokens) = if found == octet then Some tokens else None
+cut_mark octet _ = None
+
+-- A number, and what is behind it.
+abbrev pub cut_number : List Token → Option (ℕ × List Token)
+cut_number (number value ∷ tokens) = Some (value, tokens)
+cut_number _ = None
+
+-- A name, and what is behind it.
+abbrev pub cut_name : List Token → Option (List ℕ × List Token)
+cut_name (name octets ∷ tokens) = Some (octets, tokens)
+cut_name _ = None
+
+-- What is behind this name.
+abbrev pub cut_word : List ℕ → List Token → Option (List Token)
+cut_word word tokens = cut_name tokens >>= (λ (p : List ℕ × List Token). if bytes_eq p.0 word then Some p.1 else None)
+
+-- `#k`, and what is behind it.
+abbrev pub cut_constant : List Token → Option (ℕ × List Token)
+cut_constant tokens = cut_mark 35 tokens >>= cut_number
+
+-- What is behind `#len`.
+abbrev pub cut_length : List Token → Option (List Token)
+cut_length tokens = cut_mark 35 tokens >>= cut_word (codes "len")
+
+-- `#len` and no more.
+abbrev pub length_in : List Token → Option Bool
+length_in tokens = cut_length tokens >>= ended true
+
+-- `#k` and no more.
+abbrev pub constant_in : List Token → Option ℕ
+constant_in tokens = cut_constant tokens >>= (λ (p : ℕ × List Token). ended p.0 p.1)
+
+-- `k]` and no more.
+abbrev pub bracket_in : List Token → Option ℕ
+bracket_in tokens = cut_number tokens >>= (λ (p : ℕ × List Token). cut_mark 93 p.1 >>= ended p.0)
+
+-- `[k]` and no more.
+abbrev pub absolute_in : List Token → Option ℕ
+absolute_in tokens = cut_mark 91 tokens >>= bracket_in
+
+-- `[x+k]` and no more.
+abbrev pub indexed_in : List Token → Option ℕ
+indexed_in tokens = cut_mark 91 tokens >>= cut_word (codes "x") >>= cut_mark 43 >>= bracket_in
+
+-- `M[k]` and no more.
+abbrev pub scratch_in : List Token → Option ℕ
+scratch_in tokens = cut_word (codes "M") tokens >>= absolute_in
+
+-- What is behind a number of this value.
+abbrev pub cut_value : ℕ → List Token → Option (List Token)
+cut_value value tokens = cut_number tokens >>= (λ (p : ℕ × List Token). if p.0 == value then Some p.1 else None)
+
+-- `4*([k]&0xf)` and no more.
+abbrev pub header_in : List Token → Option ℕ
+header_in tokens =
+    cut_value 4 tokens >>= cut_mark 42 >>= cut_mark 40 >>= cut_mark 91 >>= cut_number
+    >>= (λ (p : ℕ × List Token). cut_mark 93 p.1 >>= cut_mark 38 >>= cut_value 15 >>= cut_mark 41 >>= ended p.0)
+
+-- An operand, and what is behind it.
+abbrev pub cut_operand : List Token → Option (By × List Token)
+cut_operand tokens = or_else (cut_constant tokens >>= (λ (p : ℕ × List Token). Some (Imm p.0, p.1))) (cut_word (codes "x") tokens >>= (λ ts. Some (X, ts)))
+
+-- `, label`, and what is behind it.
+abbrev pub cut_target : List Token → Option (List ℕ × List Token)
+cut_target tokens = cut_mark 44 tokens >>= cut_name
+
+-- The loads of a part of the packet.
+abbrev pub packet : Size → List Token → Option Statement
+packet size ts =
+    or_else (absolute_in ts >>= (λ k. Some (plain (LoadAbs size k))))
+    (indexed_in ts >>= (λ k. Some (plain (LoadInd size k))))
+
+-- The forms of `ld`.
+abbrev pub load_word : List Token → Option Statement
+load_word ts =
+    or_else (packet Word ts) (
+    or_else (constant_in ts >>= (λ k. Some (plain (LoadImm k)))) (
+    or_else (scratch_in ts >>= (λ k. Some (plain (LoadMem k))))
+    (length_in ts >>= (λ _. Some (plain LoadLen)))))
+
+-- The forms of `ldxb`.
+abbrev pub header : List Token → Option Statement
+header ts = header_in ts >>= (λ k. Some (plain (LdxMsh k)))
+
+-- The forms of `ldx`.
+abbrev pub load_index : List Token → Option Statement
+load_index ts =
+    or_else (constant_in ts >>= (λ k. Some (plain (LdxImm k)))) (
+    or_else (scratch_in ts >>= (λ k. Some (plain (LdxMem k)))) (
+    or_else (length_in ts >>= (λ _. Some (plain LdxLen))) (header ts)))
+
+-- The forms of `ja`.
+abbrev pub jump_in : List Token → Option Statement
+jump_in ts = cut_name ts >>= (λ (p : List ℕ × List Token). ended (jump p.0) p.1)
+
+-- The forms of `ret`.
+abbrev pub return_in : List Token → Option Statement
+return_in ts =
+    or_else (constant_in ts >>= (λ k. Some (plain (RetK k))))
+    (cut_word (codes "a") ts >>= ended (plain RetA))
+
+-- The forms of arithmetic.
+abbrev pub arithmetic_in : Op → List Token → Option Statement
+arithmetic_in op ts = cut_operand ts >>= (λ (p : By × List Token). ended (plain (Alu op p.0)) p.1)
+
+-- What is behind the first label of a branch.
+abbrev pub second_in : Test → By → List ℕ → List Token → Option Statement
+second_in test by met ts =
+    or_else (ended (branch test by (Some met) None) ts)
+    (cut_target ts >>= (λ (q : List ℕ × List Token). ended (branch test by (Some met) (Some q.0)) q.1))
+
+-- The forms of branches.
+abbrev pub branch_in : Test → List Token → Option Statement
+branch_in test ts =
+    cut_operand ts >>= (λ (p : By × List Token). cut_target p.1
+    >>= (λ (q : List ℕ × List Token). second_in test p.0 q.0 q.1))
+
+-- The forms of branches that go on behind themselves where the test holds.
+abbrev pub inverse_in : Test → List Token → Option Statement
+inverse_in test ts =
+    cut_operand ts >>= (λ (p : By × List Token). cut_target p.1
+    >>= (λ (q : List ℕ × List Token). ended (branch test p.0 None (Some q.0)) q.1))
+
+-- What a table has for a name.
+abbrev pub entry_of : {A : Type 0} → List ℕ → List (List ℕ × A) → Option A
+entry_of octets [] = None
+entry_of octets (row ∷ rows) = if bytes_eq octets row.0 then Some row.1 else entry_of octets rows
+
+-- The mnemonics of arithmetic.
+abbrev pub op_rows : List (List ℕ × Op)
+op_rows = (codes "add", Add) ∷ (codes "sub", Sub) ∷ (codes "mul", Mul) ∷ (codes "div", Div) ∷ (codes "or", Or) ∷ (codes "and", And) ∷ (codes "lsh", Lsh) ∷ (codes "rsh", Rsh) ∷ []
+
+-- The arithmetic of a mnemonic.
+unfoldable pub op_of : List ℕ → Option Op
+op_of octets = entry_of octets op_rows
+
+-- The mnemonics of branches.
+abbrev pub test_rows : List (List ℕ × Test)
+test_rows = (codes "jeq", Eq) ∷ (codes "jgt", Gt) ∷ (codes "jge", Ge) ∷ (codes "jset", Set) ∷ []
+
+-- The branch of a mnemonic.
+unfoldable pub test_of : List ℕ → Option Test
+test_of octets = entry_of octets test_rows
+
+-- The mnemonics of branches that go on behind themselves where the test holds.
+abbrev pub inverse_rows : List (List ℕ × Test)
+inverse_rows = (codes "jne", Eq) ∷ (codes "jneq", Eq) ∷ (codes "jlt", Ge) ∷ (codes "jle", Gt) ∷ []
+
+-- The test that a mnemonic is the opposite of.
+unfoldable pub inverse_of : List ℕ → Option Test
+inverse_of octets = entry_of octets inverse_rows
+
+-- A form of a mnemonic with an M[k].
+abbrev pub scratch_form : (ℕ → Statement) → List Token → Option Statement
+scratch_form statement ts = scratch_in ts >>= (λ k. Some (statement k))
+
+-- The loads and stores of a mnemonic.
+abbrev pub moved_forms : List (List ℕ × (List Token → Option Statement))
+moved_forms =
+    (codes "ld", load_word)
+    ∷ (codes "ldh", packet Half)
+    ∷ (codes "ldb", packet Octet)
+    ∷ (codes "ldx", load_index)
+    ∷ (codes "ldxb", header)
+    ∷ (codes "st", scratch_form (λ k. plain (Store k)))
+    ∷ (codes "stx", scratch_form (λ k. plain (StoreX k))) ∷ []
+
+-- The other instructions of a mnemonic.
+abbrev pub other_forms : List (List ℕ × (List Token → Option Statement))
+other_forms =
+    (codes "neg", ended (plain Neg))
+    ∷ (codes "ja", jump_in)
+    ∷ (codes "jmp", jump_in)
+    ∷ (codes "ret", return_in)
+    ∷ (codes "tax", ended (plain Tax))
+    ∷ (codes "txa", ended (plain Txa)) ∷ []
+
+-- What the table's form for a mnemonic reads.
+abbrev pub form_in : List (List ℕ × (List Token → Option Statement)) → List ℕ → List Token → Option Statement
+form_in forms octets ts = entry_of octets forms >>= (λ form. form ts)
+
+-- The loads and stores.
+unfoldable pub moved_in : List ℕ → List Token → Option Statement
+moved_in octets ts = form_in moved_forms octets ts
+
+-- The other instructions.
+unfoldable pub other_in : List ℕ → List Token → Option Statement
+other_in octets ts = form_in other_forms octets ts
+
+-- All but branches and arithmetic.
+abbrev pub form_of : List ℕ → List Token → Option Statement
+form_of octets ts = or_else (moved_in octets ts) (other_in octets ts)
+
+-- All but arithmetic and the branches that have both sides.
+abbrev pub inverse_or : List ℕ → List Token → Option Statement
+inverse_or octets ts = option_map_or (λ test. inverse_in test ts) (inverse_of octets) (form_of octets ts)
+
+-- All but arithmetic.
+abbrev pub branch_or : List ℕ → List Token → Option Statement
+branch_or octets ts = option_map_or (λ test. branch_in test ts) (test_of octets) (inverse_or octets ts)
+
+-- The statement of a mnemonic and what is behind it.
+unfoldable pub named_in : List ℕ → List Token → Option Statement
+named_in octets ts = option_map_or (λ op. arithmetic_in op ts) (op_of octets) (branch_or octets ts)
+
+-- The statement of tokens.
+unfoldable pub statement_in : List Token → Option Statement
+statement_in ts = cut_name ts >>= (λ (p : List ℕ × List Token). named_in p.0 p.1)
+
+-- A label, and what is behind it.
+abbrev pub cut_label : List Token → Option (List ℕ × List Token)
+cut_label tokens = cut_name tokens >>= (λ (p : List ℕ × List Token). cut_mark 58 p.1 >>= (λ rest. Some (p.0, rest)))
+
+-- What is behind the label of a line, if it has one.
+abbrev pub body_in : Option (List ℕ) → List Token → Option Line
+body_in label tokens =
+    if is_ended tokens then Some (record { label = label; statement = None }) else (
+    statement_in tokens >>= (λ s. Some (record { label = label; statement = Some s })))
+
+-- The line of tokens.
+unfoldable pub line_in : List Token → Option Line
+line_in tokens = option_map_or (λ (p : List ℕ × List Token). body_in (Some p.0) p.1) (cut_label tokens) (body_in None tokens)

@@ -1,0 +1,15 @@
+-- The widths of an instruction's fields (net/bpf.h).
+use Rattle.std.specs.Prelude.{◌<◌, ◌^◌, IfSome}
+use Rattle.bpf_code.specs.Table.{constant_of, jt_of, jf_of, k_of}
+use Rattle.bpf_code.specs.declared.instr.By.{By}
+use Rattle.bpf_code.specs.declared.instr.Instr.{Instr}
+
+-- The number of a constant operand has 32 bits.
+abbrev pub IsWideOperand : By → Type 0
+IsWideOperand by = IfSome (constant_of by) (λ k. k < 2 ^ 32)
+
+-- The operand has 32 bits, and the offsets of a branch have 8.
+pub record IsWide (i : Instr) : Type 0 where
+  pub k : IfSome (k_of i) (λ k. k < 2 ^ 32)
+  pub jt : IfSome (jt_of i) (λ offset. offset < 2 ^ 8)
+  pub jf : IfSome (jf_of i) (λ offset. offset < 2 ^ 8)

@@ -1,0 +1,134 @@
+//! What is cut from the front of a line: octets that are tokens, numbers, names, operands.
+
+ghost use Rattle.std.specs.Prelude.{◌≡◌, ◌≢◌, ◌-◌, ◌%◌, ◌^◌, ℕ, MatchOption};
+ghost use Rattle.bpf_asm.specs.Reading.{cut_constant, cut_length, cut_mark, cut_name, cut_number, cut_operand, cut_target, cut_value, cut_word, is_ended};
+ghost use Rattle.bpf_asm.specs.Tokens.{mark, signed_behind, tokens_read};
+
+use crate::token::{Lexeme, next_token};
+use bpf_code::By;
+
+/// What is behind an octet other than `#`.
+pub(crate) fn after_mark(text: &[u8], octet: u8) -> Option<&[u8]>
+    requires { octet ≢ 35 }
+    ensures { MatchOption result (cut_mark octet (tokens_read text.now) ≡ None)
+        (λ rest. cut_mark octet (tokens_read text.now) ≡ Some (tokens_read rest.now)) }
+{
+    let (token, rest) = next_token(text)?;
+    match token {
+        Lexeme::Mark(found) => { if found == octet { Some(rest) } else { None } }
+        _ => None,
+    }
+}
+
+/// A number, and what is behind it.
+pub(crate) fn after_number(text: &[u8]) -> Option<(u32, &[u8])>
+    ensures { MatchOption result (cut_number (tokens_read text.now) ≡ None)
+        (λ found. cut_number (tokens_read text.now) ≡ Some (found.0, tokens_read found.1.now)) }
+{
+    let (token, rest) = next_token(text)?;
+    match token {
+        Lexeme::Number(value) => Some((value, rest)),
+        _ => None,
+    }
+}
+
+/// A name, and what is behind it.
+pub(crate) fn after_name(text: &[u8]) -> Option<(&[u8], &[u8])>
+    ensures { MatchOption result (cut_name (tokens_read text.now) ≡ None)
+        (λ found. cut_name (tokens_read text.now) ≡ Some (found.0.now, tokens_read found.1.now)) }
+{
+    let (token, rest) = next_token(text)?;
+    match token {
+        Lexeme::Name(name) => Some((name, rest)),
+        _ => None,
+    }
+}
+
+/// What is behind `#`, and behind whatever follows it.
+fn after_hash(text: &[u8]) -> Option<&[u8]>
+    ensures { MatchOption result (cut_mark 35 (tokens_read text.now) ≡ None)
+        (λ rest. tokens_read text.now ≡ signed_behind (mark 35) (tokens_read rest.now)) }
+{
+    let (token, rest) = next_token(text)?;
+    match token {
+        Lexeme::Mark(found) => { if found == 35 { Some(rest) } else { None } }
+        _ => None,
+    }
+}
+
+/// `#k` or `#-n`, and what is behind it.
+pub(crate) fn after_constant(text: &[u8]) -> Option<(u32, &[u8])>
+    ensures { MatchOption result (cut_constant (tokens_read text.now) ≡ None)
+        (λ found. cut_constant (tokens_read text.now) ≡ Some (found.0, tokens_read found.1.now)) }
+{
+    let text = after_hash(text)?;
+    match after_mark(text, 45) {
+        Some(text) => {
+            let (value, rest) = after_number(text)?;
+            Some((negated(value), rest))
+        }
+        None => after_number(text),
+    }
+}
+
+/// The number that makes 2^32 with another, modulo 2^32.
+fn negated(value: u32) -> u32
+    ensures { result ≡ (2 ^ 32 - value) % 2 ^ 32 }
+{
+    if value == 0 { 0 } else { u32::MAX - value + 1 }
+}
+
+/// What is behind a name that is this word.
+pub(crate) fn after_word<'a>(text: &'a [u8], word: &[u8]) -> Option<&'a [u8]>
+    ensures { MatchOption result (cut_word word.now (tokens_read text.entry.now) ≡ None)
+        (λ rest. cut_word word.now (tokens_read text.entry.now) ≡ Some (tokens_read rest.now)) }
+{
+    let (name, rest) = after_name(text)?;
+    if name == word { Some(rest) } else { None }
+}
+
+/// What is behind `#len`.
+pub(crate) fn after_length(text: &[u8]) -> Option<&[u8]>
+    ensures { MatchOption result (cut_length (tokens_read text.now) ≡ None)
+        (λ rest. cut_length (tokens_read text.now) ≡ Some (tokens_read rest.now)) }
+{
+    after_word(after_hash(text)?, b"len")
+}
+
+/// What is behind a number of this value.
+pub(crate) fn after_value(text: &[u8], value: u32) -> Option<&[u8]>
+    ensures { MatchOption result (cut_value value (tokens_read text.now) ≡ None)
+        (λ rest. cut_value value (tokens_read text.now) ≡ Some (tokens_read rest.now)) }
+{
+    let (found, rest) = after_number(text)?;
+    if found == value { Some(rest) } else { None }
+}
+
+/// Whether no token is left.
+pub(crate) fn at_end(text: &[u8]) -> bool
+    ensures { result ≡ is_ended (tokens_read text.now) }
+{
+    next_token(text).is_none()
+}
+
+/// An operand of arithmetic or of a branch, and what is behind it.
+pub(crate) fn after_operand(text: &[u8]) -> Option<(By, &[u8])>
+    ensures { MatchOption result (cut_operand (tokens_read text.now) ≡ None)
+        (λ found. cut_operand (tokens_read text.now) ≡ Some (found.0, tokens_read found.1.now)) }
+{
+    match after_constant(text) {
+        Some((k, rest)) => Some((By::Imm(k), rest)),
+        None => {
+            let rest = after_word(text, b"x")?;
+            Some((By::X, rest))
+        }
+    }
+}
+
+/// `, label`, and what is behind it.
+pub(crate) fn after_target(text: &[u8]) -> Option<(&[u8], &[u8])>
+    ensures { MatchOption result (cut_target (tokens_read text.now) ≡ None)
+        (λ found. cut_target (tokens_read text.now) ≡ Some (found.0.now, tokens_read found.1.now)) }
+{
+    after_name(after_mark(text, 44)?)
+}

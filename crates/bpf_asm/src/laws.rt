@@ -1,0 +1,36 @@
+//! Laws of the definitions: functions that do nothing, each for the sake of its contract.
+
+ghost use Rattle.std.specs.Prelude.{◌≡◌, ◌↔◌, ℕ, List, Some};
+ghost use Rattle.bpf_asm.specs.Faults.{IsFault};
+ghost use Rattle.bpf_asm.specs.Grammar.{IsOneOf};
+ghost use Rattle.bpf_asm.specs.Meaning.{IsMeaning};
+ghost use Rattle.bpf_asm.specs.Reading.{statement_in};
+ghost use Rattle.bpf_asm.specs.Spelling.{Statement, spellings};
+ghost use Rattle.bpf_asm.specs.Tokens.{Token};
+ghost use Rattle.bpf_asm.specs.declared.fault.AsmFault.{AsmFault};
+ghost use Rattle.bpf_code.specs.declared.instr.Instr.{Instr};
+
+/// A source means at most one code.
+pub fn a_source_means_one_code()
+    ensures { (source : List ℕ) (one other : List Instr) →
+        IsMeaning source one → IsMeaning source other → one ≡ other }
+{}
+
+/// A source that means a code has no fault.
+pub fn a_source_has_no_code_beside_a_fault()
+    ensures { (source : List ℕ) (code : List Instr) (fault : AsmFault) →
+        IsMeaning source code → ¬ IsFault source fault }
+{}
+
+/// A source has at most one fault.
+pub fn a_source_has_one_fault()
+    ensures { (source : List ℕ) (one other : AsmFault) →
+        IsFault source one → IsFault source other → one ≡ other }
+{}
+
+/// Tokens are one of the spellings of a statement exactly where they are read as it, so no tokens
+/// spell two statements.
+pub fn spellings_are_read_back()
+    ensures { (tokens : List Token) (statement : Statement) →
+        (IsOneOf tokens (spellings statement) ↔ (statement_in tokens ≡ Some statement)) }
+{}

@@ -1,0 +1,49 @@
+//! The lines of a source.
+
+ghost use Rattle.std.specs.Prelude.{◌≡◌, ◌<◌, ◌≤◌, [], ◌∷◌, true, length, slice_index, take, IfSome, MatchOption};
+ghost use Rattle.bpf_asm.specs.Lines.{lines_of, no_feed, without_return};
+
+/// How many octets stand before the first line feed.
+fn line_len(text: &[u8]) -> usize
+    ensures within { result ≤ length text.now }
+    ensures line { no_feed (take result text.now) ≡ true }
+    ensures feed { result < length text.now → slice_index text.now result ≡ 10 }
+{
+    for (at, octet) in text.iter().enumerate() {
+        if *octet == 10 {
+            return at;
+        }
+    }
+    text.len()
+}
+
+/// A line without a carriage return at its end.
+fn before_return(line: &[u8]) -> &[u8]
+    ensures { result.now ≡ without_return line.now }
+{
+    if line.is_empty() {
+        return line;
+    }
+    let last = line.len() - 1;
+    if line[last] == 13 {
+        &line[..last]
+    } else {
+        line
+    }
+}
+
+/// The first line of a text, and what is behind it.
+pub(crate) fn next_line(text: &[u8]) -> Option<(&[u8], &[u8])>
+    ensures lines { MatchOption result (lines_of text.now ≡ [])
+        (λ found. lines_of text.now ≡ found.0.now ∷ lines_of found.1.now) }
+    ensures shorter { IfSome result (λ found. length found.1.now < length text.now) }
+{
+    if text.is_empty() {
+        return None;
+    }
+    let at = line_len(text);
+    if at == text.len() {
+        return Some((text, &text[at..]));
+    }
+    Some((before_return(&text[..at]), &text[at + 1..]))
+}

@@ -1,0 +1,119 @@
+//! Lines, read one by one.
+
+ghost use Rattle.std.specs.Prelude.{◌≡◌, List, IfErr, IfOk, MatchOption, option_copied};
+ghost use Rattle.bpf_asm.specs.Faults.{IsLineFault};
+ghost use Rattle.bpf_asm.specs.Grammar.{IsLine, Line};
+ghost use Rattle.bpf_asm.specs.Lines.{without_comment};
+ghost use Rattle.bpf_asm.specs.Reading.{body_in, cut_label, line_in};
+ghost use Rattle.bpf_asm.specs.Seen.{line_seen};
+ghost use Rattle.bpf_asm.specs.Tokens.{HasBadNumber, has_faulty, tokens_of, tokens_read};
+
+use crate::cutting::{after_mark, after_name, at_end};
+use crate::fault::AsmKind;
+use crate::mnemonic::statement;
+use crate::parse::Command;
+use crate::token::{Lexeme, next_token};
+
+/// What a line says, with its label in the source.
+#[derive(Clone, Copy)]
+pub(crate) struct Said<'a> {
+    /// The label that it defines.
+    pub label: Option<&'a [u8]>,
+    /// Its instruction.
+    pub command: Option<Command<'a>>,
+}
+
+impl Said<'_> {
+    ghost use Rattle.std.specs.Prelude.{◌≡◌, ◌≤◌};
+    ghost use Rattle.bpf_asm.specs.Labels.{statement_count};
+    ghost use Rattle.bpf_asm.specs.Seen.{line_seen};
+
+    /// How many instructions it has.
+    pub(crate) fn count(&self) -> usize
+        ensures count { result ≡ statement_count (line_seen self.now).statement }
+        ensures one { result ≤ 1 }
+    {
+        match self.command {
+            Some(_) => 1,
+            None => 0,
+        }
+    }
+}
+
+/// What stands before the first `;`.
+fn before_comment(line: &[u8]) -> &[u8]
+    ensures { result.now ≡ without_comment line.now }
+{
+    for (at, octet) in line.iter().enumerate() {
+        if *octet == 59 {
+            return &line[..at];
+        }
+    }
+    line
+}
+
+/// Whether some word of a text begins with a digit and is no number.
+fn bad_number(text: &[u8]) -> bool
+    ensures { result ≡ has_faulty (tokens_of text.now) }
+{
+    let mut left = text;
+    while let Some((token, rest)) = next_token(left) {
+        if let Lexeme::Faulty = token {
+            return true;
+        }
+        left = rest;
+    }
+    false
+}
+
+/// A label, and what is behind it.
+fn after_label(text: &[u8]) -> Option<(&[u8], &[u8])>
+    ensures { MatchOption result (cut_label (tokens_read text.now) ≡ None)
+        (λ found. cut_label (tokens_read text.now) ≡ Some (found.0.now, tokens_read found.1.now)) }
+{
+    let (label, rest) = after_name(text)?;
+    let rest = after_mark(rest, 58)?;
+    Some((label, rest))
+}
+
+/// What is behind the label of a line, if it has one.
+fn body<'a>(label: Option<&'a [u8]>, text: &'a [u8]) -> Option<Said<'a>>
+    ensures { MatchOption result (body_in (option_copied label.entry) (tokens_read text.entry.now) ≡ None)
+        (λ said. body_in (option_copied label.entry) (tokens_read text.entry.now) ≡ Some (line_seen said)) }
+{
+    if at_end(text) {
+        return Some(Said {
+            label,
+            command: None,
+        });
+    }
+    let command = statement(text)?;
+    Some(Said {
+        label,
+        command: Some(command),
+    })
+}
+
+/// The line of a text without comments.
+#[tactic(auto, unfolding(crate::specs::Reading::line_in))]
+fn line_of(text: &[u8]) -> Option<Said<'_>>
+    ensures { MatchOption result (line_in (tokens_read text.now) ≡ None)
+        (λ said. line_in (tokens_read text.now) ≡ Some (line_seen said)) }
+{
+    match after_label(text) {
+        Some((label, rest)) => body(Some(label), rest),
+        None => body(None, text),
+    }
+}
+
+/// What a line says, or its own fault.
+pub(crate) fn read_line(line: &[u8]) -> Result<Said<'_>, AsmKind>
+    ensures said { IfOk result (λ said. IsLine line.now (line_seen said)) }
+    ensures fault { IfErr result (λ kind. (before : List Line) → IsLineFault before line.now kind) }
+{
+    let text = before_comment(line);
+    if bad_number(text) {
+        return Err(AsmKind::BadNumber);
+    }
+    line_of(text).ok_or(AsmKind::BadLine)
+}

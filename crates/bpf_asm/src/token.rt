@@ -1,0 +1,156 @@
+//! The tokens of a line.
+
+ghost use Rattle.std.specs.Prelude.{◌≡◌, ◌≤◌, ◌<◌, ℕ, List, [], ◌∷◌, true, false, length, take, drop, slice_index, IfSome, IsTrue, MatchOption};
+ghost use Rattle.bpf_asm.specs.Numbers.{digit_of, is_hexadecimal, number_of, value_in, within_word};
+ghost use Rattle.bpf_asm.specs.Seen.{token_seen};
+ghost use Rattle.bpf_asm.specs.Tokens.{all_word, is_blank, is_digit, is_run, is_word, tokens_of, word_token};
+
+/// A token, with the octets of its name in the line.
+#[derive(Clone, Copy)]
+pub(crate) enum Lexeme<'a> {
+    /// A word that doesn't begin with a digit.
+    Name(&'a [u8]),
+    /// The value of a number.
+    Number(u32),
+    /// A word that begins with a digit and is no number.
+    Faulty,
+    /// Any other octet.
+    Mark(u8),
+}
+
+/// Whether the octet is an ASCII digit.
+fn digit(octet: u8) -> bool
+    ensures { result ≡ is_digit octet }
+{
+    48 <= octet && octet <= 57
+}
+
+/// Whether the octet is one of a word.
+fn word_octet(octet: u8) -> bool
+    ensures { result ≡ is_word octet }
+{
+    digit(octet) || (65 <= octet && octet <= 90) || (97 <= octet && octet <= 122) || octet == 95
+}
+
+/// Whether the octet is a space or a tab.
+fn blank(octet: u8) -> bool
+    ensures { result ≡ is_blank octet }
+{
+    octet == 32 || octet == 9
+}
+
+/// The value of a digit of base 16, or 16.
+fn digit_value(octet: u8) -> u8
+    ensures { result ≡ digit_of octet }
+{
+    match octet {
+        48..=57 => octet - 48,
+        97..=102 => octet - 87,
+        65..=70 => octet - 55,
+        _ => 16,
+    }
+}
+
+/// The number of at most 4294967295 that digits of a base spell.
+fn value(base: u8, digits: &[u8]) -> Option<u32>
+    requires low { 1 ≤ base }
+    requires high { base ≤ 16 }
+    ensures { result ≡ within_word (value_in base digits.now) }
+{
+    if digits.is_empty() {
+        return None;
+    }
+    let mut value = 0u64;
+    for octet in digits {
+        let digit = digit_value(*octet);
+        if digit >= base {
+            return None;
+        }
+        value = value * u64::from(base) + u64::from(digit);
+        if value > 4294967295 {
+            return None;
+        }
+    }
+    Some(value as u32)
+}
+
+/// Whether a word begins with `0x` or `0X`.
+fn hexadecimal(word: &[u8]) -> bool
+    ensures long { IsTrue result → 2 ≤ length word.now }
+    ensures value { result ≡ is_hexadecimal word.now }
+{
+    word.len() >= 2 && word[0] == 48 && (word[1] == 120 || word[1] == 88)
+}
+
+/// The number that a word spells.
+#[tactic(auto, unfolding(crate::specs::Numbers::number_of))]
+fn number(word: &[u8]) -> Option<u32>
+    ensures { result ≡ number_of word.now }
+{
+    if hexadecimal(word) {
+        value(16, &word[2..])
+    } else {
+        value(10, word)
+    }
+}
+
+/// The token of a word.
+fn word_lexeme(word: &[u8]) -> Lexeme<'_>
+    requires { 0 < length word.now }
+    ensures { token_seen result ≡ word_token word.now }
+{
+    if digit(word[0]) {
+        match number(word) {
+            Some(value) => Lexeme::Number(value),
+            None => Lexeme::Faulty,
+        }
+    } else {
+        Lexeme::Name(word)
+    }
+}
+
+/// How many octets of words a text begins with.
+fn word_len(text: &[u8]) -> usize
+    ensures within { result ≤ length text.now }
+    ensures word { all_word (take result text.now) ≡ true }
+    ensures longest { is_run (drop result text.now) ≡ false }
+{
+    for (at, octet) in text.iter().enumerate() {
+        if !word_octet(*octet) {
+            return at;
+        }
+    }
+    text.len()
+}
+
+/// The text behind the blanks that it begins with.
+fn skip_blanks(text: &[u8]) -> &[u8]
+    ensures tokens { tokens_of result.now ≡ tokens_of text.now }
+    ensures within { length result.now ≤ length text.now }
+    ensures begins { 0 < length result.now → is_blank (slice_index result.now 0) ≡ false }
+{
+    for (at, octet) in text.iter().enumerate() {
+        if !blank(*octet) {
+            return &text[at..];
+        }
+    }
+    &text[text.len()..]
+}
+
+/// The first token of a text, and what is behind it.
+pub(crate) fn next_token(text: &[u8]) -> Option<(Lexeme<'_>, &[u8])>
+    ensures tokens { MatchOption result (tokens_of text.now ≡ [])
+        (λ found. tokens_of text.now ≡ token_seen found.0 ∷ tokens_of found.1.now) }
+    ensures shorter { IfSome result (λ found. length found.1.now < length text.now) }
+{
+    let text = skip_blanks(text);
+    if text.is_empty() {
+        return None;
+    }
+    if word_octet(text[0]) {
+        let (word, rest) = text.split_at(word_len(text));
+        Some((word_lexeme(word), rest))
+    } else {
+        Some((Lexeme::Mark(text[0]), &text[1..]))
+    }
+}

@@ -1,0 +1,68 @@
+-- What has a number in a list, after a write to the list too.
+use Rattle.std.proofs.Common.{◌≡◌, ◌≢◌, ℕ, zero, suc, ◌-◌, ◌<◌, List, [], ◌∷◌, length, set, Some, None, All, get_or, refl, sym, ap, subst, ◌∙◌, arith}
+use Rattle.std.specs.Prelude.{slice_get}
+use Rattle.std.proofs.lemmas.Bool.Decides.{nat_tests}
+use Rattle.std.proofs.lemmas.Option.{slice_get_within, get_or_from_slice_get}
+use Rattle.line_record.specs.History.{numbered}
+
+module _ {X : Type 0} where
+  pub slice_get-set_same : (xs : List X) (k : ℕ) (x : X) → k < length xs → slice_get (set xs k x) k ≡ Some x
+  slice_get-set_same [] k x within = absurd (omega arith)
+  slice_get-set_same (y ∷ xs) zero x within = refl
+  slice_get-set_same (y ∷ xs) (suc k) x within = slice_get-set_same xs k x (omega arith)
+
+  pub slice_get-set_other : (xs : List X) (k j : ℕ) (x : X) → j ≢ k → slice_get (set xs k x) j ≡ slice_get xs j
+  slice_get-set_other [] k j x apart = refl
+  slice_get-set_other (y ∷ xs) zero zero x apart = absurd (apart refl)
+  slice_get-set_other (y ∷ xs) zero (suc j) x apart = refl
+  slice_get-set_other (y ∷ xs) (suc k) zero x apart = refl
+  slice_get-set_other (y ∷ xs) (suc k) (suc j) x apart = slice_get-set_other xs k j x (λ e. apart (ap suc e))
+
+  -- numbers begin at 1
+  pub numbered-zero : (xs : List X) (n : ℕ) → n ≡ 0 → numbered xs n ≡ None
+  numbered-zero xs n none = grind (arith, nat_tests)
+
+  pub numbered-above : (xs : List X) (n : ℕ) → n ≢ 0 → numbered xs n ≡ slice_get xs (n - 1)
+  numbered-above xs n some = grind (arith, nat_tests)
+
+  pub numbered-set_same : (xs : List X) (n : ℕ) (x : X) → n ≢ 0 → n - 1 < length xs → numbered (set xs (n - 1) x) n ≡ Some x
+  numbered-set_same xs n x some within = rw (numbered-above (set xs (n - 1) x) n some) (slice_get-set_same xs (n - 1) x within)
+
+  numbered-set_above : (xs : List X) (n m : ℕ) (x : X) → n ≢ 0 → m ≢ 0 → m ≢ n → numbered (set xs (n - 1) x) m ≡ numbered xs m
+  numbered-set_above xs n m x some other apart =
+      rw (numbered-above (set xs (n - 1) x) m other, numbered-above xs m other)
+      (slice_get-set_other xs (n - 1) (m - 1) x (λ e. apart (omega arith)))
+
+  pub numbered-set_other : (xs : List X) (n m : ℕ) (x : X) → n ≢ 0 → m ≢ n → numbered (set xs (n - 1) x) m ≡ numbered xs m
+  numbered-set_other xs n zero x some apart = refl
+  numbered-set_other xs n (suc m) x some apart = numbered-set_above xs n (suc m) x some (omega arith) apart
+
+  -- lists of one length have the same numbers
+  pub numbered-within : (xs : List X) (n : ℕ) (x : X) → numbered xs n ≡ Some x → (n ≢ 0) × (n - 1 < length xs)
+  numbered-within xs zero x found = cc
+  numbered-within xs (suc n) x found =
+      let at : slice_get xs (suc n - 1) ≡ Some x = rw (← numbered-above xs (suc n) (omega arith)) found in
+      (omega arith, slice_get_within xs (suc n - 1) x at)
+
+slice_get-both : {X Y : Type 0} (xs : List X) (ys : List Y) (k : ℕ) (x : X) → length ys ≡ length xs
+    → slice_get xs k ≡ Some x → (y : Y) × (slice_get ys k ≡ Some y)
+slice_get-both [] ys k x same found = cc
+slice_get-both (x ∷ xs) [] k z same found = absurd (omega arith)
+slice_get-both (x ∷ xs) (y ∷ ys) zero z same found = (y, refl)
+slice_get-both (x ∷ xs) (y ∷ ys) (suc k) z same found = slice_get-both xs ys k z (omega arith) found
+
+pub numbered-both : {X Y : Type 0} (xs : List X) (ys : List Y) (n : ℕ) (x : X) → length ys ≡ length xs
+    → numbered xs n ≡ Some x → (y : Y) × (numbered ys n ≡ Some y)
+numbered-both xs ys n x same found =
+    let within = numbered-within xs n x found in
+    let at : slice_get xs (n - 1) ≡ Some x = sym (numbered-above xs n within.0) ∙ found in
+    let other = slice_get-both xs ys (n - 1) x same at in
+    (other.0, numbered-above ys n within.0 ∙ other.1)
+
+-- what holds of all holds of what has a number
+pub numbered-All : {X : Type 0} (P : X → Type 0) (xs : List X) (n : ℕ) (x : X) → All P xs → numbered xs n ≡ Some x → P x
+numbered-All P xs n x all found =
+    let within = numbered-within xs n x found in
+    let at : slice_get xs (n - 1) ≡ Some x = sym (numbered-above xs n within.0) ∙ found in
+    let is : get_or xs (n - 1) x ≡ x = get_or_from_slice_get xs (n - 1) x x at in
+    subst P is (all (n - 1) x within.1)

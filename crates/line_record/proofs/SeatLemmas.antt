@@ -1,0 +1,221 @@
+-- Look-ups in a directory, before and after a change.
+use Rattle.std.proofs.Common.{◌≡◌, ◌≢◌, ◌⊎◌, ℕ, suc, ◌+◌, ◌^◌, ◌<◌, ◌≤◌, Bool, true, false, cond, Option, Some, None, List, [], ◌∷◌, refl, sym, ap, subst, ◌∙◌, inl, inr, arith}
+use Rattle.std.specs.Ordering.{is_eq}
+use Rattle.std.specs.Cmp.{IsTotalOrder, nat_cmp_total, on_total, then_total}
+use Rattle.std.specs.Coded.{le_prop}
+use Rattle.std.specs.Prelude.{IfSome}
+use Rattle.std.proofs.lemmas.Option.{same_Some}
+use Rattle.std.specs.List.{list_any, Contains}
+use Rattle.std.specs.Map.{lookup, values_of}
+use Rattle.std.specs.BTreeMap.{BTreeMap, IsOrdered, UpdatesBy, is_at}
+use Rattle.std.proofs.lemmas.Bool.Decides.{nat_tests}
+use Rattle.std.proofs.lemmas.Map.Lookups.{CmpEqualImpliesEq}
+use Rattle.std.proofs.lemmas.Map.Views.{btree_map_get_iff}
+use Rattle.gen_arena.specs.declared.id.Id.{Id}
+use Rattle.upc_cell.specs.declared.vc.Vc.{Vc}
+use Rattle.upc_cell.specs.contracts.vc.VcOrd.TheImpl.{cmp-value}
+use Rattle.line_record.specs.declared.directory.Seating.{Seating}
+use Rattle.line_record.specs.Seats.{is_same_vc, is_same_id, seat_in, ChangesAt, HasEntries}
+use Rattle.line_record.specs.Directory.{DirectoryView, seat_of, IsOpenLine, IsDirectory}
+
+-- Virtual connections.
+
+-- it does not matter how the bound on the path was shown
+pub vc_is : (one other : Vc) → one.vpi ≡ other.vpi → one.vci ≡ other.vci → one ≡ other
+vc_is one other paths channels =
+    let Of : ℕ → Type 0 = λ path. (x : path ≤ 255)
+    → one ≡ record { vpi = path; vci = one.vci; of_the_interface = x } in
+    let own : Of one.vpi = λ x i.
+    record { vpi = one.vpi; vci = one.vci; of_the_interface = le_prop one.of_the_interface x i } in
+    subst (λ channel. one ≡ record { vpi = other.vpi; vci = channel; of_the_interface = other.of_the_interface })
+    channels (subst Of paths own other.of_the_interface)
+
+pub is_at-vc : (one other : Vc) → is_at (cmp-value.it one) other ≡ is_same_vc one other
+is_at-vc one other = grind (arith, nat_tests)
+
+pub vc_same : (one other : Vc) → is_same_vc one other ≡ true → one ≡ other
+vc_same one other e = vc_is one other (grind (arith, nat_tests)) (grind (arith, nat_tests))
+
+pub vc_itself : (vc : Vc) → is_same_vc vc vc ≡ true
+vc_itself vc = grind (arith, nat_tests)
+
+pub vc_differs : (one other : Vc) → one ≢ other → is_same_vc one other ≡ false
+vc_differs one other apart =
+    let choice : (b : Bool) → is_same_vc one other ≡ b → b ≡ false = elim [
+      | true ↦ λ e. absurd (apart (vc_same one other e))
+      | false ↦ λ e. refl
+    ] in
+    choice (is_same_vc one other) refl
+
+pub vc_cases : (one other : Vc) → (one ≡ other) ⊎ (one ≢ other)
+vc_cases one other =
+    let choice : (b : Bool) → is_same_vc one other ≡ b → (one ≡ other) ⊎ (one ≢ other) = elim [
+      | true ↦ λ e. inl (vc_same one other e)
+      | false ↦ λ e. inr (λ same. let itself = vc_itself one in
+          let other_way : is_same_vc one one ≡ false = subst (λ v. is_same_vc one v ≡ false) (sym same) e in cc)
+    ] in
+    choice (is_same_vc one other) refl
+
+pub vc_total : IsTotalOrder cmp-value.it
+vc_total = then_total (on_total (λ v. v.vpi) nat_cmp_total) (on_total (λ v. v.vci) nat_cmp_total)
+
+pub vc_exact : CmpEqualImpliesEq cmp-value.it
+vc_exact one other e = vc_same one other (sym (is_at-vc one other) ∙ ap is_eq e)
+
+-- Look-ups.
+
+pub lookup-seat : (seats : List (Vc × Seating)) (vc : Vc) → lookup (is_at (cmp-value.it vc)) seats ≡ seat_in seats vc
+lookup-seat [] vc = refl
+lookup-seat (seat ∷ later) vc =
+    rw (is_at-vc vc seat.0) (ap (cond (is_same_vc vc seat.0) (Some seat.1)) (lookup-seat later vc))
+
+-- a seating that passes a test, if the test finds one
+entry_found : (test : Seating → Bool) (seats : List (Vc × Seating)) → list_any test (values_of seats) ≡ true
+    → (entry : Vc × Seating) × Contains seats entry × (test entry.1 ≡ true)
+entry_found test [] e = cc
+entry_found test (seat ∷ later) e =
+    let choice : (b : Bool) → test seat.1 ≡ b
+    → (entry : Vc × Seating) × Contains (seat ∷ later) entry × (test entry.1 ≡ true) = elim [
+      | true ↦ λ passes. (seat, (0, omega arith, refl), passes)
+      | false ↦ λ fails.
+          let rest = entry_found test later (grind (arith, fails)) in
+          (rest.0, (suc rest.1.0, omega (arith, rest.1.1), rest.1.2), rest.2)
+    ] in
+    choice (test seat.1) refl
+
+pub HasEntries-ordered : (map : BTreeMap Vc Seating) → IsOrdered cmp-value.it map → HasEntries map.entries
+HasEntries-ordered map ordered vc seat there =
+    sym (lookup-seat map.entries vc) ∙ (btree_map_get_iff vc_total vc_exact map ordered vc seat).1 there
+
+pub seat_found : (test : Seating → Bool) (seats : List (Vc × Seating)) → HasEntries seats
+    → list_any test (values_of seats) ≡ true
+    → (vc : Vc) × (seat : Seating) × (seat_in seats vc ≡ Some seat) × (test seat ≡ true)
+seat_found test seats has e =
+    let found = entry_found test seats e in
+    (found.0.0, found.0.1, has found.0.0 found.0.1 found.1, found.2)
+
+-- and the test finds the seating of a connection
+pub seat_passes : (test : Seating → Bool) (seats : List (Vc × Seating)) (vc : Vc) (seat : Seating)
+    → seat_in seats vc ≡ Some seat → test seat ≡ true → list_any test (values_of seats) ≡ true
+seat_passes test [] vc seat at passes = cc
+seat_passes test (first ∷ later) vc seat at passes =
+    let choice : (b : Bool) → is_same_vc vc first.0 ≡ b → list_any test (values_of (first ∷ later)) ≡ true = elim [
+      | true ↦ λ same.
+          let is : first.1 ≡ seat = grind (arith, at, same) in
+          let here : test first.1 ≡ true = ap test is ∙ passes in
+          grind (arith, here)
+      | false ↦ λ differs.
+          let behind : seat_in later vc ≡ Some seat = grind (arith, at, differs) in
+          let rest = seat_passes test later vc seat behind passes in
+          grind (arith, rest)
+    ] in
+    choice (is_same_vc vc first.0) refl
+
+pub ChangesAt-updates : (old new : BTreeMap Vc Seating) (vc : Vc) (seat : Option Seating)
+    → UpdatesBy cmp-value.it (cmp-value.it vc) old new seat → ChangesAt old.entries new.entries vc seat
+ChangesAt-updates old new vc seat updates = record {
+  here = sym (lookup-seat new.entries vc) ∙ updates.1;
+  others = λ other apart.
+      let away : is_at (cmp-value.it vc) other ≡ false =
+      is_at-vc vc other ∙ vc_differs vc other (λ e. apart (sym e)) in
+      sym (lookup-seat new.entries other) ∙ updates.2 other away ∙ lookup-seat old.entries other;
+}
+
+-- the seating is one that the directory can have
+pub record Suits (old : DirectoryView) (vc : Vc) (seat : Seating) (used : ℕ) : Type 0 where
+  pub within : seat.line < old.lines
+  pub given : (1 ≤ seat.incarnation) × (seat.incarnation ≤ used)
+  pub alone : (other : Vc) (another : Seating) → other ≢ vc → seat_of old other ≡ Some another → another.line ≢ seat.line
+
+pub IsDirectory-changed : (old : DirectoryView) (new : List (Vc × Seating)) (vc : Vc) (seat : Option Seating) (used : ℕ)
+    → IsDirectory old → ChangesAt old.seats new vc seat
+    → ((given : Seating) → seat ≡ Some given → Suits old vc given used)
+    → old.used ≤ used → used ≤ 2 ^ 62
+    → IsDirectory (record { seats = new; lines = old.lines; used = used })
+IsDirectory-changed old new vc seat used is changes suits grows most = record {
+  apart = λ one other first second at1 at2 same.
+      let same_one : Vc → Type 0 = λ v. seat_in new v ≡ Some first in
+      let same_other : Vc → Type 0 = λ v. seat_in new v ≡ Some second in
+      elim (vc_cases one vc) [
+        | inl e ↦ elim (vc_cases other vc) [
+          | inl f ↦ e ∙ sym f
+          | inr g ↦
+              let given : seat ≡ Some first = sym changes.here ∙ subst same_one e at1 in
+              absurd ((suits first given).alone other second g (sym (changes.others other g) ∙ at2) (sym same))
+        ]
+        | inr g ↦ elim (vc_cases other vc) [
+          | inl f ↦
+              let given : seat ≡ Some second = sym changes.here ∙ subst same_other f at2 in
+              absurd ((suits second given).alone one first g (sym (changes.others one g) ∙ at1) same)
+          | inr h ↦ is.apart one other first second (sym (changes.others one g) ∙ at1) (sym (changes.others other h) ∙ at2) same
+        ]
+      ];
+  within = λ one first at. elim (vc_cases one vc) [
+    | inl e ↦ (suits first (sym changes.here ∙ subst (λ v. seat_in new v ≡ Some first) e at)).within
+    | inr g ↦ is.within one first (sym (changes.others one g) ∙ at)
+  ];
+  given = λ one first at. elim (vc_cases one vc) [
+    | inl e ↦ (suits first (sym changes.here ∙ subst (λ v. seat_in new v ≡ Some first) e at)).given
+    | inr g ↦
+        let old_given = is.given one first (sym (changes.others one g) ∙ at) in
+        (old_given.0, omega arith)
+  ];
+  most = most;
+}
+
+pub Suits-new : (old : DirectoryView) (vc : Vc) (seat : Seating) → IsDirectory old
+    → seat.line < old.lines → IsOpenLine old seat.line → seat.incarnation ≡ old.used + 1
+    → Suits old vc seat (old.used + 1)
+Suits-new old vc seat is within alone incarnation = record {
+  within = within;
+  given = (omega (arith, incarnation), omega (arith, incarnation));
+  alone = λ other another apart at. alone other another at;
+}
+
+-- another program changes nothing of that
+pub Suits-moved : (old : DirectoryView) (vc : Vc) (before after : Seating) → IsDirectory old
+    → seat_of old vc ≡ Some before → after.line ≡ before.line → after.incarnation ≡ before.incarnation
+    → Suits old vc after old.used
+Suits-moved old vc before after is at line incarnation =
+    let given = is.given vc before at in
+    let within = is.within vc before at in
+    record {
+      within = omega arith;
+      given = (omega arith, omega arith);
+      alone = λ other another apart there same. apart (is.apart other vc another before there at (same ∙ line));
+    }
+
+-- Ids.
+
+pub id_same : (one other : Id) → is_same_id one other ≡ true → one ≡ other
+id_same one other e =
+    let slots : one.slot ≡ other.slot = grind (arith, nat_tests) in
+    let generations : one.generation ≡ other.generation = grind (arith, nat_tests) in
+    λ i. record { slot = slots i; generation = generations i }
+
+pub id_itself : (id : Id) → is_same_id id id ≡ true
+id_itself id = grind (arith, nat_tests)
+
+-- Where there is no such connection, nothing is moved.
+pub IsDirectory-moved : (old : DirectoryView) (new : List (Vc × Seating)) (vc : Vc) (program : Id)
+    → IsDirectory old
+    → IfSome (seat_of old vc) (λ seat. ChangesAt old.seats new vc (Some (record seat { program = program })))
+    → (seat_of old vc ≡ None → new ≡ old.seats)
+    → IsDirectory (record { seats = new; lines = old.lines; used = old.used })
+IsDirectory-moved old new vc program is moved unmoved =
+    let Moved : Option Seating → Type 0 = λ found.
+    IfSome found (λ seat. ChangesAt old.seats new vc (Some (record seat { program = program }))) in
+    let choice : (found : Option Seating) → seat_of old vc ≡ found
+    → IsDirectory (record { seats = new; lines = old.lines; used = old.used }) = elim [
+      | None ↦ λ e.
+          subst (λ seats. IsDirectory (record { seats = seats; lines = old.lines; used = old.used })) (sym (unmoved e)) is
+      | Some seat ↦ λ e.
+          let after : Seating = record seat { program = program } in
+          let changes : ChangesAt old.seats new vc (Some after) = subst Moved e moved in
+          IsDirectory-changed old new vc (Some after) old.used is changes
+          (λ given same.
+          subst (λ (s : Seating). Suits old vc s old.used) (same_Some after given same)
+          (Suits-moved old vc seat after is e refl refl))
+          (omega arith) is.most
+    ] in
+    choice (seat_of old vc) refl

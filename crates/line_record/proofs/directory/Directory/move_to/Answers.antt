@@ -1,0 +1,18 @@
+use Rattle.std.proofs.Common.{◌≡◌, Option, None, ap, subst, ◌∙◌}
+use Rattle.std.specs.Prelude.{option_map, IfNone}
+use Rattle.gen_arena.specs.declared.id.Id.{Id}
+use Rattle.line_record.specs.declared.directory.Seating.{Seating}
+use Rattle.line_record.specs.Directory.{DirectoryView}
+use Rattle.line_record.proofs.HeldLemmas.{IsSoundDirectory-moved}
+use Rattle.line_record.proofs.directory.Directory.move_to.Goals as goal
+
+pub invariant_of-self : goal.invariant_of-self
+invariant_of-self c =
+    let l = c.self.inside in
+    let old : DirectoryView = record { seats = l.seats.entries; lines = l.lines; used = l.used } in
+    IsSoundDirectory-moved old l.held.items c.self.invariant c.reprogram.new.seats.entries c.args.vc c.args.program c.reprogram.ensures.moved
+    (λ none.
+    let gone : c.reprogram.result ≡ None =
+    c.reprogram.ensures.before ∙ ap (option_map (λ (seat : Seating). seat.program)) none in
+    let Same : Option Id → Type 0 = λ (o : Option Id). IfNone o (c.reprogram.new.seats.entries ≡ l.seats.entries) in
+    subst Same gone c.reprogram.ensures.unchanged)

@@ -1,0 +1,71 @@
+-- Pieces of a connection's record, as journals are handed out.
+use Rattle.std.specs.Prelude.{◌≡◌, ℕ, suc, ◌-◌, ◌<◌, Some, List, [], ◌∷◌, ◌++◌, ⊤, slice_get}
+use Rattle.leaky.specs.declared.contract.Contract.{Contract}
+use Rattle.line_record.specs.declared.entry.Entry.{Entry}
+use Rattle.line_record.specs.declared.state.State.{State}
+use Rattle.line_record.specs.declared.owner.Owner.{Owner}
+use Rattle.line_record.specs.Run.{IsRun}
+use Rattle.line_record.specs.Line.{LineView}
+
+-- whose journal it was and under which contracts, the state at its beginning, its entries, and the
+-- state at its end
+pub record PieceView : Type 0 where
+  pub owner : Owner
+  pub contracts : List Contract
+  pub start : State
+  pub entries : List Entry
+  pub end : State
+
+-- what every piece keeps: its entries are a run from its start to its end
+abbrev pub IsPiece : PieceView → Type 0
+IsPiece piece = IsRun piece.contracts piece.start piece.entries piece.end
+
+-- the line's owner and contracts, its journal and both states of it
+pub record IsJournalOf (line : LineView) (piece : PieceView) : Type 0 where
+  pub owner : line.owner ≡ Some piece.owner
+  pub contracts : piece.contracts ≡ line.contracts
+  pub start : piece.start ≡ line.start
+  pub entries : piece.entries ≡ line.entries
+  pub end : piece.end ≡ line.state
+
+-- the later piece has the owner and the contracts of the earlier one, and begins where that ends
+pub record GoesOnFrom (earlier later : PieceView) : Type 0 where
+  pub owner : later.owner ≡ earlier.owner
+  pub contracts : later.contracts ≡ earlier.contracts
+  pub start : later.start ≡ earlier.end
+
+-- the piece behind this place goes on from the piece there, where there are both
+abbrev pub GoesOnAt : List PieceView → ℕ → Type 0
+GoesOnAt pieces place = (earlier later : PieceView)
+    → slice_get pieces place ≡ Some earlier → slice_get pieces (suc place) ≡ Some later
+    → GoesOnFrom earlier later
+
+-- each piece but the first goes on from the one before it
+abbrev pub IsChain : List PieceView → Type 0
+IsChain pieces = (place : ℕ) → GoesOnAt pieces place
+
+-- the piece at this place is the first that does not go on from the one before it
+pub record BreaksAt (pieces : List PieceView) (place : ℕ) : Type 0 where
+  pub earlier : PieceView
+  pub later : PieceView
+  pub behind : 0 < place
+  pub before : slice_get pieces (place - 1) ≡ Some earlier
+  pub here : slice_get pieces place ≡ Some later
+  pub breaks : ¬ GoesOnFrom earlier later
+  pub whole : (other : ℕ) → suc other < place → GoesOnAt pieces other
+
+-- all entries of the pieces, in order
+abbrev pub entries_in : List PieceView → List Entry
+entries_in [] = []
+entries_in (piece ∷ later) = piece.entries ++ entries_in later
+
+-- the state at the end of the last piece, or the earlier one where there is no piece
+abbrev pub end_of : State → List PieceView → State
+end_of earlier [] = earlier
+end_of earlier (piece ∷ later) = end_of piece.end later
+
+-- all entries of the pieces are one run, from the first start to the last end
+abbrev pub AreOneRun : List PieceView → Type 0
+AreOneRun [] = ⊤
+AreOneRun (piece ∷ later) =
+    IsRun piece.contracts piece.start (entries_in (piece ∷ later)) (end_of piece.end later)

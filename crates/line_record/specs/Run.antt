@@ -1,0 +1,40 @@
+-- Entries of a journal that lead from one state of a line to another.
+use Rattle.std.specs.Prelude.{◌≡◌, ℕ, Some, List, [], ◌∷◌, length}
+use Rattle.leaky.specs.declared.contract.Contract.{Contract}
+use Rattle.leaky.specs.declared.levels.Levels.{Levels}
+use Rattle.leaky.specs.Moments.{GoesOn}
+use Rattle.leaky.specs.Contract.{Buckets}
+use Rattle.leaky.specs.Agreement.{Agrees, IsChargedBy}
+use Rattle.line_record.specs.declared.entry.Entry.{Entry}
+use Rattle.line_record.specs.declared.state.State.{State}
+use Rattle.line_record.specs.declared.tally.Tally.{Tally}
+use Rattle.line_record.specs.Tally.{counted}
+use Rattle.line_record.specs.History.{numbered, moments_of, last_moment, cells_of, buckets_after, judged}
+
+-- the counts after these entries
+abbrev pub tallied : Tally → List Entry → Tally
+tallied counts [] = counts
+tallied counts (entry ∷ later) = tallied (counted counts entry.verdict) later
+
+-- the levels of a state stand for these buckets of its contracts by number, and none of them was
+-- charged after the state's last moment
+pub record StandsFor (state : State) (buckets : ℕ → Buckets) : Type 0 where
+  pub agrees : (number : ℕ) (levels : Levels)
+      → numbered state.levels.items number ≡ Some levels → Agrees levels (buckets number)
+  pub charged : (number : ℕ) (levels : Levels)
+      → numbered state.levels.items number ≡ Some levels
+      → IsChargedBy (buckets number) state.last
+
+-- The entries are a run from the start to the end under the contracts. From all buckets that the
+-- start stands for, the verdicts are those of the contracts, and the end stands for the buckets that
+-- are left. Both states have levels for each contract, and each entry is counted.
+pub record IsRun (contracts : List Contract) (start : State) (entries : List Entry) (end : State) : Type 0 where
+  pub opens : length start.levels.items ≡ length contracts
+  pub closes : length end.levels.items ≡ length contracts
+  pub moments : GoesOn start.last (moments_of (cells_of entries))
+  pub verdicts : (opening : ℕ → Buckets) → StandsFor start opening
+      → entries ≡ judged contracts opening [] (cells_of entries)
+  pub levels : (opening : ℕ → Buckets) → StandsFor start opening
+      → StandsFor end (buckets_after contracts opening (cells_of entries))
+  pub last : end.last ≡ last_moment start.last (cells_of entries)
+  pub counts : end.counts ≡ tallied start.counts entries

@@ -1,0 +1,202 @@
+ghost use Rattle.std.specs.Prelude.{◌≡◌, ◌==◌, Some, IfSome, IfNone, option_map};
+ghost use Rattle.std.specs.List.{list_any};
+ghost use Rattle.std.specs.BTreeMap.{values};
+ghost use Rattle.line_record.specs.Seats.{seat_in, is_same_id, ChangesAt, HasEntries};
+
+use crate::fault::DirFault;
+use gen_arena::Id;
+use std::alloc::Global;
+use std::collections::BTreeMap;
+use std::marker::Model;
+use std::mem;
+use upc_cell::Vc;
+
+/// The last incarnation that a directory gives: 2^62.
+pub const LAST_INCARNATION: u64 = 4611686018427387904;
+
+/// The place of a connection.
+#[derive(Clone, Copy, Debug, PartialEq, Eq)]
+pub struct Seating {
+    /// The number of its line, from 0.
+    pub line: u16,
+    /// The number, from 1, of this setting up of the connection.
+    pub incarnation: u64,
+    /// The program that names the contracts for its cells.
+    pub program: Id,
+}
+
+/// Which line of the card serves which connection. No two connections share a line, and no
+/// incarnation is given twice.
+#[derive(Debug, Drop)]
+pub struct Directory {
+    seats: BTreeMap<Vc, Seating>,
+    lines: u16,
+    // How many incarnations were given.
+    used: u64,
+    // Of each line, whether it is some connection's.
+    held: Vec<bool>,
+}
+
+impl Model for Directory {
+    ghost use Rattle.line_record.specs.Directory.{DirectoryView, IsSoundDirectory};
+
+    ghost Value = { DirectoryView };
+
+    ghost view = { λ d. record { seats = d.seats.entries; lines = d.lines; used = d.used } };
+
+    ghost invariant = { λ d. IsSoundDirectory
+        (record { seats = d.seats.entries; lines = d.lines; used = d.used })
+        d.held.items };
+}
+
+impl Directory {
+    ghost use Rattle.std.specs.Prelude.{◌≡◌, ℕ, ◌+◌, ◌^◌, ◌<◌, ◌≤◌, ◌⊎◌, ◌↔◌, Some, None, IsTrue, IsErrOf, IfOk, IfErr, IfSome, OnOk, OnErr, IfNone, MatchOption, option_map};
+    ghost use Rattle.line_record.specs.Directory.{seat_of, IsOpenLine, IsTakenLine, IsNamed, Sits, IsEmpty, IsDirectory};
+
+    /// A directory of `lines` lines without connections, which gives the incarnation `first` next.
+    ///
+    /// # Errors
+    ///
+    /// `NoLines` where `lines` is 0, then `BadFirst` where `first` is 0 or above 2^62, and then
+    /// `NoMemory` where the memory is refused.
+    pub fn new(alloc: Global, lines: u16, first: u64) -> Result<Self, DirFault>
+        ensures made { IfOk result (λ directory. IsEmpty directory lines first) }
+        ensures no_lines { IsErrOf result DirFault.NoLines ↔ (lines ≡ 0) }
+        ensures bad_first { IsErrOf result DirFault.BadFirst
+            ↔ ((0 < lines) × ((first ≡ 0) ⊎ (2 ^ 62 < first))) }
+    {
+        if lines == 0 {
+            return Err(DirFault::NoLines);
+        }
+        if first == 0 || first > LAST_INCARNATION {
+            return Err(DirFault::BadFirst);
+        }
+        let Ok(held) = vec![in alloc; false; usize::from(lines)] else {
+            return Err(DirFault::NoMemory);
+        };
+        Ok(Directory {
+            seats: BTreeMap::new(alloc),
+            lines,
+            used: first - 1,
+            held,
+        })
+    }
+
+    /// The place of the connection, if it has one. Takes no memory.
+    #[inline]
+    pub fn find(&self, vc: Vc) -> Option<Seating>
+        ensures seat { result ≡ seat_of self.now vc }
+        ensures directory { IsDirectory self.now }
+    {
+        self.seats.get(&vc).copied()
+    }
+
+    /// Gives the connection a free line and the next incarnation, which is answered.
+    ///
+    /// # Errors
+    ///
+    /// `NoMemory`, where the memory is refused.
+    pub fn put(&mut self, vc: Vc, line: u16, program: Id) -> Result<u64, DirFault>
+        requires absent { seat_of self.old vc ≡ None }
+        requires line { line < self.old.lines }
+        requires free { IsOpenLine self.old line }
+        requires unworn { self.old.used < 2 ^ 62 }
+        ensures incarnation { IfOk result (λ incarnation. incarnation ≡ self.old.used + 1) }
+        ensures seat { IfOk result (λ incarnation. Sits self.old vc
+            (Some (record { line = line; incarnation = incarnation; program = program })) self.new) }
+        ensures used { OnOk result (self.new.used ≡ self.old.used + 1) }
+        ensures lines { self.new.lines ≡ self.old.lines }
+        ensures no_memory { IfErr result (λ fault. fault ≡ DirFault.NoMemory) }
+        ensures unchanged { OnErr result (self.new ≡ self.old) }
+    {
+        let incarnation = self.used + 1;
+        let seat = Seating {
+            line,
+            incarnation,
+            program,
+        };
+        match self.seats.insert(vc, seat) {
+            Ok(_) => {
+                self.used = incarnation;
+                self.held[usize::from(line)] = true;
+                Ok(incarnation)
+            }
+            Err(_) => Err(DirFault::NoMemory),
+        }
+    }
+
+    /// Gives the connection another program, and answers the one that it had. Where there is no
+    /// such connection nothing changes. Takes no memory.
+    pub fn move_to(&mut self, vc: Vc, program: Id) -> Option<Id>
+        ensures before { result ≡ option_map (λ seat. seat.program) (seat_of self.old vc) }
+        ensures moved { IfSome (seat_of self.old vc)
+            (λ seat. Sits self.old vc (Some (record seat { program = program })) self.new) }
+        ensures unchanged { IfNone result (self.new ≡ self.old) }
+        ensures used { self.new.used ≡ self.old.used }
+        ensures lines { self.new.lines ≡ self.old.lines }
+    {
+        reprogram(&mut self.seats, vc, program)
+    }
+
+    /// Takes the connection out, and answers its place. Takes no memory.
+    pub fn take(&mut self, vc: Vc) -> Option<Seating>
+        ensures before { result ≡ seat_of self.old vc }
+        ensures gone { Sits self.old vc None self.new }
+        ensures used { self.new.used ≡ self.old.used }
+        ensures lines { self.new.lines ≡ self.old.lines }
+        ensures unchanged { IfNone result (self.new ≡ self.old) }
+    {
+        let seat = self.seats.remove(&vc)?;
+        self.held[usize::from(seat.line)] = false;
+        Some(seat)
+    }
+
+    /// Whether some connection names the program. Takes no memory.
+    pub fn names(&self, program: Id) -> bool
+        ensures { IsTrue result ↔ IsNamed self.now program }
+    {
+        any_names(&self.seats, program)
+    }
+
+    /// The number of a line that is no connection's, if there is one. Which of them is open. Takes
+    /// no memory.
+    pub fn free_line(&self) -> Option<u16>
+        ensures { MatchOption result
+            ((line : ℕ) → line < self.now.lines → IsTakenLine self.now line)
+            (λ line. (line < self.now.lines) × IsOpenLine self.now line) }
+    {
+        for line in 0..self.lines {
+            if !self.held[usize::from(line)] {
+                return Some(line);
+            }
+        }
+        None
+    }
+
+    /// Whether the last incarnation was given.
+    pub fn worn(&self) -> bool
+        ensures worn { IsTrue result ↔ (self.now.used ≡ 2 ^ 62) }
+        ensures directory { IsDirectory self.now }
+    {
+        self.used >= LAST_INCARNATION
+    }
+}
+
+// Writes another program into the place of the connection.
+fn reprogram(seats: &mut BTreeMap<Vc, Seating>, vc: Vc, program: Id) -> Option<Id>
+    ensures before { result ≡ option_map (λ seat. seat.program) (seat_in seats.old.entries vc) }
+    ensures moved { IfSome (seat_in seats.old.entries vc) (λ seat.
+        ChangesAt seats.old.entries seats.new.entries vc (Some (record seat { program = program }))) }
+    ensures unchanged { IfNone result (seats.new.entries ≡ seats.old.entries) }
+{
+    let seat = seats.get_mut(&vc)?;
+    Some(mem::replace(&mut seat.program, program))
+}
+
+// Whether some connection names the program.
+fn any_names(seats: &BTreeMap<Vc, Seating>, program: Id) -> bool
+    ensures any { result ≡ list_any (λ seat. is_same_id seat.program program) (values seats.now) }
+    ensures apart { HasEntries seats.now.entries }
+{
+    seats.values().any(|seat| seat.program == program)
+}

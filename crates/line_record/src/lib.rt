@@ -1,0 +1,27 @@
+//! What a line of an ATM card keeps of the connection that it serves: its journal, which is handed
+//! out in pieces, and the directory that knows which line serves which connection.
+#![tactic(auto)]
+
+mod directory;
+mod entry;
+mod equality;
+mod fault;
+pub mod laws;
+mod line;
+mod naming;
+mod owner;
+mod piece;
+mod state;
+mod tally;
+
+pub use directory::{Directory, LAST_INCARNATION, Seating};
+pub use entry::Entry;
+pub use fault::{DirFault, LineFault};
+pub use line::{Line, MOST_CELLS, MOST_ENTRIES};
+pub use owner::Owner;
+pub use piece::{Piece, chain};
+pub use state::State;
+pub use tally::Tally;
+
+#[cfg(test)]
+mod tests;

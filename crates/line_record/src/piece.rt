@@ -1,0 +1,138 @@
+ghost use Rattle.std.specs.Prelude.{◌≡◌, ◌↔◌, IsOk, IfErr, OnOk};
+ghost use Rattle.line_record.specs.Piece.{IsChain, BreaksAt, AreOneRun};
+
+use crate::entry::Entry;
+use crate::equality::{same_contracts, same_owner};
+use crate::owner::Owner;
+use crate::state::State;
+use arrayvec::ArrayVec;
+use leaky::Contract;
+use std::marker::Model;
+
+/// A journal that was handed out: the cells of one connection that were judged from one state of
+/// its line to another.
+#[derive(Debug, Drop)]
+pub struct Piece {
+    owner: Owner,
+    contracts: ArrayVec<Contract, 4>,
+    start: State,
+    entries: Vec<Entry>,
+    end: State,
+}
+
+impl Model for Piece {
+    ghost use Rattle.line_record.specs.Piece.{PieceView};
+    ghost use Rattle.line_record.specs.Run.{IsRun};
+
+    ghost Value = { PieceView };
+
+    ghost view = { λ p. record {
+      owner = p.owner;
+      contracts = p.contracts.items;
+      start = p.start;
+      entries = p.entries.items;
+      end = p.end;
+    } };
+
+    ghost invariant = { λ p. IsRun p.contracts.items p.start p.entries.items p.end };
+}
+
+impl Piece {
+    ghost use Rattle.std.specs.Prelude.{◌≡◌, ◌↔◌, IsTrue};
+    ghost use Rattle.line_record.specs.Run.{IsRun};
+    ghost use Rattle.line_record.specs.Piece.{IsPiece, GoesOnFrom};
+
+    // The piece of these parts.
+    pub(crate) fn new(
+        owner: Owner,
+        contracts: ArrayVec<Contract, 4>,
+        start: State,
+        entries: Vec<Entry>,
+        end: State,
+    ) -> Self
+        requires { IsRun contracts.items start entries.items end }
+        ensures { result ≡ record {
+          owner = owner;
+          contracts = contracts.items;
+          start = start;
+          entries = entries.items;
+          end = end;
+        } }
+    {
+        Piece {
+            owner,
+            contracts,
+            start,
+            entries,
+            end,
+        }
+    }
+
+    /// The connection that the cells came on.
+    pub fn owner(&self) -> Owner
+        ensures { result ≡ self.now.owner }
+    {
+        self.owner
+    }
+
+    /// The contracts that judged them.
+    pub fn contracts(&self) -> &[Contract]
+        ensures { result.now ≡ self.now.contracts }
+    {
+        self.contracts.as_slice()
+    }
+
+    /// The state before the first of them.
+    pub fn start(&self) -> &State
+        ensures { result.now ≡ self.now.start }
+    {
+        &self.start
+    }
+
+    /// The cells with their verdicts, in order: a run from the start to the end.
+    pub fn entries(&self) -> &[Entry]
+        ensures entries { result.now ≡ self.now.entries }
+        ensures run { IsPiece self.now }
+    {
+        self.entries.as_slice()
+    }
+
+    /// The state after the last of them.
+    pub fn end(&self) -> &State
+        ensures { result.now ≡ self.now.end }
+    {
+        &self.end
+    }
+
+    // Whether the piece goes on from the earlier one.
+    fn goes_on_from(&self, earlier: &Piece) -> bool
+        ensures { IsTrue result ↔ GoesOnFrom earlier.now self.now }
+    {
+        same_owner(self.owner, earlier.owner)
+            && same_contracts(self.contracts.as_slice(), earlier.contracts.as_slice())
+            && self.start.is_same(&earlier.end)
+    }
+}
+
+/// Whether the pieces are one whole record, in order: whether each has the owner and the contracts of
+/// the piece before it, and begins in the state in which that ends. All their entries are then one
+/// run. Of no piece and of one piece it is so. Takes no memory.
+///
+/// # Errors
+///
+/// The place, from 0, of the first piece that does not go on from the one before it.
+pub fn chain(pieces: &[Piece]) -> Result<(), usize>
+    ensures chain { IsOk result ↔ IsChain pieces.now }
+    ensures broken { IfErr result (λ place. BreaksAt pieces.now place) }
+    ensures run { OnOk result (AreOneRun pieces.now) }
+{
+    for place in 0..pieces.len() {
+        let piece = &pieces[place];
+        // Each piece is looked into, the first one too: its entries are a run.
+        let _ = &piece.entries;
+        if place > 0 && !piece.goes_on_from(&pieces[place - 1]) {
+            return Err(place);
+        }
+    }
+    Ok(())
+}

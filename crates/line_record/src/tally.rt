@@ -1,0 +1,76 @@
+use crate::line::MOST_CELLS;
+use leaky::Verdict;
+
+/// How many cells got each verdict.
+#[derive(Clone, Copy, Debug, Default, PartialEq, Eq)]
+pub struct Tally {
+    pub passed: u64,
+    pub tagged: u64,
+    pub discarded: u64,
+    pub refused: u64,
+}
+
+impl Tally {
+    ghost use Rattle.std.specs.Prelude.{◌≡◌, ◌+◌, ◌^◌, ◌<◌, ◌↔◌, IsTrue};
+    ghost use Rattle.line_record.specs.Tally.{nothing, counted, number_of, cells_in, HasRoom};
+
+    /// The tally of no cell.
+    #[inline]
+    pub fn new() -> Self
+        ensures { result ≡ nothing }
+    {
+        Tally {
+            passed: 0,
+            tagged: 0,
+            discarded: 0,
+            refused: 0,
+        }
+    }
+
+    /// How many cells got this verdict.
+    #[inline]
+    pub fn of(&self, verdict: Verdict) -> u64
+        ensures { result ≡ number_of self.now verdict }
+    {
+        match verdict {
+            Verdict::Pass => self.passed,
+            Verdict::Tag => self.tagged,
+            Verdict::Discard => self.discarded,
+            Verdict::Refuse => self.refused,
+        }
+    }
+
+    /// Counts one more cell of this verdict.
+    #[inline]
+    pub fn count(&mut self, verdict: Verdict)
+        requires { number_of self.old verdict + 1 < 2 ^ 64 }
+        ensures { self.new ≡ counted self.old verdict }
+    {
+        match verdict {
+            Verdict::Pass => self.passed += 1,
+            Verdict::Tag => self.tagged += 1,
+            Verdict::Discard => self.discarded += 1,
+            Verdict::Refuse => self.refused += 1,
+        }
+    }
+
+    /// How many cells there are in all.
+    #[inline]
+    pub fn cells(&self) -> u64
+        requires { cells_in self.now < 2 ^ 64 }
+        ensures { result ≡ cells_in self.now }
+    {
+        self.passed + self.tagged + self.discarded + self.refused
+    }
+
+    /// Whether each number is below 2^62, so that one more cell of any verdict can be counted.
+    #[inline]
+    pub fn has_room(&self) -> bool
+        ensures { IsTrue result ↔ HasRoom self.now }
+    {
+        self.passed < MOST_CELLS
+            && self.tagged < MOST_CELLS
+            && self.discarded < MOST_CELLS
+            && self.refused < MOST_CELLS
+    }
+}

@@ -1,0 +1,219 @@
+ghost use Rattle.std.specs.Prelude.{ℕ, ◌≡◌, ◌≤◌, IfOk, IsTrue};
+ghost use Rattle.line_record.specs.Line.{IsHeld};
+
+use super::*;
+use arrayvec::ArrayVec;
+use gen_arena::Id;
+use leaky::{Contract, Gcra, LAST_MOMENT, Verdict};
+use std::alloc::Global;
+use std::test::Fail;
+use upc_cell::Vc;
+
+fn program(slot: u16) -> Id {
+    Id {
+        slot,
+        generation: 1,
+    }
+}
+
+// A line that serves 1/100 under one contract: a cell in ten ticks, without tolerance.
+fn policed_line(alloc: Global, journal: u32) -> Result<Line, Fail>
+    requires some { 1 ≤ journal }
+    requires most { journal ≤ 65536 }
+    ensures { IfOk result (λ line. IsHeld line) }
+{
+    let owner = Owner {
+        vc: Vc::new(1, 100)?,
+        incarnation: 1,
+    };
+    let mut contracts = ArrayVec::new();
+    contracts.push(Contract::Cbr1(Gcra::new(10, 0)?));
+    let mut line = Line::new(alloc, journal)?;
+    match line.open(owner, contracts) {
+        Ok(()) => Ok(line),
+        Err((fault, _)) => Err(Fail::from(fault)),
+    }
+}
+
+// The verdict on a cell of cell loss priority 0.
+fn verdict(line: &mut Line, moment: u64, value: u32) -> Result<Verdict, LineFault>
+    requires { IsHeld line.old }
+    ensures { line.new.owner ≡ line.old.owner }
+{
+    let entry = line.judge(moment, false, value, program(0))?;
+    Ok(entry.verdict)
+}
+
+fn is_shared<T: Send + Sync>() {}
+
+// The same cells as one piece after another, and in the wrong order.
+#[test]
+fn a_cut_keeps_the_buckets_and_pieces_chain(rt: HostRuntime) -> Result<(), Fail> {
+    let mut line = policed_line(rt.alloc(), 2)?;
+    assert_eq!(rt; verdict(&mut line, 0, 1), Ok(Verdict::Pass));
+    assert_eq!(rt; verdict(&mut line, 5, 1), Ok(Verdict::Discard));
+    assert_eq!(rt; verdict(&mut line, 4, 1), Err(LineFault::Back(5)));
+    assert_eq!(rt; verdict(&mut line, 10, 1), Err(LineFault::Full));
+    assert_eq!(rt;
+        verdict(&mut line, LAST_MOMENT + 1, 1),
+        Err(LineFault::TooLate)
+    );
+    let first = line.cut()?;
+    assert_eq!(rt; first.entries().len(), 2);
+    assert_eq!(rt; line.entries().len(), 0);
+    assert_eq!(rt; verdict(&mut line, 9, 1), Ok(Verdict::Discard));
+    assert_eq!(rt; verdict(&mut line, 10, 1), Ok(Verdict::Pass));
+    let counts = Tally {
+        passed: 2,
+        tagged: 0,
+        discarded: 2,
+        refused: 0,
+    };
+    assert_eq!(rt; line.counts(), counts);
+    let second = line.close();
+    assert_eq!(rt; second.entries().len(), 2);
+    assert!(rt; line.is_free());
+    assert_eq!(rt; line.counts(), counts);
+    let (before, after) = (first.end(), second.start());
+    assert_eq!(rt; before.last, 5);
+    assert!(rt; before == after);
+    let mut pieces = [first, second];
+    assert_eq!(rt; chain(&pieces), Ok(()));
+    pieces.swap(0, 1);
+    assert_eq!(rt; chain(&pieces), Err(1));
+    assert_eq!(rt; chain(&[]), Ok(()));
+    Ok(())
+}
+
+// A value that names no contract leaves the buckets as they are, but later cells may not be earlier.
+#[test]
+fn a_refused_cell_charges_no_bucket(rt: HostRuntime) -> Result<(), Fail> {
+    let mut line = policed_line(rt.alloc(), 3)?;
+    assert_eq!(rt; verdict(&mut line, 3, 0), Ok(Verdict::Refuse));
+    assert_eq!(rt; verdict(&mut line, 7, 2), Ok(Verdict::Refuse));
+    assert_eq!(rt; verdict(&mut line, 6, 1), Err(LineFault::Back(7)));
+    assert_eq!(rt; line.last(), 7);
+    assert_eq!(rt; verdict(&mut line, 7, 1), Ok(Verdict::Pass));
+    assert_eq!(rt; line.counts().of(Verdict::Refuse), 2);
+    assert_eq!(rt; verdict(&mut line, 17, 1), Err(LineFault::Full));
+    Ok(())
+}
+
+#[test]
+fn a_line_serves_one_connection_after_another(rt: HostRuntime) -> Result<(), Fail> {
+    let mut line = Line::new(rt.alloc(), 4)?;
+    assert!(rt; line.is_free() && !line.is_ready() && line.owner().is_none());
+    line.prepare()?;
+    assert!(rt; line.is_ready());
+    for incarnation in 1..3 {
+        assert!(rt; line.is_free());
+        let owner = Owner {
+            vc: Vc::new(1, 100)?,
+            incarnation,
+        };
+        let mut contracts = ArrayVec::new();
+        contracts.push(Contract::Cbr1(Gcra::new(10, 0)?));
+        if let Err((fault, _)) = line.open(owner, contracts) {
+            return Err(Fail::from(fault));
+        }
+        assert!(rt; !line.is_ready() && line.owner() == Some(owner));
+        assert_eq!(rt; verdict(&mut line, 0, 1), Ok(Verdict::Pass));
+        assert_eq!(rt; line.counts().cells(), incarnation);
+        let piece = line.close();
+        assert_eq!(rt; piece.owner(), owner);
+        assert_eq!(rt; piece.contracts().len(), 1);
+        assert_eq!(rt; piece.end().last, 0);
+    }
+    Ok(())
+}
+
+#[test]
+fn a_directory_gives_incarnations_up_to_the_last(rt: HostRuntime) -> Result<(), Fail> {
+    let last = LAST_INCARNATION;
+    assert_eq!(rt;
+        Directory::new(rt.alloc(), 0, 0).err(),
+        Some(DirFault::NoLines)
+    );
+    assert_eq!(rt;
+        Directory::new(rt.alloc(), 1, 0).err(),
+        Some(DirFault::BadFirst)
+    );
+    assert_eq!(rt;
+        Directory::new(rt.alloc(), 1, last + 1).err(),
+        Some(DirFault::BadFirst)
+    );
+    let mut directory = Directory::new(rt.alloc(), 1, last)?;
+    let vc = Vc::new(1, 100)?;
+    assert!(rt; !directory.worn());
+    assert_eq!(rt; directory.put(vc, 0, program(0)), Ok(last));
+    assert!(rt; directory.worn());
+    assert_eq!(rt; directory.free_line(), None);
+    assert_eq!(rt; directory.take(vc).map(|seat| seat.incarnation), Some(last));
+    assert!(rt; directory.worn() && directory.free_line() == Some(0));
+    Ok(())
+}
+
+#[test]
+fn connections_are_found_moved_and_taken(rt: HostRuntime) -> Result<(), Fail> {
+    let mut directory = Directory::new(rt.alloc(), 2, 1)?;
+    let one = Vc::new(1, 100)?;
+    let other = Vc::new(1, 101)?;
+    assert_eq!(rt; directory.find(one), None);
+    assert_eq!(rt; directory.put(one, 1, program(0)), Ok(1));
+    assert_eq!(rt; directory.free_line(), Some(0));
+    assert_eq!(rt; directory.find(other), None);
+    assert_eq!(rt; directory.move_to(other, program(1)), None);
+    assert_eq!(rt; directory.move_to(one, program(1)), Some(program(0)));
+    assert!(rt; directory.names(program(1)) && !directory.names(program(0)));
+    let seat = Seating {
+        line: 1,
+        incarnation: 1,
+        program: program(1),
+    };
+    assert_eq!(rt; directory.find(one), Some(seat));
+    assert_eq!(rt; directory.take(one), Some(seat));
+    assert_eq!(rt; directory.take(one), None);
+    assert!(rt; !directory.names(program(1)));
+    Ok(())
+}
+
+#[test]
+fn lines_and_directories_cross_threads() {
+    is_shared::<Line>();
+    is_shared::<Piece>();
+    is_shared::<Directory>();
+}
+
+#[test]
+fn faults_are_printed_by_number_and_name(rt: HostRuntime) -> Result<(), Fail> {
+    let text = format!(in rt.alloc();
+        "{}, {}, {}",
+        LineFault::Back(5),
+        LineFault::Full,
+        DirFault::BadFirst
+    )?;
+    assert_eq!(rt; text.as_str(), "2 Back 5, 3 Full, 2 BadFirst");
+    Ok(())
+}
+
+// A policer of one connection.
+#[test]
+fn a_connection_is_policed(rt: HostRuntime) -> Result<(), Fail> {
+    let vc = Vc::new(1, 100)?;
+    let mut contracts = ArrayVec::new();
+    contracts.push(Contract::Cbr1(Gcra::new(10, 5)?));
+    let mut line = Line::new(rt.alloc(), 16)?;
+    if let Err((fault, _)) = line.open(Owner { vc, incarnation: 1 }, contracts) {
+        return Err(Fail::from(fault));
+    }
+    for moment in [0, 6, 14, 15] {
+        line.judge(moment, false, 1, program(0))?;
+    }
+    assert_eq!(rt; line.counts().of(Verdict::Pass), 3);
+    let piece = line.close();
+    assert_eq!(rt;
+        piece.entries().get(2).map(|entry| entry.verdict),
+        Some(Verdict::Discard)
+    );
+    Ok(())
+}
