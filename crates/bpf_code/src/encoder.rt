@@ -1,4 +1,5 @@
 ghost use Rattle.std.specs.Prelude.{◌≡◌, ◌≤◌, ◌+◌, ℕ, unwrap_or, IfOk};
+ghost use Rattle.bpf_code.specs.Encoding.{octets_of, code_octets};
 ghost use Rattle.bpf_code.specs.Spelling.{Spells, SpellsPlainly, UnusedAreZero};
 ghost use Rattle.bpf_code.specs.Table.{code_of, jt_of, jf_of, k_of};
 
@@ -143,6 +144,7 @@ impl Fields {
 pub fn encode_one(instr: Instr) -> [u8; 8]
     ensures spells { Spells result instr }
     ensures unused { UnusedAreZero result instr }
+    ensures octets { result ≡ octets_of instr }
 {
     let Fields { code, jt, jf, k } = Fields::of(instr);
     let mut octets = [0, 0, jt, jf, 0, 0, 0, 0];
@@ -166,7 +168,8 @@ pub enum EncodeFault {
 ///
 /// `NoMemory` where memory was refused.
 pub fn encode(alloc: Global, code: &[Instr]) -> Result<Vec<u8>, EncodeFault>
-    ensures { IfOk result (λ octets. SpellsPlainly octets.items code.now) }
+    ensures spells { IfOk result (λ octets. SpellsPlainly octets.items code.now) }
+    ensures octets { IfOk result (λ octets. octets.items ≡ code_octets code.now) }
 {
     let mut octets = Vec::with_capacity(alloc, 8 * code.len()).map_err(|_| EncodeFault::NoMemory)?;
     for instr in code {
