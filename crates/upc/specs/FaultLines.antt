@@ -1,5 +1,8 @@
 -- The fault lines: where the fault was found, its number and its name, and what it says of the place.
 use Rattle.std.specs.Prelude.{ℕ, List, [], ◌++◌, codes, decimal}
+use Rattle.bpf_asm.specs.declared.fault.AsmFault.{AsmFault}
+use Rattle.bpf_asm.specs.declared.fault.AsmKind.{AsmKind}
+use Rattle.bpf_asm.specs.declared.fault.AsmKind.TheVariants as asm
 use Rattle.bpf_code.specs.declared.decoder.DecodeFault.{DecodeFault}
 use Rattle.bpf_code.specs.declared.decoder.DecodeFault.TheVariants.{Ragged, UnknownCode, NoMemory}
 use Rattle.bpf_verify.specs.declared.fault.Fault.{Fault}
@@ -39,3 +42,19 @@ verify_fault (fault.BadShift at) = line (codes "fault verify 5 BadShift " ++ dec
 verify_fault (fault.JumpOutside at) = line (codes "fault verify 6 JumpOutside " ++ decimal at)
 verify_fault fault.NoReturn = codes "fault verify 7 NoReturn\n"
 verify_fault (fault.Unwritten at word) = line (codes "fault verify 8 Unwritten " ++ decimal at ++ codes " " ++ decimal word)
+
+-- The number and the name of what is wrong with a line of a source. Want of memory is no fault of a
+-- source, and is never printed.
+abbrev pub asm_name : AsmKind → List ℕ
+asm_name asm.BadLine = codes "1 BadLine"
+asm_name asm.BadNumber = codes "2 BadNumber"
+asm_name asm.LabelTwice = codes "3 LabelTwice"
+asm_name asm.UnknownLabel = codes "4 UnknownLabel"
+asm_name asm.Backward = codes "5 Backward"
+asm_name asm.TooFar = codes "6 TooFar"
+asm_name asm.DanglingLabel = codes "7 DanglingLabel"
+asm_name asm.NoMemory = codes "8 NoMemory"
+
+-- Why a source means no code, and at which of its lines, which count from 1.
+abbrev pub asm_fault : AsmFault → List ℕ
+asm_fault fault = line (codes "fault asm " ++ asm_name fault.kind ++ codes " " ++ decimal fault.line)

@@ -9,6 +9,8 @@ pub mod Outcome
 pub mod Hexadecimal
 pub mod FaultLines
 pub mod Eval
+pub mod Gathered
+pub mod Check
 pub mod CellWord
 pub mod Choice
 pub mod Said

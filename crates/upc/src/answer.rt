@@ -1,11 +1,14 @@
 //! The answer lines of the subcommands, each added at the end of the answers.
 ghost use Rattle.std.specs.Prelude.{◌≡◌, ◌≢◌, ◌<◌, ◌++◌, ◌^◌, codes, decimal, length, OnOk};
-ghost use Rattle.upc.specs.FaultLines.{line, wrong_length, decode_fault, verify_fault};
+ghost use Rattle.hex.specs.Hex.{encode_lower};
+ghost use Rattle.upc.specs.FaultLines.{asm_fault, asm_name, line, wrong_length, decode_fault, verify_fault};
 ghost use Rattle.upc.specs.Hexadecimal.{four_digits};
+ghost use Rattle.upc.specs.Printing.{too_long};
 
+use bpf_asm::{AsmFault, AsmKind};
 use bpf_code::DecodeFault;
 use bpf_verify::Fault;
-use std::alloc::AllocError;
+use std::alloc::{AllocError, Global};
 
 /// Adds a number in decimal digits.
 fn add_number(answers: &mut Vec<u8>, number: usize) -> Result<(), AllocError>
@@ -40,6 +43,24 @@ pub fn add_accepted(answers: &mut Vec<u8>, instructions: usize) -> Result<(), Al
         (answers.new.items ≡ answers.old.items ++ line (codes "accepted " ++ decimal instructions)) }
 {
     add_numbered(answers, b"accepted ", instructions)
+}
+
+/// Adds a line of octets, in lower case hexadecimal digits.
+#[tactic(auto, using(std::proofs::lemmas::List::append_assoc))]
+pub fn add_octets(alloc: Global, answers: &mut Vec<u8>, octets: &[u8]) -> Result<(), AllocError>
+    ensures { OnOk result (answers.new.items ≡ answers.old.items ++ line (encode_lower octets.now)) }
+{
+    let digits = hex::encode(alloc, octets)?;
+    answers.extend_from_slice(digits.as_bytes())?;
+    answers.push(b'\n')?;
+    Ok(())
+}
+
+/// Adds the answer to an input or a line over the limits.
+pub fn add_too_long(answers: &mut Vec<u8>) -> Result<(), AllocError>
+    ensures { OnOk result (answers.new.items ≡ answers.old.items ++ too_long) }
+{
+    add_text(answers, b"fault script 5 TooLong\n")
 }
 
 /// Adds the value that a program gave, and the number of instructions that it began.
@@ -122,4 +143,33 @@ pub fn add_verify_fault(answers: &mut Vec<u8>, fault: Fault) -> Result<(), Alloc
         Fault::NoReturn => add_text(answers, b"fault verify 7 NoReturn\n"),
         Fault::Unwritten { at, word } => add_unwritten(answers, at, word),
     }
+}
+
+/// The number and the name of what is wrong with a line of a source.
+fn name_of(kind: AsmKind) -> &'static [u8]
+    ensures { result.now ≡ asm_name kind }
+{
+    match kind {
+        AsmKind::BadLine => b"1 BadLine",
+        AsmKind::BadNumber => b"2 BadNumber",
+        AsmKind::LabelTwice => b"3 LabelTwice",
+        AsmKind::UnknownLabel => b"4 UnknownLabel",
+        AsmKind::Backward => b"5 Backward",
+        AsmKind::TooFar => b"6 TooFar",
+        AsmKind::DanglingLabel => b"7 DanglingLabel",
+        AsmKind::NoMemory => b"8 NoMemory",
+    }
+}
+
+/// Adds the answer to a source that means no code.
+#[tactic(auto, using(std::proofs::lemmas::List::append_assoc))]
+pub fn add_asm_fault(answers: &mut Vec<u8>, fault: AsmFault) -> Result<(), AllocError>
+    ensures { OnOk result (answers.new.items ≡ answers.old.items ++ asm_fault fault) }
+{
+    answers.extend_from_slice(b"fault asm ")?;
+    answers.extend_from_slice(name_of(fault.kind))?;
+    answers.push(b' ')?;
+    add_number(answers, fault.line)?;
+    answers.push(b'\n')?;
+    Ok(())
 }

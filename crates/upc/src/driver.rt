@@ -8,8 +8,9 @@ ghost use Rattle.upc.specs.Progress.{Passes};
 ghost use Rattle.upc.specs.Outcome.{read_failures, write_failures};
 ghost use Rattle.upc.specs.declared.outcome.Done.{Done as TheDone};
 
+use crate::answer::add_too_long;
 use crate::device::{Failed, Input, Output};
-use crate::giving::give_answers;
+use crate::giving::{give_answers, give_last};
 use crate::line::before_return;
 use crate::machine::{Machine, Turn};
 use crate::outcome::{Done, RunFault};
@@ -25,22 +26,11 @@ const MOST_OCTETS: usize = 70000;
 /// So many octets of answers are given at once, without waiting for more.
 const ENOUGH: usize = 65536;
 
-/// The answer to a line over the limits.
-const TOO_LONG: &[u8; 23] = b"fault script 5 TooLong\n";
-
 /// Whether a line of this length, with so many lines before it, is over the limits.
 fn is_over_limits(met: u32, octets: usize) -> bool
     ensures { result ≡ (nat_le most_lines met || nat_lt most_octets octets) }
 {
     met >= MOST_LINES || octets > MOST_OCTETS
-}
-
-/// Adds the answer to a line over the limits.
-fn answer_too_long(answers: &mut Vec<u8>) -> Result<(), AllocError>
-    ensures { OnOk result (answers.new.items ≡ answers.old.items ++ too_long) }
-{
-    answers.extend_from_slice(TOO_LONG)?;
-    Ok(())
 }
 
 /// Answers a line that a line feed ended.
@@ -57,7 +47,7 @@ fn answer_line<M: Machine>(
     ensures within { IfOk result (λ turn. turn ≡ Turn.GoesOn → (met < most_lines) × (length octets.now ≤ most_octets)) }
 {
     if is_over_limits(met, octets.len()) {
-        answer_too_long(answers)?;
+        add_too_long(answers)?;
         return Ok(Turn::Ends);
     }
     machine.answer(before_return(octets), answers)
@@ -80,7 +70,7 @@ fn answer_end<M: Machine>(
         return machine.close(answers);
     }
     if is_over_limits(met, octets.len()) {
-        answer_too_long(answers)?;
+        add_too_long(answers)?;
         return Ok(Done::Ended);
     }
     match machine.answer(octets, answers)? {
@@ -119,22 +109,6 @@ fn refill<I: Input, O: Output>(
     }
 }
 
-/// Gives the last answers of a run.
-fn give_last<O: Output>(output: &mut O, answers: &mut Vec<u8>, done: Done) -> Result<Done, RunFault>
-    ensures done { IfOk result (λ value. value ≡ done) }
-    ensures given { O.is_known → OnOk result
-        (O.held output.new ≡ O.held output.old ++ answers.old.items) }
-    ensures front { O.is_known → OnErr result
-        (IsPart (O.held output.old) (O.held output.new) answers.old.items) }
-    ensures fault { OnErr result (result ≡ Err RunFault.WriteFailed) }
-    ensures writing { O.failures output.new ≡ write_failures result (O.failures output.old) }
-{
-    match give_answers(output, answers) {
-        Ok(()) => Ok(done),
-        Err(_) => Err(RunFault::WriteFailed),
-    }
-}
-
 /// Gives what is answered, where that is enough for a call of the output.
 fn give_if_enough<O: Output>(output: &mut O, answers: &mut Vec<u8>) -> Result<(), Failed>
     ensures moved { O.is_known → OnOk result
@@ -160,7 +134,7 @@ fn end_too_long<O: Output>(output: &mut O, answers: &mut Vec<u8>) -> Result<Done
     ensures fault { result ≢ Err RunFault.ReadFailed }
     ensures writing { O.failures output.new ≡ write_failures result (O.failures output.old) }
 {
-    match answer_too_long(answers) {
+    match add_too_long(answers) {
         Err(_) => Err(RunFault::NoMemory),
         Ok(()) => give_last(output, answers, Done::Ended),
     }

@@ -1,8 +1,10 @@
 //! Gathered answers on their way to an output.
-ghost use Rattle.std.specs.Prelude.{◌≡◌, ◌++◌, List, ℕ, [], take, OnOk, OnErr};
+ghost use Rattle.std.specs.Prelude.{◌≡◌, ◌++◌, List, ℕ, [], take, Err, IfOk, OnOk, OnErr};
 ghost use Rattle.upc.specs.Device.{one_more, IsPart};
+ghost use Rattle.upc.specs.Outcome.{write_failures};
 
 use crate::device::{Failed, Output};
+use crate::outcome::{Done, RunFault};
 
 /// Gives all of the octets, in as many calls as the output wants.
 ///
@@ -37,4 +39,24 @@ pub fn give_answers<O: Output>(output: &mut O, answers: &mut Vec<u8>) -> Result<
     give_all(output, answers)?;
     answers.clear();
     Ok(())
+}
+
+/// Gives the last answers of a run that ends so.
+///
+/// # Errors
+///
+/// `WriteFailed` at the first call that failed; octets from the front were given before it.
+pub fn give_last<O: Output>(output: &mut O, answers: &mut Vec<u8>, done: Done) -> Result<Done, RunFault>
+    ensures done { IfOk result (λ value. value ≡ done) }
+    ensures given { O.is_known → OnOk result
+        (O.held output.new ≡ O.held output.old ++ answers.old.items) }
+    ensures front { O.is_known → OnErr result
+        (IsPart (O.held output.old) (O.held output.new) answers.old.items) }
+    ensures fault { OnErr result (result ≡ Err RunFault.WriteFailed) }
+    ensures writing { O.failures output.new ≡ write_failures result (O.failures output.old) }
+{
+    match give_answers(output, answers) {
+        Ok(()) => Ok(done),
+        Err(_) => Err(RunFault::WriteFailed),
+    }
 }

@@ -3,11 +3,13 @@
 #![tactic(auto)]
 
 mod answer;
+mod check;
 mod choose;
 mod device;
 mod driver;
 mod eval;
 mod exit;
+mod gathering;
 mod giving;
 mod hexadecimal;
 mod laws;
@@ -15,6 +17,7 @@ mod line;
 mod machine;
 mod outcome;
 mod stream;
+mod taking;
 #[cfg(test)]
 mod tests;
 mod window;

@@ -5,6 +5,7 @@ ghost use Rattle.upc.specs.Window.{window_room};
 
 use crate::device::{Failed, Input};
 use crate::line::first_feed;
+use crate::taking::take_behind;
 use std::alloc::{AllocError, Global};
 use std::marker::Model;
 use std::mem;
@@ -136,20 +137,4 @@ fn put_in_front(room: &mut [u8], octets: &[u8])
     ensures { room.new ≡ octets.now ++ drop (length octets.now) room.old }
 {
     room[..octets.len()].copy_from_slice(octets);
-}
-
-/// Takes octets from the input into the buffer behind its first ones.
-fn take_behind<I: Input>(input: &mut I, buffer: &mut [u8], end: usize) -> Result<usize, Failed>
-    requires { end < length buffer.old }
-    ensures within { IfOk result (λ count. end + count ≤ length buffer.new) }
-    ensures octets { I.is_known → IfOk result (λ count.
-        take end buffer.old ++ I.rest input.old ≡ take (end + count) buffer.new ++ I.rest input.new) }
-    ensures front { take end buffer.new ≡ take end buffer.old }
-    ensures end { I.is_known → result ≡ Ok 0 → I.rest input.new ≡ [] }
-    ensures kept { I.is_known → OnErr result (I.rest input.new ≡ I.rest input.old) }
-    ensures calm { OnOk result (I.failures input.new ≡ I.failures input.old) }
-    ensures failed { OnErr result (I.failures input.new ≡ one_more (I.failures input.old)) }
-{
-    let count = input.take(&mut buffer[end..])?;
-    Ok(count)
 }

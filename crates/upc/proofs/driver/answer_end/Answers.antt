@@ -11,7 +11,7 @@ returns-then-is_over_limits g c =
     let some : 0 < length c.args.octets.now = grind (arith, common_steps) in
     let m = g.M.Machine in (
       too_long,
-      c.in_ok-answer_too_long.ensures,
+      c.in_ok-add_too_long.ensures,
       end-over m.steps m.closes c.args.met (m.world c.args.machine.now) c.args.octets.now some c.requires.no_feed (sym c.is_over_limits.ensures ∙ c.if-is_over_limits.true),
     )
 

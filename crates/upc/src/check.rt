@@ -1,0 +1,110 @@
+//! `upc check`: a source of assembly, and the octets of its program.
+ghost use Rattle.std.specs.Prelude.{IfOk, OnErr, option_map, ◌≡◌};
+ghost use Rattle.upc.specs.Check.{IsCheckText, Tells, TellsCode, TellsSource};
+ghost use Rattle.upc.specs.Device.{Adds};
+ghost use Rattle.upc.specs.Outcome.{read_failures, write_failures};
+ghost use Rattle.upc.specs.Printing.{IsFront};
+
+use crate::answer::{
+    add_accepted, add_asm_fault, add_octets, add_too_long, add_verify_fault,
+};
+use crate::device::{Input, Output};
+use crate::gathering::gather;
+use crate::giving::give_last;
+use crate::outcome::{Done, RunFault};
+use bpf_asm::{AsmFault, AsmKind, assemble};
+use bpf_code::{EncodeFault, Instr, encode};
+use bpf_verify::verify;
+use std::alloc::{AllocError, Global};
+
+/// Answers a code by its octets, or by the fault for which it is no program.
+fn answer_code(
+    alloc: Global,
+    code: Vec<Instr>,
+    answers: &mut Vec<u8>,
+) -> Result<Done, AllocError>
+    ensures { IfOk result (λ done.
+        Adds (λ text. TellsCode code.items text done) answers.old.items answers.new.items) }
+{
+    match verify(code) {
+        Ok(program) => {
+            let octets = encode(alloc, program.code()).map_err(|_| AllocError)?;
+            add_accepted(answers, program.code().len())?;
+            add_octets(alloc, answers, &octets)?;
+            Ok(Done::Whole)
+        }
+        Err(refused) => {
+            add_verify_fault(answers, refused.fault)?;
+            Ok(Done::Ended)
+        }
+    }
+}
+
+/// Answers a source by its code, or by the fault for which it means none.
+fn answer_source(
+    alloc: Global,
+    source: &[u8],
+    answers: &mut Vec<u8>,
+) -> Result<Done, AllocError>
+    ensures { IfOk result (λ done.
+        Adds (λ text. TellsSource source.now text done) answers.old.items answers.new.items) }
+{
+    match assemble(alloc, source) {
+        Ok(code) => answer_code(alloc, code, answers),
+        Err(AsmFault {
+            kind: AsmKind::NoMemory,
+            ..
+        }) => Err(AllocError),
+        Err(fault) => {
+            add_asm_fault(answers, fault)?;
+            Ok(Done::Ended)
+        }
+    }
+}
+
+/// Answers what was gathered of an input.
+fn answer_gathered(
+    alloc: Global,
+    found: Option<Vec<u8>>,
+    answers: &mut Vec<u8>,
+) -> Result<Done, AllocError>
+    ensures { IfOk result (λ done. Adds (λ text. Tells (option_map (λ source. source.items) found) text done)
+        answers.old.items answers.new.items) }
+{
+    match found {
+        Some(source) => answer_source(alloc, &source, answers),
+        None => {
+            add_too_long(answers)?;
+            Ok(Done::Ended)
+        }
+    }
+}
+
+/// Answers an input that is a source of assembly: by the number of its program's instructions and
+/// their octets in lower case hexadecimal digits, or by its one fault.
+///
+/// # Errors
+///
+/// `ReadFailed` and `WriteFailed` where that device failed, once; `NoMemory` where memory was refused.
+/// What was written is then a beginning of the text.
+pub fn check_source<I: Input, O: Output>(
+    alloc: Global,
+    input: &mut I,
+    output: &mut O,
+) -> Result<Done, RunFault>
+    // What was written is the text of the whole input, or a beginning of it.
+    ensures text { I.is_known → O.is_known → IfOk result (λ done.
+        Adds (λ text. IsCheckText (I.rest input.old) text done) (O.held output.old) (O.held output.new)) }
+    ensures front { I.is_known → O.is_known → OnErr result
+        (Adds (IsFront (IsCheckText (I.rest input.old))) (O.held output.old) (O.held output.new)) }
+
+    ensures reading { I.failures input.new ≡ read_failures result (I.failures input.old) }
+    ensures writing { O.failures output.new ≡ write_failures result (O.failures output.old) }
+{
+    let found = gather(alloc, input)?;
+    let mut answers = Vec::new(alloc);
+    match answer_gathered(alloc, found, &mut answers) {
+        Err(_) => Err(RunFault::NoMemory),
+        Ok(done) => give_last(output, &mut answers, done),
+    }
+}
