@@ -31,3 +31,4 @@ pub mod LinesOrFault
 pub mod DanglingOrNone
 pub mod OffsetOrFault
 pub mod CodeOrFault
+pub mod Refusals
