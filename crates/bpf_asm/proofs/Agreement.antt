@@ -13,10 +13,12 @@ use Rattle.bpf_asm.specs.Spelling.{Statement}
 use Rattle.bpf_asm.specs.declared.reader.Said.{Said}
 use Rattle.bpf_asm.specs.Wholes.{AgreesWith, IsReadTo, IsTwice}
 
-some_line : (one other : Line) → Some one ≡ Some other → one ≡ other
+-- a line that is there is one
+pub some_line : (one other : Line) → Some one ≡ Some other → one ≡ other
 some_line one other e = cc
 
-some_name : (one other : List ℕ) → Some one ≡ Some other → one ≡ other
+-- so is a name
+pub some_name : (one other : List ℕ) → Some one ≡ Some other → one ≡ other
 some_name one other e = cc
 
 some_place : (one other : ℕ) → Some one ≡ Some other → one ≡ other
@@ -25,7 +27,8 @@ some_place one other e = cc
 some_none : (place : ℕ) → Some place ≡ None → ⊥
 some_none place e = cc
 
-no_name : (name : List ℕ) → Some name ≡ None → ⊥
+-- a name that is there is not none
+pub no_name : (name : List ℕ) → Some name ≡ None → ⊥
 no_name name e = cc
 
 -- the statements of lines and more lines
@@ -73,10 +76,12 @@ pub count_more : (lines : List Line) (line : Line) → length (statements_of (li
 count_more lines line =
     ap length (statements_of-append lines (line ∷ [])) ∙ length-append (statements_of lines) (statements_of (line ∷ [])) ∙ ap (λ (n : ℕ). length (statements_of lines) + n) (statements_one line line.statement refl)
 
-no_last : (lines : List Line) (line : Line) (at : ℕ) (name : List ℕ) → line.label ≡ None → HasLabel (lines ++ line ∷ []) at name → HasLabel lines at name
+-- a label of the whole is one of the front, where the last line has none
+pub no_last : (lines : List Line) (line : Line) (at : ℕ) (name : List ℕ) → line.label ≡ None → HasLabel (lines ++ line ∷ []) at name → HasLabel lines at name
 no_last lines line at name n h = elim (label_split lines line at name h) [ inl f ↦ f | inr l ↦ absurd (no_name name (sym l.1 ∙ n)) ]
 
-both_once : (lines : List Line) (line : Line) (label : List ℕ) (one other : ℕ) (name : List ℕ) → line.label ≡ Some label → ((at : ℕ) → ¬ HasLabel lines at label) → EachLabelOnce lines → HasLabel lines one name ⊎ ((one ≡ length lines) × (line.label ≡ Some name)) → HasLabel lines other name ⊎ ((other ≡ length lines) × (line.label ≡ Some name)) → one ≡ other
+-- a label stands once, where the last line's is new
+pub both_once : (lines : List Line) (line : Line) (label : List ℕ) (one other : ℕ) (name : List ℕ) → line.label ≡ Some label → ((at : ℕ) → ¬ HasLabel lines at label) → EachLabelOnce lines → HasLabel lines one name ⊎ ((one ≡ length lines) × (line.label ≡ Some name)) → HasLabel lines other name ⊎ ((other ≡ length lines) × (line.label ≡ Some name)) → one ≡ other
 both_once lines line label one other name is new once (inl f) (inl g) = once one other name f g
 both_once lines line label one other name is new once (inl f) (inr g) = let same : name ≡ label = some_name _ _ (sym g.1 ∙ is) in absurd (new one (rw same at f))
 both_once lines line label one other name is new once (inr f) (inl g) = let same : name ≡ label = some_name _ _ (sym f.1 ∙ is) in absurd (new other (rw same at g))

@@ -25,3 +25,10 @@ pub mod Apart
 pub mod OctetTests
 pub mod Decimals
 pub mod ListingSteps
+pub mod LineOrFault
+pub mod LabelOrUnknown
+pub mod LinesOrFault
+pub mod DanglingOrNone
+pub mod OffsetOrFault
+pub mod CodeOrFault
+pub mod Refusals

@@ -60,7 +60,7 @@ mean_length lines place (s ∷ ss) [] m = absurd m
 mean_length lines place (s ∷ ss) (i ∷ code) m = ap suc (mean_length lines (place + 1) ss code m.1)
 
 -- one statement more
-mean_more : (lines : List Line) (place : ℕ) (ss : List Statement) (code : List Instr) (s : Statement) (i : Instr) → MeanFrom lines place ss code → Means lines (place + length ss) s i → MeanFrom lines place (ss ++ s ∷ []) (code ++ i ∷ [])
+pub mean_more : (lines : List Line) (place : ℕ) (ss : List Statement) (code : List Instr) (s : Statement) (i : Instr) → MeanFrom lines place ss code → Means lines (place + length ss) s i → MeanFrom lines place (ss ++ s ∷ []) (code ++ i ∷ [])
 mean_more lines place [] [] s i m here = let z : place + 0 ≡ place = omega arith in (subst (λ (p : ℕ). Means lines p s i) z here, refl)
 mean_more lines place [] (j ∷ code) s i m here = cc
 mean_more lines place (t ∷ ss) [] s i m here = absurd m

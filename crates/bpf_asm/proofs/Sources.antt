@@ -37,7 +37,8 @@ line_fault TooFar lines octets f = f lines
 line_fault DanglingLabel lines octets f = f lines
 line_fault NoMemory lines octets f = tt
 
-first_by : (source left : List (List ℕ)) (octets : List ℕ) (lines : List Line) (count : ℕ) (kind : AsmKind) (fault : AsmFault) → IsReadTo source (octets ∷ left) lines count → EachLabelOnce lines → IsLineFault lines octets kind → (fault.line ≡ count + 1) × (fault.kind ≡ kind) → IsFirstLineFault source fault
+-- a line's own fault, behind lines that have none
+pub first_by : (source left : List (List ℕ)) (octets : List ℕ) (lines : List Line) (count : ℕ) (kind : AsmKind) (fault : AsmFault) → IsReadTo source (octets ∷ left) lines count → EachLabelOnce lines → IsLineFault lines octets kind → (fault.line ≡ count + 1) × (fault.kind ≡ kind) → IsFirstLineFault source fault
 first_by source left octets lines count kind fault r once f at = record {
   before = r.done;
   here = octets;

@@ -1,6 +1,6 @@
 //! A source, read whole.
 
-ghost use Rattle.std.specs.Prelude.{◌≡◌, ◌⊎◌, IfErr, IfOk};
+ghost use Rattle.std.specs.Prelude.{◌≡◌, ◌⊎◌, List, IfErr, IfOk, IsErr};
 ghost use Rattle.bpf_asm.specs.Faults.{IsFault, IsFirstLineFault, IsOutOfMemory};
 ghost use Rattle.bpf_asm.specs.Grammar.{AreLines};
 ghost use Rattle.bpf_asm.specs.Lines.{lines_of};
@@ -120,6 +120,8 @@ pub(crate) fn read_source(alloc: Global, source: &[u8]) -> Result<Whole<'_>, Asm
 pub fn assemble(alloc: Global, source: &[u8]) -> Result<Vec<Instr>, AsmFault>
     ensures code { IfOk result (λ code. IsMeaning source.now code.items) }
     ensures fault { IfErr result (λ fault. IsFault source.now fault ⊎ IsOutOfMemory fault) }
+    ensures means { (code : List Instr) → IsMeaning source.now code → IfErr result IsOutOfMemory }
+    ensures faulty { (fault : AsmFault) → IsFault source.now fault → IsErr result }
 {
     let whole = read_source(alloc, source)?;
     if let Some(at) = first_dangling(&whole.lines) {

@@ -1,6 +1,6 @@
 //! Laws of the definitions: functions that do nothing, each for the sake of its contract.
 
-ghost use Rattle.std.specs.Prelude.{◌≡◌, ◌↔◌, ℕ, List, Some};
+ghost use Rattle.std.specs.Prelude.{◌≡◌, ◌↔◌, ◌⊎◌, ℕ, List, Some};
 ghost use Rattle.bpf_asm.specs.Faults.{IsFault};
 ghost use Rattle.bpf_asm.specs.Grammar.{IsOneOf};
 ghost use Rattle.bpf_asm.specs.Meaning.{IsMeaning};
@@ -26,6 +26,11 @@ pub fn a_source_has_no_code_beside_a_fault()
 pub fn a_source_has_one_fault()
     ensures { (source : List ℕ) (one other : AsmFault) →
         IsFault source one → IsFault source other → one ≡ other }
+{}
+
+/// A source means a code or has a fault.
+pub fn a_source_has_a_code_or_a_fault()
+    ensures { (source : List ℕ) → ((code : List Instr) × IsMeaning source code) ⊎ ((fault : AsmFault) × IsFault source fault) }
 {}
 
 /// Tokens are one of the spellings of a statement exactly where they are read as it, so no tokens

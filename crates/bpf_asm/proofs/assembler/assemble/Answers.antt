@@ -1,4 +1,4 @@
-use Rattle.std.proofs.Common.{◌⊎◌, Some, None, inl}
+use Rattle.std.proofs.Common.{rules, ◌⊎◌, Some, None, inl}
 use Rattle.bpf_asm.specs.Faults.{IsFault, IsFirstOperandFault, IsOutOfMemory}
 use Rattle.bpf_asm.specs.Labels.{statements_of}
 use Rattle.bpf_asm.specs.Meaning.{IsMeaning, MeanFrom}
@@ -6,6 +6,7 @@ use Rattle.bpf_asm.specs.Wholes.{says}
 use Rattle.bpf_asm.specs.declared.fault.AsmFault.{AsmFault}
 use Rattle.bpf_asm.proofs.Agreement.{if_ok}
 use Rattle.bpf_asm.proofs.Assembled.{dangling_source, if_err, means_source, operand_source, pending_in}
+use Rattle.bpf_asm.proofs.Refusals.{memory_alone, never_accepted, refused_alone}
 use Rattle.bpf_asm.proofs.assembler.assemble.Goals as goal
 
 pub returns-in-Some-clause-fault : goal.returns-in-Some-clause-fault
@@ -29,3 +30,15 @@ returns-clause-fault c =
     if_err c.resolve_all.result (λ (fault : AsmFault). IsFirstOperandFault (says whole) fault ⊎ IsOutOfMemory fault) (λ (fault : AsmFault). IsFault c.args.source.now fault ⊎ IsOutOfMemory fault)
     (λ fault f. operand_source c.args.source.now (says whole) fault c.in_ok-whole.ensures.said c.in_ok-whole.ensures.agree.once none f)
     c.resolve_all.ensures.fault
+
+pub returns-in_err-whole-clause-means : goal.returns-in_err-whole-clause-means
+returns-in_err-whole-clause-means c = refused_alone c.from_residual.result c.args.source.now (search rules)
+
+pub returns-in-Some-clause-means : goal.returns-in-Some-clause-means
+returns-in-Some-clause-means c = memory_alone c.args.source.now c.fault_at.result (returns-in-Some-clause-fault c)
+
+pub returns-clause-means : goal.returns-clause-means
+returns-clause-means c = refused_alone c.resolve_all.result c.args.source.now (returns-clause-fault c)
+
+pub returns-clause-faulty : goal.returns-clause-faulty
+returns-clause-faulty c = never_accepted c.resolve_all.result (λ code. code.items) c.args.source.now (returns-clause-code c)
