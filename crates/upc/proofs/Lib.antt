@@ -8,3 +8,4 @@ pub mod HexadecimalLemmas
 pub mod Choosing
 pub mod PlainWords
 pub mod OneText
+pub mod CheckText

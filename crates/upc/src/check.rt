@@ -5,9 +5,7 @@ ghost use Rattle.upc.specs.Device.{Adds};
 ghost use Rattle.upc.specs.Outcome.{read_failures, write_failures};
 ghost use Rattle.upc.specs.Printing.{IsFront};
 
-use crate::answer::{
-    add_accepted, add_asm_fault, add_octets, add_too_long, add_verify_fault,
-};
+use crate::answer::{add_accepted, add_asm_fault, add_octets, add_too_long, add_verify_fault};
 use crate::device::{Input, Output};
 use crate::gathering::gather;
 use crate::giving::give_last;
@@ -18,11 +16,7 @@ use bpf_verify::verify;
 use std::alloc::{AllocError, Global};
 
 /// Answers a code by its octets, or by the fault for which it is no program.
-fn answer_code(
-    alloc: Global,
-    code: Vec<Instr>,
-    answers: &mut Vec<u8>,
-) -> Result<Done, AllocError>
+fn answer_code(alloc: Global, code: Vec<Instr>, answers: &mut Vec<u8>) -> Result<Done, AllocError>
     ensures { IfOk result (λ done.
         Adds (λ text. TellsCode code.items text done) answers.old.items answers.new.items) }
 {
@@ -41,20 +35,18 @@ fn answer_code(
 }
 
 /// Answers a source by its code, or by the fault for which it means none.
-fn answer_source(
-    alloc: Global,
-    source: &[u8],
-    answers: &mut Vec<u8>,
-) -> Result<Done, AllocError>
+fn answer_source(alloc: Global, source: &[u8], answers: &mut Vec<u8>) -> Result<Done, AllocError>
     ensures { IfOk result (λ done.
         Adds (λ text. TellsSource source.now text done) answers.old.items answers.new.items) }
 {
     match assemble(alloc, source) {
         Ok(code) => answer_code(alloc, code, answers),
-        Err(AsmFault {
-            kind: AsmKind::NoMemory,
-            ..
-        }) => Err(AllocError),
+        Err(
+            AsmFault {
+                kind: AsmKind::NoMemory,
+                ..
+            },
+        ) => Err(AllocError),
         Err(fault) => {
             add_asm_fault(answers, fault)?;
             Ok(Done::Ended)
@@ -101,7 +93,10 @@ pub fn check_source<I: Input, O: Output>(
     ensures reading { I.failures input.new ≡ read_failures result (I.failures input.old) }
     ensures writing { O.failures output.new ≡ write_failures result (O.failures output.old) }
 {
-    let found = gather(alloc, input)?;
+    let found = match gather(alloc, input) {
+        Ok(found) => found,
+        Err(fault) => return Err(fault),
+    };
     let mut answers = Vec::new(alloc);
     match answer_gathered(alloc, found, &mut answers) {
         Err(_) => Err(RunFault::NoMemory),

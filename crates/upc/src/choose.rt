@@ -14,6 +14,8 @@ use std::alloc::{AllocError, Global};
 /// What the program is to do: one choice for each subcommand.
 #[derive(Clone, Copy, Debug, PartialEq, Eq)]
 pub enum Choice {
+    /// Assemble the source of one BPF program, check it, and print its octets.
+    Check,
     /// Run one BPF program on each cell that is read, and print its value and steps.
     Eval,
 }
@@ -67,6 +69,12 @@ fn own_command<'a>(alloc: Global) -> Result<Command<'a>, AllocError>
     ensures { IfOk result (λ command. app_of command ≡ upc_app) }
 {
     let command = bare_command(alloc);
+    let command = with_subcommand(
+        alloc,
+        command,
+        "check",
+        "Assemble and check a BPF program and print its octets",
+    )?;
     with_subcommand(
         alloc,
         command,
@@ -123,6 +131,7 @@ fn named(name: &str) -> Option<Choice>
     ensures { result ≡ choice_named name.now }
 {
     match name {
+        "check" => Some(Choice::Check),
         "eval" => Some(Choice::Eval),
         _ => None,
     }
@@ -157,17 +166,21 @@ mod tests {
     }
 
     #[test]
-    fn no_word_and_eval_choose_eval(rt: HostRuntime) -> Result<(), Fail> {
-        for line in ["", "eval"] {
+    fn a_subcommand_is_chosen_by_its_name_and_eval_by_no_word(rt: HostRuntime) -> Result<(), Fail> {
+        for (line, choice) in [
+            ("", Choice::Eval),
+            ("eval", Choice::Eval),
+            ("check", Choice::Check),
+        ] {
             let answer = chosen_by(rt.alloc(), line)?;
-            assert!(rt; matches!(&answer, Ok(Choice::Eval)), "{line}");
+            assert_eq!(rt; answer.ok(), Some(choice), "{line}");
         }
         Ok(())
     }
 
     #[test]
     fn other_and_further_words_are_refused(rt: HostRuntime) -> Result<(), Fail> {
-        for line in ["bogus", "eval extra", "--version"] {
+        for line in ["bogus", "eval extra", "check eval", "Check", "--version"] {
             let answer = chosen_by(rt.alloc(), line)?;
             assert!(rt; matches!(&answer, Err(Stop::Words(_))), "{line}");
         }
@@ -181,6 +194,7 @@ mod tests {
             let Err(Stop::Help(text)) = &answer else {
                 return Err(Fail::new("this is no help"));
             };
+            assert!(rt; text.as_str().contains("\n  check "), "{line}");
             assert!(rt; text.as_str().contains("\n  eval "), "{line}");
         }
         Ok(())

@@ -46,7 +46,11 @@ pub fn give_answers<O: Output>(output: &mut O, answers: &mut Vec<u8>) -> Result<
 /// # Errors
 ///
 /// `WriteFailed` at the first call that failed; octets from the front were given before it.
-pub fn give_last<O: Output>(output: &mut O, answers: &mut Vec<u8>, done: Done) -> Result<Done, RunFault>
+pub fn give_last<O: Output>(
+    output: &mut O,
+    answers: &mut Vec<u8>,
+    done: Done,
+) -> Result<Done, RunFault>
     ensures done { IfOk result (λ value. value ≡ done) }
     ensures given { O.is_known → OnOk result
         (O.held output.new ≡ O.held output.old ++ answers.old.items) }

@@ -23,6 +23,7 @@ mod tests;
 mod window;
 mod words;
 
+use check::check_source;
 use choose::{Choice, Stop, choose};
 use eval::eval_bytes;
 use exit::status;
@@ -41,7 +42,7 @@ fn main(rt: HostRuntime) -> ExitCode {
         Err(_) => return failed(&rt, RunFault::NoMemory),
     };
     match choose(rt.alloc(), words) {
-        Ok(Choice::Eval) => run_eval(&rt),
+        Ok(choice) => run(&rt, choice),
         Err(Stop::Help(text)) => match print!(rt; "{text}") {
             Ok(()) => ExitCode::SUCCESS,
             Err(_) => failed(&rt, RunFault::WriteFailed),
@@ -60,11 +61,14 @@ fn words_after_name(rt: &HostRuntime) -> io::Result<Vec<String>> {
     Ok(words)
 }
 
-/// Runs `eval` over the standard streams, which the program itself buffers.
-fn run_eval(rt: &HostRuntime) -> ExitCode {
+/// Runs a subcommand over the standard streams, which the program itself buffers.
+fn run(rt: &HostRuntime, choice: Choice) -> ExitCode {
     let mut input = Taking::new(rt.stdin());
     let mut output = Giving::new(rt.stdout());
-    let ended = eval_bytes(rt.alloc(), &mut input, &mut output);
+    let ended = match choice {
+        Choice::Check => check_source(rt.alloc(), &mut input, &mut output),
+        Choice::Eval => eval_bytes(rt.alloc(), &mut input, &mut output),
+    };
     match ended {
         Ok(_) => ExitCode::from(status(&ended)),
         Err(fault) => failed(rt, fault),

@@ -1,21 +1,48 @@
-//! What `eval` prints, over whole inputs and over devices that give little or fail.
+//! What the subcommands print, over whole inputs and over devices that give little or fail.
 mod devices;
+mod examples;
 mod limits;
 mod rows;
+mod sources;
 mod statuses;
 
+use crate::check::check_source;
+use crate::choose::Choice;
 use crate::eval::eval_bytes;
 use crate::outcome::{Done, RunFault};
 use crate::stream::{Giving, Taking};
 use std::alloc::Global;
 use std::process::Abort;
 
-/// What `eval` prints for an input, and how it ends.
-fn evaluated(alloc: Global, input: &[u8]) -> Result<(Vec<u8>, Done), RunFault> {
+/// What a subcommand prints for an input, and how it ends.
+fn printed(alloc: Global, choice: Choice, input: &[u8]) -> Result<(Vec<u8>, Done), RunFault> {
     let mut source = Taking::new(input);
     let mut sink = Giving::new(Vec::new(alloc));
-    let done = eval_bytes(alloc, &mut source, &mut sink)?;
+    let done = match choice {
+        Choice::Check => check_source(alloc, &mut source, &mut sink)?,
+        Choice::Eval => eval_bytes(alloc, &mut source, &mut sink)?,
+    };
     Ok((sink.writer, done))
+}
+
+/// What `eval` prints for an input, and how it ends.
+fn evaluated(alloc: Global, input: &[u8]) -> Result<(Vec<u8>, Done), RunFault> {
+    printed(alloc, Choice::Eval, input)
+}
+
+/// Asks that a subcommand prints this text for the input, and ends so.
+fn expect_of(
+    rt: &impl Abort,
+    alloc: Global,
+    choice: Choice,
+    input: &[u8],
+    text: &[u8],
+    ends: Done,
+) -> Result<(), RunFault> {
+    let (found, done) = printed(alloc, choice, input)?;
+    assert_eq!(rt; found.as_slice(), text);
+    assert_eq!(rt; done, ends);
+    Ok(())
 }
 
 /// Asks that `eval` prints this text for the input, and ends so.
@@ -26,8 +53,5 @@ fn expect(
     text: &[u8],
     ends: Done,
 ) -> Result<(), RunFault> {
-    let (printed, done) = evaluated(alloc, input)?;
-    assert_eq!(rt; printed.as_slice(), text);
-    assert_eq!(rt; done, ends);
-    Ok(())
+    expect_of(rt, alloc, Choice::Eval, input, text, ends)
 }

@@ -1,6 +1,8 @@
 //! Devices that move one octet a call, and fail at a call of one's choice.
 ghost use Rattle.std.specs.Prelude.{◌≡◌, drop};
 
+use crate::check::check_source;
+use crate::choose::Choice;
 use crate::device::{Failed, Input, Output};
 use crate::eval::eval_bytes;
 use crate::outcome::{Done, RunFault};
@@ -11,6 +13,11 @@ const INPUT: &[u8; 83] =
     b"0030000000000003001500010000004a00060000000000020006000000000001\n00100640\n0010064a\n";
 
 const TEXT: &[u8; 43] = b"accepted 4\nvalue 1 steps 3\nvalue 2 steps 3\n";
+
+/// A source, and what `check` answers.
+const SOURCE: &[u8; 13] = b"tax\nret #300\n";
+
+const CHECKED: &[u8; 44] = b"accepted 2\n0007000000000000000600000000012c\n";
 
 /// Gives one octet a call, and fails once so many calls have gone well.
 #[derive(Drop)]
@@ -69,10 +76,16 @@ impl Output for Catcher {
     }
 }
 
-/// Runs `eval` over such devices: how it ends, and what was written.
-fn run(alloc: Global, takes: usize, gives: usize) -> (Result<Done, RunFault>, Vec<u8>) {
+/// Runs a subcommand over such devices: how it ends, and what was written.
+fn run_over(
+    alloc: Global,
+    choice: Choice,
+    octets: &[u8],
+    takes: usize,
+    gives: usize,
+) -> (Result<Done, RunFault>, Vec<u8>) {
     let mut input = Dropper {
-        octets: INPUT,
+        octets,
         calls: takes,
         failures: 0,
     };
@@ -81,8 +94,19 @@ fn run(alloc: Global, takes: usize, gives: usize) -> (Result<Done, RunFault>, Ve
         calls: gives,
         failures: 0,
     };
-    let ended = eval_bytes(alloc, &mut input, &mut output);
+    let ended = match choice {
+        Choice::Check => check_source(alloc, &mut input, &mut output),
+        Choice::Eval => eval_bytes(alloc, &mut input, &mut output),
+    };
     (ended, output.held)
+}
+
+fn run(alloc: Global, takes: usize, gives: usize) -> (Result<Done, RunFault>, Vec<u8>) {
+    run_over(alloc, Choice::Eval, INPUT, takes, gives)
+}
+
+fn run_check(alloc: Global, takes: usize, gives: usize) -> (Result<Done, RunFault>, Vec<u8>) {
+    run_over(alloc, Choice::Check, SOURCE, takes, gives)
 }
 
 #[test]
@@ -122,4 +146,21 @@ fn a_read_that_fails_leaves_the_answers_before_it(rt: HostRuntime) -> Result<(),
         assert_eq!(rt; text.as_slice(), &TEXT[..answered]);
     }
     Ok(())
+}
+
+#[test]
+fn a_source_is_gathered_whole_before_it_is_answered(rt: HostRuntime) {
+    let (ended, text) = run_check(rt.alloc(), 1000, 1000);
+    assert_eq!(rt; ended, Ok(Done::Whole));
+    assert_eq!(rt; text.as_slice(), CHECKED.as_slice());
+    for takes in 0..SOURCE.len() + 1 {
+        let (ended, text) = run_check(rt.alloc(), takes, 1000);
+        assert_eq!(rt; ended, Err(RunFault::ReadFailed));
+        assert_eq!(rt; text.len(), 0);
+    }
+    for gives in 0..CHECKED.len() {
+        let (ended, text) = run_check(rt.alloc(), 1000, gives);
+        assert_eq!(rt; ended, Err(RunFault::WriteFailed));
+        assert_eq!(rt; text.as_slice(), &CHECKED[..gives]);
+    }
 }
