@@ -67,20 +67,17 @@ unfolding HasBadNumber
 bad_number_is line text before e h = ap (λ (octets : List ℕ). has_faulty (tokens_of octets)) (sym e) ∙ h
 
 -- what was read is the line
-pub said_line : (line text : List ℕ) (found : Option Said) (r : Result Said AsmKind) → text ≡ without_comment line → MatchOption found (line_in (tokens_read text) ≡ None) (λ said. line_in (tokens_read text) ≡ Some (line_seen said)) → r ≡ ok_or found BadLine → IfOk r (λ said. IsLine line (line_seen said))
+pub said_line : (line text : List ℕ) (said : Line) → text ≡ without_comment line → line_in (tokens_read text) ≡ Some said → IsLine line said
 unfolding IsLine tokens_in
-said_line line text None r e m o = rw o tt
-said_line line text (Some said) r e m o =
-    rw o (line_true (tokens_read (without_comment line)) (line_seen said) (ap (λ (octets : List ℕ). line_in (tokens_read octets)) (sym e) ∙ m))
+said_line line text said e read = line_true (tokens_read (without_comment line)) said (ap (λ (octets : List ℕ). line_in (tokens_read octets)) (sym e) ∙ read)
 
 -- what wasn't read is none
-pub bad_line_is : (line text : List ℕ) (found : Option Said) (r : Result Said AsmKind) → text ≡ without_comment line → has_faulty (tokens_of text) ≡ false → MatchOption found (line_in (tokens_read text) ≡ None) (λ said. line_in (tokens_read text) ≡ Some (line_seen said)) → r ≡ ok_or found BadLine → IfErr r (λ kind. (before : List Line) → IsLineFault before line kind)
+pub bad_line_is : (line text : List ℕ) (before : List Line) → text ≡ without_comment line → has_faulty (tokens_of text) ≡ false → line_in (tokens_read text) ≡ None → IsLineFault before line BadLine
 unfolding IsLine tokens_in HasBadNumber
-bad_line_is line text None r e h m o =
-    rw o (λ before. (
-      λ bad. let both : true ≡ false = sym bad ∙ ap (λ (octets : List ℕ). has_faulty (tokens_of octets)) (sym e) ∙ h in cc,
-      λ l is. let read = line_back (tokens_read (without_comment line)) l.label l.statement is in
-          let none : line_in (tokens_read (without_comment line)) ≡ None = ap (λ (octets : List ℕ). line_in (tokens_read octets)) (sym e) ∙ m in
-          cc,
-    ))
-bad_line_is line text (Some said) r e h m o = rw o tt
+bad_line_is line text before e h none = (
+  λ bad. let both : true ≡ false = sym bad ∙ ap (λ (octets : List ℕ). has_faulty (tokens_of octets)) (sym e) ∙ h in cc,
+  λ l is.
+      let read = line_back (tokens_read (without_comment line)) l.label l.statement is in
+      let unread : line_in (tokens_read (without_comment line)) ≡ None = ap (λ (octets : List ℕ). line_in (tokens_read octets)) (sym e) ∙ none in
+      cc,
+)

@@ -112,8 +112,10 @@ pub(crate) fn read_line(line: &[u8]) -> Result<Said<'_>, AsmKind>
     ensures fault { IfErr result (λ kind. (before : List Line) → IsLineFault before line.now kind) }
 {
     let text = before_comment(line);
-    if bad_number(text) {
-        return Err(AsmKind::BadNumber);
+    match line_of(text) {
+        Some(said) => Ok(said),
+        // a line of the grammar has no such number, so only other lines are looked through for one
+        None if bad_number(text) => Err(AsmKind::BadNumber),
+        None => Err(AsmKind::BadLine),
     }
-    line_of(text).ok_or(AsmKind::BadLine)
 }
