@@ -32,3 +32,4 @@ pub mod DanglingOrNone
 pub mod OffsetOrFault
 pub mod CodeOrFault
 pub mod Refusals
+pub mod Searches

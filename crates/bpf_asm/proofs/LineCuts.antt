@@ -1,7 +1,7 @@
 -- A text falls into its first line and what is behind it.
 use Rattle.std.proofs.Common.{◌≡◌, ℕ, ◌+◌, ◌-◌, ◌<◌, ◌≤◌, true, false, not, ◌&&◌, ◌==◌, if◌then◌else◌, List, [], ◌∷◌, ◌++◌, length, get_or, take, drop, refl, sym, ap, ◌∙◌, eq-eqb, arith, suc, take-append-drop}
 use Rattle.std.proofs.lemmas.Bool.{and_from, and_parts, and_right, ne_eqb, not-true}
-use Rattle.std.proofs.lemmas.List.{drop_all, drop_more, take_more, take_all}
+use Rattle.std.proofs.lemmas.List.{drop_all, drop_more, take_all}
 use Rattle.bpf_asm.specs.Lines.{in_front, is_dropped, lines_of, no_feed, without_return}
 
 no_feed-snoc : (line : List ℕ) (octet : ℕ) → no_feed line ≡ true → (octet == 10) ≡ false → no_feed (line ++ octet ∷ []) ≡ true
@@ -9,10 +9,6 @@ no_feed-snoc [] octet n h = rw h refl
 no_feed-snoc (first ∷ line) octet n h =
     let both = and_parts (not (first == 10)) (no_feed line) n in
     and_from _ _ both.0 (no_feed-snoc line octet both.1 h)
-
--- one octet more of a line
-pub feed_more : (text : List ℕ) (at : ℕ) → at < length text → no_feed (take at text) ≡ true → (get_or text at 0 ≡ 10 → ⊥) → no_feed (take (at + 1) text) ≡ true
-feed_more text at h n o = ap no_feed (take_more text at 0 h) ∙ no_feed-snoc (take at text) (get_or text at 0) n (ne_eqb (get_or text at 0) 10 o)
 
 -- all of it
 pub feed_none : (text : List ℕ) (at : ℕ) → length text ≤ at → no_feed (take at text) ≡ true → no_feed (take (length text) text) ≡ true

@@ -3,18 +3,18 @@
 ghost use Rattle.std.specs.Prelude.{◌≡◌, ◌<◌, ◌≤◌, [], ◌∷◌, true, length, slice_index, take, IfSome, MatchOption};
 ghost use Rattle.bpf_asm.specs.Lines.{lines_of, no_feed, without_return};
 
+use memchr::memchr;
+
 /// How many octets stand before the first line feed.
 fn line_len(text: &[u8]) -> usize
     ensures within { result ≤ length text.now }
     ensures line { no_feed (take result text.now) ≡ true }
     ensures feed { result < length text.now → slice_index text.now result ≡ 10 }
 {
-    for (at, octet) in text.iter().enumerate() {
-        if *octet == 10 {
-            return at;
-        }
+    match memchr(b'\n', text) {
+        Some(at) => at,
+        None => text.len(),
     }
-    text.len()
 }
 
 /// A line without a carriage return at its end.

@@ -160,7 +160,7 @@ fn other<'a>(name: &[u8], text: &'a [u8]) -> Option<Command<'a>>
 
 /// The statement of a mnemonic and what is behind it.
 #[tactic(auto, unfolding(crate::specs::Reading::named_in))]
-fn named<'a>(name: &[u8], text: &'a [u8]) -> Option<Command<'a>>
+pub(crate) fn named<'a>(name: &[u8], text: &'a [u8]) -> Option<Command<'a>>
     ensures { MatchOption result (named_in name.now (tokens_read text.entry.now) ≡ None)
         (λ c. named_in name.now (tokens_read text.entry.now) ≡ Some (statement_seen c)) }
 {

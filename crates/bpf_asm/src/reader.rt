@@ -1,18 +1,19 @@
 //! Lines, read one by one.
 
-ghost use Rattle.std.specs.Prelude.{◌≡◌, List, IfErr, IfOk, MatchOption, option_copied};
+ghost use Rattle.std.specs.Prelude.{◌≡◌, List, Some, IfErr, IfOk, MatchOption};
 ghost use Rattle.bpf_asm.specs.Faults.{IsLineFault};
 ghost use Rattle.bpf_asm.specs.Grammar.{IsLine, Line};
 ghost use Rattle.bpf_asm.specs.Lines.{without_comment};
-ghost use Rattle.bpf_asm.specs.Reading.{body_in, cut_label, line_in};
+ghost use Rattle.bpf_asm.specs.Reading.{body_in, line_in};
 ghost use Rattle.bpf_asm.specs.Seen.{line_seen};
 ghost use Rattle.bpf_asm.specs.Tokens.{HasBadNumber, has_faulty, tokens_of, tokens_read};
 
 use crate::cutting::{after_mark, after_name, at_end};
 use crate::fault::AsmKind;
-use crate::mnemonic::statement;
+use crate::mnemonic::{named, statement};
 use crate::parse::Command;
 use crate::token::{Lexeme, next_token};
+use memchr::memchr;
 
 /// What a line says, with its label in the source.
 #[derive(Clone, Copy)]
@@ -44,12 +45,10 @@ impl Said<'_> {
 fn before_comment(line: &[u8]) -> &[u8]
     ensures { result.now ≡ without_comment line.now }
 {
-    for (at, octet) in line.iter().enumerate() {
-        if *octet == 59 {
-            return &line[..at];
-        }
+    match memchr(b';', line) {
+        Some(at) => &line[..at],
+        None => line,
     }
-    line
 }
 
 /// Whether some word of a text begins with a digit and is no number.
@@ -66,44 +65,48 @@ fn bad_number(text: &[u8]) -> bool
     false
 }
 
-/// A label, and what is behind it.
-fn after_label(text: &[u8]) -> Option<(&[u8], &[u8])>
-    ensures { MatchOption result (cut_label (tokens_read text.now) ≡ None)
-        (λ found. cut_label (tokens_read text.now) ≡ Some (found.0.now, tokens_read found.1.now)) }
-{
-    let (label, rest) = after_name(text)?;
-    let rest = after_mark(rest, 58)?;
-    Some((label, rest))
-}
-
-/// What is behind the label of a line, if it has one.
-fn body<'a>(label: Option<&'a [u8]>, text: &'a [u8]) -> Option<Said<'a>>
-    ensures { MatchOption result (body_in (option_copied label.entry) (tokens_read text.entry.now) ≡ None)
-        (λ said. body_in (option_copied label.entry) (tokens_read text.entry.now) ≡ Some (line_seen said)) }
+/// What is behind the label of a line.
+fn behind_label<'a>(label: &'a [u8], text: &'a [u8]) -> Option<Said<'a>>
+    ensures { MatchOption result (body_in (Some label.entry.now) (tokens_read text.entry.now) ≡ None)
+        (λ said. body_in (Some label.entry.now) (tokens_read text.entry.now) ≡ Some (line_seen said)) }
 {
     if at_end(text) {
         return Some(Said {
-            label,
+            label: Some(label),
             command: None,
         });
     }
     let command = statement(text)?;
     Some(Said {
-        label,
+        label: Some(label),
         command: Some(command),
     })
 }
 
-/// The line of a text without comments.
-#[tactic(auto, unfolding(crate::specs::Reading::line_in))]
+/// The line of a text without comments. Its first name is a label or a mnemonic.
+#[tactic(auto, unfolding(crate::specs::Reading::line_in, crate::specs::Reading::statement_in))]
 fn line_of(text: &[u8]) -> Option<Said<'_>>
     ensures { MatchOption result (line_in (tokens_read text.now) ≡ None)
         (λ said. line_in (tokens_read text.now) ≡ Some (line_seen said)) }
 {
-    match after_label(text) {
-        Some((label, rest)) => body(Some(label), rest),
-        None => body(None, text),
+    let Some((name, rest)) = after_name(text) else {
+        return if at_end(text) {
+            Some(Said {
+                label: None,
+                command: None,
+            })
+        } else {
+            None
+        };
+    };
+    if let Some(rest) = after_mark(rest, 58) {
+        return behind_label(name, rest);
     }
+    let command = named(name, rest)?;
+    Some(Said {
+        label: None,
+        command: Some(command),
+    })
 }
 
 /// What a line says, or its own fault.

@@ -1,6 +1,9 @@
-use Rattle.std.proofs.Common.{arith}
-use Rattle.bpf_asm.proofs.LineCuts.{feed_more}
+use Rattle.std.proofs.Common.{length, arith}
+use Rattle.bpf_asm.proofs.Searches.{searched_free}
 use Rattle.bpf_asm.proofs.lines.line_len.Goals as goal
 
-pub loop-at-preserved : goal.loop-at-preserved
-loop-at-preserved c = feed_more c.args.text.now c.loop-at.at (omega arith) c.loop-at.invariant c.if-octet-eq10.false
+pub returns-in-Some-clause-line : goal.returns-in-Some-clause-line
+returns-in-Some-clause-line c = searched_free c.args.text.now c.in-Some.at (omega (arith, c.in-Some.ensures.0.high)) c.in-Some.ensures.0.before
+
+pub returns-in-None-clause-line : goal.returns-in-None-clause-line
+returns-in-None-clause-line c = searched_free c.args.text.now (length c.args.text.now) (omega arith) c.in-None.ensures

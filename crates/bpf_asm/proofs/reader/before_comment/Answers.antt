@@ -1,12 +1,8 @@
-use Rattle.std.proofs.Common.{arith}
-use Rattle.bpf_asm.proofs.LineRead.{comment_found, comment_more, comment_none}
+use Rattle.bpf_asm.proofs.Searches.{comment_at, comment_nowhere}
 use Rattle.bpf_asm.proofs.reader.before_comment.Goals as goal
 
-pub returns-then-octet-eq59 : goal.returns-then-octet-eq59
-returns-then-octet-eq59 c = comment_found c.args.line.now c.loop-at.at (omega arith) c.if-octet-eq59.true c.loop-at.invariant
+pub returns-in-Some : goal.returns-in-Some
+returns-in-Some c = comment_at c.args.line.now c.in-Some.at c.in-Some.ensures.0.high c.in-Some.ensures.0.before c.in-Some.ensures.1
 
-pub loop-at-preserved : goal.loop-at-preserved
-loop-at-preserved c = comment_more c.args.line.now c.loop-at.at (omega arith) c.if-octet-eq59.false c.loop-at.invariant
-
-pub returns : goal.returns
-returns c = comment_none c.args.line.now c.loop-at.at (omega arith) c.loop-at.invariant
+pub returns-in-None : goal.returns-in-None
+returns-in-None c = comment_nowhere c.args.line.now c.in-None.ensures
