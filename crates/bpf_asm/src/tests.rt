@@ -1,4 +1,7 @@
-//! Rows of sources, each with the code that it means or with its fault.
+//! Tables of sources, each with the code that it means or with its fault.
+//!
+//! A row is a source, an arrow and its answer. In a source `|`, which is no token, stands for a line
+//! feed. A code is spelled by the digits of its instructions' octets, and a fault as it is printed.
 mod jumps;
 mod labels;
 mod lines;
@@ -12,40 +15,57 @@ use std::alloc::{AllocError, Global};
 use std::process::Abort;
 use std::test::Fail;
 
-/// The digits of each instruction's octets, with a blank behind each.
+/// The octets of a source in which `|` stands for a line feed.
+fn octets_of(alloc: Global, source: &str) -> Result<Vec<u8>, AllocError> {
+    let mut octets = Vec::new(alloc);
+    for octet in source.bytes() {
+        octets.push(if octet == b'|' { b'\n' } else { octet })?;
+    }
+    Ok(octets)
+}
+
+/// The digits of each instruction's octets, with blanks between them.
 fn digits_of(alloc: Global, code: &[Instr]) -> Result<String, AllocError> {
     let mut digits = String::new(alloc);
     for instr in code {
         let octets = u64::from_be_bytes(encode_one(*instr));
-        digits.push_str(format!(in alloc; "{octets:016x} ")?.as_str())?;
+        let between = if digits.is_empty() { "" } else { " " };
+        digits.push_str(format!(in alloc; "{between}{octets:016x}")?.as_str())?;
     }
     Ok(digits)
 }
 
-/// The digits of the code that a source means, or its fault as it is printed.
-fn answer_of(alloc: Global, source: &[u8]) -> Result<String, AllocError> {
+/// The answer to a source.
+fn answer_to(alloc: Global, source: &[u8]) -> Result<String, AllocError> {
     match assemble(alloc, source) {
+        Ok(code) if code.is_empty() => String::from_str(alloc, "no code"),
         Ok(code) => digits_of(alloc, &code),
         Err(fault) => format!(in alloc; "{fault}"),
     }
 }
 
-/// Asks that a source has this answer: a fault as it is printed, or the digits of instructions with
-/// blanks between them. The listing of a code has to mean the same code.
+/// Asks that a source has this answer, and that the listing of its code has the same.
 fn expect(rt: &impl Abort, alloc: Global, source: &str, answer: &str) -> Result<(), Fail> {
-    let found = answer_of(alloc, source.as_bytes())?;
-    assert_eq!(rt; found.trim_end(), answer, "{source:?}");
-    if let Ok(code) = assemble(alloc, source.as_bytes()) {
+    let octets = octets_of(alloc, source)?;
+    let found = answer_to(alloc, &octets)?;
+    assert_eq!(rt; found.as_str(), answer, "{source:?}");
+    if let Ok(code) = assemble(alloc, &octets) {
         let text = listing(alloc, &code)?;
-        let again = answer_of(alloc, &text)?;
-        assert_eq!(rt; again.trim_end(), answer, "the listing of {source:?}");
+        let again = answer_to(alloc, &text)?;
+        assert_eq!(rt; again.as_str(), answer, "the listing of {source:?}");
     }
     Ok(())
 }
 
-/// Asks that each source has the answer beside it.
-fn expect_rows(rt: &impl Abort, alloc: Global, rows: &[(&str, &str)]) -> Result<(), Fail> {
-    for (source, answer) in rows {
+/// The source and the answer of a row.
+fn parts_of(row: &str) -> Result<(&str, &str), Fail> {
+    Ok(row.split_once(" => ").ok_or("a row without an arrow")?)
+}
+
+/// Asks that each source of a table has the answer beside it.
+fn expect_table(rt: &impl Abort, alloc: Global, table: &str) -> Result<(), Fail> {
+    for row in table.lines() {
+        let (source, answer) = parts_of(row)?;
         expect(rt, alloc, source, answer)?;
     }
     Ok(())
