@@ -17,6 +17,10 @@ pub mod LineCuts
 pub mod LineRead
 pub mod NoLabel
 pub mod ReadBack
+pub mod TokenCuts
+pub mod FormTokens
+pub mod FormSpellings
+pub mod NameSpellings
 pub mod ReadsTrue
 pub mod Reading
 pub mod RoundTrip

@@ -6,7 +6,8 @@ use Rattle.bpf_asm.specs.Spelling.{Statement, spellings}
 use Rattle.bpf_asm.specs.Tokens.{Token, name, mark}
 use Rattle.bpf_asm.proofs.NoLabel.{no_label}
 use Rattle.bpf_asm.proofs.ReadBack.{reads_back}
-use Rattle.bpf_asm.proofs.ReadsTrue.{map_some, mark_is, name_is, next_some, reads_true, some_same}
+use Rattle.bpf_asm.proofs.ReadsTrue.{reads_true}
+use Rattle.bpf_asm.proofs.TokenCuts.{map_some, mark_is, name_is, next_some, some_same}
 
 some_ended : (ts : List Token) (s : Statement) → statement_in ts ≡ Some s → is_ended ts ≡ false
 unfolding statement_in

@@ -1,197 +1,72 @@
-use crate::{AsmFault, AsmKind, ListFault, assemble, listing};
-use bpf_code::{By, Instr, Op, Size, Test};
-use std::alloc::Global;
+//! Tables of sources, each with the code that it means or with its fault.
+//!
+//! A row is a source, an arrow and its answer. In a source `|`, which is no token, stands for a line
+//! feed. A code is spelled by the digits of its instructions' octets, and a fault as it is printed.
+mod jumps;
+mod labels;
+mod lines;
+mod listings;
+mod numbers;
+mod spellings;
+
+use crate::{assemble, listing};
+use bpf_code::{Instr, encode_one};
+use std::alloc::{AllocError, Global};
+use std::process::Abort;
 use std::test::Fail;
 
-/// `ldb [3]`, `and #0xe`, `jge #8` to the last or the next, `ret #1`, `ret #2`.
-fn by_payload_type() -> [Instr; 5] {
-    [
-        Instr::LoadAbs {
-            size: Size::Octet,
-            k: 3,
-        },
-        Instr::Alu {
-            op: Op::And,
-            by: By::Imm(0xe),
-        },
-        Instr::Branch {
-            test: Test::Ge,
-            by: By::Imm(8),
-            jt: 1,
-            jf: 0,
-        },
-        Instr::RetK(1),
-        Instr::RetK(2),
-    ]
+/// The octets of a source in which `|` stands for a line feed.
+fn octets_of(alloc: Global, source: &str) -> Result<Vec<u8>, AllocError> {
+    let mut octets = Vec::new(alloc);
+    for octet in source.bytes() {
+        octets.push(if octet == b'|' { b'\n' } else { octet })?;
+    }
+    Ok(octets)
 }
 
-#[test]
-fn a_listing_labels_each_line_by_its_place(rt: HostRuntime) -> Result<(), Fail> {
-    let text = listing(rt.alloc(), &by_payload_type())?;
-    let expected = b"L0: ldb [3]\nL1: and #14\nL2: jge #8, L4, L3\nL3: ret #1\nL4: ret #2\n";
-    assert_eq!(rt; text.as_slice(), expected.as_slice());
-    Ok(())
+/// The digits of each instruction's octets, with blanks between them.
+fn digits_of(alloc: Global, code: &[Instr]) -> Result<String, AllocError> {
+    let mut digits = String::new(alloc);
+    for instr in code {
+        let octets = u64::from_be_bytes(encode_one(*instr));
+        let between = if digits.is_empty() { "" } else { " " };
+        digits.push_str(format!(in alloc; "{between}{octets:016x}")?.as_str())?;
+    }
+    Ok(digits)
 }
 
-#[test]
-fn a_listing_has_the_spellings_of_the_table(rt: HostRuntime) -> Result<(), Fail> {
-    let code = [
-        Instr::LdxMsh(14),
-        Instr::LoadInd {
-            size: Size::Half,
-            k: 4294967295,
-        },
-        Instr::Store(15),
-        Instr::LoadLen,
-        Instr::Alu {
-            op: Op::Rsh,
-            by: By::X,
-        },
-        Instr::Neg,
-        Instr::Jump(0),
-        Instr::RetA,
-    ];
-    let text = listing(rt.alloc(), &code)?;
-    let expected =
-        b"L0: ldxb 4*([14]&0xf)\nL1: ldh [x+4294967295]\nL2: st M[15]\nL3: ld #len\nL4: rsh x\nL5: neg\nL6: ja L7\nL7: ret a\n";
-    assert_eq!(rt; text.as_slice(), expected.as_slice());
-    Ok(())
-}
-
-#[test]
-fn the_first_jump_outside_is_refused(rt: HostRuntime) -> Result<(), Fail> {
-    let code = [Instr::Jump(0), Instr::Jump(1), Instr::Jump(4294967295)];
-    assert_eq!(rt;
-        listing(rt.alloc(), &code).err(),
-        Some(ListFault::JumpOutside(1))
-    );
-    assert_eq!(rt; listing(rt.alloc(), &[])?.len(), 0);
-    Ok(())
-}
-
-/// The fault of a source, and its line.
-fn fault_of(alloc: Global, source: &[u8]) -> Option<AsmFault> {
-    assemble(alloc, source).err()
-}
-
-fn fault(kind: AsmKind, line: usize) -> Option<AsmFault> {
-    Some(AsmFault { line, kind })
-}
-
-/// Whether a source means this code.
-fn means(alloc: Global, source: &[u8], code: &[Instr]) -> bool {
+/// The answer to a source.
+fn answer_to(alloc: Global, source: &[u8]) -> Result<String, AllocError> {
     match assemble(alloc, source) {
-        Ok(found) => found.as_slice() == code,
-        Err(_) => false,
+        Ok(code) if code.is_empty() => String::from_str(alloc, "no code"),
+        Ok(code) => digits_of(alloc, &code),
+        Err(fault) => format!(in alloc; "{fault}"),
     }
 }
 
-#[test]
-fn a_rule_on_the_payload_type_is_read(rt: HostRuntime) {
-    let source = b"ldb [3]\nand #0xe\njge #8, oam, data\ndata: ret #1\noam: ret #2\n";
-    assert!(rt; means(rt.alloc(), source, &by_payload_type()));
-}
-
-#[test]
-fn a_listing_is_read_as_its_code(rt: HostRuntime) -> Result<(), Fail> {
-    let text = listing(rt.alloc(), &by_payload_type())?;
-    assert!(rt; means(rt.alloc(), text.as_slice(), &by_payload_type()));
-    assert!(rt; means(rt.alloc(), b"", &[]));
+/// Asks that a source has this answer, and that the listing of its code has the same.
+fn expect(rt: &impl Abort, alloc: Global, source: &str, answer: &str) -> Result<(), Fail> {
+    let octets = octets_of(alloc, source)?;
+    let found = answer_to(alloc, &octets)?;
+    assert_eq!(rt; found.as_str(), answer, "{source:?}");
+    if let Ok(code) = assemble(alloc, &octets) {
+        let text = listing(alloc, &code)?;
+        let again = answer_to(alloc, &text)?;
+        assert_eq!(rt; again.as_str(), answer, "the listing of {source:?}");
+    }
     Ok(())
 }
 
-#[test]
-fn numbers_are_decimal_or_hexadecimal(rt: HostRuntime) {
-    assert!(rt;
-        means(
-            rt.alloc(),
-            b"ld #08\nret a",
-            &[Instr::LoadImm(8), Instr::RetA]
-        )
-    );
-    assert!(rt; means(rt.alloc(), b"ret #-1", &[Instr::RetK(4294967295)]));
-    assert!(rt; means(rt.alloc(), b"ret # - 0", &[Instr::RetK(0)]));
-    assert!(rt; means(rt.alloc(), b"ret #0XfF", &[Instr::RetK(255)]));
-    assert!(rt;
-        means(
-            rt.alloc(),
-            b"ldx 0x4 * ( [ 007 ] & 15 )",
-            &[Instr::LdxMsh(7)]
-        )
-    );
-    assert_eq!(rt;
-        fault_of(rt.alloc(), b"ret #4294967296"),
-        fault(AsmKind::BadNumber, 1)
-    );
-    assert_eq!(rt;
-        fault_of(rt.alloc(), b"ret #0x"),
-        fault(AsmKind::BadNumber, 1)
-    );
-    assert_eq!(rt;
-        fault_of(rt.alloc(), b"? ret 9a"),
-        fault(AsmKind::BadNumber, 1)
-    );
-    assert_eq!(rt;
-        fault_of(rt.alloc(), b"ldxb 3*([0]&0xf)"),
-        fault(AsmKind::BadLine, 1)
-    );
+/// The source and the answer of a row.
+fn parts_of(row: &str) -> Result<(&str, &str), Fail> {
+    Ok(row.split_once(" => ").ok_or("a row without an arrow")?)
 }
 
-#[test]
-fn a_return_before_a_feed_is_dropped(rt: HostRuntime) {
-    let source = b"ja next\r\nnext: ret #0 ; done\r\n";
-    assert!(rt; means(rt.alloc(), source, &[Instr::Jump(0), Instr::RetK(0)]));
-    assert_eq!(rt;
-        fault_of(rt.alloc(), b"ret #0\r"),
-        fault(AsmKind::BadLine, 1)
-    );
-}
-
-#[test]
-fn a_branch_may_name_one_side(rt: HostRuntime) {
-    let source = b"ldb [0]\njne #0, out\nret #1\nout: ret #2\n";
-    let code = [
-        Instr::LoadAbs {
-            size: Size::Octet,
-            k: 0,
-        },
-        Instr::Branch {
-            test: Test::Eq,
-            by: By::Imm(0),
-            jt: 0,
-            jf: 1,
-        },
-        Instr::RetK(1),
-        Instr::RetK(2),
-    ];
-    assert!(rt; means(rt.alloc(), source, &code));
-}
-
-#[test]
-fn each_fault_has_its_line(rt: HostRuntime) {
-    assert_eq!(rt; fault_of(rt.alloc(), b"ret x"), fault(AsmKind::BadLine, 1));
-    assert_eq!(rt;
-        fault_of(rt.alloc(), b"a: ret a\na: ret a"),
-        fault(AsmKind::LabelTwice, 2)
-    );
-    assert_eq!(rt;
-        fault_of(rt.alloc(), b"jeq x, gone\nret a"),
-        fault(AsmKind::UnknownLabel, 1)
-    );
-    assert_eq!(rt;
-        fault_of(rt.alloc(), b"top: ld #1\nja top\nret a"),
-        fault(AsmKind::Backward, 2)
-    );
-    assert_eq!(rt;
-        fault_of(rt.alloc(), b"ja end\nend:"),
-        fault(AsmKind::DanglingLabel, 2)
-    );
-    assert_eq!(rt;
-        fault_of(rt.alloc(), b"ja gone\nend:"),
-        fault(AsmKind::DanglingLabel, 2)
-    );
-    assert_eq!(rt;
-        fault_of(rt.alloc(), b"a: ja a\na: 1x"),
-        fault(AsmKind::BadNumber, 2)
-    );
+/// Asks that each source of a table has the answer beside it.
+fn expect_table(rt: &impl Abort, alloc: Global, table: &str) -> Result<(), Fail> {
+    for row in table.lines() {
+        let (source, answer) = parts_of(row)?;
+        expect(rt, alloc, source, answer)?;
+    }
+    Ok(())
 }

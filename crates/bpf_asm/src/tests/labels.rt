@@ -1,0 +1,107 @@
+//! Names of labels, and labels with faults.
+use super::{expect, expect_table};
+use std::alloc::Global;
+use std::process::Abort;
+use std::test::Fail;
+
+/// Names that mean something in another place of a line, and some that look like numbers.
+const NAMES: &str = "\
+ld ldh ldb ldx ldxb st stx add sub mul div or and lsh rsh neg ja jmp jeq jgt jge jset jne jneq
+jlt jle ret tax txa a x M len A X m LEN Ret L0 L1 _ __ _1 _0x x1 x9a a_b xf end END e3
+abcdefghijklmnopqrstuvwxyz_ABCDEFGHIJKLMNOPQRSTUVWXYZ_0123456789
+";
+
+/// Lines with one label, none, and several.
+const LABELLED: &str = "\
+jeq: jeq x, x, jeq2|x: jeq2: ret a => 1 BadLine 2
+jeq: jeq x, x|x: ret a => 001d000000000000 0016000000000000
+a:|b:||c: ret a => 0016000000000000
+ja b|a:|b: ret a => 0005000000000000 0016000000000000
+a: b: ret a => 1 BadLine 1
+a:: ret a => 1 BadLine 1
+a:b:|ret a => 1 BadLine 1
+: ret a => 1 BadLine 1
+: => 1 BadLine 1
+a b: ret a => 1 BadLine 1
+a ret a => 1 BadLine 1
+ret a a: => 1 BadLine 1
+ret a: ret a => 1 BadLine 1
+1: ret a => 1 BadLine 1
+a-b: ret a => 1 BadLine 1
+a.b: ret a => 1 BadLine 1
+M[0]: ret a => 1 BadLine 1
+#a: ret a => 1 BadLine 1
+a => 1 BadLine 1
+ret a, ret a => 1 BadLine 1
+ret a ret a => 1 BadLine 1
+ja End|end: ret a => 4 UnknownLabel 1
+ja END|END: ret #1|end: ret #2 => 0005000000000000 0006000000000001 0006000000000002
+";
+
+/// The smallest line with a fault of its own; in a line a label of an earlier one comes last.
+const FAULTY_LINES: &str = "\
+a: ret a|a: ret a => 3 LabelTwice 2
+a:|a: ret a => 3 LabelTwice 2
+a:|a:|a: => 3 LabelTwice 2
+a: ret a|b: ret a|a:|ret x => 3 LabelTwice 3
+a: ret a||;|b: ret a||b: ret a|a: ret a => 3 LabelTwice 6
+a: ret a|a: ret x => 1 BadLine 2
+a: ret a|a: a: ret a => 1 BadLine 2
+a: ret a|a: ret 9a => 2 BadNumber 2
+a: ret a|ret x|a: ret a => 1 BadLine 2
+a: ret x|a:|a: => 1 BadLine 1
+ret x|ret #9a => 1 BadLine 1
+ret #9a|ret x => 2 BadNumber 1
+";
+
+/// Labels that no instruction follows come behind all faults of lines.
+const DANGLING: &str = "\
+a: => 7 DanglingLabel 1
+ret a|a: => 7 DanglingLabel 2
+ret a|a:|b:| => 7 DanglingLabel 2
+ret a||a: ; one||; two|b: => 7 DanglingLabel 3
+a:|ret a|b: => 7 DanglingLabel 3
+a: ret a|b:|ret a|c:||d: => 7 DanglingLabel 4
+a:|ret x => 1 BadLine 2
+a:|9a => 2 BadNumber 2
+a:|b:|a: => 3 LabelTwice 3
+";
+
+/// And before all faults of operands.
+const DANGLING_BEFORE_OPERANDS: &str = "\
+ja end|end: => 7 DanglingLabel 2
+ja gone|end: => 7 DanglingLabel 2
+jeq x, a, gone|a: ja a|b: => 7 DanglingLabel 3
+ja gone|a: ret a|a: => 3 LabelTwice 3
+ja gone|ret x => 1 BadLine 2
+a: ja a|a: 1x => 2 BadNumber 2
+";
+
+/// Asks that jumps find the label of this name, beside an instruction and alone in a line.
+fn expect_name(rt: &impl Abort, alloc: Global, name: &str) -> Result<(), Fail> {
+    let answer = "0005000000000002 001d010100000000 0015000000000001 0016000000000000";
+    let beside = format!(in alloc;
+        "{name}0: ja {name}|jeq x, {name}, {name}|jne #1, {name}|{name}: ret a"
+    )?;
+    expect(rt, alloc, beside.as_str(), answer)?;
+    let alone = format!(in alloc;
+        "ja {name}|jeq x,{name} ,{name}|jneq#1,{name}|\t{name} :;||ret a"
+    )?;
+    expect(rt, alloc, alone.as_str(), answer)
+}
+
+#[test]
+fn any_name_is_a_label(rt: HostRuntime) -> Result<(), Fail> {
+    for name in NAMES.split_whitespace() {
+        expect_name(&rt, rt.alloc(), name)?;
+    }
+    Ok(())
+}
+
+#[test]
+fn a_line_has_at_most_one_label_and_the_first_fault_is_told(rt: HostRuntime) -> Result<(), Fail> {
+    expect_table(&rt, rt.alloc(), LABELLED)?;
+    expect_table(&rt, rt.alloc(), FAULTY_LINES)?;
+    expect_table(&rt, rt.alloc(), DANGLING)?;
+    expect_table(&rt, rt.alloc(), DANGLING_BEFORE_OPERANDS)
+}

@@ -1,0 +1,289 @@
+//! The instruction table, spelled with any blanks.
+use super::{expect, parts_of};
+use crate::{assemble, listing};
+use std::alloc::{AllocError, Global};
+use std::process::Abort;
+use std::test::Fail;
+
+/// The tokens of a spelling with blanks between them, its octets, and how a listing spells it. Behind
+/// it stand two instructions, `near` and `far`.
+const SPELLINGS: &str = "\
+ld [ 3 ] => 0020000000000003 => ld [3]
+ldh [ 3 ] => 0028000000000003 => ldh [3]
+ldb [ 3 ] => 0030000000000003 => ldb [3]
+ld [ x + 3 ] => 0040000000000003 => ld [x+3]
+ldh [ x + 3 ] => 0048000000000003 => ldh [x+3]
+ldb [ x + 3 ] => 0050000000000003 => ldb [x+3]
+ld # 5 => 0000000000000005 => ld #5
+ld M [ 15 ] => 006000000000000f => ld M[15]
+ld # len => 0080000000000000 => ld #len
+ldx # 5 => 0001000000000005 => ldx #5
+ldx M [ 15 ] => 006100000000000f => ldx M[15]
+ldx # len => 0081000000000000 => ldx #len
+ldxb 4 * ( [ 14 ] & 0xf ) => 00b100000000000e => ldxb 4*([14]&0xf)
+ldx 4 * ( [ 14 ] & 0xf ) => 00b100000000000e => ldxb 4*([14]&0xf)
+st M [ 0 ] => 0002000000000000 => st M[0]
+stx M [ 7 ] => 0003000000000007 => stx M[7]
+add # 5 => 0004000000000005 => add #5
+sub # 5 => 0014000000000005 => sub #5
+mul # 5 => 0024000000000005 => mul #5
+div # 5 => 0034000000000005 => div #5
+or # 5 => 0044000000000005 => or #5
+and # 5 => 0054000000000005 => and #5
+lsh # 5 => 0064000000000005 => lsh #5
+rsh # 5 => 0074000000000005 => rsh #5
+add x => 000c000000000000 => add x
+sub x => 001c000000000000 => sub x
+mul x => 002c000000000000 => mul x
+div x => 003c000000000000 => div x
+or x => 004c000000000000 => or x
+and x => 005c000000000000 => and x
+lsh x => 006c000000000000 => lsh x
+rsh x => 007c000000000000 => rsh x
+neg => 0084000000000000 => neg
+ja far => 0005000000000001 => ja L2
+jmp far => 0005000000000001 => ja L2
+jeq # 5 , far , near => 0015010000000005 => jeq #5, L2, L1
+jgt # 5 , far , near => 0025010000000005 => jgt #5, L2, L1
+jge # 5 , near , far => 0035000100000005 => jge #5, L1, L2
+jset # 5 , far , far => 0045010100000005 => jset #5, L2, L2
+jeq x , far , near => 001d010000000000 => jeq x, L2, L1
+jgt x , far , near => 002d010000000000 => jgt x, L2, L1
+jge x , near , far => 003d000100000000 => jge x, L1, L2
+jset x , far , far => 004d010100000000 => jset x, L2, L2
+jeq # 5 , far => 0015010000000005 => jeq #5, L2, L1
+jgt # 5 , far => 0025010000000005 => jgt #5, L2, L1
+jge # 5 , far => 0035010000000005 => jge #5, L2, L1
+jset # 5 , far => 0045010000000005 => jset #5, L2, L1
+jeq x , far => 001d010000000000 => jeq x, L2, L1
+jgt x , far => 002d010000000000 => jgt x, L2, L1
+jge x , far => 003d010000000000 => jge x, L2, L1
+jset x , far => 004d010000000000 => jset x, L2, L1
+jne # 5 , far => 0015000100000005 => jeq #5, L1, L2
+jneq # 5 , far => 0015000100000005 => jeq #5, L1, L2
+jlt # 5 , far => 0035000100000005 => jge #5, L1, L2
+jle # 5 , far => 0025000100000005 => jgt #5, L1, L2
+jne x , far => 001d000100000000 => jeq x, L1, L2
+jneq x , far => 001d000100000000 => jeq x, L1, L2
+jlt x , far => 003d000100000000 => jge x, L1, L2
+jle x , far => 002d000100000000 => jgt x, L1, L2
+ret # 5 => 0006000000000005 => ret #5
+ret a => 0016000000000000 => ret a
+tax => 0007000000000000 => tax
+txa => 0087000000000000 => txa
+";
+
+/// Lines that are close to a spelling.
+const BAD_LINES: &str = "\
+ret x
+ret
+ret 5
+ret a, a
+ret #5 #5
+ret #len
+ret M[0]
+reta
+ret ret a
+ret a ret a
+neg x
+neg #5
+tax #5
+tax a
+txa, txa
+mov x
+add
+add a
+add [3]
+add M[3]
+add #len
+add x, x
+mod #5
+xor x
+ld
+ld 5
+ld x
+ld [x]
+ld [3+x]
+ld [x+3
+ld x+3]
+ld [x+]
+ld [x*3]
+ld [a+3]
+ld [3][3]
+ld M3
+ld M[x]
+ld M(3)
+ld len
+ld #
+ld # #5
+ldh #5
+ldb M[3]
+ldh #len
+ldx [3]
+ldx [x+3]
+ldxb #5
+ldxb M[3]
+ldxb [3]
+ldxb 4*[3]&0xf
+ldxb 4*([x+3]&0xf)
+ldxb ([3]&0xf)*4
+ldxh 4*([3]&0xf)
+st #5
+st [3]
+stx x
+ja
+ja far far
+ja #5
+jmp far, far
+";
+
+/// Lines that are close to a branch.
+const BAD_BRANCHES: &str = "\
+jeq
+jeq far
+jeq #5
+jeq #5,
+jeq #5 far
+jeq , far
+jeq a, far
+jeq M[3], far
+jeq 5, far
+jeq #5, #1
+jeq #5, 1
+jeq #5, far near
+jeq #5, far,
+jeq #5, far, near, far
+jne #5, far, near
+jneq x, far, near
+jlt x, far, near
+jle #5, far, near
+";
+
+/// Lines with letters of another case than in the table.
+const OTHER_CASES: &str = "\
+LD [3]
+Ld [3]
+LDXB 4*([3]&0xf)
+RET a
+ret A
+NEG
+ADD #5
+add X
+JEQ x, far
+jeq X, far
+JA far
+ld [X+3]
+ld m[3]
+st m[3]
+ldx #LEN
+ld #Len
+";
+
+/// Whether a token is a word; two of them side by side would be one.
+fn is_word(token: &str) -> bool {
+    token
+        .bytes()
+        .all(|octet| octet.is_ascii_alphanumeric() || octet == b'_')
+}
+
+/// Tokens with blanks in one gap, and else only where two words would run together. The gap before the
+/// first token is 0, that behind the last their number, and at a number above it there is none.
+fn with_gap(alloc: Global, tokens: &[&str], at: usize) -> Result<String, AllocError> {
+    let mut text = String::new(alloc);
+    let mut behind_word = false;
+    for (gap, token) in tokens.iter().enumerate() {
+        let word = is_word(token);
+        if gap == at || (behind_word && word) {
+            text.push_str(" ")?;
+        }
+        text.push_str(token)?;
+        behind_word = word;
+    }
+    if at == tokens.len() {
+        text.push_str(" ")?;
+    }
+    Ok(text)
+}
+
+/// Tokens with tabs and blanks in every gap and at both ends.
+fn with_all_gaps(alloc: Global, tokens: &[&str]) -> Result<String, AllocError> {
+    let mut text = String::from_str(alloc, "\t ")?;
+    for token in tokens {
+        text.push_str(token)?;
+        text.push_str("  \t \t")?;
+    }
+    Ok(text)
+}
+
+/// Asks that a line before the two instructions means these octets.
+fn expect_line(rt: &impl Abort, alloc: Global, line: &str, octets: &str) -> Result<(), Fail> {
+    let source = format!(in alloc; "{line}|near: ret #1|far: ret #2|")?;
+    let answer = format!(in alloc; "{octets} 0006000000000001 0006000000000002")?;
+    expect(rt, alloc, source.as_str(), answer.as_str())
+}
+
+/// Asks that tokens mean these octets wherever blanks stand between them.
+fn expect_tokens(rt: &impl Abort, alloc: Global, tokens: &str, octets: &str) -> Result<(), Fail> {
+    expect_line(rt, alloc, tokens, octets)?;
+    let tokens: Vec<&str> = tokens.split_whitespace().collect(alloc)?;
+    let wide = with_all_gaps(alloc, &tokens)?;
+    expect_line(rt, alloc, wide.as_str(), octets)?;
+    let narrow = with_gap(alloc, &tokens, usize::MAX)?;
+    expect_line(rt, alloc, narrow.as_str(), octets)?;
+    for at in 0..=tokens.len() {
+        let one = with_gap(alloc, &tokens, at)?;
+        expect_line(rt, alloc, one.as_str(), octets)?;
+    }
+    Ok(())
+}
+
+/// Asks that tokens are read so with a label before them too, and with a number below zero for `#5`.
+fn expect_forms(rt: &impl Abort, alloc: Global, tokens: &str, octets: &str) -> Result<(), Fail> {
+    expect_tokens(rt, alloc, tokens, octets)?;
+    let labelled = format!(in alloc; "here : {tokens}")?;
+    expect_tokens(rt, alloc, labelled.as_str(), octets)?;
+    if let Some((front, back)) = tokens.split_once("# 5") {
+        let negative = format!(in alloc; "{front}# - 4294967291{back}")?;
+        expect_tokens(rt, alloc, negative.as_str(), octets)?;
+    }
+    Ok(())
+}
+
+/// Asks that the code of tokens is listed by this spelling.
+fn expect_listed(rt: &impl Abort, alloc: Global, tokens: &str, listed: &str) -> Result<(), Fail> {
+    let source = format!(in alloc; "{tokens}\nnear: ret #1\nfar: ret #2")?;
+    let code = assemble(alloc, source.as_bytes())?;
+    let expected = format!(in alloc; "L0: {listed}\nL1: ret #1\nL2: ret #2\n")?;
+    let text = listing(alloc, &code)?;
+    assert_eq!(rt; text.as_slice(), expected.as_bytes(), "{tokens}");
+    Ok(())
+}
+
+#[test]
+fn every_spelling_is_read_with_blanks_in_any_gap_and_listed_in_one_way(
+    rt: HostRuntime,
+) -> Result<(), Fail> {
+    for row in SPELLINGS.lines() {
+        let (tokens, answers) = parts_of(row)?;
+        let (octets, listed) = parts_of(answers)?;
+        expect_forms(&rt, rt.alloc(), tokens, octets)?;
+        expect_listed(&rt, rt.alloc(), tokens, listed)?;
+    }
+    Ok(())
+}
+
+/// Asks that no line of a table is a line of the grammar, between two others that are.
+fn expect_bad_lines(rt: &impl Abort, alloc: Global, table: &str) -> Result<(), Fail> {
+    for line in table.lines() {
+        let source = format!(in alloc; "near: ret #1|{line}|far: ret #2")?;
+        expect(rt, alloc, source.as_str(), "1 BadLine 2")?;
+    }
+    Ok(())
+}
+
+#[test]
+fn what_is_close_to_a_spelling_is_a_bad_line(rt: HostRuntime) -> Result<(), Fail> {
+    expect_bad_lines(&rt, rt.alloc(), BAD_LINES)?;
+    expect_bad_lines(&rt, rt.alloc(), BAD_BRANCHES)?;
+    expect_bad_lines(&rt, rt.alloc(), OTHER_CASES)
+}
