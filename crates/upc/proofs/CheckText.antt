@@ -1,8 +1,5 @@
 -- Every input has a text of `check`, and one.
-use Rattle.std.proofs.Common.{◌≡◌, ℕ, inl, inr, List, [], ◌++◌, Option, Some, None, refl, ap, sym, ◌∙◌, subst, append-nil}
-use Rattle.bpf_asm.specs.Faults.{IsFault}
-use Rattle.bpf_asm.specs.Meaning.{IsMeaning}
-use Rattle.bpf_asm.specs.declared.fault.AsmFault.{AsmFault}
+use Rattle.std.proofs.Common.{◌≡◌, ℕ, inl, inr, List, [], Option, Some, None, refl, ap, sym, ◌∙◌, subst, append-nil}
 use Rattle.bpf_asm.proofs.CodeOrFault.{meaning-or_fault}
 use Rattle.bpf_asm.proofs.NeverBoth.{never_both}
 use Rattle.bpf_asm.proofs.OneFault.{fault_once}

@@ -14,4 +14,5 @@ pub mod Check
 pub mod CellWord
 pub mod Choice
 pub mod Said
+pub mod Subcommand
 pub mod EvalLaws

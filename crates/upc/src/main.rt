@@ -17,20 +17,20 @@ mod line;
 mod machine;
 mod outcome;
 mod stream;
+mod subcommand;
 mod taking;
 #[cfg(test)]
 mod tests;
 mod window;
 mod words;
 
-use check::check_source;
 use choose::{Choice, Stop, choose};
-use eval::eval_bytes;
 use exit::status;
 use outcome::RunFault;
 use std::io;
 use std::process::ExitCode;
 use stream::{Giving, Taking};
+use subcommand::run_subcommand;
 
 fn main(rt: HostRuntime) -> ExitCode {
     let words = match words_after_name(&rt) {
@@ -65,10 +65,7 @@ fn words_after_name(rt: &HostRuntime) -> io::Result<Vec<String>> {
 fn run(rt: &HostRuntime, choice: Choice) -> ExitCode {
     let mut input = Taking::new(rt.stdin());
     let mut output = Giving::new(rt.stdout());
-    let ended = match choice {
-        Choice::Check => check_source(rt.alloc(), &mut input, &mut output),
-        Choice::Eval => eval_bytes(rt.alloc(), &mut input, &mut output),
-    };
+    let ended = run_subcommand(rt.alloc(), choice, &mut input, &mut output);
     match ended {
         Ok(_) => ExitCode::from(status(&ended)),
         Err(fault) => failed(rt, fault),

@@ -6,11 +6,10 @@ mod rows;
 mod sources;
 mod statuses;
 
-use crate::check::check_source;
 use crate::choose::Choice;
-use crate::eval::eval_bytes;
 use crate::outcome::{Done, RunFault};
 use crate::stream::{Giving, Taking};
+use crate::subcommand::run_subcommand;
 use std::alloc::Global;
 use std::process::Abort;
 
@@ -18,10 +17,7 @@ use std::process::Abort;
 fn printed(alloc: Global, choice: Choice, input: &[u8]) -> Result<(Vec<u8>, Done), RunFault> {
     let mut source = Taking::new(input);
     let mut sink = Giving::new(Vec::new(alloc));
-    let done = match choice {
-        Choice::Check => check_source(alloc, &mut source, &mut sink)?,
-        Choice::Eval => eval_bytes(alloc, &mut source, &mut sink)?,
-    };
+    let done = run_subcommand(alloc, choice, &mut source, &mut sink)?;
     Ok((sink.writer, done))
 }
 

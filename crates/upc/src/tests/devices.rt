@@ -1,11 +1,10 @@
 //! Devices that move one octet a call, and fail at a call of one's choice.
 ghost use Rattle.std.specs.Prelude.{◌≡◌, drop};
 
-use crate::check::check_source;
 use crate::choose::Choice;
 use crate::device::{Failed, Input, Output};
-use crate::eval::eval_bytes;
 use crate::outcome::{Done, RunFault};
+use crate::subcommand::run_subcommand;
 use std::alloc::Global;
 use std::test::Fail;
 
@@ -94,10 +93,7 @@ fn run_over(
         calls: gives,
         failures: 0,
     };
-    let ended = match choice {
-        Choice::Check => check_source(alloc, &mut input, &mut output),
-        Choice::Eval => eval_bytes(alloc, &mut input, &mut output),
-    };
+    let ended = run_subcommand(alloc, choice, &mut input, &mut output);
     (ended, output.held)
 }
 

@@ -1,0 +1,40 @@
+//! The subcommand that was chosen, between two devices.
+ghost use Rattle.std.specs.Prelude.{◌≡◌, IfOk, OnErr};
+ghost use Rattle.upc.specs.Device.{Adds};
+ghost use Rattle.upc.specs.Outcome.{read_failures, write_failures};
+ghost use Rattle.upc.specs.Printing.{IsFront};
+ghost use Rattle.upc.specs.Subcommand.{IsTextOf};
+
+use crate::check::check_source;
+use crate::choose::Choice;
+use crate::device::{Input, Output};
+use crate::eval::eval_bytes;
+use crate::outcome::{Done, RunFault};
+use std::alloc::Global;
+
+/// Runs the subcommand over the whole input.
+///
+/// # Errors
+///
+/// `ReadFailed` and `WriteFailed` where that device failed, once; `NoMemory` where memory was refused.
+/// What was written is then a beginning of the text.
+pub fn run_subcommand<I: Input, O: Output>(
+    alloc: Global,
+    choice: Choice,
+    input: &mut I,
+    output: &mut O,
+) -> Result<Done, RunFault>
+    // What was written is the subcommand's text of the whole input, or a beginning of it.
+    ensures text { I.is_known → O.is_known → IfOk result (λ done.
+        Adds (λ text. IsTextOf choice (I.rest input.old) text done) (O.held output.old) (O.held output.new)) }
+    ensures front { I.is_known → O.is_known → OnErr result
+        (Adds (IsFront (IsTextOf choice (I.rest input.old))) (O.held output.old) (O.held output.new)) }
+
+    ensures reading { I.failures input.new ≡ read_failures result (I.failures input.old) }
+    ensures writing { O.failures output.new ≡ write_failures result (O.failures output.old) }
+{
+    match choice {
+        Choice::Check => check_source(alloc, input, output),
+        Choice::Eval => eval_bytes(alloc, input, output),
+    }
+}
