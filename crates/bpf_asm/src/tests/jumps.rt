@@ -81,21 +81,17 @@ fn expect_fault(rt: &impl Abort, alloc: Global, line: &str, fault: &str) -> Resu
 }
 
 #[test]
-fn a_branch_goes_over_at_most_255_instructions(rt: HostRuntime) -> Result<(), Fail> {
+fn a_branch_goes_over_at_most_255_instructions_and_a_jump_over_any_number(
+    rt: HostRuntime,
+) -> Result<(), Fail> {
     for row in BRANCHES.lines() {
         let (line, octets) = parts_of(row)?;
         expect_octets(&rt, rt.alloc(), line, 254, octets)?;
         expect_fault(&rt, rt.alloc(), line, "6 TooFar 1")?;
     }
-    Ok(())
-}
-
-#[test]
-fn a_jump_goes_over_any_number_of_instructions(rt: HostRuntime) -> Result<(), Fail> {
     expect_octets(&rt, rt.alloc(), "ja far", 254, "00050000000000ff")?;
     expect_octets(&rt, rt.alloc(), "jmp far", 255, "0005000000000100")?;
-    expect_octets(&rt, rt.alloc(), "ja far", 9999, "0005000000002710")?;
-    Ok(())
+    expect_octets(&rt, rt.alloc(), "ja far", 9999, "0005000000002710")
 }
 
 #[test]
