@@ -11,7 +11,7 @@ use crate::gathering::gather;
 use crate::giving::give_last;
 use crate::outcome::{Done, RunFault};
 use bpf_asm::{AsmFault, AsmKind, assemble};
-use bpf_code::{EncodeFault, Instr, encode};
+use bpf_code::{Instr, encode};
 use bpf_verify::verify;
 use std::alloc::{AllocError, Global};
 

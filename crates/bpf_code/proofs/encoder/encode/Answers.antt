@@ -1,5 +1,4 @@
 -- One instruction more is spelled.
-use Rattle.std.proofs.Common.{◌∙◌}
 use Rattle.bpf_code.proofs.Plainly.{octets-step, plainly-step}
 use Rattle.bpf_code.proofs.encoder.encode.Goals as goal
 
