@@ -9,3 +9,4 @@ pub mod Printing
 pub mod Answering
 pub mod Gathered
 pub mod inner
+pub mod examples

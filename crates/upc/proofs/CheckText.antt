@@ -1,5 +1,5 @@
 -- Every input has a text of `check`, and one.
-use Rattle.std.proofs.Common.{◌≡◌, ℕ, inl, inr, List, [], Option, Some, None, refl, ap, sym, ◌∙◌, subst}
+use Rattle.std.proofs.Common.{◌≡◌, ℕ, ◌+◌, ◌≤◌, inl, inr, List, [], ◌++◌, Option, Some, None, length, refl, ap, sym, ◌∙◌, subst, arith, append-nil, nat_lt, if◌then◌else◌}
 use Rattle.bpf_asm.proofs.CodeOrFault.{meaning-or_fault}
 use Rattle.bpf_asm.proofs.NeverBoth.{never_both}
 use Rattle.bpf_asm.proofs.OneFault.{fault_once}
@@ -10,7 +10,9 @@ use Rattle.upc.specs.Program.{Reading, is_program, is_refused, ChecksAs}
 use Rattle.upc.specs.inner.EvalLaws.{checks-as}
 use Rattle.upc.proofs.OneText.{checks-once}
 use Rattle.upc.specs.FaultLines.{asm_fault, too_long}
-use Rattle.dialogue.specs.Gathered.{gathered}
+use Rattle.dialogue.specs.Devices.{TakesEnough}
+use Rattle.dialogue.specs.Gathered.{gathered, LeavesBehind}
+use Rattle.dialogue.specs.Limits.{most_ahead}
 use Rattle.dialogue.specs.declared.outcome.Done.{Done}
 use Rattle.dialogue.specs.declared.outcome.Done.TheVariants.{Whole, Ended}
 
@@ -69,3 +71,21 @@ found-same (Some source) text text' done done' p q = source-same source text tex
 
 pub one-check_text : (octets one other : List ℕ) (ends other_ends : Done) → IsCheckText octets one ends → IsCheckText octets other other_ends → (one ≡ other) × (ends ≡ other_ends)
 one-check_text octets one other ends other_ends p q = found-same (gathered most_source octets) one other ends other_ends p q
+
+-- an input over the limit is told by its beginning that is over it
+gathered-none : (octets : List ℕ) → length octets ≡ most_source + 1 → gathered most_source octets ≡ None
+gathered-none octets sized =
+    ap (λ n. if nat_lt most_source n then None else Some octets) sized
+
+-- what was taken is enough for the answer
+pub enough : (octets left : List ℕ) (found : Option (List ℕ)) (text : List ℕ) (done : Done) → found ≡ gathered most_source octets
+    → LeavesBehind most_source found octets left → Tells found text done
+    → TakesEnough (λ needed. (told : List ℕ) × IsCheckText needed told done) most_ahead octets left
+enough octets left None text done is behind tells =
+    let P : Option (List ℕ) → Type 0 = λ found. Tells found text done in
+    let none : length {A = ℕ} [] ≤ most_ahead = omega arith in
+    (behind.0, [], behind.1, none, (text, subst P (sym (gathered-none behind.0 behind.2)) tells))
+enough octets left (Some source) text done is behind tells =
+    let P : Option (List ℕ) → Type 0 = λ found. Tells found text done in
+    let none : length {A = ℕ} [] ≤ most_ahead = omega arith in
+    (octets, [], sym (append-nil octets) ∙ ap (λ xs. octets ++ xs) (sym behind), none, (text, subst P is tells))

@@ -3,3 +3,4 @@ pub mod Choosing
 pub mod PlainWords
 pub mod OneText
 pub mod CheckText
+pub mod Texts

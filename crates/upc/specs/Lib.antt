@@ -7,4 +7,5 @@ pub mod Check
 pub mod Choice
 pub mod Subcommand
 pub mod Outcome
+pub mod Invocation
 pub mod inner

@@ -1,7 +1,8 @@
 //! `upc check`: a source of assembly, and the octets of its program.
-ghost use Rattle.std.specs.Prelude.{IfOk, OnOk, OnErr, option_map, ◌≡◌, ◌++◌};
+ghost use Rattle.std.specs.Prelude.{IfOk, OnOk, OnErr, option_map, ◌≡◌, ◌++◌, ℕ, List, [], Ok};
 ghost use Rattle.upc.specs.Check.{IsCheckText, Tells, TellsCode, TellsSource, accepted_text};
-ghost use Rattle.dialogue.specs.Devices.{Adds};
+ghost use Rattle.dialogue.specs.Devices.{Adds, TakesEnough};
+ghost use Rattle.dialogue.specs.Limits.{most_ahead};
 ghost use Rattle.dialogue.specs.Outcome.{read_failures, write_failures};
 ghost use Rattle.dialogue.specs.Printing.{IsFront};
 
@@ -95,6 +96,11 @@ pub fn check_source<I: Input, O: Output>(
         Adds (λ text. IsCheckText (I.rest input.old) text done) (O.held output.old) (O.held output.new)) }
     ensures front { I.is_known → O.is_known → OnErr result
         (Adds (IsFront (IsCheckText (I.rest input.old))) (O.held output.old) (O.held output.new)) }
+
+    // No more of the input was taken than what had to be answered, and what a window holds.
+    ensures left { I.is_known → IfOk result (λ done. TakesEnough
+        (λ octets. (text : List ℕ) × IsCheckText octets text done) most_ahead (I.rest input.old) (I.rest input.new)) }
+    ensures whole { I.is_known → result ≡ Ok Done.Whole → I.rest input.new ≡ [] }
 
     ensures reading { I.failures input.new ≡ read_failures result (I.failures input.old) }
     ensures writing { O.failures output.new ≡ write_failures result (O.failures output.old) }

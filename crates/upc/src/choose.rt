@@ -86,7 +86,9 @@ fn own_command<'a>(alloc: Global) -> Result<Command<'a>, AllocError>
 fn bare_command<'a>(alloc: Global) -> Command<'a>
     ensures { app_of result ≡ new_app (codes "upc") }
 {
-    Command::new(alloc, "upc").about("Usage parameter control of ATM cells by BPF programs")
+    Command::new(alloc, "upc")
+        .about("Usage parameter control of ATM cells by BPF programs")
+        .after_help("Without a word upc does what `upc eval` does. All read standard input, to its end.")
 }
 
 #[tactic(auto, unfolding(crate::specs::Choice::with_name))]

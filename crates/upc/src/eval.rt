@@ -1,6 +1,7 @@
 //! `upc eval`: one program, and its value on each cell.
-ghost use Rattle.std.specs.Prelude.{◌≡◌, ◌∷◌, ◌++◌, [], Some, IfOk, OnOk, OnErr, option_map};
-ghost use Rattle.dialogue.specs.Devices.{Adds};
+ghost use Rattle.std.specs.Prelude.{◌≡◌, ◌∷◌, ◌++◌, [], Some, IfOk, OnOk, OnErr, option_map, ℕ, List, Ok};
+ghost use Rattle.dialogue.specs.Devices.{Adds, TakesEnough};
+ghost use Rattle.dialogue.specs.Limits.{most_ahead};
 ghost use Rattle.upc.specs.Eval.{CellLine, ProgramLine, IsEvalText};
 ghost use Rattle.dialogue.specs.Outcome.{read_failures, write_failures};
 ghost use Rattle.dialogue.specs.Printing.{IsFront};
@@ -138,6 +139,11 @@ pub fn eval_bytes<I: Input, O: Output>(
         Adds (λ text. IsEvalText (I.rest input.old) text done) (O.held output.old) (O.held output.new)) }
     ensures front { I.is_known → O.is_known → OnErr result
         (Adds (IsFront (IsEvalText (I.rest input.old))) (O.held output.old) (O.held output.new)) }
+
+    // No more of the input was taken than what had to be answered, and what a window holds.
+    ensures left { I.is_known → IfOk result (λ done. TakesEnough
+        (λ octets. (text : List ℕ) × IsEvalText octets text done) most_ahead (I.rest input.old) (I.rest input.new)) }
+    ensures whole { I.is_known → result ≡ Ok Done.Whole → I.rest input.new ≡ [] }
 
     ensures reading { I.failures input.new ≡ read_failures result (I.failures input.old) }
     ensures writing { O.failures output.new ≡ write_failures result (O.failures output.old) }

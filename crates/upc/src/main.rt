@@ -8,6 +8,7 @@ mod choose;
 mod eval;
 mod exit;
 mod hexadecimal;
+mod invocation;
 mod laws;
 mod program;
 mod subcommand;
@@ -15,54 +16,49 @@ mod subcommand;
 mod tests;
 
 use choose::{Choice, Stop, choose};
-use dialogue::{Giving, RunFault, Taking};
-use exit::status;
-use std::io;
+use dialogue::{Giving, Taking};
+use invocation::carry_out;
+use std::io::{self, IsTerminal};
 use std::process::ExitCode;
-use subcommand::run_subcommand;
 
 fn main(rt: HostRuntime) -> ExitCode {
-    let words = match words_after_name(&rt) {
-        Ok(words) => words,
-        Err(error) if error.kind() == io::ErrorKind::InvalidData => {
-            let _ = eprintln!(rt; "error: a word is not UTF-8");
-            return ExitCode::from(2);
-        }
-        Err(_) => return failed(&rt, RunFault::NoMemory),
+    let chosen = match words_after_name(&rt) {
+        Ok(words) => choose(rt.alloc(), words),
+        Err(_) => Err(Stop::NoMemory),
     };
-    match choose(rt.alloc(), words) {
-        Ok(choice) => run(&rt, choice),
-        Err(Stop::Help(text)) => match print!(rt; "{text}") {
-            Ok(()) => ExitCode::SUCCESS,
-            Err(_) => failed(&rt, RunFault::WriteFailed),
-        },
-        Err(Stop::Words(text)) => {
-            let _ = eprint!(rt; "{text}");
-            ExitCode::from(2)
-        }
-        Err(Stop::NoMemory) => failed(&rt, RunFault::NoMemory),
+    if let Ok(choice) = chosen && rt.stdin().is_terminal() {
+        let _ = eprintln!(rt; "{}", awaited(choice));
     }
-}
-
-/// The words behind the program's own name.
-fn words_after_name(rt: &HostRuntime) -> io::Result<Vec<String>> {
-    let words = std::env::args(rt)?.skip(1).collect(rt.alloc())?;
-    Ok(words)
-}
-
-/// Runs a subcommand over the standard streams, which the program itself buffers.
-fn run(rt: &HostRuntime, choice: Choice) -> ExitCode {
     let mut input = Taking::new(rt.stdin());
     let mut output = Giving::new(rt.stdout());
-    let ended = run_subcommand(rt.alloc(), choice, &mut input, &mut output);
-    match ended {
-        Ok(_) => ExitCode::from(status(&ended)),
-        Err(fault) => failed(rt, fault),
+    let mut errors = Giving::new(rt.stderr());
+    ExitCode::from(carry_out(
+        rt.alloc(),
+        chosen,
+        &mut input,
+        &mut output,
+        &mut errors,
+    ))
+}
+
+/// The words behind the program's own name. Where one of them isn't UTF-8, the replacement character
+/// stands for them all: it is no subcommand, and is refused as other words are.
+fn words_after_name(rt: &HostRuntime) -> io::Result<Vec<String>> {
+    match std::env::args(rt) {
+        Ok(words) => Ok(words.skip(1).collect(rt.alloc())?),
+        Err(error) if error.kind() == io::ErrorKind::InvalidData => {
+            let mut words = Vec::new(rt.alloc());
+            words.push(String::from_str(rt.alloc(), "\u{fffd}")?)?;
+            Ok(words)
+        }
+        Err(error) => Err(error),
     }
 }
 
-/// Says on the standard error why a call failed.
-fn failed(rt: &HostRuntime, fault: RunFault) -> ExitCode {
-    let _ = eprintln!(rt; "upc: {fault}");
-    ExitCode::from(status(&Err(fault)))
+/// What is awaited from a terminal, which says so nowhere else.
+fn awaited(choice: Choice) -> &'static str {
+    match choice {
+        Choice::Check => "upc check: reading the source of a program from the terminal, to its end",
+        Choice::Eval => "upc eval: reading a program and cells from the terminal, a line each, to the end",
+    }
 }

@@ -1,0 +1,2 @@
+-- What the tests' machines cite.
+pub mod Parity

@@ -1,0 +1,6 @@
+-- By the text of each.
+use Rattle.upc.proofs.Texts.{some-text_of}
+use Rattle.upc.proofs.laws.an_input_has_a_text.Goals as goal
+
+pub returns : goal.returns
+returns c = some-text_of

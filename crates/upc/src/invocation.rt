@@ -1,0 +1,79 @@
+//! The choice that the words came to, carried out between three devices, with the exit status.
+ghost use Rattle.std.specs.Prelude.{◌≡◌, ◌⊎◌, ◌++◌, OnOk, OnErr, IfOk};
+ghost use Rattle.dialogue.specs.Devices.{IsPart, one_more};
+ghost use Rattle.upc.specs.Invocation.{CarriesOut, IsStatusFor, failure_line};
+
+use crate::choose::{Choice, Stop};
+use crate::exit::status;
+use crate::subcommand::run_subcommand;
+use dialogue::{Input, Output, RunFault, give_all};
+use std::alloc::Global;
+
+/// The line that tells why a run failed.
+fn line_of(fault: RunFault) -> &'static [u8]
+    ensures { result.now ≡ failure_line fault }
+{
+    match fault {
+        RunFault::ReadFailed => b"upc: reading failed\n",
+        RunFault::WriteFailed => b"upc: writing failed\n",
+        RunFault::NoMemory => b"upc: out of memory\n",
+    }
+}
+
+/// Tells a text. That this failed too can be told nowhere.
+fn tell<E: Output>(errors: &mut E, text: &[u8])
+    ensures { E.is_known → (E.held errors.new ≡ E.held errors.old ++ text.now)
+        ⊎ (IsPart (E.held errors.old) (E.held errors.new) text.now
+        × (E.failures errors.new ≡ one_more (E.failures errors.old))) }
+{
+    let _ = give_all(errors, text);
+}
+
+/// Tells why a run failed, and gives its exit status.
+fn tell_failure<E: Output>(errors: &mut E, fault: RunFault) -> u8
+    ensures status { result ≡ 3 }
+    ensures told { E.is_known → (E.held errors.new ≡ E.held errors.old ++ failure_line fault)
+        ⊎ (IsPart (E.held errors.old) (E.held errors.new) (failure_line fault)
+        × (E.failures errors.new ≡ one_more (E.failures errors.old))) }
+{
+    tell(errors, line_of(fault));
+    status(&Err(fault))
+}
+
+/// Carries out what the words came to, and gives the exit status: the subcommand is run; help is written;
+/// what was wrong with the words is told, and so is a failure.
+pub fn carry_out<I: Input, O: Output, E: Output>(
+    alloc: Global,
+    chosen: Result<Choice, Stop>,
+    input: &mut I,
+    output: &mut O,
+    errors: &mut E,
+) -> u8
+    ensures carried { I.is_known → O.is_known → E.is_known → CarriesOut chosen
+        (record {
+          input = I.rest input.old; left = I.rest input.new;
+          before = O.held output.old; after = O.held output.new;
+          silence = E.held errors.old; said = E.held errors.new;
+          failures = E.failures errors.old; failures' = E.failures errors.new;
+        }) result }
+    ensures status { IsStatusFor chosen result }
+{
+    match chosen {
+        Ok(choice) => {
+            let ended = run_subcommand(alloc, choice, input, output);
+            match ended {
+                Ok(_) => status(&ended),
+                Err(fault) => tell_failure(errors, fault),
+            }
+        }
+        Err(Stop::Help(text)) => match give_all(output, text.as_bytes()) {
+            Ok(()) => 0,
+            Err(_) => tell_failure(errors, RunFault::WriteFailed),
+        },
+        Err(Stop::Words(text)) => {
+            tell(errors, text.as_bytes());
+            2
+        }
+        Err(Stop::NoMemory) => tell_failure(errors, RunFault::NoMemory),
+    }
+}
