@@ -88,7 +88,9 @@ fn bare_command<'a>(alloc: Global) -> Command<'a>
 {
     Command::new(alloc, "upc")
         .about("Usage parameter control of ATM cells by BPF programs")
-        .after_help("Without a word upc does what `upc eval` does. All read standard input, to its end.")
+        .after_help(
+            "Without a word upc does what `upc eval` does. All read standard input, to its end.",
+        )
 }
 
 #[tactic(auto, unfolding(crate::specs::Choice::with_name))]

@@ -51,10 +51,14 @@ pub fn carry_out<I: Input, O: Output, E: Output>(
 ) -> u8
     ensures carried { I.is_known → O.is_known → E.is_known → CarriesOut chosen
         (record {
-          input = I.rest input.old; left = I.rest input.new;
-          before = O.held output.old; after = O.held output.new;
-          silence = E.held errors.old; said = E.held errors.new;
-          failures = E.failures errors.old; failures' = E.failures errors.new;
+          input = I.rest input.old;
+          left = I.rest input.new;
+          before = O.held output.old;
+          after = O.held output.new;
+          silence = E.held errors.old;
+          said = E.held errors.new;
+          failures = E.failures errors.old;
+          failures' = E.failures errors.new;
         }) result }
     ensures status { IsStatusFor chosen result }
 {

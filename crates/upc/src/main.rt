@@ -26,19 +26,15 @@ fn main(rt: HostRuntime) -> ExitCode {
         Ok(words) => choose(rt.alloc(), words),
         Err(_) => Err(Stop::NoMemory),
     };
-    if let Ok(choice) = chosen && rt.stdin().is_terminal() {
+    if let Ok(choice) = chosen
+        && rt.stdin().is_terminal()
+    {
         let _ = eprintln!(rt; "{}", awaited(choice));
     }
     let mut input = Taking::new(rt.stdin());
     let mut output = Giving::new(rt.stdout());
     let mut errors = Giving::new(rt.stderr());
-    ExitCode::from(carry_out(
-        rt.alloc(),
-        chosen,
-        &mut input,
-        &mut output,
-        &mut errors,
-    ))
+    ExitCode::from(carry_out(rt.alloc(), chosen, &mut input, &mut output, &mut errors))
 }
 
 /// The words behind the program's own name. Where one of them isn't UTF-8, the replacement character
@@ -59,6 +55,7 @@ fn words_after_name(rt: &HostRuntime) -> io::Result<Vec<String>> {
 fn awaited(choice: Choice) -> &'static str {
     match choice {
         Choice::Check => "upc check: reading the source of a program from the terminal, to its end",
-        Choice::Eval => "upc eval: reading a program and cells from the terminal, a line each, to the end",
+        Choice::Eval =>
+            "upc eval: reading a program and cells from the terminal, a line each, to the end",
     }
 }

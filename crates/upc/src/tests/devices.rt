@@ -19,10 +19,20 @@ const CHECKED: &[u8; 44] = b"accepted 2\n0007000000000000000600000000012c\n";
 
 /// Gives one octet a call, and fails once so many calls have gone well.
 #[derive(Drop)]
-struct Dropper<'a> {
+pub struct Dropper<'a> {
     octets: &'a [u8],
     calls: usize,
     failures: u64,
+}
+
+impl<'a> Dropper<'a> {
+    pub fn new(octets: &'a [u8], calls: usize) -> Dropper<'a> {
+        Dropper {
+            octets,
+            calls,
+            failures: 0,
+        }
+    }
 }
 
 impl Input for Dropper<'_> {
@@ -48,10 +58,20 @@ impl Input for Dropper<'_> {
 
 /// Takes one octet a call, and fails once so many calls have gone well.
 #[derive(Drop)]
-struct Catcher {
-    held: Vec<u8>,
+pub struct Catcher {
+    pub held: Vec<u8>,
     calls: usize,
     failures: u64,
+}
+
+impl Catcher {
+    pub fn new(alloc: Global, calls: usize) -> Catcher {
+        Catcher {
+            held: Vec::new(alloc),
+            calls,
+            failures: 0,
+        }
+    }
 }
 
 impl Output for Catcher {
@@ -82,16 +102,8 @@ fn run_over(
     takes: usize,
     gives: usize,
 ) -> (Result<Done, RunFault>, Vec<u8>) {
-    let mut input = Dropper {
-        octets,
-        calls: takes,
-        failures: 0,
-    };
-    let mut output = Catcher {
-        held: Vec::new(alloc),
-        calls: gives,
-        failures: 0,
-    };
+    let mut input = Dropper::new(octets, takes);
+    let mut output = Catcher::new(alloc, gives);
     let ended = run_subcommand(alloc, choice, &mut input, &mut output);
     (ended, output.held)
 }
