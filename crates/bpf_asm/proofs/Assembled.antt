@@ -17,10 +17,6 @@ pub if_err : {A E : Type 0} (r : Result A E) (P Q : E → Type 0) → ((e : E) �
 if_err (Ok v) P Q f h = tt
 if_err (Err e) P Q f h = f e h
 
--- what is pending in lines that are these
-pub pending_in : (given items : List Said) (pending : Option ℕ) → given ≡ items → IsPending (map line_seen given) pending → IsPending (map line_seen items) pending
-pending_in given items pending e p = subst (λ (xs : List Said). IsPending (map line_seen xs) pending) e p
-
 -- the meaning
 pub means_source : (source : List ℕ) (lines : List Line) (code : List Instr) → AreLines (lines_of source) lines → EachLabelOnce lines → IsPending lines None → MeanFrom lines 0 (statements_of lines) code → IsMeaning source code
 means_source source lines code said once none meant = record { lines = lines; said = said; mean = record { once = once; followed = none; meant = meant } }

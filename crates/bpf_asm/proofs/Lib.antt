@@ -7,6 +7,8 @@ pub mod Agreement
 pub mod Sources
 pub mod PendingSteps
 pub mod Resolving
+pub mod DraftSteps
+pub mod ResolvedTo
 pub mod Assembled
 pub mod NoFaulty
 pub mod NeverBoth

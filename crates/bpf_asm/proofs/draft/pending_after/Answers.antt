@@ -2,7 +2,7 @@ use Rattle.std.proofs.Common.{sym, ap}
 use Rattle.std.specs.Option.{option_copied, option_map}
 use Rattle.bpf_asm.specs.Seen.{line_seen, statement_seen}
 use Rattle.bpf_asm.proofs.PendingSteps.{pending_at, pending_kept, pending_new, pending_none, pending_plain}
-use Rattle.bpf_asm.proofs.resolver.pending_after.Goals as goal
+use Rattle.bpf_asm.proofs.draft.pending_after.Goals as goal
 
 pub returns-in-Some : goal.returns-in-Some
 returns-in-Some c = λ before n p. pending_none before (line_seen c.args.said.now) _ (ap (option_map statement_seen) c.in-Some.is)
