@@ -3,3 +3,5 @@ pub mod Spelled
 pub mod Fronts
 pub mod Total
 pub mod Plainly
+pub mod OneFault
+pub mod Written
