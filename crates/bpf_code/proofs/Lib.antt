@@ -4,4 +4,5 @@ pub mod Fronts
 pub mod Total
 pub mod Plainly
 pub mod OneFault
+pub mod Public
 pub mod Written
