@@ -6,3 +6,4 @@ pub mod Plainly
 pub mod OneFault
 pub mod Public
 pub mod Written
+pub mod Earlier

@@ -12,7 +12,7 @@ use Rattle.bpf_code.specs.Widths.{FitsFields}
 use Rattle.bpf_code.specs.declared.instr.By.TheVariants.{Imm, X}
 use Rattle.bpf_code.specs.declared.instr.Instr.{Instr}
 use Rattle.bpf_code.specs.declared.instr.Instr.TheVariants.{LoadAbs, LoadInd, LoadImm, LoadMem, LoadLen, LdxImm, LdxMem, LdxLen, LdxMsh, Store, StoreX, Alu, Neg, Jump, Branch, RetK, RetA, Tax, Txa}
-use Rattle.bpf_code.specs.declared.instr.Op.TheVariants.{Add, Sub, Mul, Div, Or, And, Lsh, Rsh}
+use Rattle.bpf_code.specs.declared.instr.Op.TheVariants.{Add, Sub, Mul, Div, Or, And, Lsh, Rsh, Mod, Xor}
 use Rattle.bpf_code.specs.declared.instr.Size.TheVariants.{Word, Half, Octet}
 use Rattle.bpf_code.specs.declared.instr.Test.TheVariants.{Eq, Gt, Ge, Set}
 
@@ -41,6 +41,8 @@ code_small (Alu Or (Imm k)) = lit< tt
 code_small (Alu And (Imm k)) = lit< tt
 code_small (Alu Lsh (Imm k)) = lit< tt
 code_small (Alu Rsh (Imm k)) = lit< tt
+code_small (Alu Mod (Imm k)) = lit< tt
+code_small (Alu Xor (Imm k)) = lit< tt
 code_small (Alu Add X) = lit< tt
 code_small (Alu Sub X) = lit< tt
 code_small (Alu Mul X) = lit< tt
@@ -49,6 +51,8 @@ code_small (Alu Or X) = lit< tt
 code_small (Alu And X) = lit< tt
 code_small (Alu Lsh X) = lit< tt
 code_small (Alu Rsh X) = lit< tt
+code_small (Alu Mod X) = lit< tt
+code_small (Alu Xor X) = lit< tt
 code_small Neg = lit< tt
 code_small (Jump k) = lit< tt
 code_small (Branch Eq (Imm k) jt jf) = lit< tt

@@ -1,4 +1,5 @@
 pub mod Decoding
+pub mod EarlierTable
 pub mod Encoding
 pub mod Fields
 pub mod Flow

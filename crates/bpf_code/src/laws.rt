@@ -2,6 +2,7 @@
 
 ghost use Rattle.std.specs.Prelude.{◌≡◌, ◌≢◌, ◌⊎◌, ℕ, List};
 ghost use Rattle.bpf_code.specs.Decoding.{IsFaultOf};
+ghost use Rattle.bpf_code.specs.EarlierTable.{SpelledCodeEarlier};
 ghost use Rattle.bpf_code.specs.Encoding.{code_octets};
 ghost use Rattle.bpf_code.specs.Flow.{StandsAt};
 ghost use Rattle.bpf_code.specs.Spelling.{SpellsCode, SpellsPlainly};
@@ -47,4 +48,11 @@ pub fn octets_have_one_fault()
 pub fn written_octets_spell_their_code()
     ensures { (code : List Instr) → ((place : ℕ) (i : Instr) → StandsAt code place i → FitsFields i)
         → SpellsPlainly (code_octets code) code }
+{}
+
+/// Octets that spelled a code before the operations mod and xor joined the instruction table spell that
+/// code, and no other.
+pub fn earlier_codes_are_spelled_as_before()
+    ensures { (octets : List ℕ) (code : List Instr) → SpelledCodeEarlier octets code
+        → SpellsCode octets code × ((other : List Instr) → SpellsCode octets other → other ≡ code) }
 {}

@@ -28,7 +28,7 @@ fn branch(test: Test, by: By) -> Instr {
 }
 
 /// The low octet of each code of the instruction table, and its instruction.
-fn table() -> [(u8, Instr); 45] {
+fn table() -> [(u8, Instr); 49] {
     [
         (0x20, load_abs(Size::Word)),
         (0x28, load_abs(Size::Half)),
@@ -53,6 +53,8 @@ fn table() -> [(u8, Instr); 45] {
         (0x54, alu(Op::And, IMM)),
         (0x64, alu(Op::Lsh, IMM)),
         (0x74, alu(Op::Rsh, IMM)),
+        (0x94, alu(Op::Mod, IMM)),
+        (0xa4, alu(Op::Xor, IMM)),
         (0x0c, alu(Op::Add, By::X)),
         (0x1c, alu(Op::Sub, By::X)),
         (0x2c, alu(Op::Mul, By::X)),
@@ -61,6 +63,8 @@ fn table() -> [(u8, Instr); 45] {
         (0x5c, alu(Op::And, By::X)),
         (0x6c, alu(Op::Lsh, By::X)),
         (0x7c, alu(Op::Rsh, By::X)),
+        (0x9c, alu(Op::Mod, By::X)),
+        (0xac, alu(Op::Xor, By::X)),
         (0x84, Instr::Neg),
         (0x05, Instr::Jump(K)),
         (0x15, branch(Test::Eq, IMM)),
@@ -97,7 +101,7 @@ fn no_other_code_is_known(rt: HostRuntime) {
             }
         }
     }
-    assert_eq!(rt; known, 45);
+    assert_eq!(rt; known, 49);
 }
 
 #[test]

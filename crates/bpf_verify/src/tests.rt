@@ -88,6 +88,10 @@ fn each_fault_of_an_instruction_has_its_place(rt: HostRuntime) -> Result<(), Fai
             Fault::ZeroDivisor { at: 0 },
         ),
         (
+            vec![in alloc; alu(Op::Mod, By::Imm(0)), Instr::RetK(1)]?,
+            Fault::ZeroDivisor { at: 0 },
+        ),
+        (
             vec![in alloc; alu(Op::Lsh, By::Imm(32)), Instr::RetA]?,
             Fault::BadShift { at: 0 },
         ),
@@ -148,6 +152,12 @@ fn accepted_codes_are_handed_through(rt: HostRuntime) -> Result<(), Fail> {
         vec![in alloc; Instr::RetK(0), Instr::LoadMem(3), Instr::RetA]?,
         // A division by X is the machine's matter.
         vec![in alloc; Instr::LdxImm(0), alu(Op::Div, By::X), Instr::RetK(1)]?,
+        vec![in alloc; Instr::LdxImm(0), alu(Op::Mod, By::X), Instr::RetK(1)]?,
+        vec![in alloc;
+            alu(Op::Mod, By::Imm(7)),
+            alu(Op::Xor, By::Imm(0)),
+            Instr::RetA,
+        ]?,
     ] {
         let copy = code.clone()?;
         match verify(code) {
