@@ -36,6 +36,8 @@ fn op_text(op: Op) -> &'static [u8]
         Op::And => b"and",
         Op::Lsh => b"lsh",
         Op::Rsh => b"rsh",
+        Op::Mod => b"mod",
+        Op::Xor => b"xor",
     }
 }
 
