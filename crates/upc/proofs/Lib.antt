@@ -1,9 +1,3 @@
-pub mod Ranges
-pub mod WindowLemmas
-pub mod LinesLemmas
-pub mod PrintingLemmas
-pub mod DriverLemmas
-pub mod WordsLemmas
 pub mod HexadecimalLemmas
 pub mod Choosing
 pub mod PlainWords

@@ -11,14 +11,17 @@ use Rattle.bpf_code.specs.declared.instr.Instr.{Instr}
 use Rattle.bpf_code.proofs.Public.{SpellsCode-unique, SpellsCode-length, SpellsCode-at}
 use Rattle.bpf_verify.proofs.Public.{one_comes_first, refused-from_fault}
 use Rattle.bpf_interp.proofs.Public.{Value-unique}
-use Rattle.upc.specs.Lines.{Line, lines_of, said, is_over}
-use Rattle.upc.specs.Printing.{Prints, too_long}
-use Rattle.upc.specs.Eval.{World, EndsBy, ChecksCode, ReadsProgram, ProgramLine, TellsValue, RunsOn, CellLine, Asks, EvalSteps, EvalCloses, IsEvalText}
+use Rattle.dialogue.specs.Lines.{lines_of}
+use Rattle.dialogue.specs.Printing.{IsFunctional}
+use Rattle.dialogue.proofs.Public.{one-text, some-text}
+use Rattle.upc.specs.Eval.{World, EndsBy, TellsReading, ReadsProgram, ProgramLine, TellsValue, RunsOn, CellLine, Asks, EvalSteps, EvalCloses, IsEvalText, eval_rules}
+use Rattle.upc.specs.Program.{Reading, is_program, is_refused, ChecksAs, ReadsAs}
+use Rattle.upc.specs.inner.EvalLaws.{eval-total}
 use Rattle.upc.specs.FaultLines.{line, bad_line, bad_hex, verify_fault, decode_fault, wrong_length}
 use Rattle.upc.specs.Hexadecimal.{octets_of, cell_of}
-use Rattle.upc.specs.Words.{words_of, is_silent}
-use Rattle.upc.specs.declared.outcome.Done.{Done}
-use Rattle.upc.specs.declared.outcome.Done.TheVariants.{Ended}
+use Rattle.dialogue.specs.Words.{words_of, is_silent}
+use Rattle.dialogue.specs.declared.outcome.Done.{Done}
+use Rattle.dialogue.specs.declared.outcome.Done.TheVariants.{Ended}
 
 -- one text, and one world after it
 abbrev Same : List ℕ → List ℕ → Option World → Option World → Type 0
@@ -56,23 +59,33 @@ one-fault octets (UnknownCode at code) NoMemory r s p q = absurd (s refl)
 ends-same : (fault text text' : List ℕ) (next next' : Option World) → EndsBy fault text next → EndsBy fault text' next' → Same text text' next next'
 ends-same fault text text' next next' p q = (p.0 ∙ sym q.0, p.1 ∙ sym q.1)
 
-checks-same : (code : List Instr) (text text' : List ℕ) (next next' : Option World) → ChecksCode code text next → ChecksCode code text' next' → Same text text' next next'
-checks-same code text text' next next' (inl p) (inl q) = (p.1 ∙ sym q.1, p.2 ∙ sym q.2)
-checks-same code text text' next next' (inl p) (inr q) = absurd (refused-from_fault code q.0 q.1 p.0)
-checks-same code text text' next next' (inr p) (inl q) = absurd (refused-from_fault code p.0 p.1 q.0)
-checks-same code text text' next next' (inr p) (inr q) =
-    let same = one_comes_first code p.0 q.0 p.1 q.1 in
-    (p.2.0 ∙ ap verify_fault same ∙ sym q.2.0, p.2.1 ∙ sym q.2.1)
+-- a code is read in one way
+pub checks-once : (code : List Instr) (one other : Reading) → ChecksAs code one → ChecksAs code other → one ≡ other
+checks-once code (is_program one) (is_program other) p q = ap (λ c. is_program c) (p.1 ∙ sym q.1)
+checks-once code (is_program one) (is_refused other) p q = absurd (refused-from_fault code q.0 q.1 p.0)
+checks-once code (is_refused one) (is_program other) p q = absurd (refused-from_fault code p.0 p.1 q.0)
+checks-once code (is_refused one) (is_refused other) p q =
+    ap (λ t. is_refused t) (p.2 ∙ ap verify_fault (one_comes_first code p.0 q.0 p.1 q.1) ∙ sym q.2)
+
+-- and so are any octets
+pub reads-once : (octets : List ℕ) (one other : Reading) → ReadsAs octets one → ReadsAs octets other → one ≡ other
+reads-once octets one other (inl p) (inl q) =
+    let P : List Instr → Type 0 = λ code. ChecksAs code other in
+    checks-once p.0 one other p.2 (subst P (SpellsCode-unique octets q.0 p.0 q.1 p.1) q.2)
+reads-once octets one other (inl p) (inr q) = absurd (no-fault octets p.0 q.0 p.1 q.1 q.2)
+reads-once octets one other (inr p) (inl q) = absurd (no-fault octets q.0 p.0 q.1 p.1 p.2)
+reads-once octets one other (inr p) (inr q) =
+    let same = one-fault octets p.0 q.0 p.1 q.1 p.2 q.2 in
+    p.3 ∙ ap (λ f. is_refused (decode_fault f)) same ∙ sym q.3
+
+told-once : (reading : Reading) (text text' : List ℕ) (next next' : Option World) → TellsReading reading text next → TellsReading reading text' next' → Same text text' next next'
+told-once (is_program code) text text' next next' p q = (p.0 ∙ sym q.0, p.1 ∙ sym q.1)
+told-once (is_refused fault) text text' next next' p q = ends-same fault text text' next next' p q
 
 reads-same : (octets text text' : List ℕ) (next next' : Option World) → ReadsProgram octets text next → ReadsProgram octets text' next' → Same text text' next next'
-reads-same octets text text' next next' (inl p) (inl q) =
-    let P : List Instr → Type 0 = λ code. ChecksCode code text' next' in
-    checks-same p.0 text text' next next' p.2 (subst P (SpellsCode-unique octets q.0 p.0 q.1 p.1) q.2)
-reads-same octets text text' next next' (inl p) (inr q) = absurd (no-fault octets p.0 q.0 p.1 q.1 q.2)
-reads-same octets text text' next next' (inr p) (inl q) = absurd (no-fault octets q.0 p.0 q.1 p.1 p.2)
-reads-same octets text text' next next' (inr p) (inr q) =
-    let same = one-fault octets p.0 q.0 p.1 q.1 p.2 q.2 in
-    (p.3.0 ∙ ap decode_fault same ∙ sym q.3.0, p.3.1 ∙ sym q.3.1)
+reads-same octets text text' next next' p q =
+    let P : Reading → Type 0 = λ reading. TellsReading reading text' next' in
+    told-once p.0 text text' next next' p.2 (subst P (reads-once octets q.0 p.0 q.1 p.1) q.2)
 
 word-same : (octets : Option (List ℕ)) (text text' : List ℕ) (next next' : Option World)
     → MatchOption octets (EndsBy bad_hex text next) (λ found. ReadsProgram found text next)
@@ -123,34 +136,13 @@ closes-same : (world : World) (text text' : List ℕ) (done done' : Done) → Ev
 closes-same None text text' done done' p q = (p.0 ∙ sym q.0, p.1 ∙ sym q.1)
 closes-same (Some code) text text' done done' p q = (p.0 ∙ sym q.0, p.1 ∙ sym q.1)
 
--- two texts of one list of lines are the same
-pub prints-same : (lines : List Line) (met : ℕ) (world : World) (text text' : List ℕ) (done done' : Done)
-    → Prints EvalSteps EvalCloses met world lines text done → Prints EvalSteps EvalCloses met world lines text' done' → (text ≡ text') × (done ≡ done')
-prints-same [] met world text text' done done' p q = closes-same world text text' done done' p q
-prints-same (first ∷ lines) met world text text' done done' p q =
-    here (λ v more more' end end'. prints-same lines (met + 1) v more more' end end') (is_over met first) p q
-  where
-    Later : Type 0
-    Later = (v : World) (more more' : List ℕ) (end end' : Done) → Prints EvalSteps EvalCloses (met + 1) v lines more end
-        → Prints EvalSteps EvalCloses (met + 1) v lines more' end' → (more ≡ more') × (end ≡ end')
-
-    behind : Later → (next : Option World) (more more' : List ℕ) → MatchOption next ((more ≡ []) × (done ≡ Ended)) (λ v. Prints EvalSteps EvalCloses (met + 1) v lines more done)
-        → MatchOption next ((more' ≡ []) × (done' ≡ Ended)) (λ v. Prints EvalSteps EvalCloses (met + 1) v lines more' done') → (more ≡ more') × (done ≡ done')
-    behind later None more more' a b = (a.0 ∙ sym b.0, a.1 ∙ sym b.1)
-    behind later (Some v) more more' a b = later v more more' done done' a b
-
-    here : Later → (over : Bool)
-        → MatchBool over ((text ≡ too_long) × (done ≡ Ended)) ((begun : List ℕ) × (more : List ℕ) × (next : Option World) × (text ≡ begun ++ more) × EvalSteps world (said first) begun next
-        × MatchOption next ((more ≡ []) × (done ≡ Ended)) (λ v. Prints EvalSteps EvalCloses (met + 1) v lines more done))
-        → MatchBool over ((text' ≡ too_long) × (done' ≡ Ended)) ((begun : List ℕ) × (more : List ℕ) × (next : Option World) × (text' ≡ begun ++ more) × EvalSteps world (said first) begun next
-        × MatchOption next ((more ≡ []) × (done' ≡ Ended)) (λ v. Prints EvalSteps EvalCloses (met + 1) v lines more done'))
-        → (text ≡ text') × (done ≡ done')
-    here later true a b = (a.0 ∙ sym b.0, a.1 ∙ sym b.1)
-    here later false a b =
-        let same = steps-same world (said first) a.0 b.0 a.2 b.2 a.4 b.4 in
-        let P : Option World → Type 0 = λ n. MatchOption n ((b.1 ≡ []) × (done' ≡ Ended)) (λ v. Prints EvalSteps EvalCloses (met + 1) v lines b.1 done') in
-        let rest = behind later a.2 a.1 b.1 a.5 (subst P (sym same.1) b.5) in
-        (a.3 ∙ ap (λ xs. xs ++ a.1) same.0 ∙ ap (λ xs. b.0 ++ xs) rest.0 ∙ sym b.3, rest.1)
+-- the rules of `eval` leave one answer
+eval-functional : IsFunctional eval_rules
+eval-functional = record { step = steps-same; close = closes-same }
 
 pub one-eval_text : (octets one other : List ℕ) (ends other_ends : Done) → IsEvalText octets one ends → IsEvalText octets other other_ends → (one ≡ other) × (ends ≡ other_ends)
-one-eval_text octets one other ends other_ends p q = prints-same (lines_of octets) 0 None one other ends other_ends p q
+one-eval_text octets = one-text eval_rules eval-functional (lines_of octets) 0 None
+
+-- every input has a text of `eval`
+pub some-eval_text : (octets : List ℕ) → (text : List ℕ) × (done : Done) × IsEvalText octets text done
+some-eval_text octets = some-text eval_rules eval-total (lines_of octets) 0 None tt

@@ -6,15 +6,12 @@ use Rattle.bpf_asm.specs.Meaning.{IsMeaning}
 use Rattle.bpf_asm.specs.declared.fault.AsmFault.{AsmFault}
 use Rattle.bpf_code.specs.Encoding.{code_octets}
 use Rattle.bpf_code.specs.declared.instr.Instr.{Instr}
-use Rattle.bpf_verify.specs.Accepted.{IsAccepted}
-use Rattle.bpf_verify.specs.Faults.{FailsFirst}
-use Rattle.bpf_verify.specs.declared.fault.Fault.{Fault}
 use Rattle.hex.specs.Hex.{encode_lower}
-use Rattle.upc.specs.FaultLines.{line, asm_fault, verify_fault}
-use Rattle.upc.specs.Gathered.{gathered}
-use Rattle.upc.specs.Printing.{too_long}
-use Rattle.upc.specs.declared.outcome.Done.{Done}
-use Rattle.upc.specs.declared.outcome.Done.TheVariants.{Whole, Ended}
+use Rattle.upc.specs.FaultLines.{line, asm_fault, too_long}
+use Rattle.upc.specs.Program.{Reading, is_program, is_refused, ChecksAs}
+use Rattle.dialogue.specs.Gathered.{gathered}
+use Rattle.dialogue.specs.declared.outcome.Done.{Done}
+use Rattle.dialogue.specs.declared.outcome.Done.TheVariants.{Whole, Ended}
 
 -- The most octets of a source.
 abbrev pub most_source : ℕ
@@ -24,11 +21,14 @@ most_source = 1048576
 abbrev pub accepted_text : List Instr → List ℕ
 accepted_text code = line (codes "accepted " ++ decimal (length code)) ++ line (encode_lower (code_octets code))
 
--- A code is accepted, or refused by the fault that comes first in it.
+-- A program is told by its octets, and a refusal by its fault.
+abbrev pub TellsReading : Reading → List ℕ → Done → Type 0
+TellsReading (is_program code) text done = (text ≡ accepted_text code) × (done ≡ Whole)
+TellsReading (is_refused fault) text done = (text ≡ fault) × (done ≡ Ended)
+
+-- A code is a program, or has a fault.
 abbrev pub TellsCode : List Instr → List ℕ → Done → Type 0
-TellsCode code text done =
-    (IsAccepted code × (text ≡ accepted_text code) × (done ≡ Whole))
-    ⊎ ((fault : Fault) × FailsFirst code fault × (text ≡ verify_fault fault) × (done ≡ Ended))
+TellsCode code text done = (reading : Reading) × ChecksAs code reading × TellsReading reading text done
 
 -- A source means a code, or it has a fault.
 abbrev pub TellsSource : List ℕ → List ℕ → Done → Type 0

@@ -1,23 +1,18 @@
 -- The text of `upc eval`. The first line with words is a program; each later one is a cell, which is
 -- answered by the program's value. A world is what the lines so far have given: no program yet, or an
 -- accepted code.
-use Rattle.std.specs.Prelude.{◌≡◌, ◌≢◌, ℕ, ◌==◌, List, [], ◌∷◌, ◌++◌, length, codes, decimal, Option, Some, None, MatchOption, MatchBool, ◌⊎◌}
-use Rattle.bpf_code.specs.Decoding.{IsFaultOf}
-use Rattle.bpf_code.specs.Spelling.{SpellsCode}
-use Rattle.bpf_code.specs.declared.decoder.DecodeFault.{DecodeFault}
-use Rattle.bpf_code.specs.declared.decoder.DecodeFault.TheVariants.{NoMemory}
+use Rattle.std.specs.Prelude.{◌≡◌, ℕ, ◌==◌, List, [], ◌∷◌, ◌++◌, length, codes, decimal, Option, Some, None, MatchOption, MatchBool}
 use Rattle.bpf_code.specs.declared.instr.Instr.{Instr}
 use Rattle.bpf_verify.specs.Accepted.{IsAccepted}
-use Rattle.bpf_verify.specs.Faults.{FailsFirst}
-use Rattle.bpf_verify.specs.declared.fault.Fault.{Fault}
 use Rattle.bpf_interp.specs.Value.{Value}
-use Rattle.upc.specs.Words.{words_of, is_silent}
+use Rattle.dialogue.specs.Words.{words_of, is_silent}
 use Rattle.upc.specs.Hexadecimal.{octets_of, cell_of}
-use Rattle.upc.specs.FaultLines.{line, bad_line, bad_hex, no_program, wrong_length, decode_fault, verify_fault}
-use Rattle.upc.specs.Lines.{lines_of}
-use Rattle.upc.specs.Printing.{Prints}
-use Rattle.upc.specs.declared.outcome.Done.{Done}
-use Rattle.upc.specs.declared.outcome.Done.TheVariants.{Whole, Ended}
+use Rattle.upc.specs.FaultLines.{line, bad_line, bad_hex, no_program, too_long, wrong_length}
+use Rattle.upc.specs.Program.{Reading, is_program, is_refused, ReadsAs}
+use Rattle.dialogue.specs.Lines.{lines_of}
+use Rattle.dialogue.specs.Printing.{Rules, Prints}
+use Rattle.dialogue.specs.declared.outcome.Done.{Done}
+use Rattle.dialogue.specs.declared.outcome.Done.TheVariants.{Whole, Ended}
 
 abbrev pub World : Type 0
 World = Option (List Instr)
@@ -26,17 +21,14 @@ World = Option (List Instr)
 abbrev pub EndsBy : List ℕ → List ℕ → Option World → Type 0
 EndsBy fault text next = (text ≡ fault) × (next ≡ None)
 
--- A code is accepted, or refused by the fault that comes first in it.
-abbrev pub ChecksCode : List Instr → List ℕ → Option World → Type 0
-ChecksCode code text next =
-    (IsAccepted code × (text ≡ line (codes "accepted " ++ decimal (length code))) × (next ≡ Some (Some code)))
-    ⊎ ((fault : Fault) × FailsFirst code fault × EndsBy (verify_fault fault) text next)
+-- A program is told by the number of its instructions, and answers the cells from there on.
+abbrev pub TellsReading : Reading → List ℕ → Option World → Type 0
+TellsReading (is_program code) text next = (text ≡ line (codes "accepted " ++ decimal (length code))) × (next ≡ Some (Some code))
+TellsReading (is_refused fault) text next = EndsBy fault text next
 
--- The octets of the program line spell a code, or they have a fault.
+-- The octets of the program line are a program, or have a fault.
 abbrev pub ReadsProgram : List ℕ → List ℕ → Option World → Type 0
-ReadsProgram octets text next =
-    ((code : List Instr) × SpellsCode octets code × ChecksCode code text next)
-    ⊎ ((fault : DecodeFault) × (fault ≢ NoMemory) × IsFaultOf octets fault × EndsBy (decode_fault fault) text next)
+ReadsProgram octets text next = (reading : Reading) × ReadsAs octets reading × TellsReading reading text next
 
 -- The program line is one word.
 abbrev pub ProgramLine : List (List ℕ) → List ℕ → Option World → Type 0
@@ -79,6 +71,10 @@ abbrev pub IsSoundWorld : World → Type 0
 IsSoundWorld None = Unit {0}
 IsSoundWorld (Some code) = IsAccepted code
 
+-- The rules of `eval`.
+abbrev pub eval_rules : Rules World
+eval_rules = record { steps = EvalSteps; closes = EvalCloses; too_long = too_long; is_sound = IsSoundWorld }
+
 -- The text of the octets of a whole input, and how it ends.
 abbrev pub IsEvalText : List ℕ → List ℕ → Done → Type 0
-IsEvalText octets text done = Prints EvalSteps EvalCloses 0 None (lines_of octets) text done
+IsEvalText octets text done = Prints eval_rules 0 None (lines_of octets) text done

@@ -22,6 +22,10 @@ bad_hex = codes "fault script 3 BadHex\n"
 abbrev pub no_program : List ℕ
 no_program = codes "fault script 4 NoProgram\n"
 
+-- The answer to a line or an input over the limits.
+abbrev pub too_long : List ℕ
+too_long = codes "fault script 5 TooLong\n"
+
 -- Octets of another number than 52 are no cell.
 abbrev pub wrong_length : ℕ → List ℕ
 wrong_length octets = line (codes "fault cell 1 WrongLength " ++ decimal octets)

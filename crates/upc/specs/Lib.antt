@@ -1,18 +1,10 @@
-pub mod Device
-pub mod Lines
-pub mod Words
-pub mod Printing
-pub mod Window
-pub mod Turn
-pub mod Progress
-pub mod Outcome
+-- The program `upc`. In the order of reading:
 pub mod Hexadecimal
 pub mod FaultLines
+pub mod Program
 pub mod Eval
-pub mod Gathered
 pub mod Check
-pub mod CellWord
 pub mod Choice
-pub mod Said
 pub mod Subcommand
-pub mod EvalLaws
+pub mod Outcome
+pub mod inner

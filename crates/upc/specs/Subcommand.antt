@@ -4,7 +4,7 @@ use Rattle.upc.specs.Check.{IsCheckText}
 use Rattle.upc.specs.Eval.{IsEvalText}
 use Rattle.upc.specs.declared.choose.Choice.{Choice}
 use Rattle.upc.specs.declared.choose.Choice.TheVariants.{Check, Eval}
-use Rattle.upc.specs.declared.outcome.Done.{Done}
+use Rattle.dialogue.specs.declared.outcome.Done.{Done}
 
 -- The text of the octets of a whole input, and how it ends.
 abbrev pub IsTextOf : Choice → List ℕ → List ℕ → Done → Type 0

@@ -1,9 +1,8 @@
 //! The answer lines of the subcommands, each added at the end of the answers.
 ghost use Rattle.std.specs.Prelude.{◌≡◌, ◌≢◌, ◌<◌, ◌++◌, ◌^◌, codes, decimal, length, OnOk};
 ghost use Rattle.hex.specs.Hex.{encode_lower};
-ghost use Rattle.upc.specs.FaultLines.{asm_fault, asm_name, line, wrong_length, decode_fault, verify_fault};
+ghost use Rattle.upc.specs.FaultLines.{asm_fault, asm_name, line, too_long, wrong_length, decode_fault, verify_fault};
 ghost use Rattle.upc.specs.Hexadecimal.{four_digits};
-ghost use Rattle.upc.specs.Printing.{too_long};
 
 use bpf_asm::{AsmFault, AsmKind};
 use bpf_code::DecodeFault;

@@ -1,36 +1,42 @@
 //! `upc check`: a source of assembly, and the octets of its program.
-ghost use Rattle.std.specs.Prelude.{IfOk, OnErr, option_map, ◌≡◌};
-ghost use Rattle.upc.specs.Check.{IsCheckText, Tells, TellsCode, TellsSource};
-ghost use Rattle.upc.specs.Device.{Adds};
-ghost use Rattle.upc.specs.Outcome.{read_failures, write_failures};
-ghost use Rattle.upc.specs.Printing.{IsFront};
+ghost use Rattle.std.specs.Prelude.{IfOk, OnOk, OnErr, option_map, ◌≡◌, ◌++◌};
+ghost use Rattle.upc.specs.Check.{IsCheckText, Tells, TellsCode, TellsSource, accepted_text};
+ghost use Rattle.dialogue.specs.Devices.{Adds};
+ghost use Rattle.dialogue.specs.Outcome.{read_failures, write_failures};
+ghost use Rattle.dialogue.specs.Printing.{IsFront};
 
-use crate::answer::{add_accepted, add_asm_fault, add_octets, add_too_long, add_verify_fault};
-use crate::device::{Input, Output};
-use crate::gathering::gather;
-use crate::giving::give_last;
-use crate::outcome::{Done, RunFault};
+use crate::answer::{add_accepted, add_asm_fault, add_octets, add_too_long};
+use crate::program::check_code;
 use bpf_asm::{AsmFault, AsmKind, assemble};
 use bpf_code::{Instr, encode};
-use bpf_verify::verify;
+use bpf_verify::Program;
+use dialogue::{Done, Input, Output, RunFault, gather, give_last};
 use std::alloc::{AllocError, Global};
+
+/// The most octets of a source.
+const MOST_SOURCE: u32 = 1048576;
+
+/// Answers a program by the number of its instructions and their octets.
+#[tactic(auto, using(std::proofs::lemmas::List::append_assoc))]
+fn add_program(alloc: Global, program: &Program, answers: &mut Vec<u8>) -> Result<(), AllocError>
+    ensures { OnOk result (answers.new.items ≡ answers.old.items ++ accepted_text program.now) }
+{
+    let octets = encode(alloc, program.code()).map_err(|_| AllocError)?;
+    add_accepted(answers, program.code().len())?;
+    add_octets(alloc, answers, &octets)
+}
 
 /// Answers a code by its octets, or by the fault for which it is no program.
 fn answer_code(alloc: Global, code: Vec<Instr>, answers: &mut Vec<u8>) -> Result<Done, AllocError>
     ensures { IfOk result (λ done.
         Adds (λ text. TellsCode code.items text done) answers.old.items answers.new.items) }
 {
-    match verify(code) {
-        Ok(program) => {
-            let octets = encode(alloc, program.code()).map_err(|_| AllocError)?;
-            add_accepted(answers, program.code().len())?;
-            add_octets(alloc, answers, &octets)?;
+    match check_code(code, answers)? {
+        Some(program) => {
+            add_program(alloc, &program, answers)?;
             Ok(Done::Whole)
         }
-        Err(refused) => {
-            add_verify_fault(answers, refused.fault)?;
-            Ok(Done::Ended)
-        }
+        None => Ok(Done::Ended),
     }
 }
 
@@ -93,7 +99,7 @@ pub fn check_source<I: Input, O: Output>(
     ensures reading { I.failures input.new ≡ read_failures result (I.failures input.old) }
     ensures writing { O.failures output.new ≡ write_failures result (O.failures output.old) }
 {
-    let found = match gather(alloc, input) {
+    let found = match gather(alloc, input, MOST_SOURCE) {
         Ok(found) => found,
         Err(fault) => return Err(fault),
     };

@@ -1,22 +1,16 @@
 //! `upc eval`: one program, and its value on each cell.
-ghost use Rattle.std.specs.Prelude.{◌≡◌, ◌∷◌, [], Some, IfOk, OnOk, OnErr, option_map};
-ghost use Rattle.upc.specs.Device.{Adds};
-ghost use Rattle.upc.specs.Eval.{CellLine, ChecksCode, ProgramLine, IsEvalText};
-ghost use Rattle.upc.specs.Outcome.{read_failures, write_failures};
-ghost use Rattle.upc.specs.Printing.{IsFront};
+ghost use Rattle.std.specs.Prelude.{◌≡◌, ◌∷◌, ◌++◌, [], Some, IfOk, OnOk, OnErr, option_map};
+ghost use Rattle.dialogue.specs.Devices.{Adds};
+ghost use Rattle.upc.specs.Eval.{CellLine, ProgramLine, IsEvalText};
+ghost use Rattle.dialogue.specs.Outcome.{read_failures, write_failures};
+ghost use Rattle.dialogue.specs.Printing.{IsFront};
 
-use crate::answer::{
-    add_accepted, add_decode_fault, add_value, add_verify_fault, add_wrong_length,
-};
-use crate::device::{Input, Output};
-use crate::driver::answer_lines;
+use crate::answer::{add_accepted, add_too_long, add_value, add_wrong_length};
 use crate::hexadecimal::{self, CellWord};
-use crate::machine::{Machine, Turn};
-use crate::outcome::{Done, RunFault};
-use crate::words::{Said, lone_word};
-use bpf_code::{DecodeFault, Instr, decode};
+use crate::program::read_program;
 use bpf_interp::run;
-use bpf_verify::{Program, verify};
+use bpf_verify::Program;
+use dialogue::{Done, Input, LineWords, Machine, Output, RunFault, Turn, answer_lines, line_words};
 use std::alloc::{AllocError, Global};
 
 /// The answer to a line of no lawful form.
@@ -24,6 +18,15 @@ const BAD_LINE: &[u8; 23] = b"fault script 1 BadLine\n";
 
 /// The answer to a word that isn't hexadecimal.
 const BAD_HEX: &[u8; 22] = b"fault script 3 BadHex\n";
+
+/// Answers a line by its fault, after which the run goes on or ends.
+fn add_fault(answers: &mut Vec<u8>, fault: &[u8], turn: Turn) -> Result<Turn, AllocError>
+    ensures turn { IfOk result (λ then. then ≡ turn) }
+    ensures text { OnOk result (answers.new.items ≡ answers.old.items ++ fault.now) }
+{
+    answers.extend_from_slice(fault)?;
+    Ok(turn)
+}
 
 /// Answers a cell line of one word.
 fn answer_cell(
@@ -47,25 +50,8 @@ fn answer_cell(
     }
 }
 
-/// Checks the code of the program line, and answers it.
-fn check_code(code: Vec<Instr>, answers: &mut Vec<u8>) -> Result<Option<Program>, AllocError>
-    ensures { IfOk result (λ program. Adds (λ here. ChecksCode code.items here (option_map Some program))
-        answers.old.items answers.new.items) }
-{
-    match verify(code) {
-        Ok(program) => {
-            add_accepted(answers, program.code().len())?;
-            Ok(Some(program))
-        }
-        Err(refused) => {
-            add_verify_fault(answers, refused.fault)?;
-            Ok(None)
-        }
-    }
-}
-
 /// Reads a program line of one word, and answers it; none where it has a fault.
-fn read_program(
+fn read_program_line(
     alloc: Global,
     word: &[u8],
     answers: &mut Vec<u8>,
@@ -77,14 +63,11 @@ fn read_program(
         answers.extend_from_slice(BAD_HEX)?;
         return Ok(None);
     };
-    match decode(alloc, &octets) {
-        Ok(code) => check_code(code, answers),
-        Err(DecodeFault::NoMemory) => Err(AllocError),
-        Err(fault) => {
-            add_decode_fault(answers, fault)?;
-            Ok(None)
-        }
-    }
+    let Some(program) = read_program(alloc, &octets, answers)? else {
+        return Ok(None);
+    };
+    add_accepted(answers, program.code().len())?;
+    Ok(Some(program))
 }
 
 /// The subcommand as a machine: no program yet, or the program that answers the cells.
@@ -95,36 +78,26 @@ struct Evaluation {
 }
 
 impl Machine for Evaluation {
-    ghost use Rattle.upc.specs.Eval.{World as EvalWorld, EvalSteps, EvalCloses, IsSoundWorld};
-    ghost use Rattle.upc.specs.EvalLaws.{eval-keeps_sound, eval-can_step, eval-can_close};
+    ghost use Rattle.upc.specs.Eval.{World as EvalWorld, eval_rules};
+    ghost use Rattle.upc.specs.inner.EvalLaws.{eval-total};
 
     ghost World = { EvalWorld };
 
-    ghost world = { λ evaluation. evaluation.program };
+    ghost shows = { λ evaluation world. world ≡ evaluation.program };
 
-    ghost steps = { EvalSteps };
-
-    ghost closes = { EvalCloses };
-
-    ghost is_sound = { IsSoundWorld };
+    ghost rules = { eval_rules };
 
     fn answer(&mut self, line: &[u8], answers: &mut Vec<u8>) -> Result<Turn, AllocError> {
-        match (&self.program, lone_word(line)) {
-            (_, Said::Nothing) => Ok(Turn::GoesOn),
-            (Some(program), Said::Word(word)) => {
+        match (&self.program, line_words(line)) {
+            (_, LineWords::Silent) => Ok(Turn::GoesOn),
+            (Some(program), LineWords::One(word)) => {
                 answer_cell(self.alloc, program, word, answers)?;
                 Ok(Turn::GoesOn)
             }
-            (Some(_), Said::Words) => {
-                answers.extend_from_slice(BAD_LINE)?;
-                Ok(Turn::GoesOn)
-            }
-            (None, Said::Words) => {
-                answers.extend_from_slice(BAD_LINE)?;
-                Ok(Turn::Ends)
-            }
-            (None, Said::Word(word)) => {
-                self.program = read_program(self.alloc, word, answers)?;
+            (Some(_), LineWords::Several) => add_fault(answers, BAD_LINE, Turn::GoesOn),
+            (None, LineWords::Several) => add_fault(answers, BAD_LINE, Turn::Ends),
+            (None, LineWords::One(word)) => {
+                self.program = read_program_line(self.alloc, word, answers)?;
                 match self.program {
                     Some(_) => Ok(Turn::GoesOn),
                     None => Ok(Turn::Ends),
@@ -141,11 +114,11 @@ impl Machine for Evaluation {
         Ok(Done::Ended)
     }
 
-    ghost keeps_sound = { λ before line here after. eval-keeps_sound before line here after };
+    fn refuse(&self, answers: &mut Vec<u8>) -> Result<(), AllocError> {
+        add_too_long(answers)
+    }
 
-    ghost can_step = { eval-can_step };
-
-    ghost can_close = { eval-can_close };
+    ghost is_total = { eval-total };
 }
 
 /// Answers the lines of an input: the first line with words is a program in hexadecimal digits, each

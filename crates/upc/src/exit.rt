@@ -2,7 +2,7 @@
 ghost use Rattle.std.specs.Prelude.{◌≡◌};
 ghost use Rattle.upc.specs.Outcome.{status_of};
 
-use crate::outcome::{Done, RunFault};
+use dialogue::{Done, RunFault};
 
 /// The exit status for how a call ended: 0 for a whole answer, 1 where a fault line ended it early,
 /// 3 where it failed.

@@ -2,7 +2,7 @@
 ghost use Rattle.std.specs.Prelude.{◌≡◌, length, IfOk};
 ghost use Rattle.std.specs.Option.{option_map};
 ghost use Rattle.upc.specs.Hexadecimal.{octets_of};
-ghost use Rattle.upc.specs.CellWord.{IsCellWord};
+ghost use Rattle.upc.specs.inner.CellWord.{IsCellWord};
 
 use hex::FromHexError;
 use std::alloc::{AllocError, Global};

@@ -2,7 +2,7 @@
 ghost use Rattle.std.specs.Prelude.{◌≡◌, ℕ, List};
 ghost use Rattle.upc.specs.Check.{IsCheckText};
 ghost use Rattle.upc.specs.Eval.{IsEvalText};
-ghost use Rattle.upc.specs.declared.outcome.Done.{Done as TheDone};
+ghost use Rattle.dialogue.specs.declared.outcome.Done.{Done as TheDone};
 
 /// An input has one text of `eval`, with one end: `eval_bytes` says which octets are written, and not
 /// only that they are some answer.

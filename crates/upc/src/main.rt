@@ -5,31 +5,20 @@
 mod answer;
 mod check;
 mod choose;
-mod device;
-mod driver;
 mod eval;
 mod exit;
-mod gathering;
-mod giving;
 mod hexadecimal;
 mod laws;
-mod line;
-mod machine;
-mod outcome;
-mod stream;
+mod program;
 mod subcommand;
-mod taking;
 #[cfg(test)]
 mod tests;
-mod window;
-mod words;
 
 use choose::{Choice, Stop, choose};
+use dialogue::{Giving, RunFault, Taking};
 use exit::status;
-use outcome::RunFault;
 use std::io;
 use std::process::ExitCode;
-use stream::{Giving, Taking};
 use subcommand::run_subcommand;
 
 fn main(rt: HostRuntime) -> ExitCode {

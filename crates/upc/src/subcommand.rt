@@ -1,15 +1,14 @@
 //! The subcommand that was chosen, between two devices.
 ghost use Rattle.std.specs.Prelude.{◌≡◌, IfOk, OnErr};
-ghost use Rattle.upc.specs.Device.{Adds};
-ghost use Rattle.upc.specs.Outcome.{read_failures, write_failures};
-ghost use Rattle.upc.specs.Printing.{IsFront};
+ghost use Rattle.dialogue.specs.Devices.{Adds};
+ghost use Rattle.dialogue.specs.Outcome.{read_failures, write_failures};
+ghost use Rattle.dialogue.specs.Printing.{IsFront};
 ghost use Rattle.upc.specs.Subcommand.{IsTextOf};
 
 use crate::check::check_source;
 use crate::choose::Choice;
-use crate::device::{Input, Output};
 use crate::eval::eval_bytes;
-use crate::outcome::{Done, RunFault};
+use dialogue::{Done, Input, Output, RunFault};
 use std::alloc::Global;
 
 /// Runs the subcommand over the whole input.

@@ -7,9 +7,8 @@ mod sources;
 mod statuses;
 
 use crate::choose::Choice;
-use crate::outcome::{Done, RunFault};
-use crate::stream::{Giving, Taking};
 use crate::subcommand::run_subcommand;
+use dialogue::{Done, Giving, RunFault, Taking};
 use std::alloc::Global;
 use std::process::Abort;
 

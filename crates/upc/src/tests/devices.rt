@@ -2,9 +2,8 @@
 ghost use Rattle.std.specs.Prelude.{◌≡◌, drop};
 
 use crate::choose::Choice;
-use crate::device::{Failed, Input, Output};
-use crate::outcome::{Done, RunFault};
 use crate::subcommand::run_subcommand;
+use dialogue::{Done, Failed, Input, Output, RunFault};
 use std::alloc::Global;
 use std::test::Fail;
 

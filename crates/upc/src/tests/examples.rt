@@ -2,7 +2,7 @@
 //! `bin/examples` runs the files themselves.
 use super::{evaluated, printed};
 use crate::choose::Choice;
-use crate::outcome::Done;
+use dialogue::Done;
 use std::alloc::Global;
 use std::process::Abort;
 use std::test::Fail;

@@ -1,6 +1,6 @@
 //! The most lines of an input, and the most octets of a line.
 use super::expect;
-use crate::outcome::Done;
+use dialogue::Done;
 use std::alloc::{AllocError, Global};
 use std::test::Fail;
 

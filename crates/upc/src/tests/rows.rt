@@ -1,6 +1,6 @@
 //! Programs and cells with the lines that they are answered by.
 use super::{evaluated, expect};
-use crate::outcome::Done;
+use dialogue::Done;
 use std::test::Fail;
 
 /// User data by PTI against end-to-end OAM: `ldb [3]`; `jeq #0x4a` with jt 0 and jf 1; `ret #2`; `ret #1`.

@@ -1,7 +1,7 @@
 //! Sources with the lines that `check` answers them by.
 use super::{expect_of, printed};
 use crate::choose::Choice;
-use crate::outcome::Done;
+use dialogue::Done;
 use std::test::Fail;
 
 #[test]

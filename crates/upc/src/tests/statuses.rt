@@ -1,6 +1,6 @@
 //! The exit status.
 use crate::exit::status;
-use crate::outcome::{Done, RunFault};
+use dialogue::{Done, RunFault};
 
 #[test]
 fn a_status_for_each_end(rt: HostRuntime) {

@@ -1,0 +1,31 @@
+//! A line of the input, and where it ends.
+ghost use Rattle.std.specs.Prelude.{◌≡◌, ◌≢◌, ℕ, ◌<◌, ◌≤◌, length, slice_index, IfSome, IfNone};
+ghost use Rattle.dialogue.specs.Lines.{without_return};
+
+use memchr::memchr;
+
+/// The place of the first line feed, where there is one and the first octets are known to hold none.
+pub fn first_feed(octets: &[u8], looked: usize) -> Option<usize>
+    requires within { looked ≤ length octets.now }
+    requires no_feed { (k : ℕ) → k < looked → slice_index octets.now k ≢ 10 }
+    ensures place { IfSome result (λ place. place < length octets.now) }
+    ensures feed { IfSome result (λ place. slice_index octets.now place ≡ 10) }
+    ensures before { IfSome result (λ place. (k : ℕ) → k < place → slice_index octets.now k ≢ 10) }
+    ensures none { IfNone result ((k : ℕ) → k < length octets.now → slice_index octets.now k ≢ 10) }
+{
+    let (_, rest) = octets.split_at(looked);
+    match memchr(b'\n', rest) {
+        Some(more) => Some(looked + more),
+        None => None,
+    }
+}
+
+/// The octets of a line that a line feed ended, without the carriage return before it.
+pub fn before_return(octets: &[u8]) -> &[u8]
+    ensures { result.now ≡ without_return octets.now }
+{
+    match octets {
+        [front @ .., b'\r'] => front,
+        _ => octets,
+    }
+}

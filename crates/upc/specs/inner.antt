@@ -1,0 +1,4 @@
+-- What only private functions and proofs need.
+pub mod CellWord
+pub mod Finding
+pub mod EvalLaws
