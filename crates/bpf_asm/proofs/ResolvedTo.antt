@@ -67,10 +67,6 @@ plains_behind lines front plains done none m =
     rw (map-append (λ (v : Unresolved). statement_seen v.command) front plains)
     (mean_append lines 0 (statements_seen front) (statements_seen plains) done (first_forms plains) m (plains_mean lines (0 + length (statements_seen front)) plains none))
 
--- a draft is resolved up to its beginning
-pub resolved_none : (lines : List Line) (code : List Instr) (unresolved : List Unresolved) → IsDraft lines code unresolved → IsResolvedTo lines code unresolved
-resolved_none lines code unresolved d = record { front = []; back = d.all; statements = d.statements; each = d.each; done = []; means = refl; forms = d.forms; labelled = d.labelled }
-
 -- Where a draft is resolved up to an instruction with labels.
 pub record IsNext (lines : List Line) (code : List Instr) (u : Unresolved) (more : List Unresolved) : Type 0 where
   pub front : List Unresolved

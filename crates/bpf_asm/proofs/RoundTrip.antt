@@ -4,13 +4,13 @@ use Rattle.std.proofs.lemmas.Bool.{and_parts}
 use Rattle.std.proofs.lemmas.Fmt.{decimal_injective}
 use Rattle.bpf_asm.specs.Grammar.{Line, AreLines, IsLine, IsOneOf}
 use Rattle.bpf_asm.specs.Labels.{EachLabelOnce, StandsFor, statements_of}
-use Rattle.bpf_asm.specs.Lines.{lines_of, without_comment}
+use Rattle.bpf_asm.specs.Lines.{source_lines, without_comment}
 use Rattle.bpf_asm.specs.Listing.{StaysWithin, first_spelling, instruction_text, label_at, line_text, listing_from, listing_of, statement_at}
 use Rattle.bpf_asm.specs.Meaning.{IsMeaning, MeanFrom, Means}
 use Rattle.bpf_asm.specs.Spelling.{Part, label, spelling_octets, spelling_tokens, spellings}
 use Rattle.bpf_asm.specs.Tokens.{Token, name, mark, signed, tokens_in, tokens_of, tokens_read, pieces_of}
 use Rattle.bpf_asm.specs.Widths.{IsWide}
-use Rattle.bpf_asm.proofs.Apart.{ReadsPart, all_inline, inline_whole, is_apart, lines_of-line, no_minus, parts_inline, parts_read, signed_same, texts_inline}
+use Rattle.bpf_asm.proofs.Apart.{ReadsPart, all_inline, inline_whole, is_apart, source_lines-line, no_minus, parts_inline, parts_read, signed_same, texts_inline}
 use Rattle.bpf_asm.proofs.Decimals.{decimal_word, tokens_of-label}
 use Rattle.bpf_asm.proofs.ListedRows.{is_good, is_some_row, line_parts, row_good, row_reads}
 use Rattle.bpf_asm.proofs.Places.{AllPlaces}
@@ -74,8 +74,8 @@ line_said place i w s h =
     (inline, (spelling_tokens row, tokens ∙ behind, row_first (spellings (statement_at place i)) both.1))
 
 -- the lines of a listing read as what they say
-lines_said : (place : ℕ) (code : List Instr) → IsListable (2 ^ 64) place code → place + length code ≤ 2 ^ 64 → AreLines (lines_of (listing_from place code)) (lines_in place code)
-unfolding lines_in lines_of listing_from
+lines_said : (place : ℕ) (code : List Instr) → IsListable (2 ^ 64) place code → place + length code ≤ 2 ^ 64 → AreLines (source_lines (listing_from place code)) (lines_in place code)
+unfolding lines_in source_lines listing_from
 lines_said place [] l h = refl
 lines_said place (i ∷ code) l h =
     let here = line_said place i l.0.0 l.0.1 (omega arith) in
@@ -83,8 +83,8 @@ lines_said place (i ∷ code) l h =
     let later = lines_said (place + 1) code l.1 (omega arith) in
     let cut : line_text place i ++ listing_from (place + 1) code ≡ octets ++ 10 ∷ listing_from (place + 1) code =
     ap (λ (ts : List ℕ). ts ++ listing_from (place + 1) code) (line_octets place i) ∙ append_assoc octets (10 ∷ []) (listing_from (place + 1) code) in
-    let split : lines_of (line_text place i ++ listing_from (place + 1) code) ≡ octets ∷ lines_of (listing_from (place + 1) code) =
-    ap lines_of cut ∙ lines_of-line octets (listing_from (place + 1) code) here.0 in
+    let split : source_lines (line_text place i ++ listing_from (place + 1) code) ≡ octets ∷ source_lines (listing_from (place + 1) code) =
+    ap source_lines cut ∙ source_lines-line octets (listing_from (place + 1) code) here.0 in
     subst (λ (ls : List (List ℕ)). AreLines ls (line_at place i ∷ lines_in (place + 1) code)) (sym split) (here.1, later)
 
 -- each line has its place's label

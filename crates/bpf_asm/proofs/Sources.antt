@@ -3,7 +3,7 @@ use Rattle.std.proofs.Common.{◌≡◌, ◌⊎◌, ◌<◌, ◌≤◌, ℕ, ◌
 use Rattle.bpf_asm.specs.Faults.{IsFirstLineFault, IsLineFault, IsOutOfMemory}
 use Rattle.bpf_asm.specs.Grammar.{AreLines, IsLine, Line}
 use Rattle.bpf_asm.specs.Labels.{EachLabelOnce}
-use Rattle.bpf_asm.specs.Lines.{lines_of}
+use Rattle.bpf_asm.specs.Lines.{source_lines}
 use Rattle.bpf_asm.specs.Pending.{IsPending}
 use Rattle.bpf_asm.specs.declared.draft.Draft.{Draft}
 use Rattle.bpf_asm.specs.inner.Drafts.{Drafts, IsAddFault, IsDraftOf, IsDraftTo, IsFaultAt, IsReadTo, IsTakeFault, Takes}
@@ -48,10 +48,6 @@ first_fault source left octets lines count TooFar fault r once f at = absurd f
 first_fault source left octets lines count DanglingLabel fault r once f at = absurd f
 first_fault source left octets lines count NoMemory fault r once f at = inr at
 
--- nothing is read
-pub draft_none : (source : List (List ℕ)) (draft : Draft) → Drafts [] draft → IsDraftTo source source draft 0
-draft_none source draft d = record { lines = []; read = read_none source; counted = refl; drafts = d }
-
 taken_by : (source left : List (List ℕ)) (octets : List ℕ) (lines : List Line) (draft : Draft) (count : ℕ) → IsReadTo source (octets ∷ left) lines count → length lines ≡ count → Takes lines draft octets → IsDraftTo source left draft (count + 1)
 taken_by source left octets lines draft count r n t = record {
   lines = lines ++ t.line ∷ [];
@@ -64,21 +60,8 @@ taken_by source left octets lines draft count r n t = record {
 pub taken_more : (source left : List (List ℕ)) (octets : List ℕ) (old draft : Draft) (count : ℕ) → IsDraftTo source (octets ∷ left) old count → ((lines : List Line) → length lines ≡ count → Drafts lines old → Takes lines draft octets) → IsDraftTo source left draft (count + 1)
 taken_more source left octets old draft count r t = taken_by source left octets r.lines draft count r.read r.counted (t r.lines r.counted r.drafts)
 
--- a line that couldn't be taken
-pub taken_fault : (source left : List (List ℕ)) (octets : List ℕ) (draft : Draft) (count : ℕ) (kind : AsmKind) (fault : AsmFault) → IsDraftTo source (octets ∷ left) draft count → ((lines : List Line) → Drafts lines draft → IsTakeFault lines octets kind) → IsFaultAt (count + 1) kind fault → IsFirstLineFault source fault ⊎ IsOutOfMemory fault
-taken_fault source left octets draft count kind fault r t f = first_fault source left octets r.lines count kind fault r.read r.drafts.agree.once (t r.lines r.drafts) f
-
 -- all lines
 pub all_read : (source left : List (List ℕ)) (lines : List Line) (count : ℕ) → left ≡ [] → IsReadTo source left lines count → AreLines source lines
 all_read source left lines count e r =
     let whole : source ≡ r.done = r.split ∙ ap (λ (rest : List (List ℕ)). r.done ++ rest) e ∙ append-nil r.done in
     rw whole r.said
-
--- the draft of all lines
-pub all_drafted : (source : List ℕ) (left : List (List ℕ)) (draft : Draft) (count : ℕ) → left ≡ [] → IsDraftTo (lines_of source) left draft count → IsDraftOf source draft
-all_drafted source left draft count e r = record { lines = r.lines; said = all_read (lines_of source) left r.lines count e r.read; drafts = r.drafts }
-
--- a line that is pending is one that was read
-pub pending_within : (lines : List Line) (pending : Option ℕ) (count : ℕ) → length lines ≤ count → IsPending lines pending → IfSome pending (λ at. at < count)
-pending_within lines None count h p = tt
-pending_within lines (Some at) count h p = let within = p.0 in omega arith

@@ -2,7 +2,7 @@
 
 ghost use Rattle.std.specs.Prelude.{◌<◌, ◌⊎◌, List, length, IfErr, IfOk, IfSome, IsErr};
 ghost use Rattle.bpf_asm.specs.Faults.{IsFault, IsFirstLineFault, IsOutOfMemory};
-ghost use Rattle.bpf_asm.specs.Lines.{lines_of};
+ghost use Rattle.bpf_asm.specs.Lines.{source_lines};
 ghost use Rattle.bpf_asm.specs.Meaning.{IsMeaning};
 ghost use Rattle.bpf_asm.specs.inner.Drafts.{IsDraftOf, IsFaultAt};
 
@@ -27,7 +27,7 @@ fn fault_at(line: usize, kind: AsmKind) -> AsmFault
 fn read_source(alloc: Global, source: &[u8]) -> Result<Draft<'_>, AsmFault>
     ensures draft { IfOk result (IsDraftOf source.now) }
     ensures within { IfOk result (λ draft. IfSome draft.dangling (λ at. at < length source.now)) }
-    ensures fault { IfErr result (λ fault. IsFirstLineFault (lines_of source.now) fault ⊎ IsOutOfMemory fault) }
+    ensures fault { IfErr result (λ fault. IsFirstLineFault (source_lines source.now) fault ⊎ IsOutOfMemory fault) }
 {
     let mut draft = Draft::new(alloc);
     let mut left = source;

@@ -2,7 +2,7 @@
 use Rattle.std.specs.Prelude.{◌≡◌, ◌+◌, ◌++◌, ℕ, Bool, true, false, List, [], ◌∷◌, length, map, filter, Option, Some, None}
 use Rattle.bpf_asm.specs.Grammar.{AreLines, IsLine, Line}
 use Rattle.bpf_asm.specs.Labels.{EachLabelOnce, HasLabel, StandsFor, statements_of}
-use Rattle.bpf_asm.specs.Lines.{lines_of}
+use Rattle.bpf_asm.specs.Lines.{source_lines}
 use Rattle.bpf_asm.specs.Faults.{IsLineFault, IsOperandFault, IsOutOfMemory}
 use Rattle.bpf_asm.specs.Meaning.{MeanFrom}
 use Rattle.bpf_asm.specs.Pending.{IsPending}
@@ -143,7 +143,7 @@ pub record IsDraftTo (source left : List (List ℕ)) (draft : Draft) (count : �
 -- The draft is that of a source.
 pub record IsDraftOf (source : List ℕ) (draft : Draft) : Type 0 where
   pub lines : List Line
-  pub said : AreLines (lines_of source) lines
+  pub said : AreLines (source_lines source) lines
   pub drafts : Drafts lines draft
 
 -- The fault of a side of a branch: that of its label, where it has one.

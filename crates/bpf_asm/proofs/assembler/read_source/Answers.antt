@@ -1,5 +1,5 @@
 use Rattle.std.proofs.Common.{arith}
-use Rattle.bpf_asm.specs.Lines.{lines_of}
+use Rattle.bpf_asm.specs.Lines.{source_lines}
 use Rattle.bpf_asm.proofs.Sources.{taken_more}
 use Rattle.bpf_asm.proofs.assembler.read_source.Goals as goal
 
@@ -7,6 +7,6 @@ pub loop-line-preserved : goal.loop-line-preserved
 loop-line-preserved c =
     let read = rw c.in-Some.ensures.lines at c.loop-line.invariant.read in
     record {
-      read = taken_more (lines_of c.args.source.now) (lines_of c.in-Some.rest.now) c.in-Some.line.now c.loop-line.draft c.take_line.new.self c.loop-line.count read c.in-Ok.ensures.taken;
+      read = taken_more (source_lines c.args.source.now) (source_lines c.in-Some.rest.now) c.in-Some.line.now c.loop-line.draft c.take_line.new.self c.loop-line.count read c.in-Ok.ensures.taken;
       room = omega (arith, c.in-Some.ensures.shorter, c.loop-line.invariant.room);
     }
