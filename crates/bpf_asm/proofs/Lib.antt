@@ -37,5 +37,7 @@ pub mod LinesOrFault
 pub mod DanglingOrNone
 pub mod OffsetOrFault
 pub mod CodeOrFault
+pub mod Fitting
+pub mod Public
 pub mod Refusals
 pub mod Searches

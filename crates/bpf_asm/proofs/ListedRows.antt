@@ -4,7 +4,7 @@ use Rattle.bpf_asm.specs.Listing.{StaysWithin, first_spelling, label_at, stateme
 use Rattle.bpf_asm.specs.Numbers.{number_of, value_behind}
 use Rattle.bpf_asm.specs.Spelling.{Part, text, label, spelling_tokens, spellings}
 use Rattle.bpf_asm.specs.Tokens.{pieces_of, tokens_of, word_token}
-use Rattle.bpf_asm.specs.Widths.{IsWide}
+use Rattle.bpf_code.specs.Widths.{FitsFields}
 use Rattle.bpf_asm.proofs.Apart.{ReadParts, ReadsPart, is_apart, no_minus, texts_inline}
 use Rattle.bpf_code.specs.declared.instr.By.TheVariants.{Imm, X}
 use Rattle.bpf_code.specs.declared.instr.Instr.{Instr}
@@ -80,7 +80,7 @@ row_good place Tax = refl
 row_good place Txa = refl
 
 -- the parts of a row read as their tokens
-pub row_reads : (place : ℕ) (i : Instr) → IsWide i → StaysWithin (2 ^ 64) place i → ((target : ℕ) → target < 2 ^ 64 → ReadsPart (label (label_at target))) → ReadsPart (label (label_at place)) → ReadParts (line_parts place i)
+pub row_reads : (place : ℕ) (i : Instr) → FitsFields i → StaysWithin (2 ^ 64) place i → ((target : ℕ) → target < 2 ^ 64 → ReadsPart (label (label_at target))) → ReadsPart (label (label_at place)) → ReadParts (line_parts place i)
 unfolding spellings
 row_reads place (LoadAbs Word k) w s t l = (l, (tt, (tt, (tt, (w.k, (tt, tt))))))
 row_reads place (LoadInd Word k) w s t l = (l, (tt, (tt, (tt, (w.k, (tt, tt))))))

@@ -7,6 +7,8 @@ ghost use Rattle.bpf_asm.specs.Meaning.{IsMeaning};
 ghost use Rattle.bpf_asm.specs.Spelling.{Statement, spellings};
 ghost use Rattle.bpf_asm.specs.Tokens.{Token};
 ghost use Rattle.bpf_asm.specs.declared.fault.AsmFault.{AsmFault};
+ghost use Rattle.bpf_code.specs.Encoding.{code_octets};
+ghost use Rattle.bpf_code.specs.Spelling.{SpellsPlainly};
 ghost use Rattle.bpf_code.specs.declared.instr.Instr.{Instr};
 
 /// A source means at most one code.
@@ -36,4 +38,11 @@ pub fn a_source_has_a_code_or_a_fault()
 pub fn tokens_spell_one_statement()
     ensures { (tokens : List Token) (one other : Statement) →
         IsOneOf tokens (spellings one) → IsOneOf tokens (spellings other) → one ≡ other }
+{}
+
+/// Where a source means a code, the octets of that code, as they are written, spell it with 0 in each
+/// field that an instruction doesn't use.
+pub fn octets_of_a_source_spell_its_code()
+    ensures { (source : List ℕ) (code : List Instr) →
+        IsMeaning source code → SpellsPlainly (code_octets code) code }
 {}
