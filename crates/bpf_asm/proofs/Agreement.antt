@@ -11,7 +11,7 @@ use Rattle.bpf_asm.specs.Labels.{EachLabelOnce, HasLabel, StandsFor, statement_c
 use Rattle.bpf_asm.specs.Seen.{line_seen}
 use Rattle.bpf_asm.specs.Spelling.{Statement}
 use Rattle.bpf_asm.specs.declared.reader.Said.{Said}
-use Rattle.bpf_asm.specs.Wholes.{AgreesWith, IsReadTo, IsTwice}
+use Rattle.bpf_asm.specs.inner.Drafts.{AgreesWith, IsReadTo, IsTwice}
 
 -- a line that is there is one
 pub some_line : (one other : Line) → Some one ≡ Some other → one ≡ other
@@ -180,22 +180,3 @@ if_ok_both (Err e) P R Q f h g = tt
 pub none_is : {A : Type 0} (o : Option A) → is_none o ≡ true → o ≡ None
 none_is None e = refl
 none_is (Some v) e = cc
-
-fewer_by : (s : Option Statement) (rest : List Statement) (count : ℕ) → length rest ≤ count → length (cons_option s rest) ≤ suc count
-fewer_by None rest count h = omega arith
-fewer_by (Some s) rest count h = omega arith
-
--- no more statements than lines
-pub statements_fewer : (lines : List Line) → length (statements_of lines) ≤ length lines
-unfolding statements_of
-statements_fewer [] = omega arith
-statements_fewer (line ∷ lines) = fewer_by line.statement (statements_of lines) (length lines) (statements_fewer lines)
-
--- a line was pushed
-pub pushed : {A B E F : Type 0} (m : Result A E) (r : Result B F) (items old kept : List Said) (said : Said) (find : List ℕ → Option ℕ) (places sum : ℕ) → is_ok m ≡ is_ok r → items ≡ (if is_ok r then kept ++ said ∷ [] else kept) → kept ≡ old → sum ≡ places → AgreesWith (map line_seen old ++ line_seen said ∷ []) find places → OnOk m (AgreesWith (map line_seen items) find sum)
-pushed (Err e) r items old kept said find places sum same i k n a = tt
-pushed (Ok v) (Err f) items old kept said find places sum same i k n a = cc
-pushed (Ok v) (Ok w) items old kept said find places sum same i k n a =
-    let all : map line_seen items ≡ map line_seen old ++ line_seen said ∷ [] =
-    ap (map line_seen) i ∙ ap (λ (xs : List Said). map line_seen (xs ++ said ∷ [])) k ∙ map-append line_seen old (said ∷ []) in
-    rw (all, n) a

@@ -1,8 +1,11 @@
 -- Spellings whose parts don't run into one another read as they were written.
-use Rattle.std.proofs.Common.{◌≡◌, ℕ, ◌<◌, ◌^◌, Bool, true, false, not, ◌&&◌, ◌==◌, List, [], ◌∷◌, ◌++◌, decimal, refl, sym, ap, ◌∙◌, append-nil, arith, inl, inr, ◌+◌, cond, take, one-add}
+use Rattle.std.proofs.Common.{◌≡◌, ℕ, ◌<◌, ◌^◌, Bool, true, false, not, ◌&&◌, ◌==◌, List, [], ◌∷◌, ◌++◌, decimal, refl, sym, ap, ◌∙◌, append-nil, arith, inl, inr, ◌+◌, ◌-◌, zero, suc, cond, length, get_or, take, one-add}
 use Rattle.std.specs.List.{before_first}
 use Rattle.std.proofs.lemmas.Bool.{and_cases, and_left, and_parts, and_from, and_right, eqb-true, not-true}
-use Rattle.bpf_asm.specs.Lines.{is_dropped, lines_of}
+use Rattle.bpf_asm.specs.Lines.{source_lines}
+use Rattle.bpf_asm.specs.inner.Feeds.{no_feed}
+use Rattle.dialogue.specs.Lines.{without_return}
+use Rattle.bpf_asm.proofs.LineCuts.{line_ended}
 use Rattle.bpf_asm.specs.Spelling.{Part, text, num, label, part_octets, part_tokens, spelling_octets, spelling_tokens}
 use Rattle.bpf_asm.specs.Tokens.{all_word, Token, name, number, faulty, mark, is_run, is_word, signed, signed_behind, pieces_of, tokens_of}
 use Rattle.bpf_asm.proofs.Decimals.{tokens_of-decimal, decimal_word}
@@ -140,20 +143,22 @@ inline_whole (octet ∷ rest) h =
     let tests = inline_tests octet both.0 in
     before_more octet rest _ (octet == 59) tests.2 ∙ ap (λ (xs : List ℕ). octet ∷ xs) (inline_whole rest both.1)
 
-never_dropped : (octet : ℕ) (rest : List ℕ) → (octet == 13) ≡ false → is_dropped octet rest ≡ false
-never_dropped octet [] h = refl
-never_dropped octet (next ∷ rest) h = and_left _ _ h
-
--- a line feed ends a line
-pub lines_of-line : (line rest : List ℕ) → all_inline line ≡ true → lines_of (line ++ 10 ∷ rest) ≡ line ∷ lines_of rest
-unfolding lines_of
-lines_of-line [] rest h = refl
-lines_of-line (octet ∷ line) rest h =
+inline_free : (line : List ℕ) → all_inline line ≡ true → no_feed line ≡ true
+inline_free [] h = refl
+inline_free (octet ∷ line) h =
     let both = and_parts (is_inline octet) (all_inline line) h in
-    let tests = inline_tests octet both.0 in
-    let kept = never_dropped octet (line ++ 10 ∷ rest) tests.1 in
-    let later = lines_of-line line rest both.1 in
-    rw (tests.0, kept, later) refl
+    rw ((inline_tests octet both.0).0) (inline_free line both.1)
+
+inline_at : (line : List ℕ) (at : ℕ) → all_inline line ≡ true → (get_or line at 0 == 13) ≡ false
+inline_at [] at h = refl
+inline_at (octet ∷ line) zero h = let both = and_parts (is_inline octet) (all_inline line) h in (inline_tests octet both.0).1
+inline_at (octet ∷ line) (suc at) h = let both = and_parts (is_inline octet) (all_inline line) h in inline_at line at both.1
+
+-- such a line is the first of a text where a line feed ends it
+pub source_lines-line : (line rest : List ℕ) → all_inline line ≡ true → source_lines (line ++ 10 ∷ rest) ≡ line ∷ source_lines rest
+source_lines-line line rest h =
+    let whole : without_return line ≡ line = rw (inline_at line (length line - 1) h) refl in
+    line_ended line rest (inline_free line h) ∙ ap (λ l. l ∷ source_lines rest) whole
 
 -- no token is `-`
 abbrev pub no_minus : List Token → Bool

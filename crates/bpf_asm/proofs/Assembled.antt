@@ -3,7 +3,7 @@ use Rattle.std.proofs.Common.{◌≡◌, ◌⊎◌, ℕ, ◌+◌, List, map, Opt
 use Rattle.bpf_asm.specs.Faults.{IsFault, IsFirstOperandFault, IsOutOfMemory}
 use Rattle.bpf_asm.specs.Grammar.{AreLines, Line}
 use Rattle.bpf_asm.specs.Labels.{EachLabelOnce, statements_of}
-use Rattle.bpf_asm.specs.Lines.{lines_of}
+use Rattle.bpf_asm.specs.Lines.{source_lines}
 use Rattle.bpf_asm.specs.Meaning.{IsMeaning, MeanFrom}
 use Rattle.bpf_asm.specs.Pending.{IsPending}
 use Rattle.bpf_asm.specs.Seen.{line_seen}
@@ -17,16 +17,12 @@ pub if_err : {A E : Type 0} (r : Result A E) (P Q : E → Type 0) → ((e : E) �
 if_err (Ok v) P Q f h = tt
 if_err (Err e) P Q f h = f e h
 
--- what is pending in lines that are these
-pub pending_in : (given items : List Said) (pending : Option ℕ) → given ≡ items → IsPending (map line_seen given) pending → IsPending (map line_seen items) pending
-pending_in given items pending e p = subst (λ (xs : List Said). IsPending (map line_seen xs) pending) e p
-
 -- the meaning
-pub means_source : (source : List ℕ) (lines : List Line) (code : List Instr) → AreLines (lines_of source) lines → EachLabelOnce lines → IsPending lines None → MeanFrom lines 0 (statements_of lines) code → IsMeaning source code
+pub means_source : (source : List ℕ) (lines : List Line) (code : List Instr) → AreLines (source_lines source) lines → EachLabelOnce lines → IsPending lines None → MeanFrom lines 0 (statements_of lines) code → IsMeaning source code
 means_source source lines code said once none meant = record { lines = lines; said = said; mean = record { once = once; followed = none; meant = meant } }
 
 -- the first label that no instruction follows
-pub dangling_source : (source : List ℕ) (lines : List Line) (at : ℕ) (fault : AsmFault) → AreLines (lines_of source) lines → EachLabelOnce lines → IsPending lines (Some at) → (fault.line ≡ at + 1) × (fault.kind ≡ DanglingLabel) → IsFault source fault
+pub dangling_source : (source : List ℕ) (lines : List Line) (at : ℕ) (fault : AsmFault) → AreLines (source_lines source) lines → EachLabelOnce lines → IsPending lines (Some at) → (fault.line ≡ at + 1) × (fault.kind ≡ DanglingLabel) → IsFault source fault
 dangling_source source lines at fault said once p n = inr (record {
   lines = lines;
   said = said;
@@ -35,6 +31,6 @@ dangling_source source lines at fault said once p n = inr (record {
 })
 
 -- the first label operand that has no offset
-pub operand_source : (source : List ℕ) (lines : List Line) (fault : AsmFault) → AreLines (lines_of source) lines → EachLabelOnce lines → IsPending lines None → IsFirstOperandFault lines fault ⊎ IsOutOfMemory fault → IsFault source fault ⊎ IsOutOfMemory fault
+pub operand_source : (source : List ℕ) (lines : List Line) (fault : AsmFault) → AreLines (source_lines source) lines → EachLabelOnce lines → IsPending lines None → IsFirstOperandFault lines fault ⊎ IsOutOfMemory fault → IsFault source fault ⊎ IsOutOfMemory fault
 operand_source source lines fault said once none f =
     elim f [ inl g ↦ inl (inr (record { lines = lines; said = said; once = once; faulty = inr (none, g) })) | inr m ↦ inr m ]

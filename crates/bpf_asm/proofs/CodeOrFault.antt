@@ -4,7 +4,7 @@ use Rattle.std.specs.Option.{option_to_list}
 use Rattle.bpf_asm.specs.Faults.{IsFault, IsFirstOperandFault}
 use Rattle.bpf_asm.specs.Grammar.{AreLines, Line}
 use Rattle.bpf_asm.specs.Labels.{EachLabelOnce, statements_of}
-use Rattle.bpf_asm.specs.Lines.{lines_of}
+use Rattle.bpf_asm.specs.Lines.{source_lines}
 use Rattle.bpf_asm.specs.Meaning.{IsMeaning, MeanFrom, Means}
 use Rattle.bpf_asm.specs.Pending.{IsPending}
 use Rattle.bpf_asm.specs.Spelling.{Statement}
@@ -76,7 +76,7 @@ mean-or_fault : (lines : List Line) → MeanOrFaulty lines
 mean-or_fault lines = mean_behind lines [] lines [] refl (mean_none lines)
 
 -- lines of the grammar with each label once mean a code or have a fault of labels
-said-or_fault : (source : List ℕ) (lines : List Line) (pending : Option ℕ) → AreLines (lines_of source) lines → EachLabelOnce lines → IsPending lines pending → ((code : List Instr) × IsMeaning source code) ⊎ ((fault : AsmFault) × IsFault source fault)
+said-or_fault : (source : List ℕ) (lines : List Line) (pending : Option ℕ) → AreLines (source_lines source) lines → EachLabelOnce lines → IsPending lines pending → ((code : List Instr) × IsMeaning source code) ⊎ ((fault : AsmFault) × IsFault source fault)
 said-or_fault source lines (Some at) said once pending =
     let fault : AsmFault = record { line = at + 1; kind = DanglingLabel } in
     inr (fault, dangling_source source lines at fault said once pending (refl, refl))
@@ -89,7 +89,7 @@ said-or_fault source lines None said once none =
 -- a source means a code or has a fault
 pub meaning-or_fault : (source : List ℕ) → ((code : List Instr) × IsMeaning source code) ⊎ ((fault : AsmFault) × IsFault source fault)
 meaning-or_fault source =
-    elim (lines-or_fault (lines_of source)) [
+    elim (lines-or_fault (source_lines source)) [
       | inl read ↦ let pending = dangling-or_none read.0 in said-or_fault source read.0 pending.0 read.1 read.2 pending.1
       | inr bad ↦ inr (bad.0, inl bad.1)
     ]

@@ -7,6 +7,8 @@ pub mod Agreement
 pub mod Sources
 pub mod PendingSteps
 pub mod Resolving
+pub mod DraftSteps
+pub mod ResolvedTo
 pub mod Assembled
 pub mod NoFaulty
 pub mod NeverBoth
@@ -35,5 +37,7 @@ pub mod LinesOrFault
 pub mod DanglingOrNone
 pub mod OffsetOrFault
 pub mod CodeOrFault
+pub mod Fitting
+pub mod Public
 pub mod Refusals
 pub mod Searches

@@ -4,12 +4,12 @@ use Rattle.bpf_asm.specs.Listing.{StaysWithin, first_spelling, label_at, stateme
 use Rattle.bpf_asm.specs.Numbers.{number_of, value_behind}
 use Rattle.bpf_asm.specs.Spelling.{Part, text, label, spelling_tokens, spellings}
 use Rattle.bpf_asm.specs.Tokens.{pieces_of, tokens_of, word_token}
-use Rattle.bpf_asm.specs.Widths.{IsWide}
+use Rattle.bpf_code.specs.Widths.{FitsFields}
 use Rattle.bpf_asm.proofs.Apart.{ReadParts, ReadsPart, is_apart, no_minus, texts_inline}
 use Rattle.bpf_code.specs.declared.instr.By.TheVariants.{Imm, X}
 use Rattle.bpf_code.specs.declared.instr.Instr.{Instr}
 use Rattle.bpf_code.specs.declared.instr.Instr.TheVariants.{LoadAbs, LoadInd, LoadImm, LoadMem, LoadLen, LdxImm, LdxMem, LdxLen, LdxMsh, Store, StoreX, Alu, Neg, Jump, Branch, RetK, RetA, Tax, Txa}
-use Rattle.bpf_code.specs.declared.instr.Op.TheVariants.{Add, Sub, Mul, Div, Or, And, Lsh, Rsh}
+use Rattle.bpf_code.specs.declared.instr.Op.TheVariants.{Add, Sub, Mul, Div, Or, And, Lsh, Rsh, Mod, Xor}
 use Rattle.bpf_code.specs.declared.instr.Size.TheVariants.{Word, Half, Octet}
 use Rattle.bpf_code.specs.declared.instr.Test.TheVariants.{Eq, Gt, Ge, Set}
 
@@ -60,6 +60,10 @@ row_good place (Alu Lsh (Imm k)) = refl
 row_good place (Alu Lsh X) = refl
 row_good place (Alu Rsh (Imm k)) = refl
 row_good place (Alu Rsh X) = refl
+row_good place (Alu Mod (Imm k)) = refl
+row_good place (Alu Mod X) = refl
+row_good place (Alu Xor (Imm k)) = refl
+row_good place (Alu Xor X) = refl
 row_good place Neg = refl
 row_good place (Jump k) = refl
 row_good place (Branch Eq (Imm k) jt jf) = refl
@@ -76,7 +80,7 @@ row_good place Tax = refl
 row_good place Txa = refl
 
 -- the parts of a row read as their tokens
-pub row_reads : (place : ℕ) (i : Instr) → IsWide i → StaysWithin (2 ^ 64) place i → ((target : ℕ) → target < 2 ^ 64 → ReadsPart (label (label_at target))) → ReadsPart (label (label_at place)) → ReadParts (line_parts place i)
+pub row_reads : (place : ℕ) (i : Instr) → FitsFields i → StaysWithin (2 ^ 64) place i → ((target : ℕ) → target < 2 ^ 64 → ReadsPart (label (label_at target))) → ReadsPart (label (label_at place)) → ReadParts (line_parts place i)
 unfolding spellings
 row_reads place (LoadAbs Word k) w s t l = (l, (tt, (tt, (tt, (w.k, (tt, tt))))))
 row_reads place (LoadInd Word k) w s t l = (l, (tt, (tt, (tt, (w.k, (tt, tt))))))
@@ -109,6 +113,10 @@ row_reads place (Alu Lsh (Imm k)) w s t l = (l, (tt, (tt, (tt, (tt, (w.k, tt))))
 row_reads place (Alu Lsh X) w s t l = (l, (tt, (tt, (tt, (tt, tt)))))
 row_reads place (Alu Rsh (Imm k)) w s t l = (l, (tt, (tt, (tt, (tt, (w.k, tt))))))
 row_reads place (Alu Rsh X) w s t l = (l, (tt, (tt, (tt, (tt, tt)))))
+row_reads place (Alu Mod (Imm k)) w s t l = (l, (tt, (tt, (tt, (tt, (w.k, tt))))))
+row_reads place (Alu Mod X) w s t l = (l, (tt, (tt, (tt, (tt, tt)))))
+row_reads place (Alu Xor (Imm k)) w s t l = (l, (tt, (tt, (tt, (tt, (w.k, tt))))))
+row_reads place (Alu Xor X) w s t l = (l, (tt, (tt, (tt, (tt, tt)))))
 row_reads place Neg w s t l = (l, (tt, (tt, tt)))
 row_reads place (Jump k) w s t l = (l, (tt, (tt, (t (place + 1 + k) (s (place + 1 + k) refl), tt))))
 row_reads place (Branch Eq (Imm k) jt jf) w s t l = (l, (tt, (tt, (tt, (tt, (w.k, (tt, (t (place + 1 + jt) (s (place + 1 + jt) (inl refl)), (tt, (t (place + 1 + jf) (s (place + 1 + jf) (inr refl)), tt))))))))))

@@ -8,7 +8,7 @@ use Rattle.bpf_asm.specs.Spelling.{Statement, plain, branch, spellings}
 use Rattle.bpf_asm.specs.Tokens.{Token, name, number, mark, pieces_of, tokens_of, word_token}
 use Rattle.bpf_code.specs.declared.instr.Instr.TheVariants.{LdxMsh, Store, StoreX, Alu, Neg, Tax, Txa}
 use Rattle.bpf_code.specs.declared.instr.Op.{Op}
-use Rattle.bpf_code.specs.declared.instr.Op.TheVariants.{Add, Sub, Mul, Div, Or, And, Lsh, Rsh}
+use Rattle.bpf_code.specs.declared.instr.Op.TheVariants.{Add, Sub, Mul, Div, Or, And, Lsh, Rsh, Mod, Xor}
 use Rattle.bpf_code.specs.declared.instr.Size.TheVariants.{Half, Octet}
 use Rattle.bpf_code.specs.declared.instr.Test.{Test}
 use Rattle.bpf_code.specs.declared.instr.Test.TheVariants.{Eq, Gt, Ge, Set}
@@ -55,7 +55,13 @@ op_sound octets ts s op o e =
                   | inl w ↦ at_name octets (codes "lsh") ts s w.0 (arithmetic_sound Lsh (codes "lsh") ts s (both_operands (λ by. Named (codes "lsh") (operand_tokens by) (plain (Alu Lsh by))) (λ k. inl refl) (inl refl)) (rw w.1 e))
                   | inr r6 ↦ elim r6 [
                     | inl w ↦ at_name octets (codes "rsh") ts s w.0 (arithmetic_sound Rsh (codes "rsh") ts s (both_operands (λ by. Named (codes "rsh") (operand_tokens by) (plain (Alu Rsh by))) (λ k. inl refl) (inl refl)) (rw w.1 e))
-                    | inr r7 ↦ absurd r7
+                    | inr r7 ↦ elim r7 [
+                      | inl w ↦ at_name octets (codes "mod") ts s w.0 (arithmetic_sound Mod (codes "mod") ts s (both_operands (λ by. Named (codes "mod") (operand_tokens by) (plain (Alu Mod by))) (λ k. inl refl) (inl refl)) (rw w.1 e))
+                      | inr r8 ↦ elim r8 [
+                        | inl w ↦ at_name octets (codes "xor") ts s w.0 (arithmetic_sound Xor (codes "xor") ts s (both_operands (λ by. Named (codes "xor") (operand_tokens by) (plain (Alu Xor by))) (λ k. inl refl) (inl refl)) (rw w.1 e))
+                        | inr r9 ↦ absurd r9
+                      ]
+                    ]
                   ]
                 ]
               ]

@@ -3,7 +3,7 @@ use Rattle.std.proofs.Common.{◌≡◌, ℕ, ◌+◌, ◌-◌, ◌%◌, ◌^◌
 use Rattle.bpf_asm.specs.Faults.{HasOffset, HasOffsets, IsFault, IsFirstOperandFault, IsLabelFault, IsLineFault, IsOperandFault}
 use Rattle.bpf_asm.specs.Grammar.{AreLines, IsLine, IsLineOf, IsOneOf, Line}
 use Rattle.bpf_asm.specs.Labels.{EachLabelOnce, HasLabel, IsDangling, Operand, statements_of}
-use Rattle.bpf_asm.specs.Lines.{lines_of, without_comment}
+use Rattle.bpf_asm.specs.Lines.{source_lines, without_comment}
 use Rattle.bpf_asm.specs.Meaning.{IsMeaning, MeanFrom, Means}
 use Rattle.bpf_asm.specs.Spelling.{Statement}
 use Rattle.bpf_asm.specs.Tokens.{HasBadNumber, Token, name, number, faulty, mark, has_faulty, is_faulty, signed, signed_behind, tokens_in, tokens_of, tokens_read}
@@ -136,9 +136,9 @@ first_never lines fault code once m f =
     let g = f.faulty in
     operand_never lines (length (statements_of f.before)) g.operand fault.kind once (offset_in lines (length (statements_of f.before)) g.left g.operand g.right (rw g.order at have)) g.faulty
 
-label_never : (source : List ℕ) (fault : AsmFault) (code : List Instr) (a : IsMeaning source code) → IsLabelFault (lines_of source) fault → ⊥
+label_never : (source : List ℕ) (fault : AsmFault) (code : List Instr) (a : IsMeaning source code) → IsLabelFault (source_lines source) fault → ⊥
 label_never source fault code a g =
-    let same = lines_once (lines_of source) a.lines g.lines a.said g.said in
+    let same = lines_once (source_lines source) a.lines g.lines a.said g.said in
     let meant = subst (λ (lines : List Line). MeanFrom lines 0 (statements_of lines) code) same a.mean.meant in
     let followed = subst (λ (lines : List Line). (at : ℕ) → ¬ IsDangling lines at) same a.mean.followed in
     elim g.faulty [ inl d ↦ followed d.at d.dangling | inr o ↦ first_never g.lines fault code g.once meant o.1 ]

@@ -7,7 +7,7 @@ use Rattle.bpf_asm.specs.Spelling.{Statement, plain, jump, branch, spellings}
 use Rattle.bpf_asm.specs.Tokens.{Token, pieces_of, tokens_of, word_token}
 use Rattle.bpf_code.specs.declared.instr.By.TheVariants.{Imm, X}
 use Rattle.bpf_code.specs.declared.instr.Instr.TheVariants.{LoadAbs, LoadInd, LoadImm, LoadMem, LoadLen, LdxImm, LdxMem, LdxLen, LdxMsh, Store, StoreX, Alu, Neg, Jump, Branch, RetK, RetA, Tax, Txa}
-use Rattle.bpf_code.specs.declared.instr.Op.TheVariants.{Add, Sub, Mul, Div, Or, And, Lsh, Rsh}
+use Rattle.bpf_code.specs.declared.instr.Op.TheVariants.{Add, Sub, Mul, Div, Or, And, Lsh, Rsh, Mod, Xor}
 use Rattle.bpf_code.specs.declared.instr.Size.TheVariants.{Word, Half, Octet}
 use Rattle.bpf_code.specs.declared.instr.Test.TheVariants.{Eq, Gt, Ge, Set}
 
@@ -50,6 +50,10 @@ no_label ts (plain (Alu Lsh (Imm k))) h = elim h [ inl e ↦ rw e refl | inr e �
 no_label ts (plain (Alu Lsh X)) h = elim h [ inl e ↦ rw e refl | inr e ↦ absurd e ]
 no_label ts (plain (Alu Rsh (Imm k))) h = elim h [ inl e ↦ rw e refl | inr e ↦ absurd e ]
 no_label ts (plain (Alu Rsh X)) h = elim h [ inl e ↦ rw e refl | inr e ↦ absurd e ]
+no_label ts (plain (Alu Mod (Imm k))) h = elim h [ inl e ↦ rw e refl | inr e ↦ absurd e ]
+no_label ts (plain (Alu Mod X)) h = elim h [ inl e ↦ rw e refl | inr e ↦ absurd e ]
+no_label ts (plain (Alu Xor (Imm k))) h = elim h [ inl e ↦ rw e refl | inr e ↦ absurd e ]
+no_label ts (plain (Alu Xor X)) h = elim h [ inl e ↦ rw e refl | inr e ↦ absurd e ]
 no_label ts (plain (Jump k)) h = absurd h
 no_label ts (plain (Branch test by jt jf)) h = absurd h
 no_label ts (jump target) h = elim h [ inl e ↦ rw e refl | inr f ↦ elim f [ inl e ↦ rw e refl | inr g ↦ absurd g ] ]

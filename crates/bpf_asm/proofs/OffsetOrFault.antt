@@ -6,7 +6,7 @@ use Rattle.bpf_asm.specs.Grammar.{Line}
 use Rattle.bpf_asm.specs.Labels.{Operand, StandsFor}
 use Rattle.bpf_asm.specs.Meaning.{IsSide, Means}
 use Rattle.bpf_asm.specs.Spelling.{Statement, plain, jump, branch}
-use Rattle.bpf_asm.specs.Wholes.{IsSideFault}
+use Rattle.bpf_asm.specs.inner.Drafts.{IsSideFault}
 use Rattle.bpf_asm.specs.declared.fault.AsmKind.{AsmKind}
 use Rattle.bpf_asm.specs.declared.fault.AsmKind.TheVariants.{UnknownLabel, Backward, TooFar}
 use Rattle.bpf_asm.proofs.LabelOrUnknown.{stands-or_unknown}

@@ -3,7 +3,7 @@ use Rattle.std.proofs.Common.{◌≡◌, ◌⊎◌, ℕ, ◌+◌, ◌<◌, List,
 use Rattle.bpf_asm.specs.Faults.{HasOffsets, HaveOffsets, IsFault, IsFirstDangling, IsFirstLineFault, IsFirstOperandFault, IsLabelFault, IsLineFault, IsOperandFault, IsStatementFault}
 use Rattle.bpf_asm.specs.Grammar.{Line}
 use Rattle.bpf_asm.specs.Labels.{EachLabelOnce, IsDangling, Operand, operands_of, statements_of}
-use Rattle.bpf_asm.specs.Lines.{lines_of}
+use Rattle.bpf_asm.specs.Lines.{source_lines}
 use Rattle.bpf_asm.specs.Spelling.{Statement}
 use Rattle.bpf_asm.specs.declared.fault.AsmFault.{AsmFault}
 use Rattle.bpf_asm.specs.declared.fault.AsmKind.{AsmKind}
@@ -181,7 +181,7 @@ label_once source one other f g =
 
 -- a source has at most one fault
 pub fault_once : (source : List ℕ) (one other : AsmFault) → IsFault source one → IsFault source other → one ≡ other
-fault_once source one other (inl f) (inl g) = line_fault_once (lines_of source) one other f g
-fault_once source one other (inl f) (inr g) = absurd (line_or_label (lines_of source) one other f g)
-fault_once source one other (inr f) (inl g) = absurd (line_or_label (lines_of source) other one g f)
-fault_once source one other (inr f) (inr g) = label_once (lines_of source) one other f g
+fault_once source one other (inl f) (inl g) = line_fault_once (source_lines source) one other f g
+fault_once source one other (inl f) (inr g) = absurd (line_or_label (source_lines source) one other f g)
+fault_once source one other (inr f) (inl g) = absurd (line_or_label (source_lines source) other one g f)
+fault_once source one other (inr f) (inr g) = label_once (source_lines source) one other f g

@@ -3,7 +3,7 @@ use Rattle.std.proofs.Common.{◌≡◌, ℕ, ◌+◌, List, [], ◌∷◌, leng
 use Rattle.std.proofs.lemmas.List.{take_at}
 use Rattle.bpf_asm.specs.Grammar.{AreLines, IsLine, Line}
 use Rattle.bpf_asm.specs.Labels.{EachLabelOnce, HasLabel, IsOffset, Operand, StandsFor, statements_of}
-use Rattle.bpf_asm.specs.Lines.{lines_of}
+use Rattle.bpf_asm.specs.Lines.{source_lines}
 use Rattle.bpf_asm.specs.Meaning.{IsMeaning, IsSide, MeanFrom, Means}
 use Rattle.bpf_asm.specs.Spelling.{Statement, plain, jump, branch}
 use Rattle.bpf_asm.specs.Tokens.{tokens_in}
@@ -72,6 +72,6 @@ mean_once lines place (s ∷ ss) (i ∷ one) (j ∷ other) once a b =
 -- a source means at most one code
 pub meaning_once : (source : List ℕ) (one other : List Instr) → IsMeaning source one → IsMeaning source other → one ≡ other
 meaning_once source one other a b =
-    let same = lines_once (lines_of source) b.lines a.lines b.said a.said in
+    let same = lines_once (source_lines source) b.lines a.lines b.said a.said in
     let meant = subst (λ (lines : List Line). MeanFrom lines 0 (statements_of lines) other) same b.mean.meant in
     mean_once a.lines 0 (statements_of a.lines) one other a.mean.once a.mean.meant meant

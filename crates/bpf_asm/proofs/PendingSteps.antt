@@ -87,7 +87,3 @@ pending_plain lines line l e p at d =
 -- at a value that is this one
 pub pending_at : (lines : List Line) (one other : Option ℕ) → one ≡ other → IsPending lines one → IsPending lines other
 pending_at lines one other e p = subst (λ (o : Option ℕ). IsPending lines o) e p
-
--- one line more
-pub pending_step : (items : List Said) (at : ℕ) (d : Said) (pending : Option ℕ) → at < length items → IsPending (map line_seen (take at items) ++ line_seen (get_or items at d) ∷ []) pending → IsPending (map line_seen (take (at + 1) items)) pending
-pending_step items at d pending h p = subst (λ (lines : List Line). IsPending lines pending) (sym (map_more line_seen items at d h)) p

@@ -8,7 +8,7 @@ use Rattle.bpf_asm.specs.Labels.{Operand, operands_of, side, statements_of}
 use Rattle.bpf_asm.specs.Meaning.{IsSide, MeanFrom, Means}
 use Rattle.bpf_asm.specs.Seen.{line_seen}
 use Rattle.bpf_asm.specs.Spelling.{Statement, plain, jump, branch}
-use Rattle.bpf_asm.specs.Wholes.{IsFaultAt, IsPushFault, IsSideFault}
+use Rattle.bpf_asm.specs.inner.Drafts.{IsSideFault}
 use Rattle.bpf_asm.specs.declared.fault.AsmFault.{AsmFault}
 use Rattle.bpf_asm.specs.declared.fault.AsmKind.{AsmKind}
 use Rattle.bpf_asm.specs.declared.fault.AsmKind.TheVariants.{BadLine, BadNumber, LabelTwice, UnknownLabel, Backward, TooFar, DanglingLabel, NoMemory}
@@ -68,25 +68,6 @@ mean_more lines place (t ∷ ss) (j ∷ code) s i m here =
     let moved : place + length (t ∷ ss) ≡ place + 1 + length ss = omega arith in
     (m.0, mean_more lines (place + 1) ss code s i m.1 (subst (λ (p : ℕ). Means lines p s i) moved here))
 
--- one pushed instruction more
-pub mean_pushed : {A B E F : Type 0} (m : Result A E) (r : Result B F) (lines : List Line) (old new : List Instr) (count : ℕ) (s : Statement) (i : Instr) → is_ok m ≡ is_ok r → new ≡ (if is_ok r then old ++ i ∷ [] else old) → count ≡ length old → Means lines count s i → OnOk m ((ss : List Statement) → MeanFrom lines 0 ss old → MeanFrom lines 0 (ss ++ s ∷ []) new)
-mean_pushed (Err e) r lines old new count s i same n c here = tt
-mean_pushed (Ok v) (Err f) lines old new count s i same n c here = cc
-mean_pushed (Ok v) (Ok w) lines old new count s i same n c here = λ ss before.
-    let place : count ≡ 0 + length ss = c ∙ mean_length lines 0 ss old before ∙ omega arith in
-    rw n (mean_more lines 0 ss old s i before (subst (λ (p : ℕ). Means lines p s i) place here))
-
--- a statement that couldn't be turned into an instruction
-pub push_fault : (lines : List Line) (place : ℕ) (s : Statement) (kind : AsmKind) → IsStatementFault lines place s kind → IsPushFault lines place (Some s) kind
-push_fault lines place s BadLine f = f
-push_fault lines place s BadNumber f = f
-push_fault lines place s LabelTwice f = f
-push_fault lines place s UnknownLabel f = f
-push_fault lines place s Backward f = f
-push_fault lines place s TooFar f = f
-push_fault lines place s DanglingLabel f = f
-push_fault lines place s NoMemory f = tt
-
 -- the statement of one line
 statements_line : (line : Line) (s : Option Statement) → line.statement ≡ s → statements_of (line ∷ []) ≡ option_to_list s
 unfolding statements_of
@@ -96,67 +77,3 @@ statements_line line (Some s) e = rw e refl
 -- the statements of one line more
 pub statements_more : (lines : List Line) (line : Line) → statements_of (lines ++ line ∷ []) ≡ statements_of lines ++ option_to_list line.statement
 statements_more lines line = statements_of-append lines (line ∷ []) ∙ ap (λ (ss : List Statement). statements_of lines ++ ss) (statements_line line line.statement refl)
-
-split_at : (items : List Said) (at : ℕ) (d : Said) → at < length items → map line_seen items ≡ map line_seen (take at items) ++ line_seen (get_or items at d) ∷ map line_seen (drop (at + 1) items)
-split_at items at d h =
-    ap (map line_seen) (sym (take-append-drop at items) ∙ ap (λ (xs : List Said). take at items ++ xs) (drop_more items at d h)) ∙ map-append line_seen (take at items) (get_or items at d ∷ drop (at + 1) items)
-
-operand_by : (items : List Said) (at : ℕ) (d : Said) (code : List Instr) (s : Statement) (kind : AsmKind) (fault : AsmFault) → at < length items → length (take at items) ≡ at → (line_seen (get_or items at d)).statement ≡ Some s → MeanFrom (map line_seen items) 0 (statements_of (map line_seen (take at items))) code → IsStatementFault (map line_seen items) (length code) s kind → (fault.line ≡ at + 1) × (fault.kind ≡ kind) → IsFirstOperandFault (map line_seen items) fault
-operand_by items at d code s kind fault h c e m f n =
-    let lines = map line_seen items in
-    let before = map line_seen (take at items) in
-    let count : at ≡ length before = sym c ∙ sym (length-map (take at items) line_seen) in
-    record {
-      before = before;
-      here = line_seen (get_or items at d);
-      behind = map line_seen (drop (at + 1) items);
-      split = split_at items at d h;
-      number = n.0 ∙ ap (λ (k : ℕ). k + 1) count;
-      earlier = mean_have lines 0 (statements_of before) code m;
-      statement = s;
-      stands = e;
-      faulty = subst (λ (k : AsmKind). IsStatementFault lines (length (statements_of before)) s k) (sym n.1) (subst (λ (p : ℕ). IsStatementFault lines p s kind) (mean_length lines 0 (statements_of before) code m) f);
-    }
-
-first_operand : (items : List Said) (at : ℕ) (d : Said) (code : List Instr) (s : Option Statement) (kind : AsmKind) (fault : AsmFault) → at < length items → length (take at items) ≡ at → (line_seen (get_or items at d)).statement ≡ s → MeanFrom (map line_seen items) 0 (statements_of (map line_seen (take at items))) code → IsPushFault (map line_seen items) (length code) s kind → IsFaultAt (at + 1) kind fault → IsFirstOperandFault (map line_seen items) fault ⊎ IsOutOfMemory fault
-first_operand items at d code s NoMemory fault h c e m f n = inr n
-first_operand items at d code None BadLine fault h c e m f n = absurd f
-first_operand items at d code (Some s) BadLine fault h c e m f n = inl (operand_by items at d code s BadLine fault h c e m f n)
-first_operand items at d code None BadNumber fault h c e m f n = absurd f
-first_operand items at d code (Some s) BadNumber fault h c e m f n = inl (operand_by items at d code s BadNumber fault h c e m f n)
-first_operand items at d code None LabelTwice fault h c e m f n = absurd f
-first_operand items at d code (Some s) LabelTwice fault h c e m f n = inl (operand_by items at d code s LabelTwice fault h c e m f n)
-first_operand items at d code None UnknownLabel fault h c e m f n = absurd f
-first_operand items at d code (Some s) UnknownLabel fault h c e m f n = inl (operand_by items at d code s UnknownLabel fault h c e m f n)
-first_operand items at d code None Backward fault h c e m f n = absurd f
-first_operand items at d code (Some s) Backward fault h c e m f n = inl (operand_by items at d code s Backward fault h c e m f n)
-first_operand items at d code None TooFar fault h c e m f n = absurd f
-first_operand items at d code (Some s) TooFar fault h c e m f n = inl (operand_by items at d code s TooFar fault h c e m f n)
-first_operand items at d code None DanglingLabel fault h c e m f n = absurd f
-first_operand items at d code (Some s) DanglingLabel fault h c e m f n = inl (operand_by items at d code s DanglingLabel fault h c e m f n)
-
--- the first statement that couldn't be turned into an instruction
-pub first_unresolved : (items : List Said) (at : ℕ) (d : Said) (code : List Instr) (kind : AsmKind) (fault : AsmFault) → at < length items → length (take at items) ≡ at → MeanFrom (map line_seen items) 0 (statements_of (map line_seen (take at items))) code → IsPushFault (map line_seen items) (length code) (line_seen (get_or items at d)).statement kind → IsFaultAt (at + 1) kind fault → IsFirstOperandFault (map line_seen items) fault ⊎ IsOutOfMemory fault
-first_unresolved items at d code kind fault h c m f n = first_operand items at d code (line_seen (get_or items at d)).statement kind fault h c refl m f n
-
--- the same of lines that are these
-pub unresolved_at : (items whole : List Said) (at count : ℕ) (d : Said) (code : List Instr) (kind : AsmKind) (fault : AsmFault) → items ≡ whole → at < length items → count ≡ length code → MeanFrom (map line_seen whole) 0 (statements_of (map line_seen (take at items))) code → IsPushFault (map line_seen whole) count (line_seen (get_or items at d)).statement kind → IsFaultAt (at + 1) kind fault → IsFirstOperandFault (map line_seen whole) fault ⊎ IsOutOfMemory fault
-unresolved_at items whole at count d code kind fault same h c m f n =
-    let within : min at (length items) ≡ at = omega arith in
-    let front : length (take at items) ≡ at = length-take at items ∙ within in
-    let there : IsPushFault (map line_seen whole) (length code) (line_seen (get_or items at d)).statement kind = subst (λ (k : ℕ). IsPushFault (map line_seen whole) k (line_seen (get_or items at d)).statement kind) c f in
-    let P : List Said → Type 0 = λ xs. MeanFrom (map line_seen xs) 0 (statements_of (map line_seen (take at items))) code → IsPushFault (map line_seen xs) (length code) (line_seen (get_or items at d)).statement kind → IsFirstOperandFault (map line_seen xs) fault ⊎ IsOutOfMemory fault in
-    subst P same (λ mean push. first_unresolved items at d code kind fault h front mean push n) m there
-
--- one line more
-pub resolved_more : (lines : List Line) (items : List Said) (at : ℕ) (d : Said) (old new : List Instr) → at < length items → ((ss : List Statement) → MeanFrom lines 0 ss old → MeanFrom lines 0 (ss ++ option_to_list (line_seen (get_or items at d)).statement) new) → MeanFrom lines 0 (statements_of (map line_seen (take at items))) old → MeanFrom lines 0 (statements_of (map line_seen (take (at + 1) items))) new
-resolved_more lines items at d old new h more m =
-    let next : statements_of (map line_seen (take (at + 1) items)) ≡ statements_of (map line_seen (take at items)) ++ option_to_list (line_seen (get_or items at d)).statement =
-    ap statements_of (map_more line_seen items at d h) ∙ statements_more (map line_seen (take at items)) (line_seen (get_or items at d)) in
-    rw next (more (statements_of (map line_seen (take at items))) m)
-
--- all lines
-pub resolved_all : (items whole : List Said) (at : ℕ) (code : List Instr) → items ≡ whole → length items ≤ at → MeanFrom (map line_seen whole) 0 (statements_of (map line_seen (take at items))) code → MeanFrom (map line_seen whole) 0 (statements_of (map line_seen whole)) code
-resolved_all items whole at code same h m =
-    let all : take at items ≡ whole = take_all at items h ∙ same in
-    subst (λ (xs : List Said). MeanFrom (map line_seen whole) 0 (statements_of (map line_seen xs)) code) all m

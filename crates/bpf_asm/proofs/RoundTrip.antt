@@ -4,13 +4,13 @@ use Rattle.std.proofs.lemmas.Bool.{and_parts}
 use Rattle.std.proofs.lemmas.Fmt.{decimal_injective}
 use Rattle.bpf_asm.specs.Grammar.{Line, AreLines, IsLine, IsOneOf}
 use Rattle.bpf_asm.specs.Labels.{EachLabelOnce, StandsFor, statements_of}
-use Rattle.bpf_asm.specs.Lines.{lines_of, without_comment}
+use Rattle.bpf_asm.specs.Lines.{source_lines, without_comment}
 use Rattle.bpf_asm.specs.Listing.{StaysWithin, first_spelling, instruction_text, label_at, line_text, listing_from, listing_of, statement_at}
 use Rattle.bpf_asm.specs.Meaning.{IsMeaning, MeanFrom, Means}
 use Rattle.bpf_asm.specs.Spelling.{Part, label, spelling_octets, spelling_tokens, spellings}
 use Rattle.bpf_asm.specs.Tokens.{Token, name, mark, signed, tokens_in, tokens_of, tokens_read, pieces_of}
-use Rattle.bpf_asm.specs.Widths.{IsWide}
-use Rattle.bpf_asm.proofs.Apart.{ReadsPart, all_inline, inline_whole, is_apart, lines_of-line, no_minus, parts_inline, parts_read, signed_same, texts_inline}
+use Rattle.bpf_code.specs.Widths.{FitsFields}
+use Rattle.bpf_asm.proofs.Apart.{ReadsPart, all_inline, inline_whole, is_apart, source_lines-line, no_minus, parts_inline, parts_read, signed_same, texts_inline}
 use Rattle.bpf_asm.proofs.Decimals.{decimal_word, tokens_of-label}
 use Rattle.bpf_asm.proofs.ListedRows.{is_good, is_some_row, line_parts, row_good, row_reads}
 use Rattle.bpf_asm.proofs.Places.{AllPlaces}
@@ -29,17 +29,17 @@ lines_in place (i ∷ code) = line_at place i ∷ lines_in (place + 1) code
 -- the instructions from a place on can be listed, in a code of so many
 abbrev IsListable : ℕ → ℕ → List Instr → Type 0
 IsListable count place [] = Unit {0}
-IsListable count place (i ∷ code) = (IsWide i × StaysWithin count place i) × IsListable count (place + 1) code
+IsListable count place (i ∷ code) = (FitsFields i × StaysWithin count place i) × IsListable count (place + 1) code
 
-listable_from : (count place : ℕ) (code : List Instr) → ((k : ℕ) (i : Instr) → slice_get code k ≡ Some i → IsWide i × StaysWithin count (place + k) i) → IsListable count place code
+listable_from : (count place : ℕ) (code : List Instr) → ((k : ℕ) (i : Instr) → slice_get code k ≡ Some i → FitsFields i × StaysWithin count (place + k) i) → IsListable count place code
 listable_from count place [] h = tt
 listable_from count place (i ∷ code) h =
     let zero_more : place + 0 ≡ place = omega arith in
-    let first = subst (λ (p : ℕ). IsWide i × StaysWithin count p i) zero_more (h 0 i refl) in (
+    let first = subst (λ (p : ℕ). FitsFields i × StaysWithin count p i) zero_more (h 0 i refl) in (
       first,
       listable_from count (place + 1) code (λ k j e.
           let moved : place + suc k ≡ place + 1 + k = omega arith in
-          subst (λ (p : ℕ). IsWide j × StaysWithin count p j) moved (h (suc k) j e)),
+          subst (λ (p : ℕ). FitsFields j × StaysWithin count p j) moved (h (suc k) j e)),
     )
 
 label_reads : (place : ℕ) → place < 2 ^ 64 → ReadsPart (label (label_at place))
@@ -58,7 +58,7 @@ unfolding tokens_of pieces_of
 colon_token = refl
 
 -- one line reads as what it says
-line_said : (place : ℕ) (i : Instr) → IsWide i → StaysWithin (2 ^ 64) place i → place < 2 ^ 64 → (all_inline (spelling_octets (line_parts place i)) ≡ true) × IsLine (spelling_octets (line_parts place i)) (line_at place i)
+line_said : (place : ℕ) (i : Instr) → FitsFields i → StaysWithin (2 ^ 64) place i → place < 2 ^ 64 → (all_inline (spelling_octets (line_parts place i)) ≡ true) × IsLine (spelling_octets (line_parts place i)) (line_at place i)
 unfolding IsLine tokens_in tokens_read
 line_said place i w s h =
     let parts = line_parts place i in
@@ -74,8 +74,8 @@ line_said place i w s h =
     (inline, (spelling_tokens row, tokens ∙ behind, row_first (spellings (statement_at place i)) both.1))
 
 -- the lines of a listing read as what they say
-lines_said : (place : ℕ) (code : List Instr) → IsListable (2 ^ 64) place code → place + length code ≤ 2 ^ 64 → AreLines (lines_of (listing_from place code)) (lines_in place code)
-unfolding lines_in lines_of listing_from
+lines_said : (place : ℕ) (code : List Instr) → IsListable (2 ^ 64) place code → place + length code ≤ 2 ^ 64 → AreLines (source_lines (listing_from place code)) (lines_in place code)
+unfolding lines_in source_lines listing_from
 lines_said place [] l h = refl
 lines_said place (i ∷ code) l h =
     let here = line_said place i l.0.0 l.0.1 (omega arith) in
@@ -83,8 +83,8 @@ lines_said place (i ∷ code) l h =
     let later = lines_said (place + 1) code l.1 (omega arith) in
     let cut : line_text place i ++ listing_from (place + 1) code ≡ octets ++ 10 ∷ listing_from (place + 1) code =
     ap (λ (ts : List ℕ). ts ++ listing_from (place + 1) code) (line_octets place i) ∙ append_assoc octets (10 ∷ []) (listing_from (place + 1) code) in
-    let split : lines_of (line_text place i ++ listing_from (place + 1) code) ≡ octets ∷ lines_of (listing_from (place + 1) code) =
-    ap lines_of cut ∙ lines_of-line octets (listing_from (place + 1) code) here.0 in
+    let split : source_lines (line_text place i ++ listing_from (place + 1) code) ≡ octets ∷ source_lines (listing_from (place + 1) code) =
+    ap source_lines cut ∙ source_lines-line octets (listing_from (place + 1) code) here.0 in
     subst (λ (ls : List (List ℕ)). AreLines ls (line_at place i ∷ lines_in (place + 1) code)) (sym split) (here.1, later)
 
 -- each line has its place's label
@@ -143,7 +143,7 @@ stands_at : (whole : List Instr) (target : ℕ) → target < length whole → St
 stands_at whole target h = let z : 0 + target ≡ target = omega arith in subst (λ (p : ℕ). StandsFor (lines_in 0 whole) (label_at p) target) z (label_stands 0 whole target h)
 
 -- each statement means the instruction
-means_here : (whole : List Instr) (place : ℕ) (i : Instr) → IsWide i × StaysWithin (length whole) place i → Means (lines_in 0 whole) place (statement_at place i) i
+means_here : (whole : List Instr) (place : ℕ) (i : Instr) → FitsFields i × StaysWithin (length whole) place i → Means (lines_in 0 whole) place (statement_at place i) i
 means_here whole place (Jump k) l =
     let small : k < 2 ^ 32 = l.0.k in
     (k, refl, record { stands = stands_at whole (place + 1 + k) (l.1 (place + 1 + k) refl); fits = omega arith })
@@ -185,7 +185,7 @@ listable_more count more place (i ∷ code) h l =
     ((l.0.0, λ target j. let t : target < count = l.0.1 target j in omega arith), listable_more count more (place + 1) code h l.1)
 
 -- a listing means its code
-pub listing_means : (code : List Instr) → length code ≤ 2 ^ 64 → AllPlaces (λ place i. IsWide i) code → AllPlaces (StaysWithin (length code)) code → IsMeaning (listing_of code) code
+pub listing_means : (code : List Instr) → length code ≤ 2 ^ 64 → AllPlaces (λ place i. FitsFields i) code → AllPlaces (StaysWithin (length code)) code → IsMeaning (listing_of code) code
 listing_means code h wide stays =
     let l = listable_from (length code) 0 code (λ k i e. let z : k ≡ 0 + k = omega arith in (wide k i e, subst (λ (p : ℕ). StaysWithin (length code) p i) z (stays k i e))) in
     record {

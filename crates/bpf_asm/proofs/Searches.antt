@@ -3,7 +3,8 @@ use Rattle.std.proofs.Common.{◌≡◌, ℕ, zero, suc, ◌<◌, ◌≤◌, Boo
 use Rattle.std.proofs.lemmas.List.{take_all}
 use Rattle.std.proofs.lemmas.List.Sums.{position_or_len_is}
 use Rattle.memchr.specs.Find.{Nowhere, Passes, is_byte}
-use Rattle.bpf_asm.specs.Lines.{no_feed, without_comment}
+use Rattle.bpf_asm.specs.Lines.{without_comment}
+use Rattle.bpf_asm.specs.inner.Feeds.{no_feed}
 
 is_false : (t : Bool) → (t ≡ true → ⊥) → t ≡ false
 is_false true n = absurd (n refl)

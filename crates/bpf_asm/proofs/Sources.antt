@@ -1,30 +1,16 @@
 -- A source, one line after the other.
-use Rattle.std.proofs.Common.{◌≡◌, ◌⊎◌, ℕ, ◌+◌, List, [], ◌∷◌, ◌++◌, Result, Ok, Err, IfErr, OnOk, sym, ap, ◌∙◌, subst, inl, inr, append-nil}
+use Rattle.std.proofs.Common.{◌≡◌, ◌⊎◌, ◌<◌, ◌≤◌, ℕ, ◌+◌, List, [], ◌∷◌, ◌++◌, length, Option, Some, None, Result, Ok, Err, IfErr, IfSome, OnOk, refl, sym, ap, ◌∙◌, subst, inl, inr, arith, append-nil, length-append}
 use Rattle.bpf_asm.specs.Faults.{IsFirstLineFault, IsLineFault, IsOutOfMemory}
 use Rattle.bpf_asm.specs.Grammar.{AreLines, IsLine, Line}
 use Rattle.bpf_asm.specs.Labels.{EachLabelOnce}
-use Rattle.bpf_asm.specs.Wholes.{IsAddFault, IsFaultAt, IsReadTo, IsTakeFault, Takes}
+use Rattle.bpf_asm.specs.Lines.{source_lines}
+use Rattle.bpf_asm.specs.Pending.{IsPending}
+use Rattle.bpf_asm.specs.declared.draft.Draft.{Draft}
+use Rattle.bpf_asm.specs.inner.Drafts.{Drafts, IsAddFault, IsDraftOf, IsDraftTo, IsFaultAt, IsReadTo, IsTakeFault, Takes}
 use Rattle.bpf_asm.specs.declared.fault.AsmFault.{AsmFault}
 use Rattle.bpf_asm.specs.declared.fault.AsmKind.{AsmKind}
 use Rattle.bpf_asm.specs.declared.fault.AsmKind.TheVariants.{BadLine, BadNumber, LabelTwice, UnknownLabel, Backward, TooFar, DanglingLabel, NoMemory}
-use Rattle.bpf_asm.proofs.Agreement.{read_more}
-
--- a line that couldn't be added
-pub add_fault : {A : Type 0} (r : Result A AsmKind) (lines : List Line) (octets : List ℕ) (line : Line) → IsLine octets line → IfErr r (IsAddFault lines line) → IfErr r (IsTakeFault lines octets)
-add_fault (Ok v) lines octets line is f = tt
-add_fault (Err BadLine) lines octets line is f = absurd f
-add_fault (Err BadNumber) lines octets line is f = absurd f
-add_fault (Err LabelTwice) lines octets line is f = (line, is, f.0, f.1, f.2, f.3)
-add_fault (Err UnknownLabel) lines octets line is f = absurd f
-add_fault (Err Backward) lines octets line is f = absurd f
-add_fault (Err TooFar) lines octets line is f = absurd f
-add_fault (Err DanglingLabel) lines octets line is f = absurd f
-add_fault (Err NoMemory) lines octets line is f = tt
-
--- a line that was added
-pub add_taken : {A E : Type 0} (r : Result A E) (old new : List Line) (octets : List ℕ) (line : Line) → IsLine octets line → OnOk r (new ≡ old ++ line ∷ []) → OnOk r (Takes old new octets)
-add_taken (Ok v) old new octets line is e = record { line = line; said = is; added = e }
-add_taken (Err f) old new octets line is e = tt
+use Rattle.bpf_asm.proofs.Agreement.{read_more, read_none}
 
 -- a line that couldn't be read
 pub line_fault : (kind : AsmKind) (lines : List Line) (octets : List ℕ) → ((before : List Line) → IsLineFault before octets kind) → IsTakeFault lines octets kind
@@ -62,9 +48,17 @@ first_fault source left octets lines count TooFar fault r once f at = absurd f
 first_fault source left octets lines count DanglingLabel fault r once f at = absurd f
 first_fault source left octets lines count NoMemory fault r once f at = inr at
 
+taken_by : (source left : List (List ℕ)) (octets : List ℕ) (lines : List Line) (draft : Draft) (count : ℕ) → IsReadTo source (octets ∷ left) lines count → length lines ≡ count → Takes lines draft octets → IsDraftTo source left draft (count + 1)
+taken_by source left octets lines draft count r n t = record {
+  lines = lines ++ t.line ∷ [];
+  read = read_more source left octets lines t.line count t.said r;
+  counted = length-append lines (t.line ∷ []) ∙ ap (λ (m : ℕ). m + 1) n;
+  drafts = t.drafts;
+}
+
 -- one line more
-pub taken_more : (source left : List (List ℕ)) (octets : List ℕ) (old new : List Line) (count : ℕ) → IsReadTo source (octets ∷ left) old count → Takes old new octets → IsReadTo source left new (count + 1)
-taken_more source left octets old new count r t = rw t.added (read_more source left octets old t.line count t.said r)
+pub taken_more : (source left : List (List ℕ)) (octets : List ℕ) (old draft : Draft) (count : ℕ) → IsDraftTo source (octets ∷ left) old count → ((lines : List Line) → length lines ≡ count → Drafts lines old → Takes lines draft octets) → IsDraftTo source left draft (count + 1)
+taken_more source left octets old draft count r t = taken_by source left octets r.lines draft count r.read r.counted (t r.lines r.counted r.drafts)
 
 -- all lines
 pub all_read : (source left : List (List ℕ)) (lines : List Line) (count : ℕ) → left ≡ [] → IsReadTo source left lines count → AreLines source lines

@@ -2,7 +2,7 @@
 use Rattle.std.specs.Prelude.{◌≡◌, ◌⊎◌, ◌+◌, ◌≤◌, ◌<◌, ℕ, List, [], ◌∷◌, ◌++◌, length, Some}
 use Rattle.bpf_asm.specs.Grammar.{Line, AreLines, IsLine}
 use Rattle.bpf_asm.specs.Labels.{EachLabelOnce, HasLabel, IsDangling, IsOffset, Operand, StandsFor, operands_of, statements_of}
-use Rattle.bpf_asm.specs.Lines.{lines_of}
+use Rattle.bpf_asm.specs.Lines.{source_lines}
 use Rattle.bpf_asm.specs.Spelling.{Statement}
 use Rattle.bpf_asm.specs.Tokens.{HasBadNumber}
 use Rattle.bpf_asm.specs.declared.fault.AsmKind.{AsmKind}
@@ -95,7 +95,7 @@ pub record IsLabelFault (source : List (List ℕ)) (fault : AsmFault) : Type 0 w
 
 -- The source has the fault; the faults of lines go before all faults of labels.
 abbrev pub IsFault : List ℕ → AsmFault → Type 0
-IsFault source fault = IsFirstLineFault (lines_of source) fault ⊎ IsLabelFault (lines_of source) fault
+IsFault source fault = IsFirstLineFault (source_lines source) fault ⊎ IsLabelFault (source_lines source) fault
 
 -- Memory ran out, which has no line.
 abbrev pub IsOutOfMemory : AsmFault → Type 0

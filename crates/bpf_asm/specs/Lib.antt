@@ -11,5 +11,4 @@ pub mod Reading
 pub mod Seen
 pub mod Spelling
 pub mod Tokens
-pub mod Wholes
-pub mod Widths
+pub mod inner

@@ -2,7 +2,7 @@
 use Rattle.std.specs.Prelude.{◌≡◌, ◌+◌, ℕ, List, [], ◌∷◌, Option, Some, None}
 use Rattle.bpf_asm.specs.Grammar.{Line, AreLines}
 use Rattle.bpf_asm.specs.Labels.{EachLabelOnce, IsDangling, IsOffset, statements_of}
-use Rattle.bpf_asm.specs.Lines.{lines_of}
+use Rattle.bpf_asm.specs.Lines.{source_lines}
 use Rattle.bpf_asm.specs.Spelling.{Statement, plain, jump, branch}
 use Rattle.bpf_code.specs.declared.instr.Instr.{Instr}
 use Rattle.bpf_code.specs.declared.instr.Instr.TheVariants.{Jump, Branch}
@@ -36,5 +36,5 @@ pub record LinesMean (lines : List Line) (code : List Instr) : Type 0 where
 -- A source means this code.
 pub record IsMeaning (source : List ℕ) (code : List Instr) : Type 0 where
   pub lines : List Line
-  pub said : AreLines (lines_of source) lines
+  pub said : AreLines (source_lines source) lines
   pub mean : LinesMean lines code

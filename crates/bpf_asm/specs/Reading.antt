@@ -10,7 +10,7 @@ use Rattle.bpf_code.specs.declared.instr.By.{By}
 use Rattle.bpf_code.specs.declared.instr.By.TheVariants.{Imm, X}
 use Rattle.bpf_code.specs.declared.instr.Instr.TheVariants.{LoadAbs, LoadInd, LoadImm, LoadMem, LoadLen, LdxImm, LdxMem, LdxLen, LdxMsh, Store, StoreX, Alu, Neg, RetK, RetA, Tax, Txa}
 use Rattle.bpf_code.specs.declared.instr.Op.{Op}
-use Rattle.bpf_code.specs.declared.instr.Op.TheVariants.{Add, Sub, Mul, Div, Or, And, Lsh, Rsh}
+use Rattle.bpf_code.specs.declared.instr.Op.TheVariants.{Add, Sub, Mul, Div, Or, And, Lsh, Rsh, Mod, Xor}
 use Rattle.bpf_code.specs.declared.instr.Size.{Size}
 use Rattle.bpf_code.specs.declared.instr.Size.TheVariants.{Word, Half, Octet}
 use Rattle.bpf_code.specs.declared.instr.Test.{Test}
@@ -168,7 +168,7 @@ entry_of octets (row ∷ rows) = if bytes_eq octets row.0 then Some row.1 else e
 
 -- The mnemonics of arithmetic.
 abbrev pub op_rows : List (List ℕ × Op)
-op_rows = (codes "add", Add) ∷ (codes "sub", Sub) ∷ (codes "mul", Mul) ∷ (codes "div", Div) ∷ (codes "or", Or) ∷ (codes "and", And) ∷ (codes "lsh", Lsh) ∷ (codes "rsh", Rsh) ∷ []
+op_rows = (codes "add", Add) ∷ (codes "sub", Sub) ∷ (codes "mul", Mul) ∷ (codes "div", Div) ∷ (codes "or", Or) ∷ (codes "and", And) ∷ (codes "lsh", Lsh) ∷ (codes "rsh", Rsh) ∷ (codes "mod", Mod) ∷ (codes "xor", Xor) ∷ []
 
 -- The arithmetic of a mnemonic.
 unfoldable pub op_of : List ℕ → Option Op

@@ -7,7 +7,7 @@ use Rattle.bpf_code.specs.declared.instr.By.TheVariants.{Imm, X}
 use Rattle.bpf_code.specs.declared.instr.Instr.{Instr}
 use Rattle.bpf_code.specs.declared.instr.Instr.TheVariants.{LoadAbs, LoadInd, LoadImm, LoadMem, LoadLen, LdxImm, LdxMem, LdxLen, LdxMsh, Store, StoreX, Alu, Neg, Jump, Branch, RetK, RetA, Tax, Txa}
 use Rattle.bpf_code.specs.declared.instr.Op.{Op}
-use Rattle.bpf_code.specs.declared.instr.Op.TheVariants.{Add, Sub, Mul, Div, Or, And, Lsh, Rsh}
+use Rattle.bpf_code.specs.declared.instr.Op.TheVariants.{Add, Sub, Mul, Div, Or, And, Lsh, Rsh, Mod, Xor}
 use Rattle.bpf_code.specs.declared.instr.Size.{Size}
 use Rattle.bpf_code.specs.declared.instr.Size.TheVariants.{Word, Half, Octet}
 use Rattle.bpf_code.specs.declared.instr.Test.{Test}
@@ -42,6 +42,8 @@ op_name Or = codes "or"
 op_name And = codes "and"
 op_name Lsh = codes "lsh"
 op_name Rsh = codes "rsh"
+op_name Mod = codes "mod"
+op_name Xor = codes "xor"
 
 -- The mnemonics of branches.
 abbrev pub test_name : Test → List ℕ

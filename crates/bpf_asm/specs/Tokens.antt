@@ -3,6 +3,7 @@ use Rattle.std.specs.Prelude.{ℕ, ◌-◌, ◌%◌, ◌^◌, Bool, true, false,
 use Rattle.std.specs.List.{filter_map}
 use Rattle.bpf_asm.specs.Lines.{without_comment}
 use Rattle.bpf_asm.specs.Numbers.{number_of}
+use Rattle.dialogue.specs.Words.{is_blank}
 
 -- A name, a number, a word that begins with a digit and is no number, or any other octet. The
 -- grammar knows the octets `# [ ] + - * ( ) & , :` alone.
@@ -19,10 +20,6 @@ is_digit octet = nat_le 48 octet && nat_le octet 57
 -- An octet of a word: an ASCII letter, a digit or `_`.
 abbrev pub is_word : ℕ → Bool
 is_word octet = is_digit octet || (nat_le 65 octet && nat_le octet 90) || (nat_le 97 octet && nat_le octet 122) || octet == 95
-
--- A space or a tab.
-abbrev pub is_blank : ℕ → Bool
-is_blank octet = octet == 32 || octet == 9
 
 -- Every octet is one of a word.
 abbrev pub all_word : List ℕ → Bool
@@ -54,7 +51,7 @@ unfoldable pub word_token : List ℕ → Token
 word_token [] = name []
 word_token (octet ∷ rest) = if is_digit octet then number_token (number_of (octet ∷ rest)) else name (octet ∷ rest)
 
--- The token of a piece; blanks stand between tokens and are none.
+-- The token of a piece; blanks, which are those of any line, stand between tokens and are none.
 abbrev pub token_of : List ℕ → Option Token
 token_of [] = None
 token_of (octet ∷ rest) =

@@ -1,13 +1,14 @@
 //! Laws of the definitions: functions that do nothing, each for the sake of its contract.
 
-ghost use Rattle.std.specs.Prelude.{◌≡◌, ◌↔◌, ◌⊎◌, ℕ, List, Some};
+ghost use Rattle.std.specs.Prelude.{◌≡◌, ◌⊎◌, ℕ, List};
 ghost use Rattle.bpf_asm.specs.Faults.{IsFault};
 ghost use Rattle.bpf_asm.specs.Grammar.{IsOneOf};
 ghost use Rattle.bpf_asm.specs.Meaning.{IsMeaning};
-ghost use Rattle.bpf_asm.specs.Reading.{statement_in};
 ghost use Rattle.bpf_asm.specs.Spelling.{Statement, spellings};
 ghost use Rattle.bpf_asm.specs.Tokens.{Token};
 ghost use Rattle.bpf_asm.specs.declared.fault.AsmFault.{AsmFault};
+ghost use Rattle.bpf_code.specs.Encoding.{code_octets};
+ghost use Rattle.bpf_code.specs.Spelling.{SpellsPlainly};
 ghost use Rattle.bpf_code.specs.declared.instr.Instr.{Instr};
 
 /// A source means at most one code.
@@ -33,9 +34,15 @@ pub fn a_source_has_a_code_or_a_fault()
     ensures { (source : List ℕ) → ((code : List Instr) × IsMeaning source code) ⊎ ((fault : AsmFault) × IsFault source fault) }
 {}
 
-/// Tokens are one of the spellings of a statement exactly where they are read as it, so no tokens
-/// spell two statements.
-pub fn spellings_are_read_back()
-    ensures { (tokens : List Token) (statement : Statement) →
-        (IsOneOf tokens (spellings statement) ↔ (statement_in tokens ≡ Some statement)) }
+/// Tokens spell at most one statement.
+pub fn tokens_spell_one_statement()
+    ensures { (tokens : List Token) (one other : Statement) →
+        IsOneOf tokens (spellings one) → IsOneOf tokens (spellings other) → one ≡ other }
+{}
+
+/// Where a source means a code, the octets of that code, as they are written, spell it with 0 in each
+/// field that an instruction doesn't use.
+pub fn octets_of_a_source_spell_its_code()
+    ensures { (source : List ℕ) (code : List Instr) →
+        IsMeaning source code → SpellsPlainly (code_octets code) code }
 {}

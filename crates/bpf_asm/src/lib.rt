@@ -3,6 +3,7 @@
 
 mod assembler;
 mod cutting;
+mod draft;
 mod fault;
 mod labels;
 pub mod laws;

@@ -1,7 +1,9 @@
 //! The lines of a source.
 
 ghost use Rattle.std.specs.Prelude.{◌≡◌, ◌<◌, ◌≤◌, [], ◌∷◌, true, length, slice_index, take, IfSome, MatchOption};
-ghost use Rattle.bpf_asm.specs.Lines.{lines_of, no_feed, without_return};
+ghost use Rattle.bpf_asm.specs.Lines.{source_lines};
+ghost use Rattle.bpf_asm.specs.inner.Feeds.{no_feed};
+ghost use Rattle.dialogue.specs.Lines.{without_return};
 
 use memchr::memchr;
 
@@ -34,8 +36,8 @@ fn before_return(line: &[u8]) -> &[u8]
 
 /// The first line of a text, and what is behind it.
 pub(crate) fn next_line(text: &[u8]) -> Option<(&[u8], &[u8])>
-    ensures lines { MatchOption result (lines_of text.now ≡ [])
-        (λ found. lines_of text.now ≡ found.0.now ∷ lines_of found.1.now) }
+    ensures lines { MatchOption result (source_lines text.now ≡ [])
+        (λ found. source_lines text.now ≡ found.0.now ∷ source_lines found.1.now) }
     ensures shorter { IfSome result (λ found. length found.1.now < length text.now) }
 {
     if text.is_empty() {

@@ -3,7 +3,7 @@
 ghost use Rattle.std.specs.Prelude.{◌≡◌, ◌+◌, ◌<◌, ◌^◌, ◌++◌, ℕ, decimal, IfErr, IfNone, IfOk, IfSome, MatchBool, OnOk};
 ghost use Rattle.bpf_code.specs.declared.instr.Instr.{Instr};
 ghost use Rattle.bpf_asm.specs.Listing.{IsFirstLeaving, IsListFault, Leaves, NoneLeaves, StaysWithin, instruction_text, label_at, line_text, listing_of};
-ghost use Rattle.bpf_asm.specs.Widths.{IsWide, IsWideOperand};
+ghost use Rattle.bpf_code.specs.Widths.{FitsFields, OperandFits};
 ghost use Rattle.bpf_asm.specs.Meaning.{IsMeaning};
 ghost use Rattle.bpf_asm.specs.Spelling.{load_name, op_name, operand, spelling_octets, test_name};
 
@@ -36,6 +36,8 @@ fn op_text(op: Op) -> &'static [u8]
         Op::And => b"and",
         Op::Lsh => b"lsh",
         Op::Rsh => b"rsh",
+        Op::Mod => b"mod",
+        Op::Xor => b"xor",
     }
 }
 
@@ -75,7 +77,7 @@ fn put_label(text: &mut Vec<u8>, front: &[u8], place: usize) -> Result<(), Alloc
 /// Writes the operand of arithmetic or of a branch.
 fn put_operand(text: &mut Vec<u8>, by: By) -> Result<(), AllocError>
     ensures written { OnOk result (text.new.items ≡ text.old.items ++ spelling_octets (operand by)) }
-    ensures width { OnOk result (IsWideOperand by) }
+    ensures width { OnOk result (OperandFits by) }
 {
     match by {
         By::Imm(k) => put_number(text, b"#", k, b""),
@@ -96,7 +98,7 @@ fn put_branch(
     requires met { place + 1 + jt < 2 ^ 64 }
     requires unmet { place + 1 + jf < 2 ^ 64 }
     ensures written { OnOk result (text.new.items ≡ text.old.items ++ instruction_text place (Instr.Branch test by jt jf)) }
-    ensures wide { OnOk result (IsWide (Instr.Branch test by jt jf)) }
+    ensures wide { OnOk result (FitsFields (Instr.Branch test by jt jf)) }
 {
     text.extend_from_slice(test_text(test))?;
     text.extend_from_slice(b" ")?;
@@ -110,7 +112,7 @@ fn put_branch(
 fn put_instruction(text: &mut Vec<u8>, place: usize, instr: Instr) -> Result<(), AllocError>
     requires { StaysWithin (2 ^ 64) place instr }
     ensures written { OnOk result (text.new.items ≡ text.old.items ++ instruction_text place instr) }
-    ensures wide { OnOk result (IsWide instr) }
+    ensures wide { OnOk result (FitsFields instr) }
 {
     match instr {
         Instr::LoadAbs { size, k } => {
@@ -150,7 +152,7 @@ fn put_instruction(text: &mut Vec<u8>, place: usize, instr: Instr) -> Result<(),
 fn put_line(text: &mut Vec<u8>, place: usize, instr: Instr) -> Result<(), AllocError>
     requires { StaysWithin (2 ^ 64) place instr }
     ensures written { OnOk result (text.new.items ≡ text.old.items ++ line_text place instr) }
-    ensures wide { OnOk result (IsWide instr) }
+    ensures wide { OnOk result (FitsFields instr) }
 {
     put_label(text, b"", place)?;
     text.extend_from_slice(b": ")?;

@@ -42,6 +42,12 @@ fn op_named(name: &[u8]) -> Option<Op>
     if name == b"rsh".as_slice() {
         return Some(Op::Rsh);
     }
+    if name == b"mod".as_slice() {
+        return Some(Op::Mod);
+    }
+    if name == b"xor".as_slice() {
+        return Some(Op::Xor);
+    }
     None
 }
 

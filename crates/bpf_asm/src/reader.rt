@@ -24,23 +24,6 @@ pub(crate) struct Said<'a> {
     pub command: Option<Command<'a>>,
 }
 
-impl Said<'_> {
-    ghost use Rattle.std.specs.Prelude.{◌≡◌, ◌≤◌};
-    ghost use Rattle.bpf_asm.specs.Labels.{statement_count};
-    ghost use Rattle.bpf_asm.specs.Seen.{line_seen};
-
-    /// How many instructions it has.
-    pub(crate) fn count(&self) -> usize
-        ensures count { result ≡ statement_count (line_seen self.now).statement }
-        ensures one { result ≤ 1 }
-    {
-        match self.command {
-            Some(_) => 1,
-            None => 0,
-        }
-    }
-}
-
 /// What stands before the first `;`.
 fn before_comment(line: &[u8]) -> &[u8]
     ensures { result.now ≡ without_comment line.now }

@@ -3,7 +3,8 @@
 ghost use Rattle.std.specs.Prelude.{◌≡◌, ◌≤◌, ◌<◌, ℕ, List, [], ◌∷◌, true, false, length, take, drop, slice_index, IfSome, IsTrue, MatchOption};
 ghost use Rattle.bpf_asm.specs.Numbers.{digit_of, is_hexadecimal, number_of, value_in, within_word};
 ghost use Rattle.bpf_asm.specs.Seen.{token_seen};
-ghost use Rattle.bpf_asm.specs.Tokens.{all_word, is_blank, is_digit, is_run, is_word, tokens_of, word_token};
+ghost use Rattle.bpf_asm.specs.Tokens.{all_word, is_digit, is_run, is_word, tokens_of, word_token};
+ghost use Rattle.dialogue.specs.Words.{is_blank};
 
 /// A token, with the octets of its name in the line.
 #[derive(Clone, Copy)]

@@ -7,7 +7,7 @@ use Rattle.bpf_code.specs.Table.{code_of, jt_of, jf_of, k_of}
 use Rattle.bpf_code.specs.declared.instr.By.TheVariants.{Imm, X}
 use Rattle.bpf_code.specs.declared.instr.Instr.{Instr}
 use Rattle.bpf_code.specs.declared.instr.Instr.TheVariants.{LoadAbs, LoadInd, LoadImm, LoadMem, LoadLen, LdxImm, LdxMem, LdxLen, LdxMsh, Store, StoreX, Alu, Neg, Jump, Branch, RetK, RetA, Tax, Txa}
-use Rattle.bpf_code.specs.declared.instr.Op.TheVariants.{Add, Sub, Mul, Div, Or, And, Lsh, Rsh}
+use Rattle.bpf_code.specs.declared.instr.Op.TheVariants.{Add, Sub, Mul, Div, Or, And, Lsh, Rsh, Mod, Xor}
 use Rattle.bpf_code.specs.declared.instr.Size.TheVariants.{Word, Half, Octet}
 use Rattle.bpf_code.specs.declared.instr.Test.TheVariants.{Eq, Gt, Ge, Set}
 
@@ -37,6 +37,8 @@ row_at code jt jf k =
     if code == 0x0054 then Alu And (Imm k) else (
     if code == 0x0064 then Alu Lsh (Imm k) else (
     if code == 0x0074 then Alu Rsh (Imm k) else (
+    if code == 0x0094 then Alu Mod (Imm k) else (
+    if code == 0x00a4 then Alu Xor (Imm k) else (
     if code == 0x000c then Alu Add X else (
     if code == 0x001c then Alu Sub X else (
     if code == 0x002c then Alu Mul X else (
@@ -45,6 +47,8 @@ row_at code jt jf k =
     if code == 0x005c then Alu And X else (
     if code == 0x006c then Alu Lsh X else (
     if code == 0x007c then Alu Rsh X else (
+    if code == 0x009c then Alu Mod X else (
+    if code == 0x00ac then Alu Xor X else (
     if code == 0x0084 then Neg else (
     if code == 0x0005 then Jump k else (
     if code == 0x0015 then Branch Eq (Imm k) jt jf else (
@@ -58,7 +62,7 @@ row_at code jt jf k =
     if code == 0x0006 then RetK k else (
     if code == 0x0016 then RetA else (
     if code == 0x0007 then Tax else (
-    Txa))))))))))))))))))))))))))))))))))))))))))))
+    Txa))))))))))))))))))))))))))))))))))))))))))))))))
 
 -- the fields of an instruction lead back to it
 pub row_at-fields : (code jt jf k : ℕ) (i : Instr) → code ≡ code_of i → IfSome (jt_of i) (λ offset. jt ≡ offset) → IfSome (jf_of i) (λ offset. jf ≡ offset) → IfSome (k_of i) (λ operand. k ≡ operand) → row_at code jt jf k ≡ i
@@ -86,6 +90,8 @@ row_at-fields code jt jf k (Alu Or (Imm n)) c t f o = rw (c, o) refl
 row_at-fields code jt jf k (Alu And (Imm n)) c t f o = rw (c, o) refl
 row_at-fields code jt jf k (Alu Lsh (Imm n)) c t f o = rw (c, o) refl
 row_at-fields code jt jf k (Alu Rsh (Imm n)) c t f o = rw (c, o) refl
+row_at-fields code jt jf k (Alu Mod (Imm n)) c t f o = rw (c, o) refl
+row_at-fields code jt jf k (Alu Xor (Imm n)) c t f o = rw (c, o) refl
 row_at-fields code jt jf k (Alu Add X) c t f o = rw c refl
 row_at-fields code jt jf k (Alu Sub X) c t f o = rw c refl
 row_at-fields code jt jf k (Alu Mul X) c t f o = rw c refl
@@ -94,6 +100,8 @@ row_at-fields code jt jf k (Alu Or X) c t f o = rw c refl
 row_at-fields code jt jf k (Alu And X) c t f o = rw c refl
 row_at-fields code jt jf k (Alu Lsh X) c t f o = rw c refl
 row_at-fields code jt jf k (Alu Rsh X) c t f o = rw c refl
+row_at-fields code jt jf k (Alu Mod X) c t f o = rw c refl
+row_at-fields code jt jf k (Alu Xor X) c t f o = rw c refl
 row_at-fields code jt jf k Neg c t f o = rw c refl
 row_at-fields code jt jf k (Jump n) c t f o = rw (c, o) refl
 row_at-fields code jt jf k (Branch Eq (Imm n) p q) c t f o = rw (c, t, f, o) refl

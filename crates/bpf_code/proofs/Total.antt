@@ -12,7 +12,7 @@ use Rattle.bpf_code.specs.declared.decoder.DecodeFault.TheVariants.{Ragged, Unkn
 use Rattle.bpf_code.specs.declared.instr.Instr.{Instr}
 use Rattle.bpf_code.specs.declared.instr.By.TheVariants.{Imm, X}
 use Rattle.bpf_code.specs.declared.instr.Instr.TheVariants.{LoadAbs, LoadInd, LoadImm, LoadMem, LoadLen, LdxImm, LdxMem, LdxLen, LdxMsh, Store, StoreX, Alu, Neg, Jump, Branch, RetK, RetA, Tax, Txa}
-use Rattle.bpf_code.specs.declared.instr.Op.TheVariants.{Add, Sub, Mul, Div, Or, And, Lsh, Rsh}
+use Rattle.bpf_code.specs.declared.instr.Op.TheVariants.{Add, Sub, Mul, Div, Or, And, Lsh, Rsh, Mod, Xor}
 use Rattle.bpf_code.specs.declared.instr.Size.TheVariants.{Word, Half, Octet}
 use Rattle.bpf_code.specs.declared.instr.Test.TheVariants.{Eq, Gt, Ge, Set}
 use Rattle.bpf_code.proofs.Rows.{row_at, row_at-fields}
@@ -58,6 +58,8 @@ module _ (jt jf k : ℕ) where
       row (code == 0x0054) (Alu And (Imm k)) _ tt tt refl (
       row (code == 0x0064) (Alu Lsh (Imm k)) _ tt tt refl (
       row (code == 0x0074) (Alu Rsh (Imm k)) _ tt tt refl (
+      row (code == 0x0094) (Alu Mod (Imm k)) _ tt tt refl (
+      row (code == 0x00a4) (Alu Xor (Imm k)) _ tt tt refl (
       row (code == 0x000c) (Alu Add X) _ tt tt tt (
       row (code == 0x001c) (Alu Sub X) _ tt tt tt (
       row (code == 0x002c) (Alu Mul X) _ tt tt tt (
@@ -66,6 +68,8 @@ module _ (jt jf k : ℕ) where
       row (code == 0x005c) (Alu And X) _ tt tt tt (
       row (code == 0x006c) (Alu Lsh X) _ tt tt tt (
       row (code == 0x007c) (Alu Rsh X) _ tt tt tt (
+      row (code == 0x009c) (Alu Mod X) _ tt tt tt (
+      row (code == 0x00ac) (Alu Xor X) _ tt tt tt (
       row (code == 0x0084) Neg _ tt tt tt (
       row (code == 0x0005) (Jump k) _ tt tt refl (
       row (code == 0x0015) (Branch Eq (Imm k) jt jf) _ refl refl refl (
@@ -79,7 +83,7 @@ module _ (jt jf k : ℕ) where
       row (code == 0x0006) (RetK k) _ tt tt refl (
       row (code == 0x0016) RetA _ tt tt tt (
       row (code == 0x0007) Tax _ tt tt tt (
-      own Txa tt tt tt))))))))))))))))))))))))))))))))))))))))))))
+      own Txa tt tt tt))))))))))))))))))))))))))))))))))))))))))))))))
 
 -- eight octets spell an instruction, or none
 spelled_or_not : (octets : List ℕ) → length octets ≡ 8 → ((i : Instr) × Spells octets i) ⊎ ((i : Instr) → Spells octets i → ⊥)

@@ -1,4 +1,5 @@
 pub mod Decoding
+pub mod EarlierTable
 pub mod Encoding
 pub mod Fields
 pub mod Flow
@@ -6,3 +7,4 @@ pub mod Operands
 pub mod Scratch
 pub mod Spelling
 pub mod Table
+pub mod Widths

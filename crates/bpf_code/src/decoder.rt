@@ -11,7 +11,7 @@ ghost use Rattle.bpf_code.specs.declared.instr.Test.{Test};
 
 use crate::instr::By::{Imm, X};
 use crate::instr::Instr;
-use crate::instr::Op::{Add, And, Div, Lsh, Mul, Or, Rsh, Sub};
+use crate::instr::Op::{Add, And, Div, Lsh, Mod, Mul, Or, Rsh, Sub, Xor};
 use crate::instr::Size::{Half, Octet, Word};
 use crate::instr::Test::{Eq, Ge, Gt, Set};
 use byteorder::{BigEndian, ByteOrder};
@@ -53,6 +53,8 @@ fn operation(octets: &[u8; 8]) -> Option<Instr>
         0x0054 => arithmetic(And, imm),
         0x0064 => arithmetic(Lsh, imm),
         0x0074 => arithmetic(Rsh, imm),
+        0x0094 => arithmetic(Mod, imm),
+        0x00a4 => arithmetic(Xor, imm),
         0x000c => arithmetic(Add, X),
         0x001c => arithmetic(Sub, X),
         0x002c => arithmetic(Mul, X),
@@ -61,6 +63,8 @@ fn operation(octets: &[u8; 8]) -> Option<Instr>
         0x005c => arithmetic(And, X),
         0x006c => arithmetic(Lsh, X),
         0x007c => arithmetic(Rsh, X),
+        0x009c => arithmetic(Mod, X),
+        0x00ac => arithmetic(Xor, X),
         0x0015 => branch(Eq, imm),
         0x0025 => branch(Gt, imm),
         0x0035 => branch(Ge, imm),

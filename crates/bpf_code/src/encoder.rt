@@ -34,7 +34,7 @@ fn size_bits(size: Size) -> u16
 fn op_bits(op: Op) -> u16
     ensures by_constant { (k : ℕ) → code_of (Instr.Alu op (By.Imm k)) ≡ 0x0004 + result }
     ensures by_x { code_of (Instr.Alu op By.X) ≡ 0x000c + result }
-    ensures small { result ≤ 0x70 }
+    ensures small { result ≤ 0xa0 }
 {
     match op {
         Op::Add => 0x00,
@@ -45,6 +45,8 @@ fn op_bits(op: Op) -> u16
         Op::And => 0x50,
         Op::Lsh => 0x60,
         Op::Rsh => 0x70,
+        Op::Mod => 0x90,
+        Op::Xor => 0xa0,
     }
 }
 

@@ -30,6 +30,10 @@ pub enum Op {
     Lsh,
     /// A with its bits moved down, and zeros in front of them.
     Rsh,
+    /// The rest of the quotient.
+    Mod,
+    /// The bits that one of the two has, and not both.
+    Xor,
 }
 
 /// How a branch compares A with its operand. Comparisons are unsigned.
@@ -86,9 +90,9 @@ pub enum Instr {
     Store(u32),
     /// `stx M[k]`: the scratch word becomes X.
     StoreX(u32),
-    /// `add`, `sub`, `mul`, `div`, `or`, `and`, `lsh`, `rsh`: A becomes what arithmetic makes of it
-    /// and the operand. A division by an X of 0 ends the program with 0; a shift by an X of 32 or
-    /// more gives 0.
+    /// `add`, `sub`, `mul`, `div`, `or`, `and`, `lsh`, `rsh`, `mod`, `xor`: A becomes what arithmetic
+    /// makes of it and the operand. A division by an X of 0, for its quotient or its rest, ends the
+    /// program with 0; a shift by an X of 32 or more gives 0.
     Alu { op: Op, by: By },
     /// `neg`: A becomes 2^32 less A, modulo 2^32.
     Neg,

@@ -82,8 +82,32 @@ fn an_offset_by_x_does_not_wrap(rt: HostRuntime) -> Result<(), Fail> {
 
 #[test]
 fn arithmetic_has_its_limits(rt: HostRuntime) -> Result<(), Fail> {
-    let by_zero = [Instr::LdxImm(0), alu(Op::Div, By::X), Instr::RetK(1)];
-    assert_eq!(rt; outcome(rt.alloc(), &by_zero, USER)?, (0, 2));
+    for op in [Op::Div, Op::Mod] {
+        let by_zero = [Instr::LdxImm(0), alu(op, By::X), Instr::RetK(1)];
+        assert_eq!(rt; outcome(rt.alloc(), &by_zero, USER)?, (0, 2));
+    }
+    let rest = [Instr::LoadImm(23), alu(Op::Mod, By::Imm(7)), Instr::RetA];
+    assert_eq!(rt; outcome(rt.alloc(), &rest, USER)?, (2, 3));
+    let rest_by_x = [
+        Instr::LoadImm(u32::MAX),
+        Instr::LdxImm(10),
+        alu(Op::Mod, By::X),
+        Instr::RetA,
+    ];
+    assert_eq!(rt; outcome(rt.alloc(), &rest_by_x, USER)?, (5, 4));
+    let differing = [
+        load(Size::Word, 0),
+        alu(Op::Xor, By::Imm(u32::MAX)),
+        Instr::RetA,
+    ];
+    assert_eq!(rt; outcome(rt.alloc(), &differing, USER)?, (4293917119, 3));
+    let same = [
+        load(Size::Word, 0),
+        Instr::Tax,
+        alu(Op::Xor, By::X),
+        Instr::RetA,
+    ];
+    assert_eq!(rt; outcome(rt.alloc(), &same, USER)?, (0, 4));
     let shifted = [
         Instr::LdxImm(32),
         Instr::LoadImm(1),

@@ -5,7 +5,7 @@ use Rattle.std.proofs.lemmas.Option.{slice_get_cases, slice_get_within, slice_ge
 use Rattle.bpf_code.specs.declared.instr.By.TheVariants.{Imm}
 use Rattle.bpf_code.specs.declared.instr.Instr.{Instr}
 use Rattle.bpf_code.specs.declared.instr.Instr.TheVariants.{Alu, Branch, Jump, LdxMem, LoadMem, RetA, RetK, Store, StoreX}
-use Rattle.bpf_code.specs.declared.instr.Op.TheVariants.{Div, Lsh, Rsh}
+use Rattle.bpf_code.specs.declared.instr.Op.TheVariants.{Div, Lsh, Mod, Rsh}
 use Rattle.bpf_code.specs.Flow.{StandsAt, IsReturn, JumpsTo}
 use Rattle.bpf_code.specs.Operands.{DividesBy, ShiftsBy}
 use Rattle.bpf_code.specs.Scratch.{NamesWord, ReadsWord, StoresWord}
@@ -35,6 +35,7 @@ kind_of (LdxMem k) = 0
 kind_of (Store k) = 0
 kind_of (StoreX k) = 0
 kind_of (Alu Div by) = 1
+kind_of (Alu Mod by) = 1
 kind_of (Alu op by) = 2
 kind_of _ = 3
 
@@ -53,6 +54,7 @@ kind-from_word _ word h = absurd (neither h)
 
 kind-from_divisor : (i : Instr) (divisor : ℕ) → DividesBy i divisor → 1 ≡ kind_of i
 kind-from_divisor (Alu Div (Imm k)) divisor h = refl
+kind-from_divisor (Alu Mod (Imm k)) divisor h = refl
 kind-from_divisor _ divisor h = absurd h
 
 kind-from_shift : (i : Instr) (count : ℕ) → ShiftsBy i count → 2 ≡ kind_of i
@@ -265,6 +267,11 @@ sound_or_fault size place (LdxMem k) = lawful_word size place (LdxMem k) k (inl 
 sound_or_fault size place (Store k) = lawful_word size place (Store k) k (inr refl) (λ word h. only_stored word k h) (λ _ h. h) (λ _ h. h) (λ _ h. h)
 sound_or_fault size place (StoreX k) = lawful_word size place (StoreX k) k (inr refl) (λ word h. only_stored word k h) (λ _ h. h) (λ _ h. h) (λ _ h. h)
 sound_or_fault size place (Alu Div (Imm k)) =
+    elim (cases_lt 0 k) [
+      | inl lt ↦ inl (record { scratch = λ _ h. absurd (neither h); divisor = λ divisor e. omega (arith, e, lt); shift = λ _ h. absurd h; targets = λ _ h. absurd h })
+      | inr le ↦ inr (ZeroDivisor place, (refl, omega (arith, le)))
+    ]
+sound_or_fault size place (Alu Mod (Imm k)) =
     elim (cases_lt 0 k) [
       | inl lt ↦ inl (record { scratch = λ _ h. absurd (neither h); divisor = λ divisor e. omega (arith, e, lt); shift = λ _ h. absurd h; targets = λ _ h. absurd h })
       | inr le ↦ inr (ZeroDivisor place, (refl, omega (arith, le)))

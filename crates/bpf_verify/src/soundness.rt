@@ -35,7 +35,7 @@ fn fault_of(instr: Instr, at: usize, size: usize) -> Option<Fault>
             (word >= SCRATCH_WORDS).then_some(Fault::BadScratch { at })
         }
         Instr::Alu {
-            op: Op::Div,
+            op: Op::Div | Op::Mod,
             by: By::Imm(divisor),
         } => (divisor == 0).then_some(Fault::ZeroDivisor { at }),
         Instr::Alu {

@@ -28,8 +28,8 @@ add [3]
 add M[3]
 add #len
 add x, x
-mod #5
-xor x
+rem #5
+xnor x
 ld
 ld 5
 ld x

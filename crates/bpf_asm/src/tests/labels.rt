@@ -6,7 +6,7 @@ use std::test::Fail;
 
 /// Names that mean something in another place of a line, and some that look like numbers.
 const NAMES: &str = "\
-ld ldh ldb ldx ldxb st stx add sub mul div or and lsh rsh neg ja jmp jeq jgt jge jset jne jneq
+ld ldh ldb ldx ldxb st stx add sub mul div or and lsh rsh mod xor neg ja jmp jeq jgt jge jset jne jneq
 jlt jle ret tax txa a x M len A X m LEN Ret L0 L1 _ __ _1 _0x x1 x9a a_b xf end END e3
 abcdefghijklmnopqrstuvwxyz_ABCDEFGHIJKLMNOPQRSTUVWXYZ_0123456789
 ";
@@ -16,6 +16,7 @@ const LABELLED: &str = "\
 jeq: jeq x, x, jeq2|x: jeq2: ret a => 1 BadLine 2
 jeq: jeq x, x|x: ret a => 001d000000000000 0016000000000000
 a:|b:||c: ret a => 0016000000000000
+jeq x, mod, xor|mod: mod x|xor: xor x|ret a => 001d000100000000 009c000000000000 00ac000000000000 0016000000000000
 ja b|a:|b: ret a => 0005000000000000 0016000000000000
 a: b: ret a => 1 BadLine 1
 a:: ret a => 1 BadLine 1

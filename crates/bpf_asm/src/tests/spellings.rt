@@ -1,5 +1,5 @@
 //! The instruction table, spelled with any blanks.
-use super::{expect, parts_of};
+use super::{expect, expect_table, parts_of};
 use crate::{assemble, listing};
 use std::alloc::{AllocError, Global};
 use std::process::Abort;
@@ -32,6 +32,8 @@ or # 5 => 0044000000000005 => or #5
 and # 5 => 0054000000000005 => and #5
 lsh # 5 => 0064000000000005 => lsh #5
 rsh # 5 => 0074000000000005 => rsh #5
+mod # 5 => 0094000000000005 => mod #5
+xor # 5 => 00a4000000000005 => xor #5
 add x => 000c000000000000 => add x
 sub x => 001c000000000000 => sub x
 mul x => 002c000000000000 => mul x
@@ -40,6 +42,8 @@ or x => 004c000000000000 => or x
 and x => 005c000000000000 => and x
 lsh x => 006c000000000000 => lsh x
 rsh x => 007c000000000000 => rsh x
+mod x => 009c000000000000 => mod x
+xor x => 00ac000000000000 => xor x
 neg => 0084000000000000 => neg
 ja far => 0005000000000001 => ja L2
 jmp far => 0005000000000001 => ja L2
@@ -71,6 +75,21 @@ ret # 5 => 0006000000000005 => ret #5
 ret a => 0016000000000000 => ret a
 tax => 0007000000000000 => tax
 txa => 0087000000000000 => txa
+";
+
+/// Sources of arithmetic. Which divisors and shifts are lawful is no matter of the assembler.
+const ARITHMETIC: &str = "\
+ld [0]|mod #7|ret a => 0020000000000000 0094000000000007 0016000000000000
+ld [0]|xor #0xffffffff|ret a => 0020000000000000 00a40000ffffffff 0016000000000000
+ld [0]|xor x|mod x|ret a => 0020000000000000 00ac000000000000 009c000000000000 0016000000000000
+mod #0|div #0|xor #0|ret a => 0094000000000000 0034000000000000 00a4000000000000 0016000000000000
+lsh #32|mod #-7|xor #-1 => 0064000000000020 00940000fffffff9 00a40000ffffffff
+mod 7|ret a => 1 BadLine 1
+mod x, x|ret a => 1 BadLine 1
+xor M[0]|ret a => 1 BadLine 1
+xor a|ret a => 1 BadLine 1
+Mod x|ret a => 1 BadLine 1
+XOR x|ret a => 1 BadLine 1
 ";
 
 /// Whether a token is a word; two of them side by side would be one.
@@ -164,4 +183,9 @@ fn every_spelling_is_read_with_blanks_in_any_gap_and_listed_in_one_way(
         expect_listed(&rt, rt.alloc(), tokens, listed)?;
     }
     Ok(())
+}
+
+#[test]
+fn arithmetic_is_assembled_whatever_its_operand(rt: HostRuntime) -> Result<(), Fail> {
+    expect_table(&rt, rt.alloc(), ARITHMETIC)
 }

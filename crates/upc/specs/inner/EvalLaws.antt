@@ -4,10 +4,10 @@ use Rattle.std.proofs.Common.{◌≡◌, ℕ, ◌==◌, inl, inr, Bool, true, fa
 use Rattle.std.specs.Bool.{MatchBool}
 use Rattle.std.specs.Option.{MatchOption}
 use Rattle.bpf_code.specs.declared.instr.Instr.{Instr}
-use Rattle.bpf_code.proofs.Total.{code-or_fault}
+use Rattle.bpf_code.proofs.Public.{code-or_fault}
 use Rattle.bpf_verify.specs.Accepted.{IsAccepted}
-use Rattle.bpf_verify.proofs.Decided.{accepted-or_fault}
-use Rattle.bpf_interp.proofs.HasValue.{Value-some}
+use Rattle.bpf_verify.proofs.Public.{accepted-or_fault}
+use Rattle.bpf_interp.proofs.Public.{Value-some}
 use Rattle.upc.specs.Eval.{World, EndsBy, TellsReading, ReadsProgram, ProgramLine, TellsValue, RunsOn, CellLine, Asks, EvalSteps, EvalCloses, IsSoundWorld, eval_rules}
 use Rattle.upc.specs.Program.{Reading, is_program, is_refused, ChecksAs, ReadsAs}
 use Rattle.upc.specs.FaultLines.{line, bad_line, bad_hex, no_program, wrong_length, decode_fault, verify_fault}

@@ -1,38 +1,37 @@
-use Rattle.std.proofs.Common.{rules, ◌⊎◌, Some, None, inl}
+use Rattle.std.proofs.Common.{rules, ◌⊎◌, ℕ, Option, None, Some, inl, subst}
 use Rattle.bpf_asm.specs.Faults.{IsFault, IsFirstOperandFault, IsOutOfMemory}
 use Rattle.bpf_asm.specs.Labels.{statements_of}
 use Rattle.bpf_asm.specs.Meaning.{IsMeaning, MeanFrom}
-use Rattle.bpf_asm.specs.Wholes.{says}
+use Rattle.bpf_asm.specs.Pending.{IsPending}
 use Rattle.bpf_asm.specs.declared.fault.AsmFault.{AsmFault}
 use Rattle.bpf_asm.proofs.Agreement.{if_ok}
-use Rattle.bpf_asm.proofs.Assembled.{dangling_source, if_err, means_source, operand_source, pending_in}
+use Rattle.bpf_asm.proofs.Assembled.{dangling_source, if_err, means_source, operand_source}
 use Rattle.bpf_asm.proofs.Refusals.{memory_alone, never_accepted, refused_alone}
 use Rattle.bpf_asm.proofs.assembler.assemble.Goals as goal
 
 pub returns-in-Some-clause-fault : goal.returns-in-Some-clause-fault
 returns-in-Some-clause-fault c =
-    let whole = c.in_ok-whole.whole in
-    let pending = pending_in c.deref.result.now whole.lines.items (Some c.in-Some.at) c.deref.ensures.value c.in-Some.ensures in
-    inl (dangling_source c.args.source.now (says whole) c.in-Some.at c.fault_at.result c.in_ok-whole.ensures.said c.in_ok-whole.ensures.agree.once pending c.fault_at.ensures)
+    let draft = c.in_ok-draft.ensures.draft in
+    inl (dangling_source c.args.source.now draft.lines c.in-Some.at c.fault_at.result draft.said draft.drafts.agree.once (subst (λ (p : Option ℕ). IsPending draft.lines p) c.in-Some.is draft.drafts.pending) c.fault_at.ensures)
 
 pub returns-clause-code : goal.returns-clause-code
 returns-clause-code c =
-    let whole = c.in_ok-whole.whole in
-    let none = pending_in c.deref.result.now whole.lines.items None c.deref.ensures.value c.in_default.ensures in
-    if_ok c.resolve_all.result (λ code. MeanFrom (says whole) 0 (statements_of (says whole)) code.items) (λ code. IsMeaning c.args.source.now code.items)
-    (λ code meant. means_source c.args.source.now (says whole) code.items c.in_ok-whole.ensures.said c.in_ok-whole.ensures.agree.once none meant)
-    c.resolve_all.ensures.code
+    let draft = c.in_ok-draft.ensures.draft in
+    let none = subst (λ (p : Option ℕ). IsPending draft.lines p) c.in_default.is draft.drafts.pending in
+    if_ok c.resolve_all.result (λ code. MeanFrom draft.lines 0 (statements_of draft.lines) code.items) (λ code. IsMeaning c.args.source.now code.items)
+    (λ code meant. means_source c.args.source.now draft.lines code.items draft.said draft.drafts.agree.once none meant)
+    (c.resolve_all.ensures.code draft.lines draft.drafts)
 
 pub returns-clause-fault : goal.returns-clause-fault
 returns-clause-fault c =
-    let whole = c.in_ok-whole.whole in
-    let none = pending_in c.deref.result.now whole.lines.items None c.deref.ensures.value c.in_default.ensures in
-    if_err c.resolve_all.result (λ (fault : AsmFault). IsFirstOperandFault (says whole) fault ⊎ IsOutOfMemory fault) (λ (fault : AsmFault). IsFault c.args.source.now fault ⊎ IsOutOfMemory fault)
-    (λ fault f. operand_source c.args.source.now (says whole) fault c.in_ok-whole.ensures.said c.in_ok-whole.ensures.agree.once none f)
-    c.resolve_all.ensures.fault
+    let draft = c.in_ok-draft.ensures.draft in
+    let none = subst (λ (p : Option ℕ). IsPending draft.lines p) c.in_default.is draft.drafts.pending in
+    if_err c.resolve_all.result (λ (fault : AsmFault). IsFirstOperandFault draft.lines fault) (λ (fault : AsmFault). IsFault c.args.source.now fault ⊎ IsOutOfMemory fault)
+    (λ fault f. operand_source c.args.source.now draft.lines fault draft.said draft.drafts.agree.once none (inl f))
+    (c.resolve_all.ensures.fault draft.lines draft.drafts)
 
-pub returns-in_err-whole-clause-means : goal.returns-in_err-whole-clause-means
-returns-in_err-whole-clause-means c = refused_alone c.from_residual.result c.args.source.now (search rules)
+pub returns-in_err-draft-clause-means : goal.returns-in_err-draft-clause-means
+returns-in_err-draft-clause-means c = refused_alone c.from_residual.result c.args.source.now (search rules)
 
 pub returns-in-Some-clause-means : goal.returns-in-Some-clause-means
 returns-in-Some-clause-means c = memory_alone c.args.source.now c.fault_at.result (returns-in-Some-clause-fault c)

@@ -1,12 +1,11 @@
 use Rattle.std.proofs.Common.{◌+◌, ◌≤◌, length}
-use Rattle.bpf_asm.specs.Lines.{lines_of}
-use Rattle.bpf_asm.specs.Wholes.{Agrees, IsReadTo, says}
+use Rattle.bpf_asm.specs.Lines.{source_lines}
+use Rattle.bpf_asm.specs.inner.Drafts.{IsDraftTo}
 use Rattle.bpf_asm.proofs.assembler.read_source.Given as goal
 
 abbrev pub invariant-loop-line : goal.invariant-loop-line
 invariant-loop-line l = record {
-  agree : Agrees l.whole;
-  read : IsReadTo (lines_of l.source) (lines_of l.left) (says l.whole) l.count;
+  read : IsDraftTo (source_lines l.source) (source_lines l.left) l.draft l.count;
   room : l.count + length l.left ≤ length l.source;
 }
 

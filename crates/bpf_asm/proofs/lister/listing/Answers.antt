@@ -1,6 +1,6 @@
 use Rattle.std.proofs.Common.{arith}
 use Rattle.bpf_asm.specs.Listing.{listing_of}
-use Rattle.bpf_asm.specs.Widths.{IsWide}
+use Rattle.bpf_code.specs.Widths.{FitsFields}
 use Rattle.bpf_asm.proofs.ListingSteps.{written_more, written_all}
 use Rattle.bpf_asm.proofs.Places.{places_all, places_more}
 use Rattle.bpf_asm.proofs.RoundTrip.{listing_means}
@@ -14,7 +14,7 @@ loop-at-preserved c =
     let wide = ok_mapped c.put_line.result c.map_err.result _ _ c.in_ok-map_err.was c.map_err.ensures.variant c.put_line.ensures.wide in
     record {
       written = rw written (written_more c.loop-at.text.items (listing_of c.args.code.now) c.args.code.now c.loop-at.at _ (omega arith) c.loop-at.invariant.written);
-      wide = places_more (λ place i. IsWide i) c.args.code.now c.loop-at.at _ c.loop-at.invariant.wide wide;
+      wide = places_more (λ place i. FitsFields i) c.args.code.now c.loop-at.at _ c.loop-at.invariant.wide wide;
     }
 
 pub returns-clause-text : goal.returns-clause-text
@@ -24,6 +24,6 @@ pub returns-clause-meaning : goal.returns-clause-meaning
 returns-clause-meaning c =
     let code = c.args.code.now in
     let text = written_all c.loop-at.text.items (listing_of code) code c.loop-at.at (omega arith) c.loop-at.invariant.written in
-    let wide = places_all (λ place i. IsWide i) code c.loop-at.at (omega arith) c.loop-at.invariant.wide in
+    let wide = places_all (λ place i. FitsFields i) code c.loop-at.at (omega arith) c.loop-at.invariant.wide in
     let means = listing_means code (omega arith) wide c.in_default.ensures.none in
     rw text means
