@@ -1,9 +1,6 @@
 -- Every input has a text of `check`, and one.
 use Rattle.std.proofs.Common.{◌≡◌, ℕ, ◌+◌, ◌≤◌, inl, inr, List, [], ◌++◌, Option, Some, None, length, refl, ap, sym, ◌∙◌, subst, arith, append-nil, nat_lt, if◌then◌else◌}
-use Rattle.bpf_asm.proofs.CodeOrFault.{meaning-or_fault}
-use Rattle.bpf_asm.proofs.NeverBoth.{never_both}
-use Rattle.bpf_asm.proofs.OneFault.{fault_once}
-use Rattle.bpf_asm.proofs.OneMeaning.{meaning_once}
+use Rattle.bpf_asm.proofs.Public.{meaning-or_fault, never_both, fault_once, meaning_once}
 use Rattle.bpf_code.specs.declared.instr.Instr.{Instr}
 use Rattle.upc.specs.Check.{IsCheckText, Tells, TellsCode, TellsReading, TellsSource, accepted_text, most_source}
 use Rattle.upc.specs.Program.{Reading, is_program, is_refused, ChecksAs}

@@ -3,12 +3,8 @@ use Rattle.std.proofs.Common.{◌≡◌, ◌≢◌, ℕ, ◌+◌, ◌==◌, inl,
 use Rattle.std.specs.Bool.{MatchBool}
 use Rattle.std.specs.Option.{MatchOption}
 use Rattle.std.proofs.lemmas.Bool.{cases_order}
-use Rattle.bpf_code.specs.Decoding.{IsFaultOf}
-use Rattle.bpf_code.specs.Spelling.{SpellsCode, IsFirstUnknown}
-use Rattle.bpf_code.specs.declared.decoder.DecodeFault.{DecodeFault}
-use Rattle.bpf_code.specs.declared.decoder.DecodeFault.TheVariants.{Ragged, UnknownCode, NoMemory}
 use Rattle.bpf_code.specs.declared.instr.Instr.{Instr}
-use Rattle.bpf_code.proofs.Public.{SpellsCode-unique, SpellsCode-length, SpellsCode-at}
+use Rattle.bpf_code.proofs.Public.{SpellsCode-unique, code-no_fault, one-decode_fault}
 use Rattle.bpf_verify.proofs.Public.{one_comes_first, refused-from_fault}
 use Rattle.bpf_interp.proofs.Public.{Value-unique}
 use Rattle.dialogue.specs.Lines.{lines_of}
@@ -27,35 +23,6 @@ use Rattle.dialogue.specs.declared.outcome.Done.TheVariants.{Ended}
 abbrev Same : List ℕ → List ℕ → Option World → Option World → Type 0
 Same one other next next' = (one ≡ other) × (next ≡ next')
 
--- octets that spell a code have no fault but want of memory
-no-fault : (octets : List ℕ) (code : List Instr) (fault : DecodeFault) → SpellsCode octets code → fault ≢ NoMemory → IsFaultOf octets fault → ⊥
-no-fault octets code Ragged spells real faulty = let sized = SpellsCode-length octets code spells in omega arith
-no-fault octets code (UnknownCode at number) spells real faulty =
-    let found = SpellsCode-at octets code at spells faulty.1.within in faulty.1.unknown found.0 found.1
-no-fault octets code NoMemory spells real faulty = real refl
-
-one-unknown : (octets : List ℕ) (at code at' code' : ℕ) → IsFirstUnknown octets at code → IsFirstUnknown octets at' code' → UnknownCode at code ≡ UnknownCode at' code'
-one-unknown octets at code at' code' p q =
-    elim (cases_order at at') [
-      | inl e ↦
-          let P : ℕ → Type 0 = λ n. IsFirstUnknown octets n code' in
-          let q' = subst P (sym e) q in
-          let same : code ≡ code' = sym p.there ∙ q'.there in cc
-      | inr apart ↦ elim apart [
-        | inl lt ↦ let found = q.before at lt in absurd (p.unknown found.0 found.1)
-        | inr gt ↦ let found = p.before at' gt in absurd (q.unknown found.0 found.1)
-      ]
-    ]
-
-one-fault : (octets : List ℕ) (fault fault' : DecodeFault) → fault ≢ NoMemory → fault' ≢ NoMemory → IsFaultOf octets fault → IsFaultOf octets fault' → fault ≡ fault'
-one-fault octets Ragged Ragged r s p q = refl
-one-fault octets Ragged (UnknownCode at code) r s p q = absurd (omega (arith, p, q.0))
-one-fault octets (UnknownCode at code) Ragged r s p q = absurd (omega (arith, q, p.0))
-one-fault octets (UnknownCode at code) (UnknownCode at' code') r s p q = one-unknown octets at code at' code' p.1 q.1
-one-fault octets NoMemory fault' r s p q = absurd (r refl)
-one-fault octets Ragged NoMemory r s p q = absurd (s refl)
-one-fault octets (UnknownCode at code) NoMemory r s p q = absurd (s refl)
-
 ends-same : (fault text text' : List ℕ) (next next' : Option World) → EndsBy fault text next → EndsBy fault text' next' → Same text text' next next'
 ends-same fault text text' next next' p q = (p.0 ∙ sym q.0, p.1 ∙ sym q.1)
 
@@ -72,10 +39,10 @@ pub reads-once : (octets : List ℕ) (one other : Reading) → ReadsAs octets on
 reads-once octets one other (inl p) (inl q) =
     let P : List Instr → Type 0 = λ code. ChecksAs code other in
     checks-once p.0 one other p.2 (subst P (SpellsCode-unique octets q.0 p.0 q.1 p.1) q.2)
-reads-once octets one other (inl p) (inr q) = absurd (no-fault octets p.0 q.0 p.1 q.1 q.2)
-reads-once octets one other (inr p) (inl q) = absurd (no-fault octets q.0 p.0 q.1 p.1 p.2)
+reads-once octets one other (inl p) (inr q) = absurd (code-no_fault octets p.0 q.0 p.1 q.1 q.2)
+reads-once octets one other (inr p) (inl q) = absurd (code-no_fault octets q.0 p.0 q.1 p.1 p.2)
 reads-once octets one other (inr p) (inr q) =
-    let same = one-fault octets p.0 q.0 p.1 q.1 p.2 q.2 in
+    let same = one-decode_fault octets p.0 q.0 p.1 q.1 p.2 q.2 in
     p.3 ∙ ap (λ f. is_refused (decode_fault f)) same ∙ sym q.3
 
 told-once : (reading : Reading) (text text' : List ℕ) (next next' : Option World) → TellsReading reading text next → TellsReading reading text' next' → Same text text' next next'
