@@ -1,16 +1,12 @@
 -- The map of labels, one line after the other.
-use Rattle.std.proofs.Common.{◌≡◌, ◌⊎◌, ℕ, zero, suc, ◌+◌, ◌≤◌, Bool, true, false, if◌then◌else◌, List, [], ◌∷◌, ◌++◌, length, map, Option, Some, None, Result, Ok, Err, IfOk, OnOk, is_ok, refl, sym, ap, ◌∙◌, subst, inl, inr, arith, append_assoc, length-append}
-use Rattle.std.proofs.lemmas.List.{map-append}
-use Rattle.std.specs.List.{cons_option}
+use Rattle.std.proofs.Common.{◌≡◌, ◌⊎◌, ℕ, zero, suc, ◌+◌, Bool, true, false, if◌then◌else◌, List, [], ◌∷◌, ◌++◌, length, Option, Some, None, Result, Ok, Err, IfOk, refl, sym, ap, ◌∙◌, subst, inl, inr, append_assoc, length-append}
 use Rattle.std.specs.Str.{bytes_eq}
 use Rattle.std.specs.Option.{is_none}
 use Rattle.std.proofs.lemmas.List.Elements.{filter_map-append}
 use Rattle.std.proofs.lemmas.Slice.Eq.{bytes_eq-Decides}
 use Rattle.bpf_asm.specs.Grammar.{AreLines, IsLine, Line}
 use Rattle.bpf_asm.specs.Labels.{EachLabelOnce, HasLabel, StandsFor, statement_count, statements_of}
-use Rattle.bpf_asm.specs.Seen.{line_seen}
 use Rattle.bpf_asm.specs.Spelling.{Statement}
-use Rattle.bpf_asm.specs.declared.reader.Said.{Said}
 use Rattle.bpf_asm.specs.inner.Drafts.{AgreesWith, IsReadTo, IsTwice}
 
 -- a line that is there is one

@@ -1,15 +1,13 @@
 -- What a source means, and its fault, from its lines.
-use Rattle.std.proofs.Common.{◌≡◌, ◌⊎◌, ℕ, ◌+◌, List, map, Option, Some, None, Result, Ok, Err, IfErr, subst, inl, inr}
+use Rattle.std.proofs.Common.{◌≡◌, ◌⊎◌, ℕ, ◌+◌, List, Some, None, Result, Ok, Err, IfErr, inl, inr}
 use Rattle.bpf_asm.specs.Faults.{IsFault, IsFirstOperandFault, IsOutOfMemory}
 use Rattle.bpf_asm.specs.Grammar.{AreLines, Line}
 use Rattle.bpf_asm.specs.Labels.{EachLabelOnce, statements_of}
 use Rattle.bpf_asm.specs.Lines.{source_lines}
 use Rattle.bpf_asm.specs.Meaning.{IsMeaning, MeanFrom}
 use Rattle.bpf_asm.specs.Pending.{IsPending}
-use Rattle.bpf_asm.specs.Seen.{line_seen}
 use Rattle.bpf_asm.specs.declared.fault.AsmFault.{AsmFault}
 use Rattle.bpf_asm.specs.declared.fault.AsmKind.TheVariants.{DanglingLabel}
-use Rattle.bpf_asm.specs.declared.reader.Said.{Said}
 use Rattle.bpf_code.specs.declared.instr.Instr.{Instr}
 
 -- what one clause of an answer's fault tells of another

@@ -1,12 +1,10 @@
 -- Labels that no instruction follows, one line after the other.
-use Rattle.std.proofs.Common.{◌≡◌, ◌⊎◌, ℕ, zero, suc, ◌+◌, ◌<◌, ◌≤◌, List, [], ◌∷◌, ◌++◌, length, drop, map, take, get_or, Option, Some, None, refl, sym, ap, ◌∙◌, subst, inl, inr, arith, append-nil, length-append}
-use Rattle.std.proofs.lemmas.List.{drop_all, drop-append-le, map_more}
+use Rattle.std.proofs.Common.{◌≡◌, ◌⊎◌, ℕ, zero, suc, ◌<◌, ◌≤◌, List, [], ◌∷◌, ◌++◌, length, drop, Option, Some, None, refl, sym, ap, ◌∙◌, subst, inl, inr, arith, append-nil, length-append}
+use Rattle.std.proofs.lemmas.List.{drop_all, drop-append-le}
 use Rattle.bpf_asm.specs.Grammar.{Line}
 use Rattle.bpf_asm.specs.Labels.{HasLabel, IsDangling, statements_of}
 use Rattle.bpf_asm.specs.Pending.{IsPending}
-use Rattle.bpf_asm.specs.Seen.{line_seen}
 use Rattle.bpf_asm.specs.Spelling.{Statement}
-use Rattle.bpf_asm.specs.declared.reader.Said.{Said}
 use Rattle.bpf_asm.proofs.Agreement.{statements_one, label_kept, label_split, statements_of-append}
 
 -- a line with a label is within the lines

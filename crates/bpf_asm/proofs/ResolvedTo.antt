@@ -1,18 +1,18 @@
 -- The labels of a draft turned into offsets, one instruction after the other.
-use Rattle.std.proofs.Common.{◌≡◌, ℕ, ◌+◌, ◌<◌, Bool, true, false, List, [], ◌∷◌, ◌++◌, length, map, set, drop, get_or, filter, cond, Some, refl, sym, ap, ◌∙◌, subst, arith, append_assoc, append-nil, length-append}
+use Rattle.std.proofs.Common.{◌≡◌, ℕ, ◌+◌, ◌<◌, Bool, true, false, List, [], ◌∷◌, ◌++◌, length, set, drop, get_or, filter, cond, refl, sym, ap, ◌∙◌, subst, arith, append_assoc, length-append}
 use Rattle.std.proofs.lemmas.List.{drop_more, length-map, map-append, set_at}
 use Rattle.bpf_asm.specs.Faults.{IsFirstOperandFault, IsStatementFault}
 use Rattle.bpf_asm.specs.Grammar.{Line}
 use Rattle.bpf_asm.specs.Labels.{statements_of}
 use Rattle.bpf_asm.specs.Meaning.{MeanFrom, Means}
 use Rattle.bpf_asm.specs.Seen.{statement_seen}
-use Rattle.bpf_asm.specs.Spelling.{Statement, plain}
+use Rattle.bpf_asm.specs.Spelling.{Statement}
 use Rattle.bpf_asm.specs.declared.draft.Unresolved.{Unresolved}
 use Rattle.bpf_asm.specs.declared.fault.AsmFault.{AsmFault}
 use Rattle.bpf_asm.specs.declared.fault.AsmKind.{AsmKind}
 use Rattle.bpf_asm.specs.declared.parse.Command.{Command}
 use Rattle.bpf_asm.specs.declared.parse.Command.TheVariants.{Plain, Jump as LabelJump, Branch as LabelBranch}
-use Rattle.bpf_asm.specs.inner.Drafts.{EachStands, IsDraft, IsResolvedTo, StandsBehind, drafted, first_forms, has_labels, is_unresolved, statements_seen}
+use Rattle.bpf_asm.specs.inner.Drafts.{EachStands, IsResolvedTo, drafted, first_forms, has_labels, is_unresolved, statements_seen}
 use Rattle.bpf_asm.proofs.Resolving.{mean_have, mean_length, mean_more}
 use Rattle.bpf_code.specs.declared.instr.Instr.{Instr}
 

@@ -1,18 +1,13 @@
 -- Statements turned into instructions, one after the other.
-use Rattle.std.proofs.Common.{◌≡◌, ◌⊎◌, ℕ, suc, ◌+◌, ◌<◌, ◌≤◌, List, [], ◌∷◌, ◌++◌, length, map, take, drop, get_or, Option, Some, None, Result, Ok, Err, OnOk, is_ok, if◌then◌else◌, refl, sym, ap, ◌∙◌, subst, inl, inr, arith, take-append-drop, length-take, min}
+use Rattle.std.proofs.Common.{◌≡◌, ℕ, suc, ◌+◌, List, [], ◌∷◌, ◌++◌, length, Option, Some, None, refl, ap, ◌∙◌, subst, arith}
 use Rattle.std.specs.Option.{option_to_list}
-use Rattle.std.proofs.lemmas.List.{drop_more, length-map, map-append, map_more, take_all}
-use Rattle.bpf_asm.specs.Faults.{HasOffsets, HaveOffsets, IsFirstOperandFault, IsOperandFault, IsOutOfMemory, IsStatementFault}
+use Rattle.bpf_asm.specs.Faults.{HasOffsets, HaveOffsets, IsOperandFault, IsStatementFault}
 use Rattle.bpf_asm.specs.Grammar.{Line}
 use Rattle.bpf_asm.specs.Labels.{Operand, operands_of, side, statements_of}
 use Rattle.bpf_asm.specs.Meaning.{IsSide, MeanFrom, Means}
-use Rattle.bpf_asm.specs.Seen.{line_seen}
 use Rattle.bpf_asm.specs.Spelling.{Statement, plain, jump, branch}
 use Rattle.bpf_asm.specs.inner.Drafts.{IsSideFault}
-use Rattle.bpf_asm.specs.declared.fault.AsmFault.{AsmFault}
 use Rattle.bpf_asm.specs.declared.fault.AsmKind.{AsmKind}
-use Rattle.bpf_asm.specs.declared.fault.AsmKind.TheVariants.{BadLine, BadNumber, LabelTwice, UnknownLabel, Backward, TooFar, DanglingLabel, NoMemory}
-use Rattle.bpf_asm.specs.declared.reader.Said.{Said}
 use Rattle.bpf_asm.proofs.Agreement.{statements_of-append}
 use Rattle.bpf_code.specs.declared.instr.By.{By}
 use Rattle.bpf_code.specs.declared.instr.Instr.{Instr}

@@ -1,16 +1,14 @@
 -- A source, one line after the other.
-use Rattle.std.proofs.Common.{◌≡◌, ◌⊎◌, ◌<◌, ◌≤◌, ℕ, ◌+◌, List, [], ◌∷◌, ◌++◌, length, Option, Some, None, Result, Ok, Err, IfErr, IfSome, OnOk, refl, sym, ap, ◌∙◌, subst, inl, inr, arith, append-nil, length-append}
+use Rattle.std.proofs.Common.{◌≡◌, ◌⊎◌, ℕ, ◌+◌, List, [], ◌∷◌, ◌++◌, length, sym, ap, ◌∙◌, subst, inl, inr, append-nil, length-append}
 use Rattle.bpf_asm.specs.Faults.{IsFirstLineFault, IsLineFault, IsOutOfMemory}
-use Rattle.bpf_asm.specs.Grammar.{AreLines, IsLine, Line}
+use Rattle.bpf_asm.specs.Grammar.{AreLines, Line}
 use Rattle.bpf_asm.specs.Labels.{EachLabelOnce}
-use Rattle.bpf_asm.specs.Lines.{source_lines}
-use Rattle.bpf_asm.specs.Pending.{IsPending}
 use Rattle.bpf_asm.specs.declared.draft.Draft.{Draft}
-use Rattle.bpf_asm.specs.inner.Drafts.{Drafts, IsAddFault, IsDraftOf, IsDraftTo, IsFaultAt, IsReadTo, IsTakeFault, Takes}
+use Rattle.bpf_asm.specs.inner.Drafts.{Drafts, IsDraftTo, IsFaultAt, IsReadTo, IsTakeFault, Takes}
 use Rattle.bpf_asm.specs.declared.fault.AsmFault.{AsmFault}
 use Rattle.bpf_asm.specs.declared.fault.AsmKind.{AsmKind}
 use Rattle.bpf_asm.specs.declared.fault.AsmKind.TheVariants.{BadLine, BadNumber, LabelTwice, UnknownLabel, Backward, TooFar, DanglingLabel, NoMemory}
-use Rattle.bpf_asm.proofs.Agreement.{read_more, read_none}
+use Rattle.bpf_asm.proofs.Agreement.{read_more}
 
 -- a line that couldn't be read
 pub line_fault : (kind : AsmKind) (lines : List Line) (octets : List ℕ) → ((before : List Line) → IsLineFault before octets kind) → IsTakeFault lines octets kind

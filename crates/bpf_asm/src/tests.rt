@@ -8,6 +8,7 @@ mod jumps;
 mod labels;
 mod lines;
 mod listings;
+mod long;
 mod numbers;
 mod spellings;
 

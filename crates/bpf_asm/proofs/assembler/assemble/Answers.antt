@@ -1,4 +1,4 @@
-use Rattle.std.proofs.Common.{rules, ◌⊎◌, ℕ, Option, None, Some, inl, subst}
+use Rattle.std.proofs.Common.{rules, ◌⊎◌, ℕ, Option, inl, subst}
 use Rattle.bpf_asm.specs.Faults.{IsFault, IsFirstOperandFault, IsOutOfMemory}
 use Rattle.bpf_asm.specs.Labels.{statements_of}
 use Rattle.bpf_asm.specs.Meaning.{IsMeaning, MeanFrom}
