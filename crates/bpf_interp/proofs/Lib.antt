@@ -5,3 +5,4 @@ pub mod Reached
 pub mod Rows
 pub mod RunStates
 pub mod RunSteps
+pub mod Turning

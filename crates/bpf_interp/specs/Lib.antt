@@ -7,4 +7,5 @@ pub mod Runs
 pub mod State
 pub mod Step
 pub mod Tests
+pub mod Turns
 pub mod Value

@@ -6,6 +6,8 @@ pub mod laws;
 mod machine;
 mod packet;
 mod registers;
+mod turn;
+mod twos;
 
 pub use machine::{Outcome, run};
 

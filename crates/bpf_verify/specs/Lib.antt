@@ -1,4 +1,5 @@
 pub mod Accepted
 pub mod Faults
+pub mod Flats
 pub mod Paths
 pub mod Walks
