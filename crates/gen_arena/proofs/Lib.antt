@@ -6,3 +6,4 @@ pub mod PlaceLemmas
 pub mod IdLemmas
 pub mod LiveLemmas
 pub mod Public
+pub mod raw

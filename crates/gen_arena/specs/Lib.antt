@@ -7,3 +7,4 @@ pub mod Insert
 pub mod Remove
 pub mod Change
 pub mod Layout
+pub mod inner

@@ -3,6 +3,7 @@
 #![tactic(auto)]
 
 mod arena;
+mod block;
 mod fault;
 mod id;
 pub mod laws;
