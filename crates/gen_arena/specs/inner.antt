@@ -2,3 +2,5 @@
 pub mod Cells
 pub mod Memory
 pub mod CellLends
+pub mod Places
+pub mod Chain

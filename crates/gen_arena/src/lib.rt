@@ -7,6 +7,7 @@ mod block;
 mod fault;
 mod id;
 pub mod laws;
+mod place;
 
 pub use arena::Arena;
 pub use fault::ArenaFault;

@@ -1,5 +1,5 @@
 -- One cell of a row is taken out, put back, or seen, and room for an array is a row of blank cells. Assumes `Logic`.
-use mathlib.Core.Path.{◌≡◌, refl, sym, ap, subst}
+use mathlib.Core.Path.{◌≡◌, subst}
 use Prim.Native.Nat.{ℕ, zero, suc, ◌+◌, ◌*◌, ◌<◌}
 use native.Mathlib.Omega.{arith}
 use native.Mathlib.Nat.{zero-mul, suc-mul}
@@ -7,7 +7,7 @@ use mathlib.Core.List.{List, [], ◌∷◌}
 use lib.ListN.{length, set, get_or, replicate}
 use seplogic.Ra.Ura.{Ura}
 use mir.Syntax.{ty_array}
-use base.Logic.{ent, sep, emp, via, snd∗, id⊢}
+use base.Logic.{ent, sep, via, snd∗, id⊢}
 use base.Fml.{Fml, Lft, ftrue, fsep, froom}
 use types.Logic.{Logic, sem}
 use types.Kit.{‵, ◌⊛◌, ◌$◌, ◌∵◌, !, qed, by, move, keep, use1, split, frame, fsplit, fjoin, done}
@@ -62,9 +62,9 @@ module _ (E : El) {M : Type 1} {𝓤 : Ura M} (𝓛 : Logic 𝓤) (b : ℕ) wher
   cell_out (c ∷ later) (suc k) o lt =
       let At : ℕ → Type 1 = λ n. ent 𝓤 (sem 𝓛 (row o (c ∷ later))) (sep 𝓤 (sem 𝓛 (cell n (get_or later k None))) (sem 𝓛 (gap o (c ∷ later) (suc k)))) in
       subst At (next_at k o) (
-        qed 𝓛 (‵ (row o (c ∷ later)) ∷ []) ∵ fsplit ! $ move ! (1 ∷ []) $
-        use1 𝓛 (‵ (cell (k * s + (o + s)) (get_or later k None)) ⊛ ‵ (gap (o + s) later k)) (cell_out later k (o + s) (omega arith)) $
-        split ! $ move ! (2 ∷ 1 ∷ []) $ fjoin ! $ move ! (1 ∷ []) $ done !
+      qed 𝓛 (‵ (row o (c ∷ later)) ∷ []) ∵ fsplit ! $ move ! (1 ∷ []) $
+      use1 𝓛 (‵ (cell (k * s + (o + s)) (get_or later k None)) ⊛ ‵ (gap (o + s) later k)) (cell_out later k (o + s) (omega arith)) $
+      split ! $ move ! (2 ∷ 1 ∷ []) $ fjoin ! $ move ! (1 ∷ []) $ done !
       )
 
   pub cell_in : (cells : List (Cell E)) (k o : ℕ) → k < length cells → (new : Cell E) → ent 𝓤 (sep 𝓤 (sem 𝓛 (cell (k * s + o) new)) (sem 𝓛 (gap o cells k))) (sem 𝓛 (row o (set cells k new)))
@@ -75,8 +75,8 @@ module _ (E : El) {M : Type 1} {𝓤 : Ura M} (𝓛 : Logic 𝓤) (b : ℕ) wher
   cell_in (c ∷ later) (suc k) o lt new =
       let At : ℕ → Type 1 = λ n. ent 𝓤 (sep 𝓤 (sem 𝓛 (cell n new)) (sem 𝓛 (gap o (c ∷ later) (suc k)))) (sem 𝓛 (row o (c ∷ set later k new))) in
       subst At (next_at k o) (
-        qed 𝓛 (‵ (cell (k * s + (o + s)) new) ∷ ‵ (gap o (c ∷ later) (suc k)) ∷ []) ∵ move ! (1 ∷ []) $ fsplit ! $ frame ! $ move ! (1 ∷ 0 ∷ []) $
-        by ! (cell_in later k (o + s) (omega arith) new)
+      qed 𝓛 (‵ (cell (k * s + (o + s)) new) ∷ ‵ (gap o (c ∷ later) (suc k)) ∷ []) ∵ move ! (1 ∷ []) $ fsplit ! $ frame ! $ move ! (1 ∷ 0 ∷ []) $
+      by ! (cell_in later k (o + s) (omega arith) new)
       )
 
   -- room for an array of that many is as many blank cells
@@ -102,6 +102,6 @@ module _ (E : El) {M : Type 1} {𝓤 : Ura M} (𝓛 : Logic 𝓤) (b : ℕ) wher
   cell_seen κ (c ∷ later) (suc k) o lt =
       let At : ℕ → Type 1 = λ n. ent 𝓤 (sem 𝓛 (cells_lent (R E) b o (c ∷ later) κ)) (sem 𝓛 (cell_lent (R E) b n (get_or later k None) κ)) in
       subst At (next_at k o) (
-        via 𝓤 (sem 𝓛 (cells_lent (R E) b (o + s) later κ)) (snd∗ 𝓤 (sem 𝓛 (cell_lent (R E) b o c κ)) (sem 𝓛 (cells_lent (R E) b (o + s) later κ)))
-        (cell_seen κ later k (o + s) (omega arith))
+      via 𝓤 (sem 𝓛 (cells_lent (R E) b (o + s) later κ)) (snd∗ 𝓤 (sem 𝓛 (cell_lent (R E) b o c κ)) (sem 𝓛 (cells_lent (R E) b (o + s) later κ)))
+      (cell_seen κ later k (o + s) (omega arith))
       )

@@ -4,7 +4,7 @@ use Prim.Native.Nat.{ℕ, ◌*◌, ◌<◌, ◌^◌}
 use native.Mathlib.Omega.{arith}
 use mathlib.Core.List.{List, [], ◌∷◌, ◌++◌}
 use lib.Dec.{T as So}
-use lib.ListN.{length, replicate, length-replicate}
+use lib.ListN.{replicate, length-replicate}
 use mir.Syntax.{Fn, w64, ty_unit, ty_array}
 use mir.MapTy.{inst_fn}
 use mir.Val.{Val, vptr, vint, vunit, has_ty, WT}

@@ -1,6 +1,6 @@
 -- `lend` shows the value of a cell that the cells lend. Assumes `Logic`.
-use mathlib.Core.Path.{◌≡◌, refl, sym, subst, ◌∙◌}
-use Prim.Native.Nat.{ℕ, ◌+◌, ◌*◌, ◌<◌, ◌^◌}
+use mathlib.Core.Path.{◌≡◌, refl, ◌∙◌}
+use Prim.Native.Nat.{◌+◌, ◌*◌, ◌<◌, ◌^◌}
 use native.Mathlib.Omega.{arith}
 use mathlib.Core.List.{List, [], ◌∷◌, ◌++◌}
 use base.Fraction.{full_share}
@@ -13,7 +13,7 @@ use prog.Wp.{Env, WpFn}
 use contract.BorrowLft.{◌⊑◌}
 use contract.Monad.{fact, fact_i}
 use contract.Running.{tables}
-use types.Kit.{‵, raw, ◌⊛◌, prop, at_ret, ◌$◌, ◌∵◌, !, qed, by, move, keep, drop, use0, use1, use2, split, join, rewrite, regoal, fsplit, fsplit3, fjoin, fjoin3, feq_i, feq_l, flt_i, flt_l, done}
+use types.Kit.{‵, raw, ◌⊛◌, prop, at_ret, ◌$◌, ◌∵◌, !, qed, by, move, keep, drop, use0, use1, split, join, rewrite, regoal, fsplit, fjoin, feq_i, feq_l, flt_l}
 use types.Part.{whole, sub}
 use types.Run.{stop, fld, addr, of_opd, bin, size_lit, first, blocks, exec, returns, enter}
 use types.ByLocal.{alloc_all, pass_all, free_all, look_at, get, get_in, through, sets, sets_last, take_at, give_at, env}
@@ -25,10 +25,10 @@ use denote.Signature.{plain, types_at}
 use denote.Opens.{hide, unhide}
 use denote.Steps.{nothing, heard}
 use denote.Triple.Walked.{Stays, stay_dropped, walk_of, Goes-dropped}
-use lib.ListN.{length, set, get_or, length-set}
+use lib.ListN.{length, get_or}
 use Rattle.std.specs.Prelude.{Some, None}
 use Rattle.core.proofs.alloc.Shapes.{after}
-use Rattle.core.proofs.mem.Param.{El, R, args, elτ}
+use Rattle.core.proofs.mem.Param.{El, R, args}
 use Rattle.core.proofs.ptr.Rows.{times_below, one_below}
 use Rattle.std.proofs.raw_atomic.Walks.{proved_at, leaves}
 use Rattle.std_alloc.proofs.RcSteps.{word, word-Good}
