@@ -178,27 +178,38 @@ fn total(counts: &[AtomicU64]) -> u64 {
     sum
 }
 
-#[test]
-fn of_many_values_each_is_dropped_once(rt: HostRuntime) -> Result<(), Fail> {
-    let mut counts = Vec::new(rt.alloc());
-    for _ in 0..1200 {
+fn zeros(alloc: Global, count: u32) -> Result<Vec<AtomicU64>, Fail> {
+    let mut counts = Vec::new(alloc);
+    for _ in 0..count {
         counts.push(AtomicU64::new(0))?;
     }
+    Ok(counts)
+}
+
+#[test]
+fn of_many_values_each_is_dropped_once(rt: HostRuntime) -> Result<(), Fail> {
+    let first = zeros(rt.alloc(), 1000)?;
+    let later = zeros(rt.alloc(), 200)?;
     let mut arena = Arena::new(rt.alloc(), 1000)?;
     let mut ids = Vec::new(rt.alloc());
-    for drops in &counts[..1000] {
+    for drops in &first {
         ids.push(arena.insert(Counted { drops })?)?;
     }
-    for half in 0..500usize {
-        drop(arena.remove(ids[half * 2]));
+    for (k, id) in ids.iter().enumerate() {
+        if k % 2 == 0 {
+            drop(arena.remove(*id));
+        }
     }
-    assert_eq!(rt; (total(&counts), arena.free()), (500, 500));
-    for drops in &counts[1000..] {
+    assert_eq!(rt; (total(&first), arena.free()), (500, 500));
+    for drops in &later {
         arena.insert(Counted { drops })?;
     }
-    assert_eq!(rt; (total(&counts), arena.free()), (500, 300));
+    assert_eq!(rt; (total(&first), total(&later), arena.free()), (500, 0, 300));
     drop(arena);
-    for count in &counts {
+    for count in &first {
+        assert_eq!(rt; count.load(Ordering::SeqCst), 1);
+    }
+    for count in &later {
         assert_eq!(rt; count.load(Ordering::SeqCst), 1);
     }
     Ok(())
