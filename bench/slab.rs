@@ -109,24 +109,41 @@ fn empty(slab: &mut Slab<u64>, ids: &[Id]) -> u64 {
     sum
 }
 
+#[inline(never)]
+fn change(slab: &mut Slab<u64>, ids: &mut [Id]) -> u64 {
+    let mut sum = 0u64;
+    for id in ids {
+        if let Some(value) = slab.remove(*id) {
+            sum = sum.wrapping_add(value);
+            if let Ok(given) = slab.insert(value) {
+                *id = given;
+            }
+        }
+    }
+    sum
+}
+
 fn main() {
     let mut slab = Slab::new(SLOTS);
     let mut ids = vec![Id { slot: 0, generation: 0 }; SLOTS];
-    let mut least = [u128::MAX; 3];
+    let mut least = [u128::MAX; 4];
     let mut sum = 0u64;
     for _ in 0..ROUNDS {
         let start = Instant::now();
         sum = sum.wrapping_add(fill(&mut slab, &mut ids));
         let filled = start.elapsed().as_nanos();
-        let others: Vec<Id> = (0..SLOTS).map(|k| ids[k * 389 % SLOTS]).collect();
+        let mut others: Vec<Id> = (0..SLOTS).map(|k| ids[k * 389 % SLOTS]).collect();
         let start = Instant::now();
         sum = sum.wrapping_add(look_up(&slab, &others));
         let found = start.elapsed().as_nanos();
         let start = Instant::now();
+        sum = sum.wrapping_add(change(&mut slab, &mut others));
+        let changed = start.elapsed().as_nanos();
+        let start = Instant::now();
         sum = sum.wrapping_add(empty(&mut slab, &others));
         let emptied = start.elapsed().as_nanos();
-        least = [least[0].min(filled), least[1].min(found), least[2].min(emptied)];
+        least = [least[0].min(filled), least[1].min(found), least[2].min(emptied), least[3].min(changed)];
     }
     assert_eq!(slab.free, SLOTS);
-    println!("{} {} {} {sum}", least[0], least[1], least[2]);
+    println!("{} {} {} {} {sum}", least[0], least[1], least[2], least[3]);
 }
