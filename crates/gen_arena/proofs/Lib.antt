@@ -1,8 +1,10 @@
 pub mod SlotLemmas
 pub mod PastLemmas
-pub mod ReadyLemmas
-pub mod ChangeLemmas
+pub mod FreeLemmas
 pub mod PlaceLemmas
+pub mod ChainLemmas
+pub mod ChangeLemmas
 pub mod IdLemmas
 pub mod LiveLemmas
 pub mod Public
+pub mod raw

@@ -6,4 +6,4 @@ pub mod Free
 pub mod Insert
 pub mod Remove
 pub mod Change
-pub mod Layout
+pub mod inner

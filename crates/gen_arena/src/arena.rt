@@ -1,61 +1,43 @@
-ghost use Rattle.std.specs.Prelude.{◌≡◌, ℕ, ◌+◌, [], ◌∷◌, ◌++◌, ◌<◌, ◌≤◌, ◌↔◌, IsTrue, IsErr, IsErrOf, IsSome, IfOk, IfErr, OnOk, OnErr, IfSome, IfNone, OnSome, Some, None, option_copied, vec_len, vec_capacity, replicate};
+ghost use Rattle.std.specs.Prelude.{◌≡◌, ◌+◌, ◌∷◌, ◌<◌, ◌≤◌, ◌↔◌, IsTrue, IsErr, IsErrOf, IsSome, IfOk, IfErr, OnOk, OnErr, IfSome, IfNone, OnSome, Some, None, option_copied};
 ghost use Rattle.gen_arena.specs.Slot.{unused_slots, greatest_generation, IsArena};
 ghost use Rattle.gen_arena.specs.Live.{live_value, IsLive};
 ghost use Rattle.gen_arena.specs.Past.{IsPast, KeepsPast};
 ghost use Rattle.gen_arena.specs.Free.{free_slots, NoneIsFree};
 ghost use Rattle.gen_arena.specs.Insert.{Inserts};
 ghost use Rattle.gen_arena.specs.Remove.{Removes};
-ghost use Rattle.gen_arena.specs.Layout.{AreBelow};
 
+use crate::place::Places;
 use crate::{ArenaFault, Id};
-use std::alloc::{AllocError, Global};
+use std::alloc::Global;
 use std::marker::Model;
 
 /// A fixed number of slots, each with the generation that it last used and perhaps a value.
 ///
 /// Contracts see the list of the slots. Of a `T` that is `Drop` the arena is `Drop` too: the values
 /// that are still in it are dropped with it.
+///
+/// The slots lie in one block of memory, which is taken when the arena is made. The free ones form a
+/// list through the slots, so that no call walks them.
 #[derive(Drop)]
 pub struct Arena<T> {
-    places: Vec<Place<T>>,
-    // The numbers of the free slots. The last one is taken first. There is room for all slots from
-    // the start, so that `remove` takes no memory.
-    ready: Vec<u16>,
-}
-
-#[derive(Drop)]
-struct Place<T> {
-    generation: u32,
-    value: Option<T>,
+    places: Places<T>,
+    // The number of the first free slot, or the number of slots.
+    first: u16,
+    // How many slots are free.
+    free: u16,
 }
 
 impl<T> Model for Arena<T> {
-    ghost use Rattle.std.specs.Prelude.{List, map, vec_capacity};
+    ghost use Rattle.std.specs.Prelude.{List, map};
     ghost use Rattle.gen_arena.specs.Slot.{Slot};
 
     ghost Value = { List (Slot T) };
 
-    ghost use Rattle.gen_arena.specs.Layout.{slot_of, IsSound};
+    ghost use Rattle.gen_arena.specs.inner.Chain.{slot_of, IsSound};
 
-    ghost view = { λ a. map slot_of a.places.items };
+    ghost view = { λ a. map slot_of a.places };
 
-    ghost invariant = { λ a. IsSound (map slot_of a.places.items) a.ready.items (vec_capacity a.ready) };
-}
-
-impl<T> Place<T> {
-    // Puts a value into an empty place under its next generation, and tells that generation.
-    fn fill(&mut self, value: T) -> u32
-        requires empty { self.old.value ≡ None }
-        requires unworn { self.old.generation < greatest_generation }
-        ensures generation { result ≡ self.old.generation + 1 }
-        ensures after { self.new ≡ record { generation = result; value = Some value } }
-    {
-        self.generation += 1;
-        match self.value.replace(value) {
-            None => self.generation,
-            Some(_) => unreachable!(),
-        }
-    }
+    ghost invariant = { λ a. IsSound a.places a.first a.free };
 }
 
 impl<T> Arena<T> {
@@ -84,9 +66,19 @@ impl<T> Arena<T> {
         if slots == 0 {
             return Err(ArenaFault::NoSlots);
         }
-        let ready = ready_slots(alloc, slots, used)?;
-        let places = empty_places(alloc, slots, used)?;
-        Ok(Arena { places, ready })
+        let places = Places::new(alloc, slots, used)?;
+        // The places name one another from the first on. Where none has a generation left, none is
+        // in the list.
+        let (first, free) = if used < u32::MAX {
+            (0, slots)
+        } else {
+            (slots, 0)
+        };
+        Ok(Arena {
+            places,
+            first,
+            free,
+        })
     }
 
     /// Puts the value into a free slot under the slot's next generation. Which free slot is taken
@@ -107,10 +99,13 @@ impl<T> Arena<T> {
 
         ensures past { KeepsPast self.old self.new }
     {
-        let Some(slot) = self.ready.pop() else {
+        if self.free == 0 {
             return Err(value);
-        };
-        let generation = self.places[usize::from(slot)].fill(value);
+        }
+        let slot = self.first;
+        let (generation, next) = self.places.fill(slot, value);
+        self.first = next;
+        self.free -= 1;
         Ok(Id { slot, generation })
     }
 
@@ -119,7 +114,7 @@ impl<T> Arena<T> {
         ensures value { option_copied result ≡ live_value self.now id }
         ensures generation_zero { id.generation ≡ 0 → live_value self.now id ≡ None }
     {
-        let place = self.places.get(usize::from(id.slot))?;
+        let place = self.places.get(id.slot)?;
         if place.generation == id.generation {
             place.value.as_ref()
         } else {
@@ -150,8 +145,8 @@ impl<T> Arena<T> {
         if !self.holds(id) {
             return None;
         }
-        let value = self.places[usize::from(id.slot)].value.take();
-        relist(&mut self.ready, id);
+        let value = self.places.empty(id.slot, self.first);
+        (self.first, self.free) = relisted(id, self.first, self.free);
         value
     }
 
@@ -161,47 +156,20 @@ impl<T> Arena<T> {
         ensures count { result ≡ free_slots self.now }
         ensures lawful { IsArena self.now }
     {
-        self.ready.len()
+        usize::from(self.free)
     }
 }
 
-// Lists the slot of the id, which was emptied, as free, if it has a generation left.
-fn relist(ready: &mut Vec<u16>, id: Id)
-    requires { id.generation < greatest_generation → vec_len ready.old < vec_capacity ready.old }
-    ensures free { id.generation < greatest_generation → ready.new.items ≡ ready.old.items ++ id.slot ∷ [] }
-    ensures worn { greatest_generation ≤ id.generation → ready.new.items ≡ ready.old.items }
-    ensures capacity { vec_capacity ready.new ≡ vec_capacity ready.old }
+// The first free slot and the number of free ones, once the slot of the id was emptied: it comes
+// first, unless it has no generation left.
+fn relisted(id: Id, first: u16, free: u16) -> (u16, u16)
+    requires { id.generation < greatest_generation → free < 65535 }
+    ensures first { id.generation < greatest_generation → (result.0 ≡ id.slot) × (result.1 ≡ free + 1) }
+    ensures worn { greatest_generation ≤ id.generation → (result.0 ≡ first) × (result.1 ≡ free) }
 {
     if id.generation < u32::MAX {
-        ready.push_reserved(id.slot);
+        (id.slot, free + 1)
+    } else {
+        (first, free)
     }
-}
-
-// The numbers of the free ones among the first `slots` slots of an arena that has used `used`.
-fn ready_slots(alloc: Global, slots: u16, used: u32) -> Result<Vec<u16>, AllocError>
-    ensures room { IfOk result (λ ready. vec_capacity ready ≡ slots) }
-    ensures count { IfOk result (λ ready. used < greatest_generation → vec_len ready ≡ slots) }
-    ensures none { IfOk result (λ ready. used ≡ greatest_generation → vec_len ready ≡ 0) }
-    ensures numbers { IfOk result (λ ready. AreBelow slots ready.items) }
-{
-    let mut ready = Vec::with_capacity(alloc, usize::from(slots))?;
-    if used < u32::MAX {
-        for slot in (0..slots).rev() {
-            ready.push_reserved(slot);
-        }
-    }
-    Ok(ready)
-}
-
-fn empty_places<T>(alloc: Global, slots: u16, used: u32) -> Result<Vec<Place<T>>, AllocError>
-    ensures { IfOk result (λ places. places.items ≡ replicate slots (record { generation = used; value = None })) }
-{
-    let mut places = Vec::with_capacity(alloc, usize::from(slots))?;
-    for _ in 0..slots {
-        places.push_reserved(Place {
-            generation: used,
-            value: None,
-        });
-    }
-    Ok(places)
 }

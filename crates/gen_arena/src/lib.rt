@@ -3,9 +3,11 @@
 #![tactic(auto)]
 
 mod arena;
+mod block;
 mod fault;
 mod id;
 pub mod laws;
+mod place;
 
 pub use arena::Arena;
 pub use fault::ArenaFault;

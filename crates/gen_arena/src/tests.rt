@@ -170,6 +170,79 @@ fn each_live_value_is_dropped_once_with_the_arena(rt: HostRuntime) -> Result<(),
     Ok(())
 }
 
+fn total(counts: &[AtomicU64]) -> u64 {
+    let mut sum = 0u64;
+    for count in counts {
+        sum = sum.wrapping_add(count.load(Ordering::SeqCst));
+    }
+    sum
+}
+
+fn zeros(alloc: Global, count: u32) -> Result<Vec<AtomicU64>, Fail> {
+    let mut counts = Vec::new(alloc);
+    for _ in 0..count {
+        counts.push(AtomicU64::new(0))?;
+    }
+    Ok(counts)
+}
+
+#[test]
+fn of_many_values_each_is_dropped_once(rt: HostRuntime) -> Result<(), Fail> {
+    let first = zeros(rt.alloc(), 1000)?;
+    let later = zeros(rt.alloc(), 200)?;
+    let mut arena = Arena::new(rt.alloc(), 1000)?;
+    let mut ids = Vec::new(rt.alloc());
+    for drops in &first {
+        ids.push(arena.insert(Counted { drops })?)?;
+    }
+    for (k, id) in ids.iter().enumerate() {
+        if k % 2 == 0 {
+            drop(arena.remove(*id));
+        }
+    }
+    assert_eq!(rt; (total(&first), arena.free()), (500, 500));
+    for drops in &later {
+        arena.insert(Counted { drops })?;
+    }
+    assert_eq!(rt; (total(&first), total(&later), arena.free()), (500, 0, 300));
+    drop(arena);
+    for count in &first {
+        assert_eq!(rt; count.load(Ordering::SeqCst), 1);
+    }
+    for count in &later {
+        assert_eq!(rt; count.load(Ordering::SeqCst), 1);
+    }
+    Ok(())
+}
+
+// The slot that was emptied last is taken first.
+#[test]
+fn freed_slots_come_again_from_the_last_on(rt: HostRuntime) -> Result<(), Fail> {
+    let mut arena = Arena::new(rt.alloc(), 3)?;
+    let filled = [arena.insert(0u8)?, arena.insert(1)?, arena.insert(2)?];
+    assert_eq!(rt; filled, [id(0, 1), id(1, 1), id(2, 1)]);
+    for slot in [0, 2, 1] {
+        arena.remove(id(slot, 1));
+    }
+    let again = [arena.insert(3)?, arena.insert(4)?, arena.insert(5)?];
+    assert_eq!(rt; again, [id(1, 2), id(2, 2), id(0, 2)]);
+    Ok(())
+}
+
+// Values of 4 KiB, at the greatest alignment that the allocator gives.
+#[test]
+fn large_values_come_back_as_they_went_in(rt: HostRuntime) -> Result<(), Fail> {
+    let mut arena = Arena::new(rt.alloc(), 3)?;
+    let first = arena.insert([1u128; 256])?;
+    let second = arena.insert([u128::MAX; 256])?;
+    arena.insert([3; 256])?;
+    assert_eq!(rt; arena.remove(first), Some([1; 256]));
+    let fourth = arena.insert([4; 256])?;
+    assert_eq!(rt; arena.get(second).copied(), Some([u128::MAX; 256]));
+    assert_eq!(rt; arena.get(fourth).copied(), Some([4; 256]));
+    Ok(())
+}
+
 // The example of the README.
 #[test]
 fn a_session_is_looked_up_by_its_id(rt: HostRuntime) -> Result<(), Fail> {

@@ -1,53 +1,52 @@
-use Rattle.std.proofs.Common.{◌≡◌, ◌+◌, map, ap, ◌∙◌, arith}
-use Rattle.gen_arena.specs.Layout.{slot_of}
-use Rattle.gen_arena.specs.Slot.{full_slot}
+use Rattle.std.proofs.Common.{◌≡◌, ℕ, ◌-◌, ◌<◌, List, Some, map, set, sym, ap, ◌∙◌, subst, arith}
+use Rattle.gen_arena.specs.Slot.{Slot, full_slot}
 use Rattle.gen_arena.specs.Free.{free_slots}
+use Rattle.gen_arena.specs.Insert.{Inserts}
+use Rattle.gen_arena.specs.declared.id.Id.{Id}
+use Rattle.gen_arena.specs.declared.place.Place.{Place}
+use Rattle.gen_arena.specs.inner.Chain.{slot_of, IsSound}
 use Rattle.gen_arena.proofs.ChangeLemmas.{none_from_zero}
-use Rattle.gen_arena.proofs.SlotLemmas.{is_free-parts}
 use Rattle.gen_arena.proofs.PastLemmas.{Inserts-live, Inserts-past}
-use Rattle.gen_arena.proofs.PlaceLemmas.{IsSound-popped, last_within, last_place, IsSound-fill, Inserts-fill}
+use Rattle.gen_arena.proofs.ChainLemmas.{IsSound-filled, Inserts-filled}
+use Rattle.gen_arena.proofs.arena.Arena.insert.Given as given
 use Rattle.gen_arena.proofs.arena.Arena.insert.Goals as goal
 
-pub index_mut-requires : goal.index_mut-requires
-index_mut-requires g c =
-    let sound = IsSound-popped _ _ _ _ _ c.self.invariant c.in-Some.ensures.items in
-    rw c.from.ensures (omega (arith, last_within _ _ _ _ sound, c.self.inside.places.ok.0))
+pub returns-then-self-eq0-clause-none_is_free : goal.returns-then-self-eq0-clause-none_is_free
+returns-then-self-eq0-clause-none_is_free g c =
+    let sound = c.self.invariant in
+    let counted : free_slots (map slot_of c.self.inside.places) ≡ 0 = sym sound.count ∙ c.if-self-eq0.true in
+    rw (← c.self.view_is) (none_from_zero (map slot_of c.self.inside.places) sound.lawful counted)
 
-pub fill-generation-requires-clause-empty : goal.fill-generation-requires-clause-empty
-fill-generation-requires-clause-empty g c =
-    let sound = IsSound-popped _ _ _ _ _ c.self.invariant c.in-Some.ensures.items in
-    let read = rw c.from.ensures at c.index_mut.ensures.value in
-    (is_free-parts _ (last_place _ _ _ _ _ sound read).1).0
+-- the place that was filled, as it is now
+abbrev new_place : (g : given.Over) (c : goal.After-self-2-1 g) → Place g.row.T.Denot
+new_place g c =
+    record { generation = c.fill-generation.result.0; next = c.fill-generation.result.1; value = Some c.args.value }
 
-pub fill-generation-requires-clause-unworn : goal.fill-generation-requires-clause-unworn
-fill-generation-requires-clause-unworn g c =
-    let sound = IsSound-popped _ _ _ _ _ c.self.invariant c.in-Some.ensures.items in
-    let read = rw c.from.ensures at c.index_mut.ensures.value in
-    (is_free-parts _ (last_place _ _ _ _ _ sound read).1).1
-
-pub invariant_of-self-2 : goal.invariant_of-self-2
-invariant_of-self-2 g c =
-    let sound = IsSound-popped _ _ _ _ _ c.self.invariant c.in-Some.ensures.items in
-    let read = rw c.from.ensures at c.index_mut.ensures.value in
-    let filled : slot_of c.fill-generation.new.self ≡ full_slot (c.index_mut.result.now.generation + 1) c.args.value =
-    ap slot_of c.fill-generation.ensures.after ∙ ap (λ n. full_slot n c.args.value) c.fill-generation.ensures.generation in
-    rw (c.from.ensures, c.pop.ensures.capacity) (IsSound-fill _ _ _ _ _ _ _ sound read filled)
+pub invariant_of-self : goal.invariant_of-self
+invariant_of-self g c =
+    let places = c.self.inside.places in
+    let first = c.self.inside.first in
+    let free = c.self.inside.free in
+    let filled = c.fill-generation.ensures in
+    let some : 0 < free = omega (arith, c.if-self-eq0.false) in
+    let sound = IsSound-filled places first free (new_place g c) c.args.value some c.self.invariant (ap (λ n. full_slot n c.args.value) filled.generation) in
+    let From : ℕ → Type 0 = λ n. IsSound (set places first (new_place g c)) n (free - 1) in
+    let Of : List (Place g.row.T.Denot) → Type 0 = λ ps. IsSound ps c.fill-generation.result.1 (free - 1) in
+    subst Of (sym filled.after) (subst From (sym filled.next) sound)
 
 pub returns-clause-inserted : goal.returns-clause-inserted
 returns-clause-inserted g c =
-    let sound = IsSound-popped _ _ _ _ _ c.self.invariant c.in-Some.ensures.items in
-    let read = rw c.from.ensures at c.index_mut.ensures.value in
-    rw (← c.self.view_is, c.from.ensures) (Inserts-fill _ _ _ _ _ _ _ sound read c.fill-generation.ensures.generation (ap slot_of c.fill-generation.ensures.after))
+    let places = c.self.inside.places in
+    let filled = c.fill-generation.ensures in
+    let id : Id = record { slot = c.self.inside.first; generation = c.fill-generation.result.0 } in
+    let some : 0 < c.self.inside.free = omega (arith, c.if-self-eq0.false) in
+    let inserts = Inserts-filled places c.self.inside.free id (new_place g c) c.args.value some c.self.invariant filled.generation (λ i. full_slot id.generation c.args.value) in
+    let Into : List (Place g.row.T.Denot) → Type 0 = λ ps. Inserts (map slot_of places) (map slot_of ps) id c.args.value in
+    let Onto : List (Slot g.row.T.Denot) → Type 0 = λ old. Inserts old (map slot_of c.fill-generation.new.self) id c.args.value in
+    subst Onto c.self.view_is (subst Into (sym filled.after) inserts)
 
 pub returns-clause-live : goal.returns-clause-live
 returns-clause-live g c = Inserts-live _ _ _ _ (returns-clause-inserted g c)
 
 pub returns-clause-past : goal.returns-clause-past
 returns-clause-past g c = Inserts-past _ _ _ _ (returns-clause-inserted g c)
-
-pub returns-in_default-clause-none_is_free : goal.returns-in_default-clause-none_is_free
-returns-in_default-clause-none_is_free g c =
-    let sound = c.self.invariant in
-    let ready = c.self.inside.ready in
-    let counted : free_slots (map slot_of c.self.inside.places.items) ≡ 0 = omega (arith, sound.count, ready.ok.0, c.in_default.ensures.cases) in
-    rw (← c.self.view_is) (none_from_zero (map slot_of c.self.inside.places.items) sound.lawful counted)

@@ -1,16 +1,24 @@
-use Rattle.std.proofs.Common.{map, ap, ◌∙◌, arith}
-use Rattle.gen_arena.specs.Layout.{slot_of}
-use Rattle.gen_arena.proofs.ReadyLemmas.{IsSound-unused}
-use Rattle.gen_arena.proofs.PlaceLemmas.{map-replicate}
+use Rattle.std.proofs.Common.{◌≡◌, ◌≤◌, ℕ, sym, subst, arith}
+use Rattle.gen_arena.specs.Slot.{greatest_generation}
+use Rattle.gen_arena.specs.inner.Chain.{IsSound}
+use Rattle.gen_arena.proofs.PlaceLemmas.{AreFresh-slots}
+use Rattle.gen_arena.proofs.ChainLemmas.{IsSound-fresh, IsSound-worn_out}
+use Rattle.gen_arena.proofs.arena.Arena.new_from.Goals.{then-used-lt4294967295, else-used-lt4294967295}
 use Rattle.gen_arena.proofs.arena.Arena.new_from.Goals as goal
-
-pub returns-clause-made : goal.returns-clause-made
-returns-clause-made g c = ap (map slot_of) c.in_ok-places.ensures ∙ map-replicate slot_of c.args.slots _
 
 pub invariant_of-result : goal.invariant_of-result
 invariant_of-result g c =
-    let made = ap (map slot_of) c.in_ok-places.ensures ∙ map-replicate slot_of c.args.slots _ in
-    let fits = c.ranges.used.fits in
-    let ready = c.in_ok-ready.ensures in
-    let same = c.in_ok-ready.ready.ok.0 in
-    rw made (IsSound-unused _ c.args.slots c.args.used _ _ (omega (arith, fits)) (omega (arith, ready.room)) (λ below. omega (arith, ready.count below, same)) (λ worn. omega (arith, ready.none worn, same)) ready.numbers)
+    let places = c.in_ok-places.places in
+    let few : c.args.slots ≤ 65535 = let fits = c.ranges.slots.fits in omega (arith, fits) in
+    let most : c.args.used ≤ greatest_generation = let fits = c.ranges.used.fits in omega (arith, fits) in
+    let From : ℕ × ℕ → Type 0 = λ listed. IsSound places listed.0 listed.1 in
+    elim c.if-used-lt4294967295.branch [
+      | then-used-lt4294967295 w ↦
+          subst From (sym w.first-is) (IsSound-fresh places c.args.slots c.args.used few c.in_ok-places.ensures w.if-used-lt4294967295.true)
+      | else-used-lt4294967295 w ↦
+          let worn : c.args.used ≡ greatest_generation = omega (arith, most, w.if-used-lt4294967295.false) in
+          subst From (sym w.first-is) (IsSound-worn_out places c.args.slots c.args.used few c.in_ok-places.ensures worn)
+    ]
+
+pub returns-clause-made : goal.returns-clause-made
+returns-clause-made g c = AreFresh-slots c.in_ok-places.places c.args.slots c.args.used c.in_ok-places.ensures

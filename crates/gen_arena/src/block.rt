@@ -1,0 +1,148 @@
+//! The block: a row of cells in raw memory, each with room for one `E`.
+//!
+//! A cell holds a value or is blank. What a cell holds is known to the proofs alone, so a function
+//! that reads a cell asks that it holds a value, and one that writes to it that it is blank: no value
+//! is read twice, none is overwritten, and none is read before it was written. The functions of this
+//! file are the only ones of the crate that have a pointer.
+ghost use Rattle.std.specs.Prelude.{◌≡◌, ℕ, ◌<◌, List, Option, Some, None, length, replicate, get_or, slice_set, IfOk, ⊤};
+ghost use Rattle.std.specs.Borrow.{sem};
+ghost use Rattle.std.specs.Vec.Ownership.{FitsInBlock};
+ghost use base.Fml.{ftrue};
+ghost use denote.RawPtr.{Ptr};
+ghost use Rattle.gen_arena.specs.inner.Cells.{Holds};
+ghost use Rattle.gen_arena.specs.inner.Memory.{row_owned, row_lent, way_back};
+
+use std::alloc::{AllocError, Allocator};
+use std::marker::{Model, PhantomData, Send, Sync};
+use std::mem::{align_of, size_of};
+
+/// Where a block begins. It owns nothing.
+pub struct Start<E> {
+    to: *mut E,
+}
+
+impl<E> Clone for Start<E> {
+    ghost is_clone = { λ one other. other ≡ one };
+
+    ghost is_infallible = { λ _. ⊤ };
+
+    fn clone(&self) -> Result<Start<E>, AllocError> {
+        Ok(*self)
+    }
+}
+
+impl<E> Copy for Start<E> {}
+
+unsafe impl<E> Send for Start<E> {}
+
+unsafe impl<E> Sync for Start<E> {}
+
+/// The owner of a block's cells. It takes no space.
+pub struct Cells<E> {
+    of: PhantomData<*const E>,
+    ghost start: { Ptr },
+    ghost held: { List (Option E) },
+}
+
+impl<E> Model for Cells<E> {
+    ghost also_owns = { λ c. row_owned E.row c.start c.held };
+
+    ghost also_shares = { λ c _ κ. row_lent E.row c.start c.held κ };
+}
+
+unsafe impl<E: Send> Send for Cells<E> {}
+
+unsafe impl<E: Sync> Sync for Cells<E> {}
+
+/// The right to give a block of `count` cells back to the allocator that it came from. It takes no
+/// space, and a `&` to it is worth nothing.
+pub struct Deed<E, A: Allocator> {
+    of: PhantomData<*const (E, A)>,
+    ghost start: { Ptr },
+    ghost count: { ℕ },
+    ghost from: { A },
+}
+
+impl<E, A: Allocator> Model for Deed<E, A> {
+    ghost also_owns = { λ d. way_back E.row (A.dealloc_token d.from) d.start d.count };
+
+    ghost also_shares = { λ _ _ _. ftrue };
+}
+
+unsafe impl<E, A: Allocator + Send> Send for Deed<E, A> {}
+
+unsafe impl<E, A: Allocator> Sync for Deed<E, A> {}
+
+// A block of `count` blank cells.
+pub(crate) fn make<E, A: Allocator>(
+    alloc: &A,
+    count: usize,
+) -> Result<(Start<E>, Cells<E>, Deed<E, A>), AllocError>
+    requires { FitsInBlock E.row count }
+    ensures { IfOk result (λ made. (made.1.start ≡ made.0.to) × (made.1.held ≡ replicate count None) × (made.2.start ≡ made.0.to) × (made.2.count ≡ count) × (made.2.from ≡ alloc.now)) }
+{
+    match alloc.allocate(count * size_of::<E>(), align_of::<E>()) {
+        Ok(block) => {
+            let start = Start {
+                to: block as *mut E,
+            };
+            Ok((start, Cells { of: PhantomData }, Deed { of: PhantomData }))
+        }
+        Err(refused) => Err(refused),
+    }
+}
+
+// Gives a block back, once every cell is blank.
+pub(crate) fn give_back<E, A: Allocator>(
+    alloc: &A,
+    start: Start<E>,
+    count: usize,
+    cells: Cells<E>,
+    deed: Deed<E, A>,
+)
+    requires { (cells.start ≡ start.to) × (cells.held ≡ replicate count None) × (deed.start ≡ start.to) × (deed.count ≡ count) × (deed.from ≡ alloc.now) }
+{
+    let Cells { of: _ } = cells;
+    let Deed { of: _ } = deed;
+    unsafe {
+        alloc.deallocate(start.to as *mut u8, count * size_of::<E>(), align_of::<E>());
+    }
+}
+
+impl<E> Cells<E> {
+    ghost use Rattle.gen_arena.specs.inner.CellLends.{lends_cell};
+
+    // Writes a value into a blank cell.
+    pub(crate) fn put(&mut self, start: Start<E>, k: usize, value: E)
+        requires { (start.to ≡ self.old.start) × (k < length self.old.held) × (get_or self.old.held k None ≡ None) }
+        ensures { (self.new.start ≡ self.old.start) × (self.new.held ≡ slice_set self.old.held k (Some value)) }
+    {
+        unsafe { start.to.add(k).write(value) }
+    }
+
+    // Reads the value out of a cell, which is blank from then on.
+    pub(crate) fn take(&mut self, start: Start<E>, k: usize) -> E
+        requires { (start.to ≡ self.old.start) × Holds self.old.held k }
+        ensures value { get_or self.old.held k None ≡ Some result }
+        ensures blank { (self.new.start ≡ self.old.start) × (self.new.held ≡ slice_set self.old.held k None) }
+    {
+        unsafe { start.to.add(k).read() }
+    }
+
+    // Lends the value in a cell.
+    pub(crate) fn lend(&self, start: Start<E>, k: usize) -> &E
+        requires { (start.to ≡ self.now.start) × Holds self.now.held k }
+        ensures { get_or self.now.held k None ≡ Some result.now }
+    {
+        unsafe { &*start.to.add(k) }
+    }
+
+    // Lends the value in a cell to be changed.
+    pub(crate) fn lend_mut(&mut self, start: Start<E>, k: usize) -> &mut E
+        requires { (start.to ≡ self.old.start) × Holds self.old.held k }
+        ensures* writes_back { sem 𝓛 (lends_cell E.row self.entry k result) }
+        ensures value { get_or self.old.held k None ≡ Some result.now }
+    {
+        unsafe { &mut *start.to.add(k) }
+    }
+}
