@@ -1,31 +1,27 @@
 -- Look-ups in a directory, before and after a change.
 use Rattle.std.proofs.Common.{◌≡◌, ◌≢◌, ◌⊎◌, ℕ, suc, ◌+◌, ◌^◌, ◌<◌, ◌≤◌, Bool, true, false, cond, Option, Some, None, List, [], ◌∷◌, refl, sym, ap, subst, ◌∙◌, inl, inr, arith}
-use Rattle.std.specs.Ordering.{is_eq}
-use Rattle.std.specs.Cmp.{IsTotalOrder, nat_cmp_total, on_total, then_total}
-use Rattle.std.specs.Coded.{le_prop}
 use Rattle.std.specs.Prelude.{IfSome}
 use Rattle.std.proofs.lemmas.Option.{same_Some}
 use Rattle.std.specs.List.{list_any, Contains}
 use Rattle.std.specs.Map.{lookup, values_of}
-use Rattle.std.specs.BTreeMap.{BTreeMap, IsOrdered, UpdatesBy, is_at}
+use Rattle.std.specs.HashMap.{HashMap, IsUnique, UpdatesBy}
 use Rattle.std.proofs.lemmas.Bool.Decides.{nat_tests}
-use Rattle.std.proofs.lemmas.Map.Lookups.{CmpEqualImpliesEq}
-use Rattle.std.proofs.lemmas.Map.Views.{btree_map_get_iff}
+use Rattle.std.proofs.lemmas.Map.Views.{hash_map_get_iff}
 use Rattle.gen_arena.specs.declared.id.Id.{Id}
 use Rattle.upc_cell.specs.declared.vc.Vc.{Vc}
-use Rattle.upc_cell.specs.contracts.vc.VcOrd.TheImpl.{cmp-value}
+use Rattle.upc_cell.specs.contracts.vc.VcPartialEq.TheImpl.{eq-value}
 use Rattle.upc_cell.specs.Connection.{is_same_vc}
-use Rattle.upc_cell.proofs.Public.{vc_differs, vc_cases, vc_total, vc_exact, is_at-vc}
+use Rattle.upc_cell.proofs.Public.{vc_same, vc_differs, vc_cases, vc_equivalence, eq-vc}
 use Rattle.line_record.specs.declared.directory.Seating.{Seating}
 use Rattle.line_record.specs.Seats.{seat_in, ChangesAt, HasEntries}
 use Rattle.line_record.specs.Directory.{DirectoryView, seat_of, IsOpenLine, IsDirectory}
 
 -- Look-ups.
 
-pub lookup-seat : (seats : List (Vc × Seating)) (vc : Vc) → lookup (is_at (cmp-value.it vc)) seats ≡ seat_in seats vc
+pub lookup-seat : (seats : List (Vc × Seating)) (vc : Vc) → lookup (eq-value.it vc) seats ≡ seat_in seats vc
 lookup-seat [] vc = refl
 lookup-seat (seat ∷ later) vc =
-    rw (is_at-vc vc seat.0) (ap (cond (is_same_vc vc seat.0) (Some seat.1)) (lookup-seat later vc))
+    rw (eq-vc vc seat.0) (ap (cond (is_same_vc vc seat.0) (Some seat.1)) (lookup-seat later vc))
 
 -- a seating that passes a test, if the test finds one
 entry_found : (test : Seating → Bool) (seats : List (Vc × Seating)) → list_any test (values_of seats) ≡ true
@@ -41,9 +37,9 @@ entry_found test (seat ∷ later) e =
     ] in
     choice (test seat.1) refl
 
-pub HasEntries-ordered : (map : BTreeMap Vc Seating) → IsOrdered cmp-value.it map → HasEntries map.entries
-HasEntries-ordered map ordered vc seat there =
-    sym (lookup-seat map.entries vc) ∙ (btree_map_get_iff vc_total vc_exact map ordered vc seat).1 there
+pub HasEntries-unique : {S : Type 0} (map : HashMap Vc Seating S) → IsUnique eq-value.it map → HasEntries map.entries
+HasEntries-unique map unique vc seat there =
+    sym (lookup-seat map.entries vc) ∙ (hash_map_get_iff vc_equivalence vc_same map unique vc seat).1 there
 
 pub seat_found : (test : Seating → Bool) (seats : List (Vc × Seating)) → HasEntries seats
     → list_any test (values_of seats) ≡ true
@@ -69,13 +65,13 @@ seat_passes test (first ∷ later) vc seat at passes =
     ] in
     choice (is_same_vc vc first.0) refl
 
-pub ChangesAt-updates : (old new : BTreeMap Vc Seating) (vc : Vc) (seat : Option Seating)
-    → UpdatesBy cmp-value.it (cmp-value.it vc) old new seat → ChangesAt old.entries new.entries vc seat
+pub ChangesAt-updates : {S : Type 0} (old new : HashMap Vc Seating S) (vc : Vc) (seat : Option Seating)
+    → UpdatesBy eq-value.it (eq-value.it vc) old new seat → ChangesAt old.entries new.entries vc seat
 ChangesAt-updates old new vc seat updates = record {
   here = sym (lookup-seat new.entries vc) ∙ updates.1;
   others = λ other apart.
-      let away : is_at (cmp-value.it vc) other ≡ false =
-      is_at-vc vc other ∙ vc_differs vc other (λ e. apart (sym e)) in
+      let away : eq-value.it vc other ≡ false =
+      eq-vc vc other ∙ vc_differs vc other (λ e. apart (sym e)) in
       sym (lookup-seat new.entries other) ∙ updates.2 other away ∙ lookup-seat old.entries other;
 }
 

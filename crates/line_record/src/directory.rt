@@ -1,13 +1,13 @@
 ghost use Rattle.std.specs.Prelude.{◌≡◌, ◌==◌, Some, IfSome, IfNone, option_map};
 ghost use Rattle.std.specs.List.{list_any};
-ghost use Rattle.std.specs.BTreeMap.{values};
+ghost use Rattle.std.specs.HashMap.{values};
 ghost use Rattle.line_record.specs.Seats.{seat_in, ChangesAt, HasEntries};
 ghost use Rattle.gen_arena.specs.SameId.{is_same_id};
 
 use crate::fault::DirFault;
 use gen_arena::Id;
 use std::alloc::Global;
-use std::collections::BTreeMap;
+use std::collections::HashMap;
 use std::marker::Model;
 use std::mem;
 use upc_cell::Vc;
@@ -30,7 +30,10 @@ pub struct Seating {
 /// incarnation is given twice.
 #[derive(Debug, Drop)]
 pub struct Directory {
-    seats: BTreeMap<Vc, Seating>,
+    // Every cell is looked up here. An ordered map compares on the way down with jumps that no
+    // processor foretells; a hash finds the place at once. There is room for a connection on each
+    // line from the start.
+    seats: HashMap<Vc, Seating>,
     lines: u16,
     // How many incarnations were given.
     used: u64,
@@ -75,8 +78,11 @@ impl Directory {
         let Ok(held) = vec![in alloc; false; usize::from(lines)] else {
             return Err(DirFault::NoMemory);
         };
+        let Ok(seats) = HashMap::with_capacity(alloc, usize::from(lines)) else {
+            return Err(DirFault::NoMemory);
+        };
         Ok(Directory {
-            seats: BTreeMap::new(alloc),
+            seats,
             lines,
             used: first - 1,
             held,
@@ -184,7 +190,7 @@ impl Directory {
 }
 
 // Writes another program into the place of the connection.
-fn reprogram(seats: &mut BTreeMap<Vc, Seating>, vc: Vc, program: Id) -> Option<Id>
+fn reprogram(seats: &mut HashMap<Vc, Seating>, vc: Vc, program: Id) -> Option<Id>
     ensures before { result ≡ option_map (λ seat. seat.program) (seat_in seats.old.entries vc) }
     ensures moved { IfSome (seat_in seats.old.entries vc) (λ seat.
         ChangesAt seats.old.entries seats.new.entries vc (Some (record seat { program = program }))) }
@@ -195,7 +201,7 @@ fn reprogram(seats: &mut BTreeMap<Vc, Seating>, vc: Vc, program: Id) -> Option<I
 }
 
 // Whether some connection names the program.
-fn any_names(seats: &BTreeMap<Vc, Seating>, program: Id) -> bool
+fn any_names(seats: &HashMap<Vc, Seating>, program: Id) -> bool
     ensures any { result ≡ list_any (λ seat. is_same_id seat.program program) (values seats.now) }
     ensures apart { HasEntries seats.now.entries }
 {

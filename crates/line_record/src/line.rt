@@ -26,13 +26,14 @@ pub const MOST_ENTRIES: u32 = 65536;
 /// counts are those of all cells that were ever judged on the line.
 #[derive(Debug, Drop)]
 pub struct Line {
+    // What every cell touches comes first and lies together.
     owner: Option<Owner>,
-    contracts: ArrayVec<Contract, 4>,
     journal: u32,
-    start: State,
     // There is room for the whole journal while the line serves a connection.
     entries: Vec<Entry>,
     state: State,
+    contracts: ArrayVec<Contract, 4>,
+    start: State,
 }
 
 impl Model for Line {

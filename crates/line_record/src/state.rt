@@ -9,12 +9,12 @@ use leaky::{Contract, Levels};
 /// What a line knows of its connection between two cells.
 #[derive(Debug, PartialEq, Eq, Drop)]
 pub struct State {
-    /// The levels of each contract, in the contracts' order.
-    pub levels: ArrayVec<Levels, 4>,
     /// The moment of the last judged cell of the connection, in ticks, and 0 where there was none.
     pub last: u64,
     /// The verdicts on the line, those on earlier connections too.
     pub counts: Tally,
+    /// The levels of each contract, in the contracts' order.
+    pub levels: ArrayVec<Levels, 4>,
 }
 
 impl State {

@@ -1,13 +1,11 @@
 -- Lemmas on virtual connections that other crates may use.
 use Rattle.std.proofs.Common.{◌≡◌, ◌≢◌, ◌⊎◌, ℕ, ◌≤◌, Bool, true, false, refl, sym, ap, subst, ◌∙◌, inl, inr, arith}
-use Rattle.std.specs.Ordering.{is_eq}
-use Rattle.std.specs.Cmp.{IsTotalOrder, nat_cmp_total, on_total, then_total}
+use Rattle.std.specs.Bool.{Decides}
+use Rattle.std.specs.Cmp.{IsEquivalence, decided}
 use Rattle.std.specs.Coded.{le_prop}
-use Rattle.std.specs.BTreeMap.{is_at}
 use Rattle.std.proofs.lemmas.Bool.Decides.{nat_tests}
-use Rattle.std.proofs.lemmas.Map.Lookups.{CmpEqualImpliesEq}
 use Rattle.upc_cell.specs.declared.vc.Vc.{Vc}
-use Rattle.upc_cell.specs.contracts.vc.VcOrd.TheImpl.{cmp-value}
+use Rattle.upc_cell.specs.contracts.vc.VcPartialEq.TheImpl.{eq-value}
 use Rattle.upc_cell.specs.Connection.{is_same_vc}
 
 -- Path and channel are all of a connection: it does not matter how the bound on the path was shown.
@@ -43,13 +41,16 @@ vc_cases one other =
     ] in
     choice (is_same_vc one other) refl
 
--- The order of connections, by path and then channel, as maps ask for it.
+-- Maps over connections: what `==` computes of them decides whether they are equal.
 
-pub is_at-vc : (one other : Vc) → is_at (cmp-value.it one) other ≡ is_same_vc one other
-is_at-vc one other = grind (arith, nat_tests)
+pub vc_decides : (one other : Vc) → Decides (is_same_vc one other) (one ≡ other)
+vc_decides one other = (
+  vc_same one other,
+  λ same. subst (λ v. is_same_vc one v ≡ true) same (vc_itself one),
+)
 
-pub vc_total : IsTotalOrder cmp-value.it
-vc_total = then_total (on_total (λ v. v.vpi) nat_cmp_total) (on_total (λ v. v.vci) nat_cmp_total)
+pub vc_equivalence : IsEquivalence is_same_vc
+vc_equivalence = decided is_same_vc vc_decides
 
-pub vc_exact : CmpEqualImpliesEq cmp-value.it
-vc_exact one other e = vc_same one other (sym (is_at-vc one other) ∙ ap is_eq e)
+pub eq-vc : (one other : Vc) → eq-value.it one other ≡ is_same_vc one other
+eq-vc one other = refl
