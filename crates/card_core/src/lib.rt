@@ -1,0 +1,19 @@
+//! The serial core of an ATM cell policer: the locked sections of the card, on whatever parts are
+//! lent, and the core that takes their steps one at a time.
+#![tactic(auto)]
+
+mod answer;
+mod ask;
+mod fault;
+mod reply;
+mod shape;
+mod side;
+mod step;
+
+pub use answer::Answer;
+pub use ask::Ask;
+pub use fault::{CardFault, DeskFault};
+pub use reply::Reply;
+pub use shape::Shape;
+pub use side::Side;
+pub use step::Step;
