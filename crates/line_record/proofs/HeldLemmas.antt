@@ -10,7 +10,8 @@ use Rattle.line_record.specs.declared.directory.Seating.{Seating}
 use Rattle.line_record.specs.Seats.{seat_in, ChangesAt}
 use Rattle.line_record.specs.Directory.{DirectoryView, seat_of, IsOpenLine, IsTakenLine, IsSoundDirectory}
 use Rattle.line_record.proofs.NumberLemmas.{slice_get-set_same, slice_get-set_other}
-use Rattle.line_record.proofs.SeatLemmas.{vc_cases, Suits, IsDirectory-changed, IsDirectory-moved}
+use Rattle.upc_cell.proofs.Public.{vc_cases}
+use Rattle.line_record.proofs.SeatLemmas.{Suits, IsDirectory-changed, IsDirectory-moved}
 
 module _ (old : DirectoryView) (held : List Bool) (sound : IsSoundDirectory old held)
     (new : List (Vc × Seating)) (vc : Vc) (used : ℕ) where

@@ -2,11 +2,8 @@
 use Rattle.std.specs.Prelude.{◌≡◌, ◌≢◌, Bool, ◌&&◌, ◌==◌, Option, Some, None, if◌then◌else◌, List, [], ◌∷◌, Contains}
 use Rattle.gen_arena.specs.declared.id.Id.{Id}
 use Rattle.upc_cell.specs.declared.vc.Vc.{Vc}
+use Rattle.upc_cell.specs.Connection.{is_same_vc}
 use Rattle.line_record.specs.declared.directory.Seating.{Seating}
-
--- both are the same path and channel
-abbrev pub is_same_vc : Vc → Vc → Bool
-is_same_vc one other = (one.vpi == other.vpi) && (one.vci == other.vci)
 
 -- the seating that the list has for this connection
 abbrev pub seat_in : List (Vc × Seating) → Vc → Option Seating

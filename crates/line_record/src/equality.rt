@@ -2,17 +2,12 @@ ghost use Rattle.std.specs.Prelude.{◌≡◌, ◌↔◌, IsTrue};
 
 use crate::owner::Owner;
 use leaky::{Contract, Levels};
-use upc_cell::Vc;
+use upc_cell::same_vc;
 
 // Comparisons whose contracts say that they find equal what is equal.
 
-pub(crate) fn same_vc(one: Vc, other: Vc) -> bool
-    ensures { IsTrue result ↔ (one ≡ other) }
-{
-    one == other
-}
-
-pub(crate) fn same_owner(one: Owner, other: Owner) -> bool
+/// Whether both are the same connection in the same incarnation.
+pub fn same_owner(one: Owner, other: Owner) -> bool
     ensures { IsTrue result ↔ (one ≡ other) }
 {
     same_vc(one.vc, other.vc) && one.incarnation == other.incarnation

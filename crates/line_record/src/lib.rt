@@ -16,6 +16,7 @@ mod tally;
 
 pub use directory::{Directory, LAST_INCARNATION, Seating};
 pub use entry::Entry;
+pub use equality::same_owner;
 pub use fault::{DirFault, LineFault};
 pub use line::{Line, MOST_CELLS, MOST_ENTRIES};
 pub use owner::Owner;

@@ -1,6 +1,6 @@
 -- The header of a cell at the user network interface, without its check octet (ITU-T I.361, clause 2.2).
 -- A cell is the list of its octets. The fields are arithmetic on the number that its first four octets spell.
-use Rattle.std.specs.Prelude.{ℕ, ◌+◌, ◌*◌, ◌/◌, ◌%◌, ◌^◌, List, slice_index}
+use Rattle.std.specs.Prelude.{ℕ, Bool, ◌+◌, ◌*◌, ◌/◌, ◌%◌, ◌^◌, ◌==◌, List, slice_index}
 
 -- The number that octets 0 to 3 spell, the first octet highest.
 abbrev pub header_number : List ℕ → ℕ
@@ -26,3 +26,7 @@ pti_of octets = (header_number octets / 2) % 8
 -- Cell loss priority: the lowest bit.
 abbrev pub clp_of : List ℕ → ℕ
 clp_of octets = header_number octets % 2
+
+-- The same as a test: true for a cell of low priority, which has the bit 1.
+abbrev pub has_low_priority : List ℕ → Bool
+has_low_priority octets = clp_of octets == 1

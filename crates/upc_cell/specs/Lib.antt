@@ -1,2 +1,4 @@
+pub mod Connection
 pub mod Header
+pub mod Side
 pub mod Tagged

@@ -1,7 +1,10 @@
-ghost use Rattle.std.specs.Prelude.{◌≡◌, ◌≢◌, ◌/◌, ◌↔◌, length, IfOk, IfErr, IsOk, IsTrue};
-ghost use Rattle.upc_cell.specs.Header.{header_number, gfc_of, vpi_of, vci_of, pti_of, clp_of};
+ghost use Rattle.std.specs.Prelude.{◌≡◌, ◌≢◌, ◌≤◌, ◌/◌, ◌↔◌, ℕ, length, slice_index, IfOk, IfErr, IsOk, IsTrue};
+ghost use Rattle.upc_cell.specs.Header.{header_number, gfc_of, vpi_of, vci_of, pti_of, clp_of, has_low_priority};
+ghost use Rattle.upc_cell.specs.Side.{vpi_at, last_vpi};
+ghost use Rattle.upc_cell.specs.Connection.{vc_of};
 ghost use Rattle.upc_cell.specs.Tagged.{tagged_form};
 
+use crate::side::Side;
 use crate::vc::Vc;
 use byteorder::{BigEndian, ByteOrder};
 use std::marker::Model;
@@ -18,8 +21,9 @@ pub enum CellFault {
     WrongLength(usize),
 }
 
-/// A cell at the user network interface: 52 octets, the header error check taken off before
-/// (ITU-T I.361). Octets 0 to 3 are the header, octets 4 to 51 the payload.
+/// A cell: 52 octets, the header error check taken off before (ITU-T I.361). Octets 0 to 3 are the
+/// header, octets 4 to 51 the payload. Nothing in a cell says at which side it came: the readers
+/// without a side read it at the user network interface.
 ///
 /// Contracts see a cell as the list of its octets.
 #[derive(Clone, Copy, PartialEq, Eq, Debug)]
@@ -79,18 +83,29 @@ impl Cell {
         BigEndian::read_u32(self.bytes())
     }
 
-    /// Generic flow control, 0 to 15.
+    /// Generic flow control, 0 to 15; the user network interface alone has it.
     pub fn gfc(&self) -> u8
         ensures { result ≡ gfc_of self.now }
     {
         (self.header() >> 28) as u8
     }
 
-    /// Virtual path identifier, 0 to 255.
+    /// Virtual path identifier at the user network interface, 0 to 255.
     pub fn vpi(&self) -> u16
         ensures { result ≡ vpi_of self.now }
     {
         (self.header() >> 20 & 0xff) as u16
+    }
+
+    /// Virtual path identifier at this side, 0 to 255 or 0 to 4095.
+    pub fn vpi_at(&self, side: Side) -> u16
+        ensures path { result ≡ vpi_at side self.now }
+        ensures width { result ≤ last_vpi side }
+    {
+        match side {
+            Side::Uni => self.vpi(),
+            Side::Nni => (self.header() >> 20) as u16,
+        }
     }
 
     /// Virtual channel identifier, 0 to 65535.
@@ -109,18 +124,29 @@ impl Cell {
 
     /// Cell loss priority: true for a cell of low priority, which has the bit 1.
     pub fn clp(&self) -> bool
-        ensures { IsTrue result ↔ (clp_of self.now ≡ 1) }
+        ensures priority { IsTrue result ↔ (clp_of self.now ≡ 1) }
+        ensures test { result ≡ has_low_priority self.now }
     {
         self.header() & 1 == 1
     }
 
-    /// The virtual connection that the header names.
+    /// The virtual connection that the header names at the user network interface.
     pub fn vc(&self) -> Vc
+        ensures connection { result ≡ vc_of Side.Uni self.now }
         ensures vpi { result.vpi ≡ vpi_of self.now }
         ensures vci { result.vci ≡ vci_of self.now }
     {
+        self.vc_at(Side::Uni)
+    }
+
+    /// The virtual connection that the header names at this side.
+    pub fn vc_at(&self, side: Side) -> Vc
+        ensures connection { result ≡ vc_of side self.now }
+        ensures vpi { result.vpi ≡ vpi_at side self.now }
+        ensures vci { result.vci ≡ vci_of self.now }
+    {
         Vc {
-            vpi: self.vpi(),
+            vpi: self.vpi_at(side),
             vci: self.vci(),
         }
     }
@@ -129,7 +155,9 @@ impl Cell {
     pub fn tagged(&self) -> Cell
         ensures form { result ≡ tagged_form self.now }
         ensures priority { clp_of result ≡ 1 }
-        ensures others { header_number result / 2 ≡ header_number self.now / 2 }
+        ensures fields { header_number result / 2 ≡ header_number self.now / 2 }
+        ensures high_bits { slice_index result 3 / 2 ≡ slice_index self.now 3 / 2 }
+        ensures others { (place : ℕ) → place ≢ 3 → slice_index result place ≡ slice_index self.now place }
     {
         let mut octets = self.octets;
         // The seven high bits stay; as numbers, so that the contract reads as the code does.

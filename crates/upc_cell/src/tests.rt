@@ -61,11 +61,41 @@ fn octets_of_another_number_are_no_cell(rt: HostRuntime) -> Result<(), Fail> {
 }
 
 #[test]
-fn a_path_above_255_is_refused(rt: HostRuntime) -> Result<(), Fail> {
+fn the_path_takes_in_the_flow_control_between_nodes_alone(rt: HostRuntime) -> Result<(), Fail> {
+    let cell = cell_of([0xf0, 0x10, 0x06, 0x41])?;
+    assert_eq!(rt; (cell.vpi_at(Side::Uni), cell.vpi_at(Side::Nni)), (1, 3841));
+    assert_eq!(rt; (cell.vpi(), cell.vci(), cell.clp()), (1, 100, true));
+    assert_eq!(rt; cell.vc_at(Side::Uni), Vc::new(1, 100)?);
+    assert_eq!(rt; cell.vc_at(Side::Nni), Vc::new_at(Side::Nni, 3841, 100)?);
+    let highest = cell_of([0xff, 0xff, 0xff, 0xff])?;
+    assert_eq!(rt;
+        highest.vc_at(Side::Nni),
+        Vc::new_at(Side::Nni, 4095, 65535)?
+    );
+    Ok(())
+}
+
+#[test]
+fn a_path_above_the_highest_of_its_side_is_refused(rt: HostRuntime) -> Result<(), Fail> {
     assert_eq!(rt; Vc::new(256, 0), Err(VcFault::VpiTooLarge));
+    assert_eq!(rt; Vc::new_at(Side::Uni, 256, 0), Err(VcFault::VpiTooLarge));
+    assert_eq!(rt; Vc::new_at(Side::Nni, 4096, 0), Err(VcFault::VpiTooLarge));
     let last = Vc::new(255, 65535)?;
     assert_eq!(rt; (last.vpi, last.vci), (255, 65535));
+    let last = Vc::new_at(Side::Nni, 4095, 65535)?;
+    assert_eq!(rt; (last.vpi, last.vci), (4095, 65535));
+    let text = format!(in rt.alloc(); "{}", VcFault::VpiTooLarge)?;
+    assert_eq!(rt; text.as_str(), "1 VpiTooLarge");
+    Ok(())
+}
+
+#[test]
+fn connections_stand_in_order_of_path_then_channel(rt: HostRuntime) -> Result<(), Fail> {
     assert!(rt; Vc::new(1, 200)? < Vc::new(2, 100)?);
     assert!(rt; Vc::new(1, 100)? < Vc::new(1, 101)?);
+    assert!(rt; Vc::new(255, 65535)? < Vc::new_at(Side::Nni, 256, 0)?);
+    assert!(rt; same_vc(Vc::new(1, 100)?, Vc::new_at(Side::Nni, 1, 100)?));
+    assert!(rt; !same_vc(Vc::new(1, 100)?, Vc::new(1, 101)?));
+    assert!(rt; !same_vc(Vc::new(1, 100)?, Vc::new(2, 100)?));
     Ok(())
 }

@@ -1,31 +1,37 @@
-ghost use Rattle.std.specs.Prelude.{◌≡◌, ◌≤◌, ◌<◌, ◌↔◌, IfOk, IfErr, IsOk};
+ghost use Rattle.std.specs.Prelude.{◌≡◌, ◌≤◌, ◌↔◌, IfOk, IfErr, IsOk};
+ghost use Rattle.upc_cell.specs.Side.{last_vpi};
 
+use crate::side::Side;
 use thiserror::Error;
 
 /// The highest virtual path identifier at the user network interface.
-pub const LAST_VPI: u16 = 255;
+const LAST_VPI_OF_USERS: u16 = 255;
+
+/// The highest virtual path identifier between nodes of the network.
+const LAST_VPI_OF_NODES: u16 = 4095;
 
 /// Why two numbers name no virtual connection.
 #[derive(Clone, Copy, PartialEq, Eq, Debug, Error)]
 pub enum VcFault {
-    /// The virtual path identifier is above 255.
+    /// The virtual path identifier is above the highest at that side.
     #[error("1 VpiTooLarge")]
     VpiTooLarge,
 }
 
-/// A virtual connection at the user network interface: a virtual path (0 to 255) and a virtual
-/// channel (0 to 65535) in it (ITU-T I.361). Ordered by path, then channel.
+/// A virtual connection: a virtual path (0 to 255 at the user network interface, 0 to 4095 between
+/// nodes of the network) and a virtual channel (0 to 65535) in it (ITU-T I.361). Ordered by path,
+/// then channel.
 #[derive(Clone, Copy, PartialEq, Eq, PartialOrd, Ord, Hash, Debug)]
 pub struct Vc {
     /// The virtual path identifier.
     pub vpi: u16,
     /// The virtual channel identifier.
     pub vci: u16,
-    pub ghost of_the_interface: { vpi ≤ 255 },
+    pub ghost of_an_interface: { vpi ≤ 4095 },
 }
 
 impl Vc {
-    /// The virtual connection of this path and channel.
+    /// The virtual connection of this path and channel at the user network interface.
     ///
     /// # Errors
     ///
@@ -35,7 +41,25 @@ impl Vc {
         ensures path { IfOk result (λ vc. vc.vpi ≡ vpi) }
         ensures channel { IfOk result (λ vc. vc.vci ≡ vci) }
     {
-        if vpi > LAST_VPI {
+        Vc::new_at(Side::Uni, vpi, vci)
+    }
+
+    /// The virtual connection of this path and channel at this side.
+    ///
+    /// # Errors
+    ///
+    /// `VpiTooLarge` exactly where the path is above 255 at the user network interface, or above
+    /// 4095 between nodes of the network.
+    pub fn new_at(side: Side, vpi: u16, vci: u16) -> Result<Vc, VcFault>
+        ensures accepted { IsOk result ↔ (vpi ≤ last_vpi side) }
+        ensures path { IfOk result (λ vc. vc.vpi ≡ vpi) }
+        ensures channel { IfOk result (λ vc. vc.vci ≡ vci) }
+    {
+        let last = match side {
+            Side::Uni => LAST_VPI_OF_USERS,
+            Side::Nni => LAST_VPI_OF_NODES,
+        };
+        if vpi > last {
             return Err(VcFault::VpiTooLarge);
         }
         Ok(Vc { vpi, vci })

@@ -1,0 +1,55 @@
+-- Lemmas on virtual connections that other crates may use.
+use Rattle.std.proofs.Common.{◌≡◌, ◌≢◌, ◌⊎◌, ℕ, ◌≤◌, Bool, true, false, refl, sym, ap, subst, ◌∙◌, inl, inr, arith}
+use Rattle.std.specs.Ordering.{is_eq}
+use Rattle.std.specs.Cmp.{IsTotalOrder, nat_cmp_total, on_total, then_total}
+use Rattle.std.specs.Coded.{le_prop}
+use Rattle.std.specs.BTreeMap.{is_at}
+use Rattle.std.proofs.lemmas.Bool.Decides.{nat_tests}
+use Rattle.std.proofs.lemmas.Map.Lookups.{CmpEqualImpliesEq}
+use Rattle.upc_cell.specs.declared.vc.Vc.{Vc}
+use Rattle.upc_cell.specs.contracts.vc.VcOrd.TheImpl.{cmp-value}
+use Rattle.upc_cell.specs.Connection.{is_same_vc}
+
+-- Path and channel are all of a connection: it does not matter how the bound on the path was shown.
+pub vc_is : (one other : Vc) → one.vpi ≡ other.vpi → one.vci ≡ other.vci → one ≡ other
+vc_is one other paths channels =
+    let Of : ℕ → Type 0 = λ path. (x : path ≤ 4095)
+    → one ≡ record { vpi = path; vci = one.vci; of_an_interface = x } in
+    let own : Of one.vpi = λ x i.
+    record { vpi = one.vpi; vci = one.vci; of_an_interface = le_prop one.of_an_interface x i } in
+    subst (λ channel. one ≡ record { vpi = other.vpi; vci = channel; of_an_interface = other.of_an_interface })
+    channels (subst Of paths own other.of_an_interface)
+
+pub vc_same : (one other : Vc) → is_same_vc one other ≡ true → one ≡ other
+vc_same one other e = vc_is one other (grind (arith, nat_tests)) (grind (arith, nat_tests))
+
+pub vc_itself : (vc : Vc) → is_same_vc vc vc ≡ true
+vc_itself vc = grind (arith, nat_tests)
+
+pub vc_differs : (one other : Vc) → one ≢ other → is_same_vc one other ≡ false
+vc_differs one other apart =
+    let choice : (b : Bool) → is_same_vc one other ≡ b → b ≡ false = elim [
+      | true ↦ λ e. absurd (apart (vc_same one other e))
+      | false ↦ λ e. refl
+    ] in
+    choice (is_same_vc one other) refl
+
+pub vc_cases : (one other : Vc) → (one ≡ other) ⊎ (one ≢ other)
+vc_cases one other =
+    let choice : (b : Bool) → is_same_vc one other ≡ b → (one ≡ other) ⊎ (one ≢ other) = elim [
+      | true ↦ λ e. inl (vc_same one other e)
+      | false ↦ λ e. inr (λ same. let itself = vc_itself one in
+          let other_way : is_same_vc one one ≡ false = subst (λ v. is_same_vc one v ≡ false) (sym same) e in cc)
+    ] in
+    choice (is_same_vc one other) refl
+
+-- The order of connections, by path and then channel, as maps ask for it.
+
+pub is_at-vc : (one other : Vc) → is_at (cmp-value.it one) other ≡ is_same_vc one other
+is_at-vc one other = grind (arith, nat_tests)
+
+pub vc_total : IsTotalOrder cmp-value.it
+vc_total = then_total (on_total (λ v. v.vpi) nat_cmp_total) (on_total (λ v. v.vci) nat_cmp_total)
+
+pub vc_exact : CmpEqualImpliesEq cmp-value.it
+vc_exact one other e = vc_same one other (sym (is_at-vc one other) ∙ ap is_eq e)
