@@ -1,3 +1,4 @@
+pub mod SameId
 pub mod Slot
 pub mod Live
 pub mod Past

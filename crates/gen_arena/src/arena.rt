@@ -15,7 +15,7 @@ use std::marker::Model;
 ///
 /// Contracts see the list of the slots. Of a `T` that is `Drop` the arena is `Drop` too: the values
 /// that are still in it are dropped with it.
-#[derive(Debug, Drop)]
+#[derive(Drop)]
 pub struct Arena<T> {
     places: Vec<Place<T>>,
     // The numbers of the free slots. The last one is taken first. There is room for all slots from
@@ -23,7 +23,7 @@ pub struct Arena<T> {
     ready: Vec<u16>,
 }
 
-#[derive(Debug, Drop)]
+#[derive(Drop)]
 struct Place<T> {
     generation: u32,
     value: Option<T>,

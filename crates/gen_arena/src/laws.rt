@@ -2,11 +2,14 @@
 //!
 //! Each function here does nothing: its contract is a law over any slots, and over any calls that
 //! come one after another. A call is seen as the change that it made.
-ghost use Rattle.std.specs.Prelude.{◌≡◌, ◌≢◌, ◌⊎◌, ◌<◌, ◌≤◌, ◌↔◌, List, Some, None, All, AllPairs, length, slice_get};
+ghost use Rattle.std.specs.Prelude.{◌≡◌, ◌≢◌, ◌⊎◌, ◌+◌, ◌<◌, ◌≤◌, ◌↔◌, IsTrue, List, Some, None, All, AllPairs, length, slice_get};
+ghost use Rattle.gen_arena.specs.SameId.{is_same_id};
 ghost use Rattle.gen_arena.specs.Slot.{Slot, IsArena, full_slot, generation_at};
 ghost use Rattle.gen_arena.specs.Live.{live_value, IsLive};
 ghost use Rattle.gen_arena.specs.Past.{IsPast, KeepsPast};
 ghost use Rattle.gen_arena.specs.Free.{free_slots, NoneIsFree};
+ghost use Rattle.gen_arena.specs.Insert.{Inserts};
+ghost use Rattle.gen_arena.specs.Remove.{Removes};
 ghost use Rattle.gen_arena.specs.Change.{Change, Leads, given_ids};
 ghost use Rattle.gen_arena.specs.declared.id.Id.{Id};
 
@@ -18,6 +21,34 @@ pub fn live_is_in_its_slot<T>()
     ensures within { (slots : List (Slot T)) (id : Id) → IsLive slots id → id.slot < length slots }
     ensures generation { (slots : List (Slot T)) (id : Id) → IsLive slots id
         → generation_at slots id.slot ≡ id.generation }
+{}
+
+/// Two ids are one exactly where both have the same slot and generation.
+pub fn an_id_is_its_slot_and_generation()
+    ensures { (one other : Id) → IsTrue (is_same_id one other) ↔ (one ≡ other) }
+{}
+
+/// An insert gives its id the value, and leaves every other id as it was. The id had no value before,
+/// and its generation is one more than its slot had.
+pub fn an_insert_changes_one_id<T>()
+    ensures here { (old new : List (Slot T)) (id : Id) (value : T) → Inserts old new id value
+        → (live_value old id ≡ None) × (live_value new id ≡ Some value) }
+    ensures others { (old new : List (Slot T)) (id : Id) (value : T) → Inserts old new id value
+        → (other : Id) → other ≢ id → live_value new other ≡ live_value old other }
+    ensures generation { (old new : List (Slot T)) (id : Id) (value : T) → Inserts old new id value
+        → id.generation ≡ generation_at old id.slot + 1 }
+    ensures slots { (old new : List (Slot T)) (id : Id) (value : T) → Inserts old new id value
+        → length new ≡ length old }
+{}
+
+/// A removal takes the value from its id, and leaves every other id as it was.
+pub fn a_removal_changes_one_id<T>()
+    ensures here { (old new : List (Slot T)) (id : Id) (value : T) → Removes old new id value
+        → (live_value old id ≡ Some value) × (live_value new id ≡ None) }
+    ensures others { (old new : List (Slot T)) (id : Id) (value : T) → Removes old new id value
+        → (other : Id) → other ≢ id → live_value new other ≡ live_value old other }
+    ensures slots { (old new : List (Slot T)) (id : Id) (value : T) → Removes old new id value
+        → length new ≡ length old }
 {}
 
 /// An id that is past is never live again, whatever calls come after: it is past for good.

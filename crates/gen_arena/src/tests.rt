@@ -33,6 +33,14 @@ fn an_id_is_a_key_and_an_arena_crosses_threads() {
     arena_is_shared::<u32>();
 }
 
+// Ids go by their slot first, and within a slot by their generation.
+#[test]
+fn ids_are_ordered_by_slot_and_then_by_generation(rt: HostRuntime) {
+    assert!(rt; id(1, 4294967295) < id(2, 1));
+    assert!(rt; id(1, 1) < id(1, 2));
+    assert!(rt; id(7, 7) <= id(7, 7) && id(7, 7) >= id(7, 7));
+}
+
 fn refill_two_slots<T: Copy + Eq + Debug>(
     rt: &impl Abort,
     alloc: Global,
@@ -107,6 +115,22 @@ fn a_slot_that_used_the_greatest_generation_is_never_free_again(
     let mut worn = Arena::new_from(rt.alloc(), 2, 4294967295)?;
     assert_eq!(rt; worn.free(), 0);
     assert_eq!(rt; worn.insert(9u32), Err(9));
+    Ok(())
+}
+
+#[test]
+fn an_arena_of_the_most_slots_is_filled_to_the_last(rt: HostRuntime) -> Result<(), Fail> {
+    let mut arena = Arena::new(rt.alloc(), 65535)?;
+    assert_eq!(rt; arena.free(), 65535);
+    let mut last = id(0, 0);
+    for value in 0..65535u32 {
+        last = arena.insert(value)?;
+    }
+    assert_eq!(rt; arena.free(), 0);
+    assert_eq!(rt; arena.insert(65535), Err(65535));
+    assert_eq!(rt; arena.get(last).copied(), Some(65534));
+    assert_eq!(rt; arena.remove(last), Some(65534));
+    assert_eq!(rt; arena.free(), 1);
     Ok(())
 }
 
