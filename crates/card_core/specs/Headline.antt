@@ -8,7 +8,8 @@ use Rattle.gen_arena.specs.declared.id.Id.{Id}
 use Rattle.leaky.specs.declared.verdict.Verdict.{Verdict}
 use Rattle.leaky.specs.declared.verdict.Verdict.TheVariants.{Pass, Tag, Discard, Refuse}
 use Rattle.line_record.specs.History.{NamedCell, empty_buckets, verdict_after}
-use Rattle.line_record.specs.Seats.{is_same_vc, is_same_id}
+use Rattle.upc_cell.specs.Connection.{is_same_vc}
+use Rattle.gen_arena.specs.SameId.{is_same_id}
 use Rattle.card_core.specs.declared.answer.Answer.{Answer}
 use Rattle.card_core.specs.declared.answer.Answer.TheVariants.{Judged}
 use Rattle.card_core.specs.declared.ask.Ask.{Ask}
@@ -17,7 +18,8 @@ use Rattle.card_core.specs.declared.reply.Reply.TheVariants.{Entered, Picked, No
 use Rattle.card_core.specs.declared.shape.Shape.{Shape}
 use Rattle.card_core.specs.declared.step.Step.{Step}
 use Rattle.card_core.specs.declared.step.Step.TheVariants.{Enter, Pick, Judge, Load, Retire, Setup, Reload, Release}
-use Rattle.card_core.specs.Standin.{vc_of, has_low_priority}
+use Rattle.upc_cell.specs.Header.{has_low_priority}
+use Rattle.upc_cell.specs.Connection.{vc_of}
 use Rattle.card_core.specs.Steps.{Gives, cell_after, named_cell, number_with}
 use Rattle.card_core.specs.Log.{Event, IsLog}
 

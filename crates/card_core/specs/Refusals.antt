@@ -13,7 +13,7 @@ use Rattle.card_core.specs.declared.reply.Reply.{Reply}
 use Rattle.card_core.specs.declared.reply.Reply.TheVariants.{NotNow, Answered, NotLoaded, NotSetUp, Refused}
 use Rattle.card_core.specs.declared.step.Step.{Step}
 use Rattle.card_core.specs.declared.step.Step.TheVariants.{Enter, Pick, Judge, Load, Retire, Setup, Reload, Release, Cut}
-use Rattle.card_core.specs.Standin.{vc_of}
+use Rattle.upc_cell.specs.Connection.{vc_of}
 use Rattle.card_core.specs.World.{World, Connection, Picking, PortState, outside, entered, picked, code_in, connection_in, kept_cells, is_busy, any_below, is_open_slot, is_open_line, is_named}
 
 -- Enter: the port isn't outside, or there is no such port

@@ -9,7 +9,8 @@ use Rattle.gen_arena.specs.declared.id.Id.{Id}
 use Rattle.gen_arena.specs.Slot.{greatest_generation}
 use Rattle.leaky.specs.declared.contract.Contract.{Contract}
 use Rattle.leaky.specs.declared.verdict.Verdict.{Verdict}
-use Rattle.line_record.specs.Seats.{is_same_vc, is_same_id}
+use Rattle.upc_cell.specs.Connection.{is_same_vc}
+use Rattle.gen_arena.specs.SameId.{is_same_id}
 use Rattle.line_record.specs.History.{NamedCell}
 use Rattle.card_core.specs.declared.shape.Shape.{Shape}
 

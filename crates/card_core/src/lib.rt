@@ -7,7 +7,6 @@ mod ask;
 mod fault;
 mod reply;
 mod shape;
-mod side;
 mod step;
 
 pub use answer::Answer;
@@ -15,5 +14,4 @@ pub use ask::Ask;
 pub use fault::{CardFault, DeskFault};
 pub use reply::Reply;
 pub use shape::Shape;
-pub use side::Side;
 pub use step::Step;

@@ -1,4 +1,4 @@
-use crate::side::Side;
+use upc_cell::Side;
 
 /// How large a card is.
 #[derive(Clone, Copy, Debug, PartialEq, Eq)]
