@@ -7,3 +7,4 @@ pub mod Steps
 pub mod Log
 pub mod Agreement
 pub mod Headline
+pub mod Sections
