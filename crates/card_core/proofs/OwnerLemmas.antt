@@ -14,7 +14,7 @@ both : (a b : Bool) → (a && b) ≡ true → (a ≡ true) × (b ≡ true)
 both true b e = (refl, e)
 both false b e = (e, cc)
 
--- the test says who holds it
+-- The test says who holds it.
 pub owned : (owner : Option Owner) (other : Owner) → is_owned_by owner other ≡ true → owner ≡ Some other
 owned None other e = cc
 owned (Some owner) other e =

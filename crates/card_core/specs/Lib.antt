@@ -8,3 +8,4 @@ pub mod Log
 pub mod Agreement
 pub mod Headline
 pub mod Sections
+pub mod inner

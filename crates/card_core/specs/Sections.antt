@@ -24,13 +24,13 @@ use Rattle.card_core.specs.declared.fault.DeskFault.{DeskFault}
 use Rattle.card_core.specs.declared.fault.DeskFault.TheVariants.{NoProgram, Taken, BadContracts, NoLine, Exhausted, Stale, NoMemory as DeskNoMemory}
 use Rattle.card_core.specs.Steps.{Gives, cell_after, named_cell}
 
--- a program's value for a cell: the program, the cell and the value
+-- A program's value for a cell: the program, the cell and the value.
 pub record NamedView : Type 0 where
   pub program : Id
   pub cell : List ℕ
   pub value : ℕ
 
--- the live program of this id gives the value for the cell
+-- The live program of this id gives the value for the cell.
 pub record IsNaming (store : List (Slot (List Instr))) (id : Id) (cell : List ℕ) (named : NamedView) : Type 0 where
   pub program : named.program ≡ id
   pub same : named.cell ≡ cell
@@ -38,24 +38,24 @@ pub record IsNaming (store : List (Slot (List Instr))) (id : Id) (cell : List �
   pub live : live_value store id ≡ Some code
   pub gives : Gives code cell named.value
 
--- who holds the line that the directory names for a connection
+-- Who holds the line that the directory names for a connection.
 abbrev pub holder : Vc → Seating → Owner
 holder vc seating = record { vc = vc; incarnation = seating.incarnation }
 
--- the line serves this owner
+-- The line serves this owner.
 abbrev pub is_owned_by : Option Owner → Owner → Bool
 is_owned_by None owner = false
 is_owned_by (Some other) owner = is_same_vc other.vc owner.vc && (other.incarnation == owner.incarnation)
 
--- what a line's refusal is answered as
+-- What a line's refusal is answered as.
 abbrev pub answer_for : LineFault → Answer
 answer_for TooLate = MomentTooLate
 answer_for (Back last) = MomentBack last
 answer_for Full = JournalFull
 answer_for LineNoMemory = NoMemory
 
--- why a picked cell is not judged on the line: the line doesn't serve the connection that was picked,
--- or it has a reason to refuse a cell of this moment
+-- Why a picked cell is not judged on the line: the line doesn't serve the connection that was picked,
+-- or it has a reason to refuse a cell of this moment.
 abbrev pub judging_refusal : LineView → Vc → Seating → ℕ → Option Answer
 judging_refusal line vc seating moment =
     if is_owned_by line.owner (holder vc seating)
@@ -75,7 +75,7 @@ pub record JudgesAt (old : LineView) (seating : Seating) (named : NamedView) (mo
   pub answered : answer ≡ Judged seating.line (number_of old.state.counts entry.verdict + 1)
       moment named.value named.program entry.verdict (cell_after entry.verdict named.cell)
 
--- what is told of a judged cell
+-- What is told of a judged cell.
 pub record JudgedView : Type 0 where
   pub line : ℕ
   pub number : ℕ
@@ -85,7 +85,7 @@ pub record JudgedView : Type 0 where
   pub verdict : Verdict
   pub cell : List ℕ
 
--- what an answer tells of a judged cell, where it is that one was judged
+-- What an answer tells of a judged cell, where it is that one was judged.
 abbrev pub told : Answer → Option JudgedView
 told (Judged line number moment value program verdict cell) = Some (record {
   line = line;
@@ -98,11 +98,11 @@ told (Judged line number moment value program verdict cell) = Some (record {
 })
 told _ = None
 
--- the directory has no connection that names the program
+-- The directory has no connection that names the program.
 abbrev pub IsUnnamed : DirectoryView → Id → Type 0
 IsUnnamed directory program = (vc : Vc) (seat : Seating) → seat_of directory vc ≡ Some seat → seat.program ≢ program
 
--- what is asked may be set up on this line
+-- What is asked may be set up on this line.
 pub record Admits (store : List (Slot (List Instr))) (directory : DirectoryView) (ask : Ask) (line : ℕ) : Type 0 where
   pub live : IsLive store ask.program
   pub new : seat_of directory ask.vc ≡ None
@@ -128,13 +128,13 @@ IsUnfit store directory ask Exhausted =
     × ((line : ℕ) × (line < directory.lines) × IsOpenLine directory line) × (directory.used ≡ 2 ^ 62)
 IsUnfit store directory ask _ = ⊥
 
--- why a line that is lent for a setup is refused: it isn't free, or else its memory was
+-- Why a line that is lent for a setup is refused: it isn't free, or else its memory was.
 abbrev pub IsUnready : LineView → DeskFault → Type 0
 IsUnready line Stale = IsSome line.owner
 IsUnready line DeskNoMemory = line.owner ≡ None
 IsUnready line _ = ⊥
 
--- why a line that is lent for a cut is refused: it isn't this owner's, or else its memory was
+-- Why a line that is lent for a cut is refused: it isn't this owner's, or else its memory was.
 abbrev pub IsUncut : LineView → Owner → DeskFault → Type 0
 IsUncut line owner Stale = line.owner ≢ Some owner
 IsUncut line owner DeskNoMemory = line.owner ≡ Some owner
