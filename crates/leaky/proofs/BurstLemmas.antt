@@ -7,7 +7,7 @@ use Rattle.std.proofs.lemmas.Nat.{le-div}
 use Rattle.leaky.specs.declared.gcra.Gcra.{Gcra}
 use Rattle.leaky.specs.Moments.{GoesOn}
 use Rattle.leaky.specs.Bucket.{Bucket, level_at, conforms, filled, bucket_after, conforming}
-use Rattle.leaky.specs.Bursts.{is_within, count_within, AllFill}
+use Rattle.leaky.specs.Bursts.{is_within, count_within, AllFill, Fills}
 use Rattle.leaky.specs.Laws.{BurstsAreBounded, FillingsAreBounded}
 use Rattle.leaky.proofs.SchedulingLemmas.{GoesOn-earlier}
 
@@ -101,12 +101,6 @@ fillings-bounded gcra bucket earliest moments goes fill first span =
     all_within gcra first span most few bucket earliest moments goes fill
 
 -- Cells of which some fill the bucket.
-
--- where the test says so the cell conformed and filled the bucket, and otherwise it left the bucket
-pub record Fills (gcra : Gcra) (bucket after : Bucket) (moment : ℕ) (test : Bool) : Type 0 where
-  pub fills : test ≡ true
-      → (conforms gcra bucket moment ≡ true) × (after ≡ filled gcra bucket moment)
-  pub leaves : test ≡ false → after ≡ bucket
 
 -- the cells that fill it go on as all do
 pub GoesOn-some : (test : Bool) (earliest moment : ℕ) (later : List ℕ) → earliest ≤ moment

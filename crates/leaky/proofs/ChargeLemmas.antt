@@ -1,17 +1,17 @@
 -- Which cells charge the buckets of a contract, and that each of them found its bucket conforming.
-use Rattle.std.proofs.Common.{◌≡◌, ◌≢◌, ℕ, Bool, true, false, cond, Option, Some, None, List, [], ◌∷◌, map, refl}
+use Rattle.std.proofs.Common.{◌≡◌, ◌≢◌, ℕ, Bool, true, false, cond, Option, Some, None, List, [], ◌∷◌, map, refl, ap, ◌+◌, arith}
 use Rattle.leaky.specs.declared.gcra.Gcra.{Gcra}
 use Rattle.leaky.specs.declared.contract.Contract.{Contract}
 use Rattle.leaky.specs.declared.contract.Contract.TheVariants.{Cbr1, Vbr1, Vbr2, Vbr3}
 use Rattle.leaky.specs.declared.verdict.Verdict.{Verdict}
 use Rattle.leaky.specs.declared.verdict.Verdict.TheVariants.{Pass, Tag, Discard, Refuse}
 use Rattle.leaky.specs.Moments.{GoesOn}
-use Rattle.leaky.specs.Bucket.{conforms, filled}
-use Rattle.leaky.specs.Bursts.{AllFill}
+use Rattle.leaky.specs.Bucket.{level_at, conforms, filled}
+use Rattle.leaky.specs.Bursts.{AllFill, Fills}
 use Rattle.leaky.specs.Contract.{Buckets, peak_of, sustained_of, excess_of, conforms_if_met, verdict_of, charged_under, buckets_after}
 use Rattle.leaky.specs.Arrivals.{Arrival, charges_first, is_passed, charges_second, first_charges, second_charges}
-use Rattle.leaky.specs.Laws.{IsBounded, ContractsBoundBursts}
-use Rattle.leaky.proofs.BurstLemmas.{fillings-bounded, Fills, GoesOn-some, AllFill-some}
+use Rattle.leaky.specs.Laws.{IsBounded, ContractsBoundBursts, ChargesAreFillings, FillingsShow, TaggedCellsCameUntagged}
+use Rattle.leaky.proofs.BurstLemmas.{fillings-bounded, GoesOn-some, AllFill-some}
 
 -- Bucket 1.
 
@@ -120,6 +120,12 @@ unmet : (b : Bool) (peak sustained : Gcra) (buckets : Buckets) (moment : ℕ)
 unmet true peak sustained buckets moment = record { fills = λ e. cc; leaves = λ e. refl }
 unmet false peak sustained buckets moment = record { fills = λ e. cc; leaves = λ e. refl }
 
+-- nor does a cell of a contract without it
+second-kept : (b : Bool) (peak : Gcra) (buckets : Buckets) (moment : ℕ)
+    → (charged_under (cond b Pass Discard) peak None buckets moment).second ≡ buckets.second
+second-kept true peak buckets moment = refl
+second-kept false peak buckets moment = refl
+
 -- what a contract does to bucket 2, whose rate this is
 abbrev FillsSecond : Contract → Gcra → Type 0
 FillsSecond contract sustained = (buckets : Buckets) (clp : Bool) (moment : ℕ)
@@ -200,3 +206,52 @@ contracts-bound (Vbr3 peak sustained) buckets earliest arrivals goes first span 
       first-bounded contract buckets earliest arrivals goes first span,
       second-bounded contract sustained second buckets earliest arrivals goes first span,
     )
+
+-- Either bucket, cell by cell.
+
+pub charges-fill : ChargesAreFillings
+charges-fill (Cbr1 peak) buckets clp moment = record {
+  first = FillsFirst (Cbr1 peak) buckets clp moment;
+  second = tt;
+  without = λ e. second-kept (conforms peak buckets.first moment) peak buckets moment;
+}
+charges-fill (Vbr1 peak sustained) buckets clp moment = record {
+  first = FillsFirst (Vbr1 peak sustained) buckets clp moment;
+  second = vbr1-FillsSecond peak sustained buckets clp moment;
+  without = λ e. cc;
+}
+charges-fill (Vbr2 peak sustained) buckets clp moment = record {
+  first = FillsFirst (Vbr2 peak sustained) buckets clp moment;
+  second = vbr2-FillsSecond peak sustained buckets clp moment;
+  without = λ e. cc;
+}
+charges-fill (Vbr3 peak sustained) buckets clp moment = record {
+  first = FillsFirst (Vbr3 peak sustained) buckets clp moment;
+  second = vbr3-FillsSecond peak sustained buckets clp moment;
+  without = λ e. cc;
+}
+
+pub fillings-show : FillingsShow
+fillings-show gcra bucket moment same =
+    let moments : moment ≡ bucket.charged = ap (λ b. b.charged) same in
+    let levels : level_at bucket moment + gcra.increment ≡ bucket.level = ap (λ b. b.level) same in
+    omega (arith, gcra.increment_above_zero)
+
+-- Tagging.
+
+-- where the excess verdict is no tag, none is given
+never-tagged : (b c : Bool) (excess : Verdict) → excess ≢ Tag → cond b (cond c Pass excess) Discard ≢ Tag
+never-tagged true true excess other = λ e. cc
+never-tagged true false excess other = other
+never-tagged false c excess other = λ e. cc
+
+pub tagged-untagged : TaggedCellsCameUntagged
+tagged-untagged (Cbr1 peak) buckets clp moment e =
+    absurd (never-tagged (conforms peak buckets.first moment) true Discard (λ e. cc) e)
+tagged-untagged (Vbr1 peak sustained) buckets clp moment e =
+    absurd (never-tagged (conforms peak buckets.first moment) (conforms sustained buckets.second moment) Discard (λ e. cc) e)
+tagged-untagged (Vbr2 peak sustained) buckets clp moment e =
+    absurd (never-tagged (conforms peak buckets.first moment) (conforms_if_met (sustained_of (Vbr2 peak sustained) clp) buckets.second moment) Discard (λ e. cc) e)
+tagged-untagged (Vbr3 peak sustained) buckets true moment e =
+    absurd (never-tagged (conforms peak buckets.first moment) true Discard (λ e. cc) e)
+tagged-untagged (Vbr3 peak sustained) buckets false moment e = refl

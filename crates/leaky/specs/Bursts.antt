@@ -1,5 +1,5 @@
 -- How many cells a bucket lets through in a span of time.
-use Rattle.std.specs.Prelude.{ℕ, ◌+◌, ◌/◌, nat_le, Bool, ◌&&◌, IsTrue, List, [], ◌∷◌, length, filter, ⊤}
+use Rattle.std.specs.Prelude.{◌≡◌, ℕ, ◌+◌, ◌/◌, nat_le, Bool, true, false, ◌&&◌, IsTrue, List, [], ◌∷◌, length, filter, ⊤}
 use Rattle.leaky.specs.declared.gcra.Gcra.{Gcra}
 use Rattle.leaky.specs.Bucket.{Bucket, conforms, filled}
 
@@ -20,3 +20,11 @@ abbrev pub AllFill : Gcra → Bucket → List ℕ → Type 0
 AllFill gcra bucket [] = ⊤
 AllFill gcra bucket (moment ∷ moments) =
     IsTrue (conforms gcra bucket moment) × AllFill gcra (filled gcra bucket moment) moments
+
+-- the test tells whether the cell at this moment filled the bucket: where it is true the cell found
+-- the bucket conforming and the bucket after it is the filled one, and where it is false the bucket
+-- is as before
+pub record Fills (gcra : Gcra) (bucket after : Bucket) (moment : ℕ) (test : Bool) : Type 0 where
+  pub fills : test ≡ true
+      → (conforms gcra bucket moment ≡ true) × (after ≡ filled gcra bucket moment)
+  pub leaves : test ≡ false → after ≡ bucket

@@ -1,15 +1,16 @@
 -- What ties the definitions to the standard and to one another.
-use Rattle.std.specs.Prelude.{◌≡◌, ℕ, ◌+◌, ◌^◌, ◌≤◌, ◌↔◌, Bool, IfSome, List, map, All}
+use Rattle.std.specs.Prelude.{◌≡◌, ◌≢◌, ℕ, ◌+◌, ◌^◌, ◌≤◌, ◌↔◌, Bool, false, None, IfSome, List, map, All}
 use Rattle.leaky.specs.declared.gcra.Gcra.{Gcra}
 use Rattle.leaky.specs.declared.levels.Levels.{Levels}
 use Rattle.leaky.specs.declared.contract.Contract.{Contract}
+use Rattle.leaky.specs.declared.verdict.Verdict.TheVariants.{Tag}
 use Rattle.leaky.specs.Moments.{GoesOn}
-use Rattle.leaky.specs.Bucket.{Bucket, opening, conformances, conforming}
+use Rattle.leaky.specs.Bucket.{Bucket, opening, filled, conformances, conforming}
 use Rattle.leaky.specs.Scheduling.{scheduled}
 use Rattle.leaky.specs.Tolerance.{tolerance_of, spaced}
-use Rattle.leaky.specs.Bursts.{count_within, burst_bound, AllFill}
-use Rattle.leaky.specs.Contract.{Buckets, peak_of, second_of, buckets_after}
-use Rattle.leaky.specs.Arrivals.{Arrival, buckets_left, first_charges, second_charges}
+use Rattle.leaky.specs.Bursts.{count_within, burst_bound, AllFill, Fills}
+use Rattle.leaky.specs.Contract.{Buckets, peak_of, second_of, verdict_of, buckets_after}
+use Rattle.leaky.specs.Arrivals.{Arrival, buckets_left, charges_first, charges_second, first_charges, second_charges}
 use Rattle.leaky.specs.Agreement.{Agrees, IsChargedBy}
 
 -- virtual scheduling begun at TAT = X + LCT gives the leaky bucket's verdicts on every list of
@@ -48,6 +49,29 @@ ContractsBoundBursts = (contract : Contract) (buckets : Buckets)
     → (first span : ℕ)
     → IsBounded first span (first_charges contract buckets arrivals) (peak_of contract)
     × IfSome (second_of contract) (IsBounded first span (second_charges contract buckets arrivals))
+
+-- what a cell does to both buckets of a contract: the tables of which verdict charges which bucket
+-- tell exactly which bucket the cell filled
+pub record ChargesAsTold (contract : Contract) (buckets : Buckets) (clp : Bool) (moment : ℕ) (after : Buckets) : Type 0 where
+  pub first : Fills (peak_of contract) buckets.first after.first moment
+      (charges_first (verdict_of contract buckets clp moment))
+  pub second : IfSome (second_of contract) (λ sustained. Fills sustained buckets.second after.second moment
+      (charges_second (verdict_of contract buckets clp moment) contract clp))
+  pub without : second_of contract ≡ None → after.second ≡ buckets.second
+
+-- so it is with every cell
+abbrev pub ChargesAreFillings : Type 0
+ChargesAreFillings = (contract : Contract) (buckets : Buckets) (clp : Bool) (moment : ℕ)
+    → ChargesAsTold contract buckets clp moment (buckets_after contract buckets clp moment)
+
+-- and a filled bucket is never the bucket that it was
+abbrev pub FillingsShow : Type 0
+FillingsShow = (gcra : Gcra) (bucket : Bucket) (moment : ℕ) → filled gcra bucket moment ≢ bucket
+
+-- a cell is tagged only if it came with cell loss priority 0
+abbrev pub TaggedCellsCameUntagged : Type 0
+TaggedCellsCameUntagged = (contract : Contract) (buckets : Buckets) (clp : Bool) (moment : ℕ)
+    → verdict_of contract buckets clp moment ≡ Tag → clp ≡ false
 
 -- any levels stand for some buckets that were charged at 0 at the latest
 abbrev pub LevelsStandForBuckets : Type 0

@@ -10,9 +10,9 @@ pub const MOST_TICKS: u64 = 281474976710656;
 #[derive(Clone, Copy, Debug, PartialEq, Eq)]
 pub enum GcraFault {
     /// The increment is 0.
-    ZeroIncrement = 1,
+    ZeroIncrement,
     /// The increment or the limit is above 2^48.
-    TooLarge = 2,
+    TooLarge,
 }
 
 impl fmt::Display for GcraFault {

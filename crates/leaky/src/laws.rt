@@ -1,7 +1,7 @@
 //! Laws over the definitions that the contracts of this crate cite. These functions do nothing:
 //! each stands for the law that is its contract.
 
-ghost use Rattle.leaky.specs.Laws.{SchedulingGivesTheBucketsVerdicts, BurstsAreBounded, FillingsAreBounded, ContractsBoundBursts, LevelsStandForBuckets, LevelsFollowBuckets, ChargesKeepUp, TolerancesAreExact};
+ghost use Rattle.leaky.specs.Laws.{SchedulingGivesTheBucketsVerdicts, BurstsAreBounded, FillingsAreBounded, ContractsBoundBursts, ChargesAreFillings, FillingsShow, TaggedCellsCameUntagged, LevelsStandForBuckets, LevelsFollowBuckets, ChargesKeepUp, TolerancesAreExact};
 
 /// Both forms of the generic cell rate algorithm give the same verdicts.
 pub fn scheduling_gives_the_buckets_verdicts()
@@ -21,6 +21,22 @@ pub fn fillings_are_bounded()
 /// The same bound holds for the cells that charge either bucket of a contract.
 pub fn contracts_bound_bursts()
     ensures { ContractsBoundBursts }
+{}
+
+/// Which verdict charges which bucket is told by the bucket after the cell: it is the filled one
+/// exactly where the tables say so, and else the bucket before.
+pub fn charges_are_fillings()
+    ensures { ChargesAreFillings }
+{}
+
+/// A filled bucket is another than it was.
+pub fn fillings_show()
+    ensures { FillingsShow }
+{}
+
+/// A cell is tagged only if it came with cell loss priority 0.
+pub fn tagged_cells_came_untagged()
+    ensures { TaggedCellsCameUntagged }
 {}
 
 /// There are buckets that agree with any levels, so what `judge` says of all such buckets isn't

@@ -9,11 +9,11 @@ use std::fmt;
 #[derive(Clone, Copy, Debug, PartialEq, Eq)]
 pub enum BtFault {
     /// The maximum burst size is 0.
-    ZeroMbs = 1,
+    ZeroMbs,
     /// The peak cell rate is below the sustainable cell rate.
-    PeakSlower = 2,
+    PeakSlower,
     /// The tolerance is above 2^48.
-    TooLarge = 3,
+    TooLarge,
 }
 
 impl fmt::Display for BtFault {

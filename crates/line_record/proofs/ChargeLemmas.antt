@@ -8,8 +8,7 @@ use Rattle.leaky.specs.Moments.{GoesOn}
 use Rattle.leaky.specs.Contract.{Buckets, verdict_of, peak_of, second_of, buckets_after as after_cell}
 use Rattle.leaky.specs.Arrivals.{Arrival, buckets_left, charges_first, charges_second, first_charges, second_charges}
 use Rattle.leaky.specs.Laws.{IsBounded}
-use Rattle.leaky.proofs.ChargeLemmas.{contracts-bound}
-use Rattle.leaky.proofs.SchedulingLemmas.{GoesOn-earlier}
+use Rattle.leaky.proofs.Public.{contracts_bound_bursts, goes_on_from_earlier}
 use Rattle.line_record.specs.declared.entry.Entry.{Entry}
 use Rattle.line_record.specs.History.{NamedCell, moments_of, numbered, arrivals_at, buckets_under, verdict_under, verdict_after, entry_of, judged}
 use Rattle.line_record.specs.Laws.{HistoriesBoundBursts}
@@ -128,7 +127,7 @@ GoesOn-arrivals number earliest (cell ∷ later) goes =
       | true ↦ λ same. rw (arrivals_at-named number cell later same) (goes.0, rest)
       | false ↦ λ differs.
           rw (arrivals_at-skips number cell later differs)
-          (GoesOn-earlier earliest cell.moment (map (λ (a : Arrival). a.moment) (arrivals_at number later)) goes.0 rest)
+          (goes_on_from_earlier earliest cell.moment (map (λ (a : Arrival). a.moment) (arrivals_at number later)) goes.0 rest)
     ] in
     choice (cell.value == number) refl
 
@@ -136,7 +135,7 @@ pub histories-bound : HistoriesBoundBursts
 histories-bound contracts opening earliest history goes number contract named first span =
     let buckets = opening number in
     let arrivals = arrivals_at number history in
-    let bound = contracts-bound contract buckets earliest arrivals (GoesOn-arrivals number earliest history goes) first span in
+    let bound = contracts_bound_bursts contract buckets earliest arrivals (GoesOn-arrivals number earliest history goes) first span in
     let peak = charges-same (λ verdict clp. charges_first verdict) contracts opening number contract named [] history in
     let sustained = charges-same (λ verdict clp. charges_second verdict contract clp) contracts opening number contract named [] history in (
       subst (λ (moments : List ℕ). IsBounded first span moments (peak_of contract))

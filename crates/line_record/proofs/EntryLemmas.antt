@@ -9,7 +9,7 @@ use Rattle.leaky.specs.declared.verdict.Verdict.{Verdict}
 use Rattle.leaky.specs.declared.verdict.Verdict.TheVariants.{Refuse}
 use Rattle.leaky.specs.Contract.{Buckets, verdict_of, buckets_after as after_cell}
 use Rattle.leaky.specs.Agreement.{Agrees, IsChargedBy}
-use Rattle.leaky.proofs.AgreementLemmas.{charges-keep_up}
+use Rattle.leaky.proofs.Public.{charges_keep_up}
 use Rattle.line_record.specs.declared.state.State.{State}
 use Rattle.line_record.specs.History.{NamedCell, numbered, arrivals_at, arrival_of, buckets_under, buckets_after, verdict_under, verdict_after}
 use Rattle.line_record.specs.Run.{StandsFor}
@@ -74,7 +74,7 @@ module _ (contracts : List Contract) (before after : State) (cell : NamedCell) (
       let charged = charged_later (opening cell.value) before.last cell.moment judges.later (stands.charged cell.value old.0 old.1) in
       let agrees = stands.agrees cell.value old.0 old.1 in (
         judges.levels contract old.0 new (opening cell.value) is old.1 at agrees charged,
-        charges-keep_up contract (opening cell.value) cell.clp cell.moment charged,
+        charges_keep_up contract (opening cell.value) cell.clp cell.moment charged,
       )
 
   agrees_at : (number : ℕ) (new : Levels) → numbered after.levels.items number ≡ Some new

@@ -9,7 +9,7 @@ use Rattle.leaky.specs.Moments.{GoesOn}
 use Rattle.leaky.specs.Contract.{Buckets, opening_buckets, buckets_after as after_cell}
 use Rattle.leaky.specs.Arrivals.{Arrival, buckets_left}
 use Rattle.leaky.specs.Agreement.{Agrees, IsChargedBy}
-use Rattle.leaky.proofs.AgreementLemmas.{levels-stand, levels-follow, charges-keep_up}
+use Rattle.leaky.proofs.Public.{levels_stand_for_buckets, levels_follow_buckets, charges_keep_up}
 use Rattle.line_record.specs.declared.state.State.{State}
 use Rattle.line_record.specs.History.{NamedCell, moments_of, last_moment, numbered, arrival_of, arrivals_at, empty_buckets, buckets_under, buckets_after}
 use Rattle.line_record.proofs.NumberLemmas.{numbered-above, numbered-within, numbered-both}
@@ -20,14 +20,14 @@ use Rattle.line_record.specs.Laws.{StatesStandForBuckets, HistoriesHaveStates}
 -- the buckets that levels stand for
 some_buckets : Option Levels → Buckets
 some_buckets None = opening_buckets
-some_buckets (Some levels) = (levels-stand levels).0
+some_buckets (Some levels) = (levels_stand_for_buckets levels).0
 
 stand-at : (found : Option Levels) (levels : Levels) (last : ℕ) → found ≡ Some levels
     → Agrees levels (some_buckets found) × IsChargedBy (some_buckets found) last
 unfolding some_buckets
 stand-at None levels last at = cc
 stand-at (Some found) levels last at =
-    let stands = levels-stand found in
+    let stands = levels_stand_for_buckets found in
     let agrees = subst (λ (l : Levels). Agrees l stands.0) (same_Some found levels at) stands.1 in
     (agrees, record { first = omega (arith, stands.2.first); second = omega (arith, stands.2.second) })
 
@@ -53,7 +53,7 @@ charged-after contract number buckets earlier (cell ∷ later) goes charged =
       | true ↦ λ same.
           let after = after_cell contract buckets cell.clp cell.moment in
           let rest = charged-after contract number after cell.moment later goes.1
-          (charges-keep_up contract buckets cell.clp cell.moment by_now) in
+          (charges_keep_up contract buckets cell.clp cell.moment by_now) in
           rw (arrivals_at-named number cell later same) rest
       | false ↦ λ differs.
           rw (arrivals_at-skips number cell later differs)
@@ -87,7 +87,7 @@ levels-built history in_time [] from = ([], refl, λ place l contract at named. 
 levels-built history in_time (contract ∷ later) from =
     let zero_levels : Levels = record { first = 0; second = 0; first_bounded = omega arith; second_bounded = omega arith } in
     let agrees : Agrees zero_levels opening_buckets = record { first = refl; second = refl } in
-    let own = levels-follow contract zero_levels opening_buckets (arrivals_at (suc from) history) agrees (All-arrivals (suc from) history in_time) in
+    let own = levels_follow_buckets contract zero_levels opening_buckets (arrivals_at (suc from) history) agrees (All-arrivals (suc from) history in_time) in
     let rest = levels-built history in_time later (suc from) in
     let At : ℕ → Type 0 = λ place. (l : Levels) (k : Contract)
     → slice_get (own.0 ∷ rest.0) place ≡ Some l → slice_get (contract ∷ later) place ≡ Some k

@@ -1,0 +1,34 @@
+-- Lemmas that other crates may use: the laws of this crate, each as a term under its name, and what
+-- goes with them.
+use Rattle.std.proofs.Common.{ℕ, ◌≤◌, List}
+use Rattle.leaky.specs.Moments.{GoesOn}
+use Rattle.leaky.specs.Laws.{ContractsBoundBursts, ChargesAreFillings, FillingsShow, TaggedCellsCameUntagged, LevelsStandForBuckets, LevelsFollowBuckets, ChargesKeepUp}
+use Rattle.leaky.proofs.SchedulingLemmas.{GoesOn-earlier}
+use Rattle.leaky.proofs.ChargeLemmas.{contracts-bound, charges-fill, fillings-show, tagged-untagged}
+use Rattle.leaky.proofs.AgreementLemmas.{levels-stand, levels-follow, charges-keep_up}
+
+pub contracts_bound_bursts : ContractsBoundBursts
+contracts_bound_bursts = contracts-bound
+
+pub charges_are_fillings : ChargesAreFillings
+charges_are_fillings = charges-fill
+
+pub fillings_show : FillingsShow
+fillings_show = fillings-show
+
+pub tagged_cells_came_untagged : TaggedCellsCameUntagged
+tagged_cells_came_untagged = tagged-untagged
+
+pub levels_stand_for_buckets : LevelsStandForBuckets
+levels_stand_for_buckets = levels-stand
+
+pub levels_follow_buckets : LevelsFollowBuckets
+levels_follow_buckets = levels-follow
+
+pub charges_keep_up : ChargesKeepUp
+charges_keep_up = charges-keep_up
+
+-- moments that go on from one moment go on from an earlier one too
+pub goes_on_from_earlier : (earlier earliest : ℕ) (moments : List ℕ) → earlier ≤ earliest
+    → GoesOn earliest moments → GoesOn earlier moments
+goes_on_from_earlier = GoesOn-earlier
