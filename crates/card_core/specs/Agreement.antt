@@ -1,6 +1,6 @@
 -- When a core agrees with a world. A core keeps slots, a directory, lines and ports; the world has
 -- whole histories. Each part agrees by itself.
-use Rattle.std.specs.Prelude.{◌≡◌, ℕ, ◌<◌, List, length, Option, Some, None, option_map, slice_get}
+use Rattle.std.specs.Prelude.{◌≡◌, ℕ, List, [], ◌∷◌, ◌++◌, length, Option, Some, None, option_map, slice_get}
 use Rattle.upc_cell.specs.declared.vc.Vc.{Vc}
 use Rattle.bpf_code.specs.declared.instr.Instr.{Instr}
 use Rattle.gen_arena.specs.declared.id.Id.{Id}
@@ -15,10 +15,13 @@ use Rattle.line_record.specs.Line.{LineView}
 use Rattle.line_record.specs.StateAfter.{IsStateAfter}
 use Rattle.card_core.specs.declared.shape.Shape.{Shape}
 use Rattle.card_core.specs.Standin.{tally_of}
+use Rattle.card_core.specs.declared.reply.Reply.{Reply}
+use Rattle.card_core.specs.declared.step.Step.{Step}
+use Rattle.card_core.specs.Log.{Event, Leads}
 use Rattle.card_core.specs.World.{World, Loading, Connection, PortState, code_in, times_given, connection_in, handed_cells, kept_cells, verdicts_before}
 
--- what contracts see of a core: its shape, the slots for programs, the directory, the lines, and the
--- ports
+-- What contracts see of a core: its shape, the slots for programs, the directory, the lines, and the
+-- ports.
 pub record CoreView : Type 0 where
   pub shape : Shape
   pub store : List (Slot (List Instr))
@@ -33,7 +36,7 @@ pub record StoreAgrees (shape : Shape) (slots : List (Slot (List Instr))) (given
   pub generations : (slot : ℕ) → generation_at slots slot ≡ times_given given slot
   pub values : (id : Id) → live_value slots id ≡ code_in live id
 
--- where the directory has the connection
+-- Where the directory has the connection.
 abbrev pub seating_of : Connection → Seating
 seating_of connection = record {
   line = connection.line;
@@ -48,7 +51,7 @@ pub record SeatsAgree (shape : Shape) (directory : DirectoryView) (connections :
   pub used_up : directory.used ≡ used
   pub seats : (vc : Vc) → seat_of directory vc ≡ option_map seating_of (connection_in connections vc)
 
--- who holds the line of a connection
+-- Who holds the line of a connection.
 abbrev pub owner_of : Vc → Connection → Owner
 owner_of vc connection = record { vc = vc; incarnation = connection.incarnation }
 
@@ -63,7 +66,7 @@ pub record Serves (line : LineView) (vc : Vc) (connection : Connection) (verdict
   pub counts_before : line.start.counts ≡ tally_of (verdicts_before verdicts connection)
   pub state : IsStateAfter connection.contracts connection.history line.state
 
--- the line of this number and its owner are those of a connection
+-- The line of this number and its owner are those of a connection.
 pub record IsLineOf (connections : List (Vc × Connection)) (number : ℕ) (owner : Owner) : Type 0 where
   pub connection : Connection
   pub found : connection_in connections owner.vc ≡ Some connection
@@ -82,10 +85,17 @@ pub record LinesAgree (shape : Shape) (lines : List LineView) (connections : Lis
   pub counts : (number : ℕ) (line : LineView) → slice_get lines number ≡ Some line
       → line.state.counts ≡ tally_of (verdicts number)
 
--- the core agrees with the world in each part
+-- The core agrees with the world in each part.
 pub record Agrees (core : CoreView) (world : World) : Type 0 where
   pub shape : core.shape ≡ world.shape
   pub store : StoreAgrees world.shape core.store world.given world.live
   pub seats : SeatsAgree world.shape core.directory world.connections world.used
   pub lines : LinesAgree world.shape core.lines world.connections world.judged
   pub ports : core.ports ≡ world.ports
+
+-- The core goes on by this event: wherever a log has led to a world that the old core agrees with,
+-- the log with this event leads to one that the new core agrees with.
+abbrev pub Follows : CoreView → Step → Reply → CoreView → Type 0
+Follows old step reply new = (shape : Shape) (log : List Event) (before : World)
+    → Leads shape log before → Agrees old before
+    → (after : World) × Leads shape (log ++ record { step = step; reply = reply } ∷ []) after × Agrees new after

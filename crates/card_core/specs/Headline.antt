@@ -23,68 +23,68 @@ use Rattle.upc_cell.specs.Connection.{vc_of}
 use Rattle.card_core.specs.Steps.{Gives, cell_after, named_cell, number_with}
 use Rattle.card_core.specs.Log.{Event, IsLog}
 
--- the code that this reply and step put in under the id, if they did
+-- The code that this reply and step put in under the id, if they did.
 abbrev pub code_loaded : Id → Reply → Step → List (List Instr)
 code_loaded id (Loaded given) (Load code) = if is_same_id id given then code ∷ [] else []
 code_loaded id _ _ = []
 
--- the codes that were put in under the id
+-- The codes that were put in under the id.
 abbrev pub codes_loaded : Id → List Event → List (List Instr)
 codes_loaded id log = flat_map (λ event. code_loaded id event.reply event.step) log
 
--- the code that they retired under the id, if they did
+-- The code that they retired under the id, if they did.
 abbrev pub code_retired : Id → Reply → Step → List (List Instr)
 code_retired id (Retired code) (Retire gone) = if is_same_id id gone then code ∷ [] else []
 code_retired id _ _ = []
 
--- the codes that were retired under the id
+-- The codes that were retired under the id.
 abbrev pub codes_retired : Id → List Event → List (List Instr)
 codes_retired id log = flat_map (λ event. code_retired id event.reply event.step) log
 
--- the virtual connection that they set up or released, if they did
+-- The virtual connection that they set up or released, if they did.
 abbrev pub connection_changed : Reply → Step → List Vc
 connection_changed (SetUp owner) (Setup ask) = ask.vc ∷ []
 connection_changed (Released piece) (Release vc) = vc ∷ []
 connection_changed _ _ = []
 
--- what the list has of this virtual connection
+-- What the list has of this virtual connection.
 abbrev pub only_of : Vc → List Vc → List Vc
 only_of vc [] = []
 only_of vc (other ∷ later) = if is_same_vc vc other then other ∷ only_of vc later else only_of vc later
 
--- each time that the connection was set up or released
+-- Each time that the connection was set up or released.
 abbrev pub changes_of : Vc → List Event → List Vc
 changes_of vc log = flat_map (λ event. only_of vc (connection_changed event.reply event.step)) log
 
--- the program that they gave the connection, if they did
+-- The program that they gave the connection, if they did.
 abbrev pub program_named : Vc → Reply → Step → List Id
 program_named vc (Reloaded old) (Reload other program) = if is_same_vc vc other then program ∷ [] else []
 program_named vc _ _ = []
 
--- the programs that the connection was given by reloads
+-- The programs that the connection was given by reloads.
 abbrev pub programs_named : Vc → List Event → List Id
 programs_named vc log = flat_map (λ event. program_named vc event.reply event.step) log
 
--- the last of the list, or this one where there is none
+-- The last of the list, or this one where there is none.
 abbrev pub latest : Id → List Id → Id
 latest program [] = program
 latest program (next ∷ later) = latest next later
 
--- what an answer tells of a judged cell
+-- What an answer tells of a judged cell.
 pub record Judgement : Type 0 where
   pub line : ℕ
   pub verdict : Verdict
   pub leaving : List ℕ
   pub cell : NamedCell
 
--- whether a cell came with CLP 1, by its verdict and the leaving cell: a tagged cell came with CLP 0
+-- Whether a cell came with CLP 1, by its verdict and the leaving cell: a tagged cell came with CLP 0.
 abbrev pub came_with : Verdict → List ℕ → Bool
 came_with Pass leaving = has_low_priority leaving
 came_with Tag leaving = false
 came_with Discard leaving = has_low_priority leaving
 came_with Refuse leaving = has_low_priority leaving
 
--- the judged cell of which a reply tells, if it tells of one
+-- The judged cell of which a reply tells, if it tells of one.
 abbrev pub judgement_told : Reply → List Judgement
 judgement_told (Answered (Judged line number moment value program verdict leaving)) = record {
   line = line;
@@ -94,27 +94,27 @@ judgement_told (Answered (Judged line number moment value program verdict leavin
 } ∷ []
 judgement_told _ = []
 
--- the verdicts given on this line
+-- The verdicts given on this line.
 abbrev pub verdicts_on : ℕ → List Judgement → List Verdict
 verdicts_on line [] = []
 verdicts_on line (judgement ∷ later) =
     if judgement.line == line then judgement.verdict ∷ verdicts_on line later else verdicts_on line later
 
--- the verdicts that were given on the line
+-- The verdicts that were given on the line.
 abbrev pub verdicts_given : ℕ → List Event → List Verdict
 verdicts_given line log = flat_map (λ event. verdicts_on line (judgement_told event.reply)) log
 
--- the cells that came on this line
+-- The cells that came on this line.
 abbrev pub on_line : ℕ → List Judgement → List NamedCell
 on_line line [] = []
 on_line line (judgement ∷ later) =
     if judgement.line == line then judgement.cell ∷ on_line line later else on_line line later
 
--- the cells that were judged on the line
+-- The cells that were judged on the line.
 abbrev pub cells_on : ℕ → List Event → List NamedCell
 cells_on line log = flat_map (λ event. on_line line (judgement_told event.reply)) log
 
--- the cells that came on this virtual connection, on a card of this shape
+-- The cells that came on this virtual connection, on a card of this shape.
 abbrev pub on_connection : Shape → Vc → List Judgement → List NamedCell
 on_connection shape vc [] = []
 on_connection shape vc (judgement ∷ later) =
@@ -122,40 +122,40 @@ on_connection shape vc (judgement ∷ later) =
     then judgement.cell ∷ on_connection shape vc later
     else on_connection shape vc later
 
--- the cells that were judged on the virtual connection
+-- The cells that were judged on the virtual connection.
 abbrev pub cells_of : Shape → Vc → List Event → List NamedCell
 cells_of shape vc log = flat_map (λ event. on_connection shape vc (judgement_told event.reply)) log
 
--- the port of a step that is taken at one
+-- The port of a step that is taken at one.
 abbrev pub port_of : Step → List ℕ
 port_of (Enter port cell moment) = port ∷ []
 port_of (Pick port) = port ∷ []
 port_of (Judge port) = port ∷ []
 port_of _ = []
 
--- whether the list has this port
+-- Whether the list has this port.
 abbrev pub only_port : ℕ → List ℕ → List ℕ
 only_port port [] = []
 only_port port (other ∷ later) = if port == other then other ∷ only_port port later else only_port port later
 
--- the port that this reply and step moved, if they did: a step that is answered NotNow moves none
+-- The port that this reply and step moved, if they did: a step that is answered NotNow moves none.
 abbrev pub port_moved : Reply → Step → List ℕ
 port_moved NotNow step = []
 port_moved _ step = port_of step
 
--- each time that the port moved
+-- Each time that the port moved.
 abbrev pub moves_of : ℕ → List Event → List ℕ
 moves_of port log = flat_map (λ event. only_port port (port_moved event.reply event.step)) log
 
--- a cell entered this port at this moment
+-- A cell entered this port at this moment.
 abbrev pub entering : ℕ → List ℕ → ℕ → Event
 entering port cell moment = record { step = Enter port cell moment; reply = Entered }
 
--- the cell of this port was picked
+-- The cell of this port was picked.
 abbrev pub picking : ℕ → Event
 picking port = record { step = Pick port; reply = Picked }
 
--- this connection was set up, as so many-th among all
+-- This connection was set up, as so many-th among all.
 abbrev pub setting_up : Ask → ℕ → Event
 setting_up ask incarnation = record {
   step = Setup ask;
@@ -167,7 +167,7 @@ pub record IsLive (log : List Event) (id : Id) (code : List Instr) : Type 0 wher
   pub loaded : codes_loaded id log ≡ code ∷ []
   pub kept : codes_retired id log ≡ []
 
--- so it is after the log, and after each of the events that follow
+-- So it is after the log, and after each of the events that follow.
 abbrev pub IsLiveThrough : List Event → List Event → Id → List Instr → Type 0
 IsLiveThrough log further id code =
     (so_far rest : List Event) → further ≡ so_far ++ rest → IsLive (log ++ so_far) id code
@@ -222,7 +222,7 @@ pub record IsPromised (shape : Shape) (before : List Event) (port line number mo
   -- The number counts the verdicts of this kind on the line.
   pub counted : number ≡ number_with (verdicts_given line before) verdict
 
--- a Judge of this port was answered Judged with all this
+-- A Judge of this port was answered Judged with all this.
 abbrev pub judging : ℕ → ℕ → ℕ → ℕ → ℕ → Id → Verdict → List ℕ → Event
 judging port line number moment value program verdict leaving = record {
   step = Judge port;

@@ -7,3 +7,5 @@ pub mod Steps
 pub mod Log
 pub mod Agreement
 pub mod Headline
+pub mod Sections
+pub mod inner

@@ -6,21 +6,21 @@ use Rattle.card_core.specs.declared.step.Step.{Step}
 use Rattle.card_core.specs.World.{World, opening_world}
 use Rattle.card_core.specs.Steps.{WorldStep}
 
--- a step with its reply
+-- A step with its reply.
 pub record Event : Type 0 where
   pub step : Step
   pub reply : Reply
 
--- from one world the events lead to another, in their order
+-- From one world the events lead to another, in their order.
 abbrev pub Run : World → List Event → World → Type 0
 Run before [] after = after ≡ before
 Run before (event ∷ later) after =
     (next : World) × WorldStep before event.step event.reply next × Run next later after
 
--- the log of a card of this shape leads to this world, from the opening one
+-- The log of a card of this shape leads to this world, from the opening one.
 abbrev pub Leads : Shape → List Event → World → Type 0
 Leads shape log world = Run (opening_world shape) log world
 
--- the log is one that a card of this shape may have
+-- The log is one that a card of this shape may have.
 abbrev pub IsLog : Shape → List Event → Type 0
 IsLog shape log = (world : World) × Leads shape log world

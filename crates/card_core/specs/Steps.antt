@@ -1,5 +1,5 @@
 -- What each step does where it isn't refused, and what a refusal leaves.
-use Rattle.std.specs.Prelude.{◌≡◌, ℕ, ◌+◌, ◌-◌, ◌<◌, Bool, if◌then◌else◌, ◌⊎◌, List, [], ◌∷◌, ◌++◌, length, take, Option, Some, None, MatchOption, IsTrue, slice_get, slice_set}
+use Rattle.std.specs.Prelude.{◌≡◌, ℕ, ◌+◌, ◌-◌, ◌<◌, ◌≤◌, Bool, if◌then◌else◌, ◌⊎◌, List, [], ◌∷◌, ◌++◌, length, take, Option, Some, None, MatchOption, IsTrue, slice_get, slice_set}
 use Rattle.upc_cell.specs.declared.vc.Vc.{Vc}
 use Rattle.upc_cell.specs.Tagged.{tagged_form}
 use Rattle.bpf_code.specs.declared.instr.Instr.{Instr}
@@ -27,18 +27,18 @@ use Rattle.card_core.specs.Standin.{tally_of}
 use Rattle.card_core.specs.World.{World, Loading, Connection, Picking, outside, entered, picked, code_in, without_code, times_given, handed_cells, kept_cells, verdicts_before, connection_in, without_connection, with_connection, with_port, with_verdict, is_open_slot, is_open_line}
 use Rattle.card_core.specs.Refusals.{refusal}
 
--- the code gives this value for the cell
+-- The code gives this value for the cell, within as many steps as it has instructions.
 abbrev pub Gives : List Instr → List ℕ → ℕ → Type 0
-Gives code cell value = (steps : ℕ) × Value code cell value steps
+Gives code cell value = (steps : ℕ) × Value code cell value steps × (steps ≤ length code)
 
--- the leaving cell: tagged where the verdict is Tag, else as it came
+-- The leaving cell: tagged where the verdict is Tag, else as it came.
 abbrev pub cell_after : Verdict → List ℕ → List ℕ
 cell_after Pass cell = cell
 cell_after Tag cell = tagged_form cell
 cell_after Discard cell = cell
 cell_after Refuse cell = cell
 
--- a cell that came, as its connection's history has it
+-- A cell that came, as its connection's history has it.
 abbrev pub named_cell : List ℕ → ℕ → Id → ℕ → NamedCell
 named_cell cell moment program value = record {
   moment = moment;
@@ -47,12 +47,12 @@ named_cell cell moment program value = record {
   program = program;
 }
 
--- the cell of a port that was picked, as the connection's history will have it
+-- The cell of a port that was picked, as the connection's history will have it.
 abbrev pub cell_of_picking : Picking → NamedCell
 cell_of_picking picking = named_cell picking.cell picking.moment picking.program picking.value
 
--- the verdict on the next cell of a connection: that of the contract that the cell names, from the
--- buckets that the connection's cells so far have left
+-- The verdict on the next cell of a connection: that of the contract that the cell names, from the
+-- buckets that the connection's cells so far have left.
 abbrev pub verdict_on : Connection → NamedCell → Verdict
 verdict_on connection cell = verdict_after connection.contracts empty_buckets connection.history cell
 
@@ -61,7 +61,7 @@ pub record Enters (before : World) (port : ℕ) (cell : List ℕ) (moment : ℕ)
   pub answer : reply ≡ Entered
   pub world : after ≡ with_port before port (entered cell moment)
 
--- what is known of a cell once it was picked
+-- What is known of a cell once it was picked.
 abbrev pub picking_of : List ℕ → ℕ → Vc → Connection → ℕ → Picking
 picking_of cell moment vc connection value = record {
   cell = cell;
@@ -88,12 +88,12 @@ pub record Picks (before : World) (port : ℕ) (reply : Reply) (after : World) :
   pub answer : reply ≡ Picked
   pub world : after ≡ with_port before port (picked (picking_of cell moment (vc_of before.shape.side cell) connection value))
 
--- the connection with one more cell in its history
+-- The connection with one more cell in its history.
 abbrev pub with_cell : Connection → NamedCell → Connection
 with_cell connection cell = record connection { history = connection.history ++ cell ∷ [] }
 
--- the world once the picked cell was judged on its connection: the connection's history has gained
--- the cell, the line's verdicts the verdict, and the port is outside
+-- The world once the picked cell was judged on its connection: the connection's history has gained
+-- the cell, the line's verdicts the verdict, and the port is outside.
 abbrev pub judged_world : World → ℕ → Picking → Connection → World
 judged_world before port picking connection = record before {
   connections = with_connection before.connections picking.vc (with_cell connection (cell_of_picking picking));
@@ -101,11 +101,11 @@ judged_world before port picking connection = record before {
   ports = slice_set before.ports port outside;
 }
 
--- how many verdicts of this kind there are among these and one more
+-- How many verdicts of this kind there are among these and one more.
 abbrev pub number_with : List Verdict → Verdict → ℕ
 number_with verdicts verdict = number_of (tally_of verdicts) verdict + 1
 
--- the answer to a picked cell that is judged on its connection
+-- The answer to a picked cell that is judged on its connection.
 abbrev pub judgement_of : World → Picking → Connection → Answer
 judgement_of before picking connection =
     let verdict = verdict_on connection (cell_of_picking picking) in
@@ -143,7 +143,7 @@ pub record Retires (before : World) (id : Id) (reply : Reply) (after : World) : 
   pub answer : reply ≡ Retired code
   pub world : after ≡ record before { live = without_code before.live id }
 
--- a connection that was just set up
+-- A connection that was just set up.
 abbrev pub new_connection : Ask → ℕ → ℕ → Connection
 new_connection ask line incarnation = record {
   incarnation = incarnation;
@@ -205,7 +205,7 @@ pub record Cuts (before : World) (vc : Vc) (reply : Reply) (after : World) : Typ
     connections = with_connection before.connections vc (record connection { handed = length connection.history });
   }
 
--- what a step does that isn't refused
+-- What a step does that isn't refused.
 abbrev pub Succeeds : World → Step → Reply → World → Type 0
 Succeeds before (Enter port cell moment) reply after = Enters before port cell moment reply after
 Succeeds before (Pick port) reply after = Picks before port reply after
@@ -217,18 +217,18 @@ Succeeds before (Reload vc program) reply after = Reloads before vc program repl
 Succeeds before (Release vc) reply after = Releases before vc reply after
 Succeeds before (Cut vc) reply after = Cuts before vc reply after
 
--- what is answered to a step whose memory was refused: only Setup and Cut take any
+-- What is answered to a step whose memory was refused: only Setup and Cut take any.
 abbrev pub without_memory : Step → Option Reply
 without_memory (Setup ask) = Some (NotSetUp NoMemory ask)
 without_memory (Cut vc) = Some (Refused NoMemory)
 without_memory _ = None
 
--- a step finds no memory, and changes nothing
+-- A step finds no memory, and changes nothing.
 pub record FindsNoMemory (before : World) (step : Step) (reply : Reply) (after : World) : Type 0 where
   pub answer : without_memory step ≡ Some reply
   pub world : after ≡ before
 
--- the world with the port outside, where its cell was answered
+-- The world with the port outside, where its cell was answered.
 abbrev pub with_answered : World → ℕ → Reply → World
 with_answered before port (Answered answer) = with_port before port outside
 with_answered before port _ = before
@@ -240,7 +240,7 @@ left_by before (Pick port) refused = with_answered before port refused
 left_by before (Judge port) refused = with_answered before port refused
 left_by before _ refused = before
 
--- a step is answered by this refusal
+-- A step is answered by this refusal.
 pub record IsRefused (before : World) (step : Step) (refused reply : Reply) (after : World) : Type 0 where
   pub answer : reply ≡ refused
   pub world : after ≡ left_by before step refused

@@ -14,23 +14,23 @@ use Rattle.gen_arena.specs.SameId.{is_same_id}
 use Rattle.line_record.specs.History.{NamedCell}
 use Rattle.card_core.specs.declared.shape.Shape.{Shape}
 
--- a code that was put in, and the id that it was given
+-- A code that was put in, and the id that it was given.
 pub record Loading : Type 0 where
   pub id : Id
   pub code : List Instr
 
--- the code that the list has under this id
+-- The code that the list has under this id.
 abbrev pub code_in : List Loading → Id → Option (List Instr)
 code_in [] id = None
 code_in (loading ∷ later) id = if is_same_id id loading.id then Some loading.code else code_in later id
 
--- the list without what it has under this id
+-- The list without what it has under this id.
 abbrev pub without_code : List Loading → Id → List Loading
 without_code [] id = []
 without_code (loading ∷ later) id =
     if is_same_id id loading.id then without_code later id else loading ∷ without_code later id
 
--- how many of these ids are of this slot
+-- How many of these ids are of this slot.
 abbrev pub times_given : List Loading → ℕ → ℕ
 times_given [] slot = 0
 times_given (loading ∷ later) slot =
@@ -47,30 +47,30 @@ pub record Connection : Type 0 where
   pub history : List NamedCell
   pub handed : ℕ
 
--- the cells that were handed out
+-- The cells that were handed out.
 abbrev pub handed_cells : Connection → List NamedCell
 handed_cells connection = take connection.handed connection.history
 
--- the cells that were judged since
+-- The cells that were judged since.
 abbrev pub kept_cells : Connection → List NamedCell
 kept_cells connection = drop connection.handed connection.history
 
--- the verdicts given on its line, of all these, before those on the cells that were judged since
+-- The verdicts given on its line, of all these, before those on the cells that were judged since.
 abbrev pub verdicts_before : List Verdict → Connection → List Verdict
 verdicts_before verdicts connection = take (length verdicts - length (kept_cells connection)) verdicts
 
--- the connection that the list has at this virtual connection
+-- The connection that the list has at this virtual connection.
 abbrev pub connection_in : List (Vc × Connection) → Vc → Option Connection
 connection_in [] vc = None
 connection_in (here ∷ later) vc = if is_same_vc vc here.0 then Some here.1 else connection_in later vc
 
--- the list without its connection there
+-- The list without its connection there.
 abbrev pub without_connection : List (Vc × Connection) → Vc → List (Vc × Connection)
 without_connection [] vc = []
 without_connection (here ∷ later) vc =
     if is_same_vc vc here.0 then without_connection later vc else here ∷ without_connection later vc
 
--- the list with this connection there, in place of the one that it had, if any
+-- The list with this connection there, in place of the one that it had, if any.
 abbrev pub with_connection : List (Vc × Connection) → Vc → Connection → List (Vc × Connection)
 with_connection connections vc connection = (vc, connection) ∷ without_connection connections vc
 
@@ -86,13 +86,13 @@ pub record Picking : Type 0 where
   pub program : Id
   pub value : ℕ
 
--- a port has no cell, or a cell that came at a moment, or one whose connection was looked up
+-- A port has no cell, or a cell that came at a moment, or one whose connection was looked up.
 pub data PortState : Type 0 where
   outside : PortState
   entered : List ℕ → ℕ → PortState
   picked : Picking → PortState
 
--- the port has no cell
+-- The port has no cell.
 abbrev pub is_outside : PortState → Bool
 is_outside outside = true
 is_outside (entered cell moment) = false
@@ -110,7 +110,7 @@ pub record World : Type 0 where
   pub judged : ℕ → List Verdict
   pub ports : List PortState
 
--- at first nothing was put in, there is no connection, no cell was judged, and every port is outside
+-- At first nothing was put in, there is no connection, no cell was judged, and every port is outside.
 abbrev pub opening_world : Shape → World
 opening_world shape = record {
   shape = shape;
@@ -122,34 +122,34 @@ opening_world shape = record {
   ports = replicate shape.ports outside;
 }
 
--- the world with the port in this state
+-- The world with the port in this state.
 abbrev pub with_port : World → ℕ → PortState → World
 with_port world port state = record world { ports = slice_set world.ports port state }
 
--- these verdicts, by line, with one more on this line
+-- These verdicts, by line, with one more on this line.
 abbrev pub with_verdict : (ℕ → List Verdict) → ℕ → Verdict → ℕ → List Verdict
 with_verdict judged line verdict other =
     if other == line then judged other ++ verdict ∷ [] else judged other
 
--- some port has a cell
+-- Some port has a cell.
 abbrev pub is_busy : World → Bool
 is_busy world = not (list_all is_outside world.ports)
 
--- some number below this one passes the test
+-- Some number below this one passes the test.
 abbrev pub any_below : ℕ → (ℕ → Bool) → Bool
 any_below zero test = false
 any_below (suc number) test = test number || any_below number test
 
--- the slot is no live id's, and was given fewer than 4294967295 times
+-- The slot is no live id's, and was given fewer than 4294967295 times.
 abbrev pub is_open_slot : World → ℕ → Bool
 is_open_slot world slot =
     not (list_any (λ loading. loading.id.slot == slot) world.live)
     && nat_lt (times_given world.given slot) greatest_generation
 
--- the line is no connection's
+-- The line is no connection's.
 abbrev pub is_open_line : World → ℕ → Bool
 is_open_line world line = not (list_any (λ here. here.1.line == line) world.connections)
 
--- some connection names the program
+-- Some connection names the program.
 abbrev pub is_named : World → Id → Bool
 is_named world id = list_any (λ here. is_same_id here.1.program id) world.connections

@@ -4,14 +4,20 @@
 
 mod answer;
 mod ask;
+mod desk;
 mod fault;
+mod judging;
+mod naming;
 mod reply;
 mod shape;
 mod step;
 
 pub use answer::Answer;
 pub use ask::Ask;
+pub use desk::{admit, cut, load, release, reload, retire, setup};
 pub use fault::{CardFault, DeskFault};
+pub use judging::judge_at;
+pub use naming::{Named, Store, name, pick};
 pub use reply::Reply;
 pub use shape::Shape;
 pub use step::Step;

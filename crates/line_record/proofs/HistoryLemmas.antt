@@ -1,5 +1,5 @@
 -- Histories that go on.
-use Rattle.std.proofs.Common.{◌≡◌, ℕ, Bool, true, false, List, [], ◌∷◌, ◌++◌, map, filter, Option, Some, None, refl, sym, ap, subst, ◌∙◌, append_assoc}
+use Rattle.std.proofs.Common.{◌≡◌, ℕ, suc, Bool, true, false, List, [], ◌∷◌, ◌++◌, length, map, filter, Option, Some, None, refl, sym, ap, subst, ◌∙◌, append_assoc}
 use Rattle.std.specs.Prelude.{◌==◌}
 use Rattle.std.proofs.lemmas.List.{map-append, append-nil}
 use Rattle.std.proofs.lemmas.List.Elements.{filter-append}
@@ -14,6 +14,7 @@ use Rattle.line_record.specs.declared.tally.Tally.{Tally}
 use Rattle.line_record.specs.Tally.{counted}
 use Rattle.line_record.specs.History.{NamedCell, numbered, moments_of, last_moment, arrival_of, arrivals_at, buckets_under, buckets_after, verdict_under, verdict_after, entry_of, cell_of, cells_of, judged}
 use Rattle.line_record.specs.Run.{tallied, StandsFor}
+use Rattle.line_record.specs.Laws.{EachCellIsJudged}
 
 -- Buckets.
 
@@ -88,6 +89,23 @@ judged-append contracts opening history (cell ∷ xs) ys =
     let joined = append_assoc history (cell ∷ []) xs in
     ap (λ entries. entry_of cell (verdict_after contracts opening history cell) ∷ entries)
     (rest ∙ ap (λ whole. judged contracts opening (history ++ cell ∷ []) xs ++ judged contracts opening whole ys) joined)
+
+-- each cell has one entry, which is the cell but for its verdict
+pub length-judged : (contracts : List Contract) (opening : ℕ → Buckets) (history cells : List NamedCell)
+    → length (judged contracts opening history cells) ≡ length cells
+length-judged contracts opening history [] = refl
+length-judged contracts opening history (cell ∷ later) =
+    ap suc (length-judged contracts opening (history ++ cell ∷ []) later)
+
+pub cells_of-judged : (contracts : List Contract) (opening : ℕ → Buckets) (history cells : List NamedCell)
+    → cells_of (judged contracts opening history cells) ≡ cells
+cells_of-judged contracts opening history [] = refl
+cells_of-judged contracts opening history (cell ∷ later) =
+    ap (λ cells. cell ∷ cells) (cells_of-judged contracts opening (history ++ cell ∷ []) later)
+
+pub each-judged : EachCellIsJudged
+each-judged contracts opening history cells =
+    (length-judged contracts opening history cells, cells_of-judged contracts opening history cells)
 
 -- Moments, counts.
 

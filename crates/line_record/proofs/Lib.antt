@@ -1,4 +1,4 @@
--- Lemmas that several proofs share, and that crates above can cite too.
+-- Lemmas that several proofs share. Other crates cite those of Public alone.
 pub mod NumberLemmas
 pub mod HistoryLemmas
 pub mod EntryLemmas
@@ -10,3 +10,5 @@ pub mod HeldLemmas
 pub mod StateLemmas
 pub mod ChargeLemmas
 pub mod TotalLemmas
+pub mod FillLemmas
+pub mod Public

@@ -17,7 +17,7 @@ use Rattle.upc_cell.specs.contracts.vc.VcOrd.TheImpl.{cmp-value}
 use Rattle.upc_cell.specs.Connection.{is_same_vc}
 use Rattle.upc_cell.proofs.Public.{vc_differs, vc_cases, vc_total, vc_exact, is_at-vc}
 use Rattle.line_record.specs.declared.directory.Seating.{Seating}
-use Rattle.line_record.specs.Seats.{is_same_id, seat_in, ChangesAt, HasEntries}
+use Rattle.line_record.specs.Seats.{seat_in, ChangesAt, HasEntries}
 use Rattle.line_record.specs.Directory.{DirectoryView, seat_of, IsOpenLine, IsDirectory}
 
 -- Look-ups.
@@ -142,17 +142,6 @@ Suits-moved old vc before after is at line incarnation =
       given = (omega arith, omega arith);
       alone = λ other another apart there same. apart (is.apart other vc another before there at (same ∙ line));
     }
-
--- Ids.
-
-pub id_same : (one other : Id) → is_same_id one other ≡ true → one ≡ other
-id_same one other e =
-    let slots : one.slot ≡ other.slot = grind (arith, nat_tests) in
-    let generations : one.generation ≡ other.generation = grind (arith, nat_tests) in
-    λ i. record { slot = slots i; generation = generations i }
-
-pub id_itself : (id : Id) → is_same_id id id ≡ true
-id_itself id = grind (arith, nat_tests)
 
 -- Where there is no such connection, nothing is moved.
 pub IsDirectory-moved : (old : DirectoryView) (new : List (Vc × Seating)) (vc : Vc) (program : Id)

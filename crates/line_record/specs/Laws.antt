@@ -1,16 +1,18 @@
 -- What ties the definitions to one another.
-use Rattle.std.specs.Prelude.{◌≡◌, ℕ, ◌^◌, ◌≤◌, Some, IfSome, List, [], ◌++◌, All, slice_get, slice_set}
+use Rattle.std.specs.Prelude.{◌≡◌, ℕ, ◌^◌, ◌≤◌, ◌==◌, ◌&&◌, Some, IfSome, List, [], ◌∷◌, ◌++◌, map, length, All, slice_get, slice_set}
 use Rattle.leaky.specs.declared.contract.Contract.{Contract}
 use Rattle.leaky.specs.declared.verdict.Verdict.{Verdict}
 use Rattle.leaky.specs.Moments.{GoesOn}
 use Rattle.leaky.specs.Contract.{Buckets, peak_of, second_of}
+use Rattle.leaky.specs.Arrivals.{charges_first, charges_second}
+use Rattle.leaky.specs.Bursts.{Fills}
 use Rattle.leaky.specs.Laws.{IsBounded}
 use Rattle.line_record.specs.declared.entry.Entry.{Entry}
 use Rattle.line_record.specs.declared.state.State.{State}
 use Rattle.line_record.specs.declared.tally.Tally.{Tally}
-use Rattle.line_record.specs.Tally.{counted, total}
-use Rattle.line_record.specs.History.{NamedCell, IsHistory, moments_of, numbered, empty_buckets, cells_of, judged}
-use Rattle.line_record.specs.Run.{StandsFor, IsRun}
+use Rattle.line_record.specs.Tally.{counted, number_of, cells_in, tally_of, plus, total, IsPart}
+use Rattle.line_record.specs.History.{NamedCell, IsHistory, moments_of, numbered, empty_buckets, cells_of, buckets_after, verdict_after, judged}
+use Rattle.line_record.specs.Run.{tallied, StandsFor, IsRun}
 use Rattle.line_record.specs.StateAfter.{IsStateAfter}
 use Rattle.line_record.specs.Bursts.{peak_charges, sustained_charges}
 
@@ -46,6 +48,32 @@ CellsAreJudgedInTurn = (contracts : List Contract) (opening : ℕ → Buckets)
     → judged contracts opening history (first ++ second)
     ≡ judged contracts opening history first ++ judged contracts opening (history ++ first) second
 
+-- each cell is judged once: the entries have as many verdicts as there are cells, and but for these
+-- they are the cells
+abbrev pub EachCellIsJudged : Type 0
+EachCellIsJudged = (contracts : List Contract) (opening : ℕ → Buckets)
+    → (history cells : List NamedCell)
+    → (length (judged contracts opening history cells) ≡ length cells)
+    × (cells_of (judged contracts opening history cells) ≡ cells)
+
+-- what one more cell does to the buckets of the contract of a number: the tests by which the bound
+-- below counts tell exactly which bucket the cell filled
+pub record FillsAsCounted (contract : Contract) (before after : Buckets) (number : ℕ) (cell : NamedCell) (verdict : Verdict) : Type 0 where
+  pub first : Fills (peak_of contract) before.first after.first cell.moment
+      ((cell.value == number) && charges_first verdict)
+  pub second : IfSome (second_of contract) (λ sustained. Fills sustained before.second after.second cell.moment
+      ((cell.value == number) && charges_second verdict contract cell.clp))
+
+-- so it is with every next cell of every history
+abbrev pub CountedCellsFill : Type 0
+CountedCellsFill = (contracts : List Contract) (opening : ℕ → Buckets)
+    → (history : List NamedCell) (cell : NamedCell)
+    → (number : ℕ) (contract : Contract) → numbered contracts number ≡ Some contract
+    → FillsAsCounted contract
+    (buckets_after contracts opening history number)
+    (buckets_after contracts opening (history ++ cell ∷ []) number)
+    number cell (verdict_after contracts opening history cell)
+
 -- The burst bound of ITU-T I.371, over a history from any buckets: of the cells that charged one
 -- bucket of a contract, at most 1 + (d + tau) div T have moments within any span d.
 abbrev pub HistoriesBoundBursts : Type 0
@@ -61,3 +89,27 @@ abbrev pub TotalsCount : Type 0
 TotalsCount = (tallies : List Tally) (place : ℕ) (tally : Tally) (verdict : Verdict)
     → slice_get tallies place ≡ Some tally
     → total (slice_set tallies place (counted tally verdict)) ≡ counted (total tallies) verdict
+
+-- the total of two lists of tallies, one behind the other, is both totals together
+abbrev pub TotalsJoin : Type 0
+TotalsJoin = (tallies others : List Tally)
+    → total (tallies ++ others) ≡ plus (total tallies) (total others)
+
+-- no tally has more cells of a verdict than one that it was added to, nor than a total that it is in
+pub record PartsAreWithin : Type 0 where
+  pub plus : (one other : Tally) → IsPart one (plus one other) × IsPart other (plus one other)
+  pub total : (tallies : List Tally) (place : ℕ) (tally : Tally)
+      → slice_get tallies place ≡ Some tally → IsPart tally (total tallies)
+
+-- verdicts that come in two parts are counted as both together, and one after others as one more
+pub record VerdictsCount : Type 0 where
+  pub join : (verdicts others : List Verdict)
+      → tally_of (verdicts ++ others) ≡ plus (tally_of verdicts) (tally_of others)
+  pub next : (verdicts : List Verdict) (verdict : Verdict)
+      → tally_of (verdicts ++ verdict ∷ []) ≡ counted (tally_of verdicts) verdict
+  pub cells : (verdicts : List Verdict) → cells_in (tally_of verdicts) ≡ length verdicts
+
+-- entries are counted as their verdicts are
+abbrev pub EntriesCount : Type 0
+EntriesCount = (counts : Tally) (entries : List Entry)
+    → tallied counts entries ≡ plus counts (tally_of (map (λ entry. entry.verdict) entries))

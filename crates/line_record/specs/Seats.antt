@@ -1,6 +1,5 @@
 -- Seatings by connection, as the list of a map's entries.
 use Rattle.std.specs.Prelude.{◌≡◌, ◌≢◌, Bool, ◌&&◌, ◌==◌, Option, Some, None, if◌then◌else◌, List, [], ◌∷◌, Contains}
-use Rattle.gen_arena.specs.declared.id.Id.{Id}
 use Rattle.upc_cell.specs.declared.vc.Vc.{Vc}
 use Rattle.upc_cell.specs.Connection.{is_same_vc}
 use Rattle.line_record.specs.declared.directory.Seating.{Seating}
@@ -9,10 +8,6 @@ use Rattle.line_record.specs.declared.directory.Seating.{Seating}
 abbrev pub seat_in : List (Vc × Seating) → Vc → Option Seating
 seat_in [] vc = None
 seat_in (seat ∷ later) vc = if is_same_vc vc seat.0 then Some seat.1 else seat_in later vc
-
--- both are the same slot and generation
-abbrev pub is_same_id : Id → Id → Bool
-is_same_id one other = (one.slot == other.slot) && (one.generation == other.generation)
 
 -- the new list has this at the connection, and all else as before
 pub record ChangesAt (old new : List (Vc × Seating)) (vc : Vc) (seat : Option Seating) : Type 0 where

@@ -1,5 +1,5 @@
 -- Counts of verdicts.
-use Rattle.std.specs.Prelude.{ℕ, ◌+◌, ◌^◌, ◌<◌, List, [], ◌∷◌}
+use Rattle.std.specs.Prelude.{ℕ, ◌+◌, ◌^◌, ◌<◌, ◌≤◌, List, [], ◌∷◌}
 use Rattle.leaky.specs.declared.verdict.Verdict.{Verdict}
 use Rattle.leaky.specs.declared.verdict.Verdict.TheVariants.{Pass, Tag, Discard, Refuse}
 use Rattle.line_record.specs.declared.tally.Tally.{Tally}
@@ -14,6 +14,11 @@ counted tally Pass = record tally { passed = tally.passed + 1 }
 counted tally Tag = record tally { tagged = tally.tagged + 1 }
 counted tally Discard = record tally { discarded = tally.discarded + 1 }
 counted tally Refuse = record tally { refused = tally.refused + 1 }
+
+-- the counts of these verdicts
+abbrev pub tally_of : List Verdict → Tally
+tally_of [] = nothing
+tally_of (verdict ∷ later) = counted (tally_of later) verdict
 
 -- the number of the cells with this verdict
 abbrev pub number_of : Tally → Verdict → ℕ
@@ -46,3 +51,17 @@ plus one other = record {
 abbrev pub total : List Tally → Tally
 total [] = nothing
 total (tally ∷ later) = plus tally (total later)
+
+-- each number is below 2^64, so that a program can hold it
+pub record FitsWords (tally : Tally) : Type 0 where
+  pub passed : tally.passed < 2 ^ 64
+  pub tagged : tally.tagged < 2 ^ 64
+  pub discarded : tally.discarded < 2 ^ 64
+  pub refused : tally.refused < 2 ^ 64
+
+-- of each verdict the part has at most as many cells as the whole
+pub record IsPart (part whole : Tally) : Type 0 where
+  pub passed : part.passed ≤ whole.passed
+  pub tagged : part.tagged ≤ whole.tagged
+  pub discarded : part.discarded ≤ whole.discarded
+  pub refused : part.refused ≤ whole.refused

@@ -1,7 +1,8 @@
 ghost use Rattle.std.specs.Prelude.{◌≡◌, ◌==◌, Some, IfSome, IfNone, option_map};
 ghost use Rattle.std.specs.List.{list_any};
 ghost use Rattle.std.specs.BTreeMap.{values};
-ghost use Rattle.line_record.specs.Seats.{seat_in, is_same_id, ChangesAt, HasEntries};
+ghost use Rattle.line_record.specs.Seats.{seat_in, ChangesAt, HasEntries};
+ghost use Rattle.gen_arena.specs.SameId.{is_same_id};
 
 use crate::fault::DirFault;
 use gen_arena::Id;

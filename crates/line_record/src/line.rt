@@ -16,7 +16,7 @@ use std::mem;
 /// How many cells are judged on one line at most: 2^62.
 pub const MOST_CELLS: u64 = 4611686018427387904;
 
-/// How many entries a journal has at most.
+/// How many entries a journal has at most: 65,536.
 pub const MOST_ENTRIES: u32 = 65536;
 
 /// A line of the card: the connection that it serves, if any, with its contracts and their state,
@@ -65,7 +65,7 @@ impl Line {
     /// `NoMemory`, where the memory is refused.
     pub fn new(alloc: Global, journal: u32) -> Result<Self, LineFault>
         requires some { 1 ≤ journal }
-        requires most { journal ≤ 65536 }
+        requires most { journal ≤ MOST_ENTRIES }
         ensures made { IfOk result (λ line. line ≡ free_line journal nothing false) }
         ensures no_memory { IfErr result (λ fault. fault ≡ LineFault.NoMemory) }
     {

@@ -64,8 +64,9 @@ impl State {
         }
     }
 
-    // Whether both states are the same.
-    pub(crate) fn is_same(&self, other: &State) -> bool
+    /// Whether both states are the same. It is what `==` answers, under a contract that another
+    /// crate can use.
+    pub fn is_same(&self, other: &State) -> bool
         ensures { IsTrue result ↔ (self.now ≡ other.now) }
     {
         same_levels(self.levels.as_slice(), other.levels.as_slice())

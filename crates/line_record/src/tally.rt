@@ -12,7 +12,7 @@ pub struct Tally {
 
 impl Tally {
     ghost use Rattle.std.specs.Prelude.{◌≡◌, ◌+◌, ◌^◌, ◌<◌, ◌↔◌, IsTrue};
-    ghost use Rattle.line_record.specs.Tally.{nothing, counted, number_of, cells_in, HasRoom};
+    ghost use Rattle.line_record.specs.Tally.{nothing, counted, number_of, cells_in, plus, total, HasRoom, FitsWords};
 
     /// The tally of no cell.
     #[inline]
@@ -72,5 +72,31 @@ impl Tally {
             && self.tagged < MOST_CELLS
             && self.discarded < MOST_CELLS
             && self.refused < MOST_CELLS
+    }
+
+    /// Both tallies together.
+    #[inline]
+    pub fn plus(self, other: Tally) -> Tally
+        requires { FitsWords (plus self other) }
+        ensures { result ≡ plus self other }
+    {
+        Tally {
+            passed: self.passed + other.passed,
+            tagged: self.tagged + other.tagged,
+            discarded: self.discarded + other.discarded,
+            refused: self.refused + other.refused,
+        }
+    }
+
+    /// All these tallies together, and the tally of no cell where there is none.
+    pub fn total(tallies: &[Tally]) -> Tally
+        requires { FitsWords (total tallies.now) }
+        ensures { result ≡ total tallies.now }
+    {
+        let mut sum = Tally::new();
+        for tally in tallies {
+            sum = sum.plus(*tally);
+        }
+        sum
     }
 }

@@ -7,7 +7,7 @@ use gen_arena::Id;
 use leaky::{Contract, Gcra, LAST_MOMENT, Verdict};
 use std::alloc::Global;
 use std::test::Fail;
-use upc_cell::Vc;
+use upc_cell::{Side, Vc};
 
 fn program(slot: u16) -> Id {
     Id {
@@ -187,12 +187,108 @@ fn lines_and_directories_cross_threads() {
 #[test]
 fn faults_are_printed_by_number_and_name(rt: HostRuntime) -> Result<(), Fail> {
     let text = format!(in rt.alloc();
-        "{}, {}, {}",
+        "{}, {}, {}, {}",
+        LineFault::TooLate,
         LineFault::Back(5),
         LineFault::Full,
-        DirFault::BadFirst
+        LineFault::NoMemory
     )?;
-    assert_eq!(rt; text.as_str(), "2 Back 5, 3 Full, 2 BadFirst");
+    assert_eq!(rt; text.as_str(), "1 TooLate, 2 Back 5, 3 Full, 4 NoMemory");
+    let text = format!(in rt.alloc();
+        "{}, {}, {}",
+        DirFault::NoLines,
+        DirFault::BadFirst,
+        DirFault::NoMemory
+    )?;
+    assert_eq!(rt; text.as_str(), "1 NoLines, 2 BadFirst, 3 NoMemory");
+    Ok(())
+}
+
+// The largest journal, which is filled, handed out by a cut, and handed out again at the end.
+#[test]
+fn the_largest_journal_is_filled_cut_and_closed(rt: HostRuntime) -> Result<(), Fail> {
+    let mut line = policed_line(rt.alloc(), MOST_ENTRIES)?;
+    for moment in 0..u64::from(MOST_ENTRIES) {
+        verdict(&mut line, moment, 1)?;
+    }
+    assert_eq!(rt; verdict(&mut line, LAST_MOMENT, 1), Err(LineFault::Full));
+    let first = line.cut()?;
+    assert_eq!(rt; first.entries().len(), 65536);
+    assert_eq!(rt; verdict(&mut line, LAST_MOMENT, 1), Ok(Verdict::Pass));
+    let second = line.close();
+    assert_eq!(rt; second.entries().len(), 1);
+    assert!(rt; first.end().is_same(second.start()));
+    assert!(rt; !first.end().is_same(second.end()));
+    Ok(())
+}
+
+#[test]
+fn tallies_are_added(rt: HostRuntime) {
+    let one = Tally {
+        passed: 1,
+        tagged: 2,
+        discarded: 3,
+        refused: 4,
+    };
+    let other = Tally {
+        passed: 10,
+        tagged: 20,
+        discarded: 30,
+        refused: 40,
+    };
+    let both = Tally {
+        passed: 11,
+        tagged: 22,
+        discarded: 33,
+        refused: 44,
+    };
+    assert_eq!(rt; one.plus(other), both);
+    assert_eq!(rt; Tally::total(&[one, other, Tally::new()]), both);
+    assert_eq!(rt; Tally::total(&[]), Tally::new());
+}
+
+// A path between nodes of the network has twelve bits.
+#[test]
+fn connections_between_nodes_are_found_by_their_whole_path(rt: HostRuntime) -> Result<(), Fail> {
+    let mut directory = Directory::new(rt.alloc(), 2, 1)?;
+    let user = Vc::new(255, 65535)?;
+    let node = Vc::new_at(Side::Nni, 4095, 65535)?;
+    assert_eq!(rt; directory.put(node, 0, program(0)), Ok(1));
+    assert_eq!(rt; directory.find(user), None);
+    assert_eq!(rt; directory.put(user, 1, program(0)), Ok(2));
+    assert_eq!(rt; directory.find(node).map(|seat| seat.line), Some(0));
+    assert_eq!(rt; directory.take(user).map(|seat| seat.line), Some(1));
+    let one = Owner {
+        vc: node,
+        incarnation: 1,
+    };
+    assert!(rt;
+        same_owner(
+            one,
+            Owner {
+                vc: node,
+                incarnation: 1
+            }
+        )
+    );
+    assert!(rt;
+        !same_owner(
+            one,
+            Owner {
+                vc: node,
+                incarnation: 2
+            }
+        )
+    );
+    assert!(rt;
+        !same_owner(
+            one,
+            Owner {
+                vc: user,
+                incarnation: 1
+            }
+        )
+    );
     Ok(())
 }
 

@@ -1,9 +1,10 @@
 use Rattle.std.proofs.Common.{◌≡◌, Bool, true, ap, sym, subst, ◌∙◌}
 use Rattle.gen_arena.specs.declared.id.Id.{Id}
 use Rattle.line_record.specs.declared.directory.Seating.{Seating}
-use Rattle.line_record.specs.Seats.{is_same_id}
+use Rattle.gen_arena.specs.SameId.{is_same_id}
+use Rattle.gen_arena.proofs.Public.{id_same, id_itself}
 use Rattle.line_record.specs.Directory.{DirectoryView, IsNamed}
-use Rattle.line_record.proofs.SeatLemmas.{seat_found, seat_passes, id_same, id_itself}
+use Rattle.line_record.proofs.SeatLemmas.{seat_found, seat_passes}
 use Rattle.line_record.proofs.directory.Directory.names.Goals as goal
 
 pub returns : goal.returns
