@@ -1,2 +1,4 @@
 pub mod OwnerLemmas
 pub mod Sound
+pub mod LookUps
+pub mod SoundSteps

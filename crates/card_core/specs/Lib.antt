@@ -7,5 +7,6 @@ pub mod Steps
 pub mod Log
 pub mod Agreement
 pub mod Headline
+pub mod Laws
 pub mod Sections
 pub mod inner

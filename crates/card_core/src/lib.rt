@@ -7,6 +7,7 @@ mod ask;
 mod desk;
 mod fault;
 mod judging;
+pub mod laws;
 mod naming;
 mod reply;
 mod shape;

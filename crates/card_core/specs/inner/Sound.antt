@@ -1,5 +1,5 @@
 -- What every world keeps that a log leads to. `law` proves it; the proofs of the core's steps use it.
-use Rattle.std.specs.Prelude.{◌≡◌, ℕ, ◌^◌, ◌<◌, ◌≤◌, List, length, Option, Some, IsSome, Contains, slice_get}
+use Rattle.std.specs.Prelude.{◌≡◌, ℕ, ◌^◌, ◌<◌, ◌≤◌, List, length, Option, Some, IsSome, All, Contains, slice_get}
 use Rattle.upc_cell.specs.declared.vc.Vc.{Vc}
 use Rattle.upc_cell.specs.Connection.{vc_of}
 use Rattle.bpf_code.specs.declared.instr.Instr.{Instr}
@@ -20,7 +20,7 @@ pub record SoundPrograms (world : World) : Type 0 where
   pub accepted : (id : Id) (code : List Instr) → code_in world.given id ≡ Some code → IsAccepted code
 
 -- One connection: its line is one of the card's, its incarnation one of those that were given, its
--- program is live, it has a contract, and its history's moments don't go back.
+-- program is live, it has a contract, and its history's moments don't go back and are at most 2^62.
 pub record SoundConnection (world : World) (connection : Connection) : Type 0 where
   pub within : connection.line < world.shape.lines
   pub first : 1 ≤ connection.incarnation
@@ -28,6 +28,7 @@ pub record SoundConnection (world : World) (connection : Connection) : Type 0 wh
   pub named_live : IsSome (code_in world.live connection.program)
   pub some : 0 < length connection.contracts
   pub history : IsHistory connection.history
+  pub early : All (λ cell. cell.moment ≤ 2 ^ 62) connection.history
   pub handed : connection.handed ≤ length connection.history
   pub counted : length connection.history ≤ length (world.judged connection.line)
 
