@@ -2,3 +2,4 @@ pub mod OwnerLemmas
 pub mod Sound
 pub mod LookUps
 pub mod SoundSteps
+pub mod GivenOnce

@@ -36,7 +36,7 @@ replicated zero k x y e = absurd (cc)
 replicated (suc n) zero x y e = same_some x y e
 replicated (suc n) (suc k) x y e = replicated n k x y e
 
-opening-sound : (shape : Shape) → IsSound (opening_world shape)
+pub opening-sound : (shape : Shape) → IsSound (opening_world shape)
 opening-sound shape = record {
   programs = record {
     once = λ id code e. absurd (cc);
