@@ -1,4 +1,7 @@
 pub mod ConnectionLemmas
+pub mod DeskLemmas
+pub mod DeskSteps
+pub mod SetupSteps
 pub mod Follow
 pub mod GivenOnce
 pub mod JudgeLemmas
