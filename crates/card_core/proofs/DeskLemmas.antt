@@ -1,13 +1,19 @@
 -- Pieces, and a line at its connection's setup and cut.
-use Rattle.std.proofs.Common.{◌≡◌, ℕ, ◌-◌, Option, Some, None, List, [], ◌∷◌, length, take, drop, refl, sym, ap, subst, ◌∙◌, arith}
-use Rattle.std.proofs.lemmas.List.{take-append-drop}
+use Rattle.std.proofs.Common.{◌≡◌, ◌≢◌, ℕ, ◌-◌, false, Option, Some, None, List, [], ◌∷◌, length, take, drop, refl, sym, ap, subst, ◌∙◌, arith}
+use Rattle.std.specs.Prelude.{Result, Ok, Err, MatchResult, IfOk, OnOk, OnErr}
+use Rattle.line_record.specs.declared.directory.Seating.{Seating}
+use Rattle.line_record.specs.Directory.{DirectoryView, Sits}
+use Rattle.card_core.specs.declared.fault.DeskFault.{DeskFault}
+use Rattle.card_core.specs.declared.fault.DeskFault.TheVariants.{Stale}
+use Rattle.card_core.specs.Sections.{holder}
+use Rattle.card_core.specs.inner.Parts.{ReleasesOrRefuses}
 use Rattle.leaky.specs.declared.contract.Contract.{Contract}
 use Rattle.leaky.specs.declared.verdict.Verdict.{Verdict}
 use Rattle.upc_cell.specs.declared.vc.Vc.{Vc}
 use Rattle.line_record.specs.declared.owner.Owner.{Owner}
 use Rattle.line_record.specs.declared.state.State.{State}
 use Rattle.line_record.specs.History.{NamedCell, empty_buckets, judged}
-use Rattle.line_record.specs.Line.{LineView, Opens}
+use Rattle.line_record.specs.Line.{LineView, Opens, free_line}
 use Rattle.line_record.specs.Piece.{PieceView, IsJournalOf}
 use Rattle.line_record.specs.StateAfter.{IsStateAfter}
 use Rattle.line_record.specs.Tally.{tally_of}
@@ -72,3 +78,15 @@ open-serves ask number incarnation line next owner verdicts given opens history 
   counts_before = ap (λ (state : State). state.counts) opens.start ∙ opens.state.counts ∙ counts ∙ ap tally_of (sym (take-less verdicts));
   state = history;
 }
+
+-- What a release on lent parts did, in one match.
+pub releases : (old new : DirectoryView) (vc : Vc) (seat : Seating) (line next : LineView) (result : Result PieceView DeskFault)
+    → MatchResult result (λ piece. line.owner ≡ Some (holder vc seat)) (λ fault. (fault ≡ Stale) × (line.owner ≢ Some (holder vc seat)))
+    → IfOk result (λ piece. IsJournalOf line piece) → OnOk result (Sits old vc None new)
+    → OnOk result (next ≡ free_line line.journal line.state.counts false)
+    → OnErr result (new ≡ old) → OnErr result (next ≡ line) → new.used ≡ old.used
+    → ReleasesOrRefuses old new vc seat result line next
+releases old new vc seat line next (Ok piece) served journal gone freed same_directory same_line used =
+    record { journal = journal; gone = gone; used = used; freed = freed }
+releases old new vc seat line next (Err fault) served journal gone freed same_directory same_line used =
+    (served.0, served.1, same_directory, same_line)

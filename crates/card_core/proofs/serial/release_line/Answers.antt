@@ -1,6 +1,7 @@
 use Rattle.std.proofs.Common.{◌≡◌, ◌<◌, ℕ, Some, List, length, refl, sym, ap, subst, ◌∙◌, arith}
 use Rattle.std.specs.Prelude.{slice_get, slice_set}
 use Rattle.std.proofs.lemmas.Option.{slice_get_read}
+use Rattle.card_core.proofs.DeskLemmas.{releases}
 use Rattle.card_core.proofs.serial.release_line.Goals as goal
 
 pub returns-clause-line : goal.returns-clause-line
@@ -13,6 +14,8 @@ returns-clause-line c =
       there = subst (λ (n : ℕ). slice_get lines n ≡ Some line) c.from.ensures
           (slice_get_read lines (length lines) c.from.result line refl within c.index_mut-line.ensures.value);
       next = c.release.new.line;
-      did = ?;
+      did = releases c.args.directory.now c.release.new.directory c.args.vc c.args.seating.now line c.release.new.line c.release.result
+          (c.release.ensures.served c.args.seating.now c.requires.sits) c.release.ensures.piece c.release.ensures.gone c.release.ensures.freed
+          c.release.ensures.directory_unchanged c.release.ensures.line_unchanged c.release.ensures.used;
       after = ap (λ (n : ℕ). slice_set lines n c.release.new.line) c.from.ensures;
     }
