@@ -3,3 +3,8 @@ pub mod Sound
 pub mod LookUps
 pub mod SoundSteps
 pub mod GivenOnce
+pub mod CellLemmas
+pub mod Told
+pub mod Telling
+pub mod Knows
+pub mod Promise

@@ -1,6 +1,7 @@
 //! Laws over the worlds and logs of a card. These functions do nothing: each stands for the law that
 //! is its contract.
 
+ghost use Rattle.card_core.specs.Headline.{EachJudgedCellIsPromised};
 ghost use Rattle.card_core.specs.Laws.{NamedProgramsAreLive, IdsAreGivenOnce, IdsNameOneCode, ConnectionsAreApart, ConnectionsBoundBursts};
 
 /// Each connection and each picked cell names a live program.
@@ -27,4 +28,9 @@ pub fn connections_are_apart()
 /// tagged by one contract, by its bucket 1.
 pub fn connections_bound_bursts()
     ensures { ConnectionsBoundBursts }
+{}
+
+/// The headline: wherever a log has a judged cell, what is promised of it holds.
+pub fn each_judged_cell_is_promised()
+    ensures { EachJudgedCellIsPromised }
 {}
