@@ -14,7 +14,7 @@ use Rattle.line_record.specs.History.{empty_buckets, judged}
 use Rattle.line_record.specs.Line.{LineView}
 use Rattle.line_record.specs.StateAfter.{IsStateAfter}
 use Rattle.card_core.specs.declared.shape.Shape.{Shape}
-use Rattle.card_core.specs.Standin.{tally_of}
+use Rattle.line_record.specs.Tally.{tally_of}
 use Rattle.card_core.specs.declared.reply.Reply.{Reply}
 use Rattle.card_core.specs.declared.step.Step.{Step}
 use Rattle.card_core.specs.Log.{Event, Leads}

@@ -1,6 +1,5 @@
 -- The card in whole histories, what its steps do, what a log of them tells, and when a core agrees
 -- with it. To be read in the order World, Refusals, Steps, Log, Agreement, Headline.
-pub mod Standin
 pub mod World
 pub mod Refusals
 pub mod Steps

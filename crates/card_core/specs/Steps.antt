@@ -23,7 +23,7 @@ use Rattle.card_core.specs.declared.step.Step.{Step}
 use Rattle.card_core.specs.declared.step.Step.TheVariants.{Enter, Pick, Judge, Load, Retire, Setup, Reload, Release, Cut}
 use Rattle.upc_cell.specs.Connection.{vc_of}
 use Rattle.upc_cell.specs.Header.{has_low_priority}
-use Rattle.card_core.specs.Standin.{tally_of}
+use Rattle.line_record.specs.Tally.{tally_of}
 use Rattle.card_core.specs.World.{World, Loading, Connection, Picking, outside, entered, picked, code_in, without_code, times_given, handed_cells, kept_cells, verdicts_before, connection_in, without_connection, with_connection, with_port, with_verdict, is_open_slot, is_open_line}
 use Rattle.card_core.specs.Refusals.{refusal}
 

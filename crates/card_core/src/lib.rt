@@ -9,7 +9,9 @@ mod fault;
 mod judging;
 pub mod laws;
 mod naming;
+mod port;
 mod reply;
+mod serial;
 mod shape;
 mod step;
 
@@ -20,5 +22,6 @@ pub use fault::{CardFault, DeskFault};
 pub use judging::judge_at;
 pub use naming::{Named, Store, name, pick};
 pub use reply::Reply;
+pub use serial::Core;
 pub use shape::Shape;
 pub use step::Step;
