@@ -12,6 +12,7 @@ pub mod PickSteps
 pub mod PortLemmas
 pub mod PortSteps
 pub mod Promise
+pub mod Replies
 pub mod Sound
 pub mod SoundSteps
 pub mod Telling

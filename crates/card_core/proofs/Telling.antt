@@ -425,12 +425,12 @@ tells-cuts shape before vc reply after w =
 -- Refusals.
 
 -- what passes a chain of tests, of which each refuses with something of this kind
-refused_by : {X : Type 0} (P : X → Type 0) (test : Bool) (refused : X) (rest : Option X) → P refused
+pub refused_by : {X : Type 0} (P : X → Type 0) (test : Bool) (refused : X) (rest : Option X) → P refused
     → ((x : X) → rest ≡ Some x → P x) → (x : X) → cond test (Some refused) rest ≡ Some x → P x
 refused_by P true refused rest here later x e = subst P (same_some refused x e) here
 refused_by P false refused rest here later x e = later x e
 
-mapped : {X Y : Type 0} (f : X → Y) (o : Option X) (y : Y) → option_map f o ≡ Some y → (x : X) × (o ≡ Some x) × (y ≡ f x)
+pub mapped : {X Y : Type 0} (f : X → Y) (o : Option X) (y : Y) → option_map f o ≡ Some y → (x : X) × (o ≡ Some x) × (y ≡ f x)
 mapped f None y e = absurd (cc)
 mapped f (Some x) y e = (x, refl, sym (same_some (f x) y e))
 

@@ -1,5 +1,5 @@
 -- What holds of every world that a log leads to.
-use Rattle.std.specs.Prelude.{◌≡◌, ℕ, List, [], Some, IsSome, slice_get}
+use Rattle.std.specs.Prelude.{◌≡◌, ℕ, Bool, true, false, ⊤, List, [], ◌++◌, Some, IsSome, slice_get}
 use Rattle.upc_cell.specs.declared.vc.Vc.{Vc}
 use Rattle.bpf_code.specs.declared.instr.Instr.{Instr}
 use Rattle.bpf_verify.specs.Accepted.{IsAccepted}
@@ -9,8 +9,16 @@ use Rattle.leaky.specs.Contract.{peak_of}
 use Rattle.leaky.specs.Laws.{IsBounded}
 use Rattle.line_record.specs.History.{numbered, empty_buckets, judged}
 use Rattle.line_record.specs.Bursts.{peak_charges}
+use Rattle.card_core.specs.declared.answer.Answer.TheVariants.{NoMemory as CellMemory}
+use Rattle.card_core.specs.declared.ask.Ask.{Ask}
+use Rattle.card_core.specs.declared.fault.DeskFault.TheVariants.{NoMemory}
+use Rattle.card_core.specs.declared.reply.Reply.{Reply}
+use Rattle.card_core.specs.declared.reply.Reply.TheVariants.{Answered, NotLoaded, NotSetUp, Refused}
 use Rattle.card_core.specs.declared.shape.Shape.{Shape}
+use Rattle.card_core.specs.declared.step.Step.{Step}
+use Rattle.card_core.specs.declared.step.Step.TheVariants.{Load}
 use Rattle.card_core.specs.World.{World, Loading, Connection, Picking, picked, code_in, connection_in}
+use Rattle.card_core.specs.Steps.{WorldStep}
 use Rattle.card_core.specs.Log.{Event, Run, Leads}
 
 -- The program of each connection is live, and so is that of each port's picked cell, although its
@@ -66,3 +74,22 @@ ConnectionsBoundBursts = (shape : Shape) (log : List Event) (world : World) → 
     → (number : ℕ) (contract : Contract) → numbered connection.contracts number ≡ Some contract
     → (first span : ℕ)
     → IsBounded first span (peak_charges number (judged connection.contracts empty_buckets [] connection.history)) (peak_of contract)
+
+-- The reply says that memory was refused.
+abbrev pub is_of_memory : Reply → Bool
+is_of_memory (Answered CellMemory) = true
+is_of_memory (NotLoaded NoMemory code) = true
+is_of_memory (NotSetUp NoMemory ask) = true
+is_of_memory (Refused NoMemory) = true
+is_of_memory _ = false
+
+-- The code of a step that loads one is accepted, as every program's is.
+abbrev pub LoadsAccepted : Step → Type 0
+LoadsAccepted (Load code) = IsAccepted code
+LoadsAccepted _ = ⊤
+
+-- In every world each step has a reply that says nothing of memory: what was begun can be ended.
+abbrev pub StepsHaveReplies : Type 0
+StepsHaveReplies = (shape : Shape) (log : List Event) (world : World) → Leads shape log world
+    → (step : Step) → LoadsAccepted step
+    → (reply : Reply) × (after : World) × WorldStep world step reply after × (is_of_memory reply ≡ false)

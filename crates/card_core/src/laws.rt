@@ -2,7 +2,7 @@
 //! is its contract.
 
 ghost use Rattle.card_core.specs.Headline.{EachJudgedCellIsPromised};
-ghost use Rattle.card_core.specs.Laws.{NamedProgramsAreLive, IdsAreGivenOnce, IdsNameOneCode, ConnectionsAreApart, ConnectionsBoundBursts};
+ghost use Rattle.card_core.specs.Laws.{NamedProgramsAreLive, IdsAreGivenOnce, IdsNameOneCode, ConnectionsAreApart, ConnectionsBoundBursts, StepsHaveReplies};
 
 /// Each connection and each picked cell names a live program.
 pub fn named_programs_are_live()
@@ -28,6 +28,11 @@ pub fn connections_are_apart()
 /// tagged by one contract, by its bucket 1.
 pub fn connections_bound_bursts()
     ensures { ConnectionsBoundBursts }
+{}
+
+/// Each step has a reply in every world, and none need be for want of memory.
+pub fn steps_have_replies()
+    ensures { StepsHaveReplies }
 {}
 
 /// The headline: wherever a log has a judged cell, what is promised of it holds.
