@@ -7,6 +7,7 @@ pub mod JudgeSteps
 pub mod Knows
 pub mod LineLemmas
 pub mod LookUps
+pub mod OneAnswer
 pub mod OwnerLemmas
 pub mod PickSteps
 pub mod PortLemmas
@@ -15,5 +16,6 @@ pub mod Promise
 pub mod Replies
 pub mod Sound
 pub mod SoundSteps
+pub mod Standing
 pub mod Telling
 pub mod Told

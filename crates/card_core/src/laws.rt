@@ -2,7 +2,7 @@
 //! is its contract.
 
 ghost use Rattle.card_core.specs.Headline.{EachJudgedCellIsPromised};
-ghost use Rattle.card_core.specs.Laws.{NamedProgramsAreLive, IdsAreGivenOnce, IdsNameOneCode, ConnectionsAreApart, ConnectionsBoundBursts, StepsHaveReplies};
+ghost use Rattle.card_core.specs.Laws.{NamedProgramsAreLive, IdsAreGivenOnce, IdsNameOneCode, ConnectionsAreApart, ConnectionsBoundBursts, StepsHaveReplies, ConnectionsAreAsTold, PromisesLeaveOneAnswer};
 
 /// Each connection and each picked cell names a live program.
 pub fn named_programs_are_live()
@@ -38,4 +38,14 @@ pub fn steps_have_replies()
 /// The headline: wherever a log has a judged cell, what is promised of it holds.
 pub fn each_judged_cell_is_promised()
     ensures { EachJudgedCellIsPromised }
+{}
+
+/// The headline leaves one answer to a judged cell, but for the line.
+pub fn promises_leave_one_answer()
+    ensures { PromisesLeaveOneAnswer }
+{}
+
+/// The connections are those of which the log tells, with what it tells of them.
+pub fn connections_are_as_told()
+    ensures { ConnectionsAreAsTold }
 {}
