@@ -1,5 +1,7 @@
 pub mod CellLemmas
 pub mod ConnectionLemmas
+pub mod DeskLemmas
+pub mod DeskSteps
 pub mod Follow
 pub mod GivenOnce
 pub mod JudgeLemmas
@@ -14,8 +16,11 @@ pub mod PortLemmas
 pub mod PortSteps
 pub mod Promise
 pub mod Replies
+pub mod SetupSteps
 pub mod Sound
 pub mod SoundSteps
 pub mod Standing
+pub mod StoreLemmas
+pub mod StoreSteps
 pub mod Telling
 pub mod Told
