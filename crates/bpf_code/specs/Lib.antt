@@ -6,3 +6,4 @@ pub mod Operands
 pub mod Scratch
 pub mod Spelling
 pub mod Table
+pub mod Widths

@@ -2,7 +2,10 @@
 
 ghost use Rattle.std.specs.Prelude.{◌≡◌, ◌≢◌, ◌⊎◌, ℕ, List};
 ghost use Rattle.bpf_code.specs.Decoding.{IsFaultOf};
+ghost use Rattle.bpf_code.specs.Encoding.{code_octets};
+ghost use Rattle.bpf_code.specs.Flow.{StandsAt};
 ghost use Rattle.bpf_code.specs.Spelling.{SpellsCode, SpellsPlainly};
+ghost use Rattle.bpf_code.specs.Widths.{FitsFields};
 ghost use Rattle.bpf_code.specs.declared.decoder.DecodeFault.{DecodeFault as TheFault};
 ghost use Rattle.bpf_code.specs.declared.instr.Instr.{Instr};
 
@@ -24,4 +27,24 @@ pub fn octets_spell_a_code_or_are_faulty()
 pub fn plain_octets_spell_their_code()
     ensures { (octets : List ℕ) (code : List Instr) → SpellsPlainly octets code
         → SpellsCode octets code × ((other : List Instr) → SpellsCode octets other → other ≡ code) }
+{}
+
+/// Octets that spell a code have no fault but want of memory.
+pub fn octets_of_a_code_have_no_fault()
+    ensures { (octets : List ℕ) (code : List Instr) (fault : TheFault) → SpellsCode octets code
+        → fault ≢ DecodeFault.NoMemory → ¬ IsFaultOf octets fault }
+{}
+
+/// Octets have at most one fault that isn't want of memory.
+pub fn octets_have_one_fault()
+    ensures { (octets : List ℕ) (one other : TheFault)
+        → one ≢ DecodeFault.NoMemory → other ≢ DecodeFault.NoMemory
+        → IsFaultOf octets one → IsFaultOf octets other → one ≡ other }
+{}
+
+/// The octets that `encode` writes for a code spell it, with 0 in the fields that an instruction doesn't
+/// use, where each instruction fits the fields that it uses.
+pub fn written_octets_spell_their_code()
+    ensures { (code : List Instr) → ((place : ℕ) (i : Instr) → StandsAt code place i → FitsFields i)
+        → SpellsPlainly (code_octets code) code }
 {}

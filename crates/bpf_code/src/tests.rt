@@ -1,4 +1,4 @@
-use crate::{By, DecodeFault, Instr, Op, Size, Test, decode, decode_one, encode, encode_one};
+use crate::*;
 use std::test::Fail;
 
 /// The operand that the table's test writes into every instruction.
@@ -145,22 +145,46 @@ fn a_program_is_read_and_written_in_order(rt: HostRuntime) -> Result<(), Fail> {
     Ok(())
 }
 
+/// As many octets as a line of 70,000 characters and more could spell.
+const MANY_OCTETS: usize = 80_008;
+
 #[test]
-fn faults_print_their_number_and_name(rt: HostRuntime) -> Result<(), Fail> {
+fn a_long_code_is_read_and_written(rt: HostRuntime) -> Result<(), Fail> {
+    let octets = vec![in rt.alloc(); 0u8; MANY_OCTETS]?;
+    let code = decode(rt.alloc(), &octets)?;
+    assert_eq!(rt; code.len(), 10_001);
+    assert!(rt; code.iter().all(|instr| *instr == Instr::LoadImm(0)));
+    let written = encode(rt.alloc(), &code)?;
+    assert_eq!(rt; written.as_slice(), octets.as_slice());
+    Ok(())
+}
+
+#[test]
+fn refused_octets_name_their_fault(rt: HostRuntime) -> Result<(), Fail> {
     let ragged = decode(rt.alloc(), &[0; 12]).err().ok_or("refused")?;
-    assert_eq!(rt; format!(in rt.alloc(); "{ragged}")?.as_str(), "1 Ragged");
-    let octets = [0x00, 0x0e, 0x00, 0x00, 0x00, 0x00, 0x00, 0x00];
+    assert_eq!(rt; ragged, DecodeFault::Ragged);
+    let octets = [0, 7, 0, 0, 0, 0, 0, 0, 0, 0x0e, 0, 0, 0, 0, 0, 0];
     let unknown = decode(rt.alloc(), &octets).err().ok_or("refused")?;
-    assert_eq!(rt;
-        unknown,
-        DecodeFault::UnknownCode {
-            at: 0,
-            code: 0x000e
-        }
-    );
-    assert_eq!(rt;
-        format!(in rt.alloc(); "{unknown}")?.as_str(),
-        "2 UnknownCode 0 000e"
-    );
+    let code = 0x000e;
+    assert_eq!(rt; unknown, DecodeFault::UnknownCode { at: 1, code });
+    Ok(())
+}
+
+#[test]
+fn each_fault_prints_its_number_and_name(rt: HostRuntime) -> Result<(), Fail> {
+    let alloc = rt.alloc();
+    let (at, code) = (1000, 0x000e);
+    for (fault, line) in [
+        (DecodeFault::Ragged, "1 Ragged"),
+        (
+            DecodeFault::UnknownCode { at, code },
+            "2 UnknownCode 1000 000e",
+        ),
+        (DecodeFault::NoMemory, "3 NoMemory"),
+    ] {
+        assert_eq!(rt; format!(in alloc; "{fault}")?.as_str(), line);
+    }
+    let full = EncodeFault::NoMemory;
+    assert_eq!(rt; format!(in alloc; "{full}")?.as_str(), "1 NoMemory");
     Ok(())
 }

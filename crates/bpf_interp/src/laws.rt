@@ -14,14 +14,17 @@ pub fn a_value_is_the_end_of_a_run()
 {}
 
 /// A code has at most one value on a packet, in one number of steps.
-pub fn a_code_has_one_value()
+pub fn a_code_has_at_most_one_value()
     ensures { (code : List Instr) (packet : List ℕ) (one other one_steps other_steps : ℕ) →
         Value code packet one one_steps → Value code packet other other_steps →
         (one ≡ other) × (one_steps ≡ other_steps) }
 {}
 
-/// An accepted code has a value on every packet, within as many steps as it has instructions.
-pub fn an_accepted_code_has_a_value()
+/// An accepted code has exactly one value on every packet, within as many steps as it has
+/// instructions.
+pub fn an_accepted_code_has_one_value()
     ensures { (code : List Instr) (packet : List ℕ) → IsAccepted code →
-        (value steps : ℕ) × Value code packet value steps × (steps ≤ length code) }
+        (value steps : ℕ) × Value code packet value steps × (steps ≤ length code)
+        × ((other other_steps : ℕ) → Value code packet other other_steps
+        → (other ≡ value) × (other_steps ≡ steps)) }
 {}

@@ -4,4 +4,5 @@ pub mod InOrder
 pub mod Masks
 pub mod Onward
 pub mod Places
+pub mod Public
 pub mod Visit

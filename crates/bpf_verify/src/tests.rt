@@ -32,22 +32,43 @@ fn fault_in(code: Vec<Instr>) -> Option<Fault> {
     verify(code).err().map(|refused| refused.fault)
 }
 
-/// That a code comes back with this fault, and that the fault has this line.
-fn assert_refused(
-    rt: &impl Abort,
-    code: Vec<Instr>,
-    fault: Fault,
-    line: &str,
-    alloc: Global,
-) -> Result<(), AllocError> {
+/// That a code comes back with this fault.
+fn assert_refused(rt: &impl Abort, code: Vec<Instr>, fault: Fault) -> Result<(), AllocError> {
     let copy = code.clone()?;
     match verify(code) {
-        Ok(_) => assert!(rt; false, "accepted in place of {line}"),
+        Ok(_) => assert!(rt; false, "accepted in place of {fault}"),
         Err(refused) => {
             assert_eq!(rt; refused.fault, fault);
-            assert_eq!(rt; format!(in alloc; "{refused}")?.as_str(), line);
             assert_eq!(rt; refused.code.as_slice(), copy.as_slice());
         }
+    }
+    Ok(())
+}
+
+fn is_shared<T: Send + Sync>() {}
+
+#[test]
+fn a_program_may_pass_between_threads() {
+    is_shared::<Program>();
+}
+
+#[test]
+fn each_fault_prints_its_number_and_name(rt: HostRuntime) -> Result<(), Fail> {
+    let alloc = rt.alloc();
+    for (fault, line) in [
+        (Fault::Empty, "1 Empty"),
+        (Fault::TooLong, "2 TooLong"),
+        (Fault::BadScratch { at: 4095 }, "3 BadScratch 4095"),
+        (Fault::ZeroDivisor { at: 10 }, "4 ZeroDivisor 10"),
+        (Fault::BadShift { at: 1 }, "5 BadShift 1"),
+        (Fault::JumpOutside { at: 0 }, "6 JumpOutside 0"),
+        (Fault::NoReturn, "7 NoReturn"),
+        (Fault::Unwritten { at: 2, word: 15 }, "8 Unwritten 2 15"),
+    ] {
+        assert_eq!(rt; format!(in alloc; "{fault}")?.as_str(), line);
+        let code = vec![in alloc;]?;
+        let refused = Refused { code, fault };
+        assert_eq!(rt; format!(in alloc; "{refused}")?.as_str(), line);
     }
     Ok(())
 }
@@ -56,57 +77,63 @@ fn assert_refused(
 fn each_fault_of_an_instruction_has_its_place(rt: HostRuntime) -> Result<(), Fail> {
     let alloc = rt.alloc();
     let divided = alu(Op::Div, By::Imm(0));
-    for (code, fault, line) in [
+    for (code, fault) in [
         // The first instruction that is not sound decides, before the return at the end is asked for.
         (
             vec![in alloc; Instr::LoadMem(16), divided]?,
             Fault::BadScratch { at: 0 },
-            "3 BadScratch 0",
         ),
         (
             vec![in alloc; divided, Instr::RetK(1)]?,
             Fault::ZeroDivisor { at: 0 },
-            "4 ZeroDivisor 0",
         ),
         (
             vec![in alloc; alu(Op::Lsh, By::Imm(32)), Instr::RetA]?,
             Fault::BadShift { at: 0 },
-            "5 BadShift 0",
         ),
         (
             vec![in alloc; jump_if_equal(0, 1, 0), Instr::RetK(1)]?,
             Fault::JumpOutside { at: 0 },
-            "6 JumpOutside 0",
+        ),
+        // Nothing is asked of the return at the end where a jump leads outside.
+        (
+            vec![in alloc; load_octet(0), Instr::Jump(0)]?,
+            Fault::JumpOutside { at: 1 },
         ),
     ] {
-        assert_refused(&rt, code, fault, line, alloc)?;
+        assert_refused(&rt, code, fault)?;
     }
     Ok(())
 }
 
 #[test]
-fn each_fault_of_a_code_has_its_line(rt: HostRuntime) -> Result<(), Fail> {
+fn each_fault_of_a_code_is_found(rt: HostRuntime) -> Result<(), Fail> {
     let alloc = rt.alloc();
     let either_way = jump_if_equal(0, 0, 1);
-    for (code, fault, line) in [
-        (vec![in alloc;]?, Fault::Empty, "1 Empty"),
-        (
-            vec![in alloc; Instr::RetK(1); 4097]?,
-            Fault::TooLong,
-            "2 TooLong",
-        ),
-        (
-            vec![in alloc; load_octet(0)]?,
-            Fault::NoReturn,
-            "7 NoReturn",
-        ),
+    for (code, fault) in [
+        (vec![in alloc;]?, Fault::Empty),
+        (vec![in alloc; Instr::RetK(1); 4097]?, Fault::TooLong),
+        (vec![in alloc; load_octet(0)]?, Fault::NoReturn),
         (
             vec![in alloc; either_way, Instr::Store(0), Instr::LoadMem(0), Instr::RetA]?,
             Fault::Unwritten { at: 2, word: 0 },
-            "8 Unwritten 2 0",
+        ),
+        // Of two reads of what no path stores, the first is named.
+        (
+            vec![in alloc; Instr::LoadMem(3), Instr::LoadMem(1), Instr::RetA]?,
+            Fault::Unwritten { at: 0, word: 3 },
+        ),
+        (
+            vec![in alloc;
+                Instr::Store(2),
+                Instr::LdxMem(9),
+                Instr::LoadMem(1),
+                Instr::RetA,
+            ]?,
+            Fault::Unwritten { at: 1, word: 9 },
         ),
     ] {
-        assert_refused(&rt, code, fault, line, alloc)?;
+        assert_refused(&rt, code, fault)?;
     }
     Ok(())
 }

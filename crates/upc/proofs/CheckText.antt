@@ -5,8 +5,7 @@ use Rattle.bpf_asm.proofs.NeverBoth.{never_both}
 use Rattle.bpf_asm.proofs.OneFault.{fault_once}
 use Rattle.bpf_asm.proofs.OneMeaning.{meaning_once}
 use Rattle.bpf_code.specs.declared.instr.Instr.{Instr}
-use Rattle.bpf_verify.proofs.Decided.{accepted-or_fault}
-use Rattle.bpf_verify.proofs.FirstFault.{one_comes_first, refused-from_fault}
+use Rattle.bpf_verify.proofs.Public.{accepted-or_fault, one_comes_first, refused-from_fault}
 use Rattle.upc.specs.Check.{IsCheckText, Tells, TellsCode, TellsSource, accepted_text, most_source}
 use Rattle.upc.specs.Device.{Adds}
 use Rattle.upc.specs.FaultLines.{asm_fault, verify_fault}

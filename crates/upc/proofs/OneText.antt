@@ -8,9 +8,9 @@ use Rattle.bpf_code.specs.Spelling.{SpellsCode, IsFirstUnknown}
 use Rattle.bpf_code.specs.declared.decoder.DecodeFault.{DecodeFault}
 use Rattle.bpf_code.specs.declared.decoder.DecodeFault.TheVariants.{Ragged, UnknownCode, NoMemory}
 use Rattle.bpf_code.specs.declared.instr.Instr.{Instr}
-use Rattle.bpf_code.proofs.Spelled.{SpellsCode-unique, SpellsCode-length, SpellsCode-at}
-use Rattle.bpf_verify.proofs.FirstFault.{one_comes_first, refused-from_fault}
-use Rattle.bpf_interp.proofs.OneValue.{Value-unique}
+use Rattle.bpf_code.proofs.Public.{SpellsCode-unique, SpellsCode-length, SpellsCode-at}
+use Rattle.bpf_verify.proofs.Public.{one_comes_first, refused-from_fault}
+use Rattle.bpf_interp.proofs.Public.{Value-unique}
 use Rattle.upc.specs.Lines.{Line, lines_of, said, is_over}
 use Rattle.upc.specs.Printing.{Prints, too_long}
 use Rattle.upc.specs.Eval.{World, EndsBy, ChecksCode, ReadsProgram, ProgramLine, TellsValue, RunsOn, CellLine, Asks, EvalSteps, EvalCloses, IsEvalText}

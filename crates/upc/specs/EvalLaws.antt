@@ -4,10 +4,10 @@ use Rattle.std.proofs.Common.{◌≡◌, ℕ, ◌==◌, inl, inr, Bool, true, fa
 use Rattle.std.specs.Bool.{MatchBool}
 use Rattle.std.specs.Option.{MatchOption}
 use Rattle.bpf_code.specs.declared.instr.Instr.{Instr}
-use Rattle.bpf_code.proofs.Total.{code-or_fault}
+use Rattle.bpf_code.proofs.Public.{code-or_fault}
 use Rattle.bpf_verify.specs.Accepted.{IsAccepted}
-use Rattle.bpf_verify.proofs.Decided.{accepted-or_fault}
-use Rattle.bpf_interp.proofs.HasValue.{Value-some}
+use Rattle.bpf_verify.proofs.Public.{accepted-or_fault}
+use Rattle.bpf_interp.proofs.Public.{Value-some}
 use Rattle.upc.specs.Eval.{World, EndsBy, ChecksCode, ReadsProgram, ProgramLine, TellsValue, RunsOn, CellLine, Asks, EvalSteps, EvalCloses, IsSoundWorld}
 use Rattle.upc.specs.FaultLines.{line, bad_line, bad_hex, no_program, wrong_length, decode_fault, verify_fault}
 use Rattle.upc.specs.Hexadecimal.{octets_of, cell_of}

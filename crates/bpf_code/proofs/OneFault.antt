@@ -1,0 +1,27 @@
+-- Octets have one fault at most, and none beside a code.
+use Rattle.std.proofs.Common.{◌≡◌, ◌≢◌, ℕ, List, refl, arith}
+use Rattle.bpf_code.proofs.Fronts.{SpellsCode-ragged, SpellsCode-known, IsFirstUnknown-place, IsFirstUnknown-code}
+use Rattle.bpf_code.specs.Decoding.{IsFaultOf}
+use Rattle.bpf_code.specs.Spelling.{SpellsCode}
+use Rattle.bpf_code.specs.declared.decoder.DecodeFault.{DecodeFault}
+use Rattle.bpf_code.specs.declared.decoder.DecodeFault.TheVariants.{Ragged, UnknownCode, NoMemory}
+use Rattle.bpf_code.specs.declared.instr.Instr.{Instr}
+
+-- octets that spell a code have no fault but want of memory
+pub code-no_fault : (octets : List ℕ) (code : List Instr) (fault : DecodeFault) → SpellsCode octets code → fault ≢ NoMemory → IsFaultOf octets fault → ⊥
+code-no_fault octets code Ragged spells real faulty = SpellsCode-ragged octets code spells faulty
+code-no_fault octets code (UnknownCode at number) spells real faulty = SpellsCode-known octets code at number spells faulty.1
+code-no_fault octets code NoMemory spells real faulty = real refl
+
+-- octets have one fault but want of memory at most
+pub one-decode_fault : (octets : List ℕ) (one other : DecodeFault) → one ≢ NoMemory → other ≢ NoMemory → IsFaultOf octets one → IsFaultOf octets other → one ≡ other
+one-decode_fault octets Ragged Ragged r s p q = refl
+one-decode_fault octets Ragged (UnknownCode at code) r s p q = absurd (omega (arith, p, q.0))
+one-decode_fault octets (UnknownCode at code) Ragged r s p q = absurd (omega (arith, q, p.0))
+one-decode_fault octets (UnknownCode at code) (UnknownCode at' code') r s p q =
+    let places = IsFirstUnknown-place octets at at' code code' p.1 q.1 in
+    let codes = IsFirstUnknown-code octets at at' code code' p.1 q.1 in
+    cc
+one-decode_fault octets NoMemory other r s p q = absurd (r refl)
+one-decode_fault octets Ragged NoMemory r s p q = absurd (s refl)
+one-decode_fault octets (UnknownCode at code) NoMemory r s p q = absurd (s refl)

@@ -1,0 +1,26 @@
+-- Lemmas for proofs of other crates: the statements of public laws, and one on lists.
+use Rattle.std.proofs.Common.{◌≡◌, ◌⊎◌, List, ◌∷◌, Any}
+use Rattle.bpf_code.specs.declared.instr.Instr.{Instr}
+use Rattle.bpf_verify.proofs.Decided as decided
+use Rattle.bpf_verify.proofs.FirstFault as faults
+use Rattle.bpf_verify.proofs.Places as places
+use Rattle.bpf_verify.specs.Accepted.{IsAccepted}
+use Rattle.bpf_verify.specs.Faults.{FailsFirst}
+use Rattle.bpf_verify.specs.declared.fault.Fault.{Fault}
+
+-- A code is accepted, or some fault comes first in it.
+pub accepted-or_fault : (code : List Instr) → IsAccepted code ⊎ ((fault : Fault) × FailsFirst code fault)
+accepted-or_fault = decided.accepted-or_fault
+
+-- A code in which a fault comes first isn't accepted.
+pub refused-from_fault : (code : List Instr) (fault : Fault) → FailsFirst code fault → IsAccepted code → ⊥
+refused-from_fault = faults.refused-from_fault
+
+-- Of two faults that come first in a code, both are the same.
+pub one_comes_first : (code : List Instr) (one other : Fault) → FailsFirst code one → FailsFirst code other → one ≡ other
+one_comes_first = faults.one_comes_first
+
+module _ {X : Type 0} where
+  -- What holds of some element of a list holds of the first or of a later one.
+  pub any_split : (P : X → Type 0) (x : X) (xs : List X) → Any P (x ∷ xs) → P x ⊎ Any P xs
+  any_split = places.any_split
