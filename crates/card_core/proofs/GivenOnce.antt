@@ -17,7 +17,9 @@ use Rattle.card_core.specs.Log.{Event, Run, Leads}
 use Rattle.card_core.specs.Laws.{GivesEachIdOnce, IdsAreGivenOnce, IdsNameOneCode}
 use Rattle.card_core.proofs.Sound.{IsSound}
 use Rattle.card_core.proofs.LookUps.{same_some, code-first, code-later}
-use Rattle.card_core.proofs.SoundSteps.{StepCase, succeeded, starved, rejected, step-case, sound-step, opening-sound, reached-sound}
+use Rattle.card_core.proofs.Allowed.{StepCase, succeeded, starved, rejected, step-case}
+use Rattle.card_core.proofs.SoundChanges.{opening-sound}
+use Rattle.card_core.proofs.SoundSteps.{sound-step, reached-sound}
 
 -- What a step does to the codes that were ever put in: nothing, or one more under an id that is new.
 pub data GivenCase (before after : List Loading) : Type 0 where

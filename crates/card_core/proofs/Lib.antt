@@ -1,3 +1,4 @@
+pub mod Allowed
 pub mod CellLemmas
 pub mod ConnectionLemmas
 pub mod DeskLemmas
@@ -7,6 +8,7 @@ pub mod GivenOnce
 pub mod JudgeLemmas
 pub mod JudgeSteps
 pub mod Knows
+pub mod KnowsCodes
 pub mod LineLemmas
 pub mod LookUps
 pub mod OneAnswer
@@ -18,9 +20,12 @@ pub mod Promise
 pub mod Replies
 pub mod SetupSteps
 pub mod Sound
+pub mod SoundChanges
 pub mod SoundSteps
 pub mod Standing
 pub mod StoreLemmas
 pub mod StoreSteps
 pub mod Telling
+pub mod TellingCells
+pub mod TellingRefusals
 pub mod Told

@@ -1,5 +1,5 @@
 -- Look-ups in the lists of a world, before and after a change.
-use Rattle.std.proofs.Common.{◌≡◌, ◌≢◌, ◌⊎◌, ℕ, suc, ◌+◌, ◌<◌, ◌≤◌, ◌||◌, ◌==◌, Bool, true, false, cond, not, List, [], ◌∷◌, ◌++◌, length, length-set, zero, set, Option, Some, None, IsSome, is_none, is_some, slice_get, nat_lt, nat_le, MatchOption, option_map, refl, sym, ap, ◌∙◌, subst, inl, inr, arith}
+use Rattle.std.proofs.Common.{◌≡◌, ◌≢◌, ◌⊎◌, ℕ, suc, ◌+◌, ◌<◌, ◌≤◌, ◌||◌, ◌==◌, Bool, true, false, cond, not, List, [], ◌∷◌, ◌++◌, length, length-set, zero, set, replicate, Option, Some, None, IsSome, is_none, is_some, slice_get, nat_lt, nat_le, MatchOption, option_map, refl, sym, ap, ◌∙◌, subst, inl, inr, arith}
 use Rattle.std.specs.List.{list_any, Contains}
 use Rattle.std.proofs.lemmas.Bool.{and_parts, or_parts, or_cases, or_left, or_right, not-true, eqb-true, eq-eqb, eqb-false, ne_eqb, cases_eq}
 use Rattle.std.proofs.lemmas.Bool.Decides.{nat_tests}
@@ -42,6 +42,16 @@ there_is (Some x) e = (x, refl)
 
 pub IsSome-of : {X : Type 0} (o : Option X) (x : X) → o ≡ Some x → IsSome o
 IsSome-of o x e = ap is_some e
+
+-- what passes a chain of tests, of which each refuses with something of this kind
+pub refused_by : {X : Type 0} (P : X → Type 0) (test : Bool) (refused : X) (rest : Option X) → P refused
+    → ((x : X) → rest ≡ Some x → P x) → (x : X) → cond test (Some refused) rest ≡ Some x → P x
+refused_by P true refused rest here later x e = subst P (same_some refused x e) here
+refused_by P false refused rest here later x e = later x e
+
+pub mapped : {X Y : Type 0} (f : X → Y) (o : Option X) (y : Y) → option_map f o ≡ Some y → (x : X) × (o ≡ Some x) × (y ≡ f x)
+mapped f None y e = absurd (cc)
+mapped f (Some x) y e = (x, refl, sym (same_some (f x) y e))
 
 -- Connections.
 
@@ -192,6 +202,23 @@ times-grow loading later slot =
     ] in
     choice (loading.id.slot == slot)
 
+-- what is looked up once a code was put in is that, or what was there
+pub code-cases : (loading : Loading) (later : List Loading) (id : Id) (code : List Instr)
+    → code_in (loading ∷ later) id ≡ Some code
+    → ((id ≡ loading.id) × (loading.code ≡ code)) ⊎ ((id ≢ loading.id) × (code_in later id ≡ Some code))
+code-cases loading later id code e =
+    let choice : (b : Bool) → is_same_id id loading.id ≡ b → cond b (Some loading.code) (code_in later id) ≡ Some code
+    → ((id ≡ loading.id) × (loading.code ≡ code)) ⊎ ((id ≢ loading.id) × (code_in later id ≡ Some code)) = elim [
+      | true ↦ λ same at. inl (id_same id loading.id same, same_some loading.code code at)
+      | false ↦ λ differs at. inr (
+        λ same.
+            let itself : is_same_id id loading.id ≡ true = subst (λ (i : Id). is_same_id id i ≡ true) same (id_itself id) in
+            cc,
+        at,
+      )
+    ] in
+    choice (is_same_id id loading.id) refl e
+
 -- Ports.
 
 module _ {X : Type 0} where
@@ -217,6 +244,11 @@ module _ {X : Type 0} where
         inl (same, same_some x y (sym (slice_get-set_same xs k x within) ∙ at))
     | inr apart ↦ inr (apart, sym (slice_get-set_other xs k j x apart) ∙ e)
   ]
+
+pub replicated : {X : Type 0} (n k : ℕ) (x y : X) → slice_get (replicate n x) k ≡ Some y → x ≡ y
+replicated zero k x y e = absurd (cc)
+replicated (suc n) zero x y e = same_some x y e
+replicated (suc n) (suc k) x y e = replicated n k x y e
 
 -- Entries.
 

@@ -21,7 +21,7 @@ use Rattle.card_core.specs.Log.{Event}
 use Rattle.card_core.specs.Headline.{codes_loaded, connection_changed, only_of, changes_of, programs_named, latest, cells_of, only_port, port_moved, moves_of, verdicts_given, entering, picking, setting_up, HasEntered, StandsSince, IsPromised}
 use Rattle.card_core.specs.Laws.{AreOneAnswer, PromisesLeaveOneAnswer}
 use Rattle.card_core.proofs.LookUps.{same_some}
-use Rattle.card_core.proofs.Knows.{told-append}
+use Rattle.card_core.proofs.KnowsCodes.{told-append}
 
 -- The last event that tells something.
 

@@ -21,9 +21,11 @@ use Rattle.card_core.specs.Log.{Event, Run, Leads, IsLog}
 use Rattle.card_core.specs.Headline.{codes_loaded, codes_retired, code_loaded, code_retired, judgement_told, verdicts_given, picking, judging, latest, programs_named, cells_of, StandsSince, IsLive, IsLiveThrough, IsPromised, EachJudgedCellIsPromised}
 use Rattle.card_core.proofs.Sound.{IsSound}
 use Rattle.card_core.proofs.LookUps.{same_some, there_is}
-use Rattle.card_core.proofs.SoundSteps.{StepCase, succeeded, starved, rejected, step-case, picking-allowed, reached-sound}
-use Rattle.card_core.proofs.Telling.{CellRefused, at_no_time, with_answer, judge-refused}
-use Rattle.card_core.proofs.Knows.{told-append, KnowsCodes, Knows, KnowsPick, KnowsPickedOn, leads-knows}
+use Rattle.card_core.proofs.Allowed.{StepCase, succeeded, starved, rejected, step-case, picking-allowed}
+use Rattle.card_core.proofs.SoundSteps.{reached-sound}
+use Rattle.card_core.proofs.TellingRefusals.{CellRefused, at_no_time, with_answer, judge-refused}
+use Rattle.card_core.proofs.KnowsCodes.{told-append}
+use Rattle.card_core.proofs.Knows.{Knows, KnowsPick, KnowsPickedOn, leads-knows}
 
 -- Runs in two parts.
 

@@ -30,9 +30,8 @@ use Rattle.card_core.specs.Steps.{Picks, Judges, IsPieceOf, Succeeds, FindsNoMem
 use Rattle.card_core.specs.Log.{Event, Leads}
 use Rattle.card_core.specs.Laws.{is_of_memory, LoadsAccepted, StepsHaveReplies}
 use Rattle.card_core.proofs.Sound.{IsSound, SoundConnection}
-use Rattle.card_core.proofs.LookUps.{same_some, passed_on, unmapped, is_there, there_is}
+use Rattle.card_core.proofs.LookUps.{same_some, passed_on, unmapped, refused_by, mapped, is_there, there_is}
 use Rattle.card_core.proofs.SoundSteps.{reached-sound}
-use Rattle.card_core.proofs.Telling.{refused_by, mapped}
 
 -- Refusals say nothing of memory.
 

@@ -20,9 +20,8 @@ use Rattle.card_core.specs.Steps.{Succeeds, SetsUp, WorldStep, left_by, with_ans
 use Rattle.card_core.specs.Log.{Event, Run, Leads}
 use Rattle.card_core.specs.Headline.{connection_changed, only_of, changes_of, setting_up, StandsSince}
 use Rattle.card_core.specs.Laws.{IsAsTold, TellsConnections, ConnectionsAreAsTold}
-use Rattle.card_core.proofs.LookUps.{IsSome-of, with-here, with-others, without-others}
-use Rattle.card_core.proofs.SoundSteps.{StepCase, succeeded, starved, rejected, step-case}
-use Rattle.card_core.proofs.Telling.{mapped}
+use Rattle.card_core.proofs.LookUps.{mapped, with-here, with-others, without-others}
+use Rattle.card_core.proofs.Allowed.{StepCase, succeeded, starved, rejected, step-case}
 use Rattle.card_core.proofs.Knows.{KnowsConnection, leads-knows}
 use Rattle.card_core.proofs.Promise.{run-parts}
 

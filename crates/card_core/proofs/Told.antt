@@ -27,7 +27,6 @@ use Rattle.card_core.specs.Headline.{code_loaded, code_retired, connection_chang
 use Rattle.card_core.proofs.Sound.{IsSound}
 use Rattle.card_core.proofs.LookUps.{same_some, with-here, with-others, without-here, without-others, slice_get-set}
 use Rattle.card_core.proofs.CellLemmas.{vc-after, came}
-use Rattle.card_core.proofs.SoundSteps.{StepCase, succeeded, starved, rejected, step-case, picked_same, setup-allowed}
 use Rattle.card_core.proofs.GivenOnce.{new-id}
 
 -- Codes.
