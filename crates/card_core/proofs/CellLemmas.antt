@@ -1,10 +1,9 @@
 -- What a cell keeps when it is tagged, and what its verdict tells of how it came.
-use Rattle.std.proofs.Common.{◌≡◌, ℕ, suc, ◌+◌, ◌*◌, ◌/◌, ◌%◌, ◌^◌, ◌<◌, ◌≤◌, ◌==◌, Bool, true, false, List, [], ◌∷◌, Option, Some, None, refl, sym, ap, ◌∙◌, subst, arith}
+use Rattle.std.proofs.Common.{◌≡◌, ℕ, ◌/◌, ◌%◌, ◌^◌, false, List, [], ◌∷◌, Option, Some, None, refl, sym, ap, arith}
 use Rattle.upc_cell.specs.declared.side.Side.{Side}
 use Rattle.upc_cell.specs.declared.side.Side.TheVariants.{Uni, Nni}
-use Rattle.upc_cell.specs.declared.vc.Vc.{Vc}
 use Rattle.upc_cell.specs.Connection.{vc_of}
-use Rattle.upc_cell.specs.Header.{header_number, vci_of, has_low_priority}
+use Rattle.upc_cell.specs.Header.{header_number, has_low_priority}
 use Rattle.upc_cell.specs.Side.{vpi_at}
 use Rattle.upc_cell.specs.Tagged.{tagged_form}
 use Rattle.upc_cell.proofs.Public.{vc_is}

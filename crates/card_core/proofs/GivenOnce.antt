@@ -1,23 +1,21 @@
 -- No id is given twice.
-use Rattle.std.proofs.Common.{◌≡◌, ◌≢◌, ◌⊎◌, ℕ, zero, suc, ◌+◌, ◌<◌, ◌≤◌, Bool, true, false, cond, List, [], ◌∷◌, Option, Some, None, slice_get, refl, sym, ap, ◌∙◌, subst, inl, inr, arith}
+use Rattle.std.proofs.Common.{◌≡◌, ◌≢◌, ℕ, zero, suc, ◌+◌, Bool, true, false, cond, List, [], ◌∷◌, Option, Some, None, slice_get, refl, sym, ap, ◌∙◌, subst, arith}
 use Rattle.bpf_code.specs.declared.instr.Instr.{Instr}
 use Rattle.bpf_verify.specs.Accepted.{IsAccepted}
 use Rattle.gen_arena.specs.declared.id.Id.{Id}
 use Rattle.gen_arena.specs.SameId.{is_same_id}
-use Rattle.gen_arena.proofs.Public.{id_same, id_itself, id_differs}
+use Rattle.gen_arena.proofs.Public.{id_itself, id_differs}
 use Rattle.card_core.specs.declared.reply.Reply.{Reply}
 use Rattle.card_core.specs.declared.reply.Reply.TheVariants.{Answered}
-use Rattle.card_core.specs.declared.shape.Shape.{Shape}
 use Rattle.card_core.specs.declared.step.Step.{Step}
 use Rattle.card_core.specs.declared.step.Step.TheVariants.{Enter, Pick, Judge, Load, Retire, Setup, Reload, Release, Cut}
 use Rattle.card_core.specs.World.{World, Loading, code_in, times_given, opening_world}
-use Rattle.card_core.specs.Refusals.{refusal}
 use Rattle.card_core.specs.Steps.{Succeeds, WorldStep, left_by, with_answered}
-use Rattle.card_core.specs.Log.{Event, Run, Leads}
-use Rattle.card_core.specs.Laws.{GivesEachIdOnce, IdsAreGivenOnce, IdsNameOneCode}
+use Rattle.card_core.specs.Log.{Event, Run}
+use Rattle.card_core.specs.Laws.{IdsAreGivenOnce, IdsNameOneCode}
 use Rattle.card_core.proofs.Sound.{IsSound}
 use Rattle.card_core.proofs.LookUps.{same_some, code-first, code-later}
-use Rattle.card_core.proofs.Allowed.{StepCase, succeeded, starved, rejected, step-case}
+use Rattle.card_core.proofs.Allowed.{succeeded, starved, rejected, step-case}
 use Rattle.card_core.proofs.SoundChanges.{opening-sound}
 use Rattle.card_core.proofs.SoundSteps.{sound-step, reached-sound}
 

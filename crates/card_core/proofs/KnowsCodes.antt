@@ -1,27 +1,19 @@
 -- What the events of a log tell one after another, and what a log tells of the codes.
-use Rattle.std.proofs.Common.{◌≡◌, ◌≢◌, ◌⊎◌, ℕ, suc, ◌+◌, ◌<◌, ◌≤◌, Bool, true, false, cond, List, [], ◌∷◌, ◌++◌, replicate, Option, Some, None, IsSome, slice_get, flat_map, option_to_list, append_assoc, append-nil, refl, sym, ap, ◌∙◌, subst, inl, inr, arith}
-use Rattle.upc_cell.specs.declared.vc.Vc.{Vc}
+use Rattle.std.proofs.Common.{◌≡◌, ◌≢◌, true, false, cond, List, [], ◌∷◌, ◌++◌, Some, None, flat_map, option_to_list, append_assoc, append-nil, refl, sym, ap, ◌∙◌, subst, inl, inr}
 use Rattle.bpf_code.specs.declared.instr.Instr.{Instr}
 use Rattle.gen_arena.specs.declared.id.Id.{Id}
 use Rattle.gen_arena.specs.SameId.{is_same_id}
-use Rattle.gen_arena.proofs.Public.{id_same, id_itself, id_differs, id_cases}
-use Rattle.leaky.specs.declared.verdict.Verdict.{Verdict}
-use Rattle.line_record.specs.History.{NamedCell}
-use Rattle.card_core.specs.declared.ask.Ask.{Ask}
+use Rattle.gen_arena.proofs.Public.{id_itself, id_differs, id_cases}
 use Rattle.card_core.specs.declared.reply.Reply.{Reply}
-use Rattle.card_core.specs.declared.reply.Reply.TheVariants.{Entered, Picked, Loaded, Retired, SetUp}
-use Rattle.card_core.specs.declared.shape.Shape.{Shape}
+use Rattle.card_core.specs.declared.reply.Reply.TheVariants.{Loaded, Retired}
 use Rattle.card_core.specs.declared.step.Step.{Step}
-use Rattle.card_core.specs.declared.step.Step.TheVariants.{Enter, Pick, Load, Retire, Setup}
-use Rattle.card_core.specs.World.{World, Loading, Connection, Picking, PortState, outside, entered, picked, code_in, without_code, connection_in, opening_world}
-use Rattle.card_core.specs.Steps.{Gives, WorldStep}
-use Rattle.card_core.specs.Log.{Event, Run, Leads}
-use Rattle.card_core.specs.Headline.{code_loaded, codes_loaded, code_retired, codes_retired, only_of, connection_changed, changes_of, program_named, programs_named, latest, judgement_told, verdicts_on, verdicts_given, on_line, cells_on, on_connection, cells_of, only_port, port_moved, moves_of, entering, picking, setting_up, HasEntered, StandsSince}
+use Rattle.card_core.specs.declared.step.Step.TheVariants.{Load, Retire}
+use Rattle.card_core.specs.World.{World, Loading, code_in, without_code}
+use Rattle.card_core.specs.Log.{Event}
+use Rattle.card_core.specs.Headline.{code_loaded, codes_loaded, code_retired, codes_retired, latest}
 use Rattle.card_core.proofs.Sound.{IsSound}
-use Rattle.card_core.proofs.GivenOnce.{GivenCase, given-step, code-kept}
-use Rattle.card_core.proofs.Told.{StoreTold, store_same, store_loaded, store_retired, Kept, IsFresh, Fate, kept, fresh, IsPickedNow, PortsTold, Tells}
-use Rattle.card_core.proofs.Telling.{step-tells}
-use Rattle.card_core.proofs.LookUps.{same_some, passed_on, unmapped, refused_by, mapped, is_there, is_missing, there_is, IsSome-of, ConnectionChanges, changes-with, changes-without, connection_passes, code-first, code-later, code-cases, without_code-was, without_code-others, times-same, times-grow, replicated, slice_get-set, IsOnce, once-with, once-without, with-here, with-others, without-here, without-others}
+use Rattle.card_core.proofs.Told.{StoreTold, store_same, store_loaded, store_retired}
+use Rattle.card_core.proofs.LookUps.{code-cases, without_code-was}
 
 -- One after another.
 

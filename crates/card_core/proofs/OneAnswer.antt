@@ -1,5 +1,5 @@
 -- The headline leaves one answer.
-use Rattle.std.proofs.Common.{◌≡◌, ◌≢◌, ◌⊎◌, ℕ, suc, ◌+◌, ◌<◌, ◌≤◌, Bool, true, false, cond, List, [], ◌∷◌, ◌++◌, Option, Some, None, flat_map, append-nil, refl, sym, ap, ◌∙◌, subst, inl, inr, arith}
+use Rattle.std.proofs.Common.{◌≡◌, ℕ, true, cond, List, [], ◌∷◌, ◌++◌, flat_map, refl, sym, ap, ◌∙◌, subst}
 use Rattle.std.proofs.lemmas.Bool.{eq-eqb}
 use Rattle.upc_cell.specs.declared.vc.Vc.{Vc}
 use Rattle.upc_cell.specs.Connection.{vc_of, is_same_vc}
@@ -7,20 +7,14 @@ use Rattle.upc_cell.proofs.Public.{vc_itself}
 use Rattle.bpf_code.specs.declared.instr.Instr.{Instr}
 use Rattle.bpf_interp.proofs.Public.{Value-unique}
 use Rattle.gen_arena.specs.declared.id.Id.{Id}
-use Rattle.leaky.specs.declared.contract.Contract.{Contract}
-use Rattle.leaky.specs.declared.verdict.Verdict.{Verdict}
-use Rattle.line_record.specs.History.{NamedCell, empty_buckets, verdict_after}
+use Rattle.line_record.specs.History.{empty_buckets, verdict_after}
 use Rattle.card_core.specs.declared.ask.Ask.{Ask}
-use Rattle.card_core.specs.declared.reply.Reply.{Reply}
-use Rattle.card_core.specs.declared.reply.Reply.TheVariants.{Entered, Picked, SetUp}
-use Rattle.card_core.specs.declared.shape.Shape.{Shape}
 use Rattle.card_core.specs.declared.step.Step.{Step}
-use Rattle.card_core.specs.declared.step.Step.TheVariants.{Enter, Pick, Judge, Load, Retire, Setup, Reload, Release, Cut}
+use Rattle.card_core.specs.declared.step.Step.TheVariants.{Enter, Setup}
 use Rattle.card_core.specs.Steps.{Gives, cell_after, named_cell, number_with}
 use Rattle.card_core.specs.Log.{Event}
-use Rattle.card_core.specs.Headline.{codes_loaded, connection_changed, only_of, changes_of, programs_named, latest, cells_of, only_port, port_moved, moves_of, verdicts_given, entering, picking, setting_up, HasEntered, StandsSince, IsPromised}
-use Rattle.card_core.specs.Laws.{AreOneAnswer, PromisesLeaveOneAnswer}
-use Rattle.card_core.proofs.LookUps.{same_some}
+use Rattle.card_core.specs.Headline.{codes_loaded, connection_changed, only_of, programs_named, latest, cells_of, only_port, port_moved, verdicts_given, entering, picking, setting_up, HasEntered, StandsSince}
+use Rattle.card_core.specs.Laws.{PromisesLeaveOneAnswer}
 use Rattle.card_core.proofs.KnowsCodes.{told-append}
 
 -- The last event that tells something.

@@ -1,5 +1,5 @@
 -- Each step has a reply that says nothing of memory.
-use Rattle.std.proofs.Common.{◌≡◌, ◌⊎◌, ℕ, zero, suc, ◌+◌, ◌^◌, ◌<◌, ◌≤◌, ◌==◌, ◌||◌, Bool, true, false, cond, not, List, [], ◌∷◌, All, length, set, take, Option, Some, None, IsSome, is_none, is_some, slice_get, nat_lt, nat_le, MatchOption, option_map, refl, sym, ap, ◌∙◌, subst, inl, inr, arith}
+use Rattle.std.proofs.Common.{◌≡◌, ◌⊎◌, ℕ, zero, suc, ◌+◌, ◌^◌, ◌<◌, ◌≤◌, ◌==◌, Bool, true, false, cond, not, List, [], ◌∷◌, length, take, Option, Some, None, is_none, is_some, slice_get, nat_lt, nat_le, MatchOption, refl, sym, subst, inl, inr, arith}
 use Rattle.std.proofs.lemmas.Bool.{or_cases, not-false}
 use Rattle.std.proofs.lemmas.List.Elements.{All-take}
 use Rattle.upc_cell.specs.declared.vc.Vc.{Vc}
@@ -21,13 +21,11 @@ use Rattle.card_core.specs.declared.fault.DeskFault.{DeskFault}
 use Rattle.card_core.specs.declared.fault.DeskFault.TheVariants.{NoProgram, NoConnection, Taken, NoLine, InUse, ProgramsFull, Exhausted, BadContracts, Busy}
 use Rattle.card_core.specs.declared.reply.Reply.{Reply}
 use Rattle.card_core.specs.declared.reply.Reply.TheVariants.{Entered, Picked, NotNow, Answered, Loaded, NotLoaded, Retired, SetUp, NotSetUp, Reloaded, Released, Cut as CutOff, Refused}
-use Rattle.card_core.specs.declared.shape.Shape.{Shape}
 use Rattle.card_core.specs.declared.step.Step.{Step}
 use Rattle.card_core.specs.declared.step.Step.TheVariants.{Enter, Pick, Judge, Load, Retire, Setup, Reload, Release, Cut}
-use Rattle.card_core.specs.World.{World, Loading, Connection, Picking, PortState, outside, entered, picked, code_in, without_code, times_given, handed_cells, kept_cells, verdicts_before, connection_in, without_connection, with_connection, with_port, is_busy, any_below, is_open_slot, is_open_line, is_named}
+use Rattle.card_core.specs.World.{World, Connection, Picking, PortState, outside, entered, picked, code_in, without_code, times_given, handed_cells, kept_cells, verdicts_before, connection_in, without_connection, with_connection, with_port, is_busy, any_below, is_open_slot, is_open_line, is_named}
 use Rattle.card_core.specs.Refusals.{refusal, enter_refusal, pick_refusal, judge_refusal, picking_refusal, cell_refusal, load_fault, retire_fault, setup_fault, reload_fault, missing_fault}
-use Rattle.card_core.specs.Steps.{Picks, Judges, IsPieceOf, Succeeds, FindsNoMemory, IsRefused, WorldStep, left_by, picking_of, judgement_of, judged_world, new_connection}
-use Rattle.card_core.specs.Log.{Event, Leads}
+use Rattle.card_core.specs.Steps.{IsPieceOf, Succeeds, FindsNoMemory, IsRefused, WorldStep, left_by, picking_of, judgement_of, judged_world, new_connection}
 use Rattle.card_core.specs.Laws.{is_of_memory, LoadsAccepted, StepsHaveReplies}
 use Rattle.card_core.proofs.Sound.{IsSound, SoundConnection}
 use Rattle.card_core.proofs.LookUps.{same_some, passed_on, unmapped, refused_by, mapped, is_there, there_is}

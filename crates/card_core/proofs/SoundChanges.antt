@@ -1,33 +1,15 @@
 -- What a change of a world keeps: of its ports, of one of its connections, or of its programs.
-use Rattle.std.proofs.Common.{◌≡◌, ◌≢◌, ◌⊎◌, ℕ, zero, suc, ◌+◌, ◌^◌, ◌<◌, ◌≤◌, ◌==◌, Bool, true, false, cond, not, List, [], ◌∷◌, ◌++◌, All, length, length-set, length-append, set, replicate, Option, Some, None, IsSome, IsTrue, is_none, is_some, slice_get, nat_lt, nat_le, MatchOption, option_map, refl, sym, ap, ◌∙◌, subst, inl, inr, arith}
-use Rattle.std.specs.List.{list_any, list_all}
-use Rattle.std.proofs.lemmas.Bool.{and_parts, not-true, not-false, not_from_true, not_from_false, eqb-true, eqb-false, eq-eqb, ltb-false, leb-false, cases_eq}
+use Rattle.std.proofs.Common.{◌≡◌, ◌≢◌, ◌⊎◌, ℕ, ◌^◌, ◌<◌, ◌≤◌, Bool, true, false, cond, List, ◌∷◌, length, length-set, set, Option, Some, IsSome, slice_get, refl, sym, ap, ◌∙◌, subst, inl, inr, arith}
 use Rattle.std.proofs.lemmas.List.{length-replicate}
-use Rattle.std.proofs.lemmas.List.Elements.{All-nil, All-push}
 use Rattle.upc_cell.specs.declared.vc.Vc.{Vc}
-use Rattle.upc_cell.specs.Connection.{vc_of, is_same_vc}
 use Rattle.upc_cell.proofs.Public.{vc_cases}
-use Rattle.bpf_code.specs.declared.instr.Instr.{Instr}
-use Rattle.bpf_verify.specs.Accepted.{IsAccepted}
 use Rattle.gen_arena.specs.declared.id.Id.{Id}
 use Rattle.gen_arena.specs.SameId.{is_same_id}
-use Rattle.gen_arena.proofs.Public.{id_same, id_itself, id_differs, id_cases}
 use Rattle.leaky.specs.declared.verdict.Verdict.{Verdict}
-use Rattle.leaky.specs.Moments.{GoesOn}
-use Rattle.line_record.specs.History.{NamedCell, IsHistory, moments_of, last_moment}
-use Rattle.card_core.specs.declared.answer.Answer.{Answer}
-use Rattle.card_core.specs.declared.ask.Ask.{Ask}
-use Rattle.card_core.specs.declared.reply.Reply.{Reply}
-use Rattle.card_core.specs.declared.reply.Reply.TheVariants.{Answered}
 use Rattle.card_core.specs.declared.shape.Shape.{Shape}
-use Rattle.card_core.specs.declared.step.Step.{Step}
-use Rattle.card_core.specs.declared.step.Step.TheVariants.{Enter, Pick, Judge, Load, Retire, Setup, Reload, Release, Cut}
-use Rattle.card_core.specs.World.{World, Loading, Connection, Picking, PortState, outside, entered, picked, is_outside, code_in, without_code, times_given, kept_cells, connection_in, without_connection, with_connection, opening_world, with_port, with_verdict, is_busy, any_below, is_named, is_open_line}
-use Rattle.card_core.specs.Refusals.{refusal, judge_refusal, picking_refusal, cell_refusal, load_fault, retire_fault, setup_fault, reload_fault}
-use Rattle.card_core.specs.Steps.{Enters, Picks, Judges, Loads, Retires, SetsUp, Reloads, Releases, Cuts, Succeeds, FindsNoMemory, IsRefused, WorldStep, left_by, with_answered, picking_of, cell_of_picking, with_cell, verdict_on, new_connection}
-use Rattle.card_core.specs.Log.{Event, Run, Leads}
-use Rattle.card_core.proofs.Sound.{SoundPrograms, SoundConnection, SoundConnections, SoundPicking, IsSound, ReachedWorldsAreSound}
-use Rattle.card_core.proofs.LookUps.{same_some, passed_on, unmapped, refused_by, mapped, is_there, is_missing, there_is, IsSome-of, ConnectionChanges, changes-with, changes-without, connection_passes, code-first, code-later, code-cases, without_code-was, without_code-others, times-same, times-grow, replicated, slice_get-set, IsOnce, once-with, once-without, with-here, with-others, without-here, without-others}
+use Rattle.card_core.specs.World.{World, Loading, Connection, Picking, PortState, outside, entered, picked, code_in, connection_in, with_connection, opening_world, with_port}
+use Rattle.card_core.proofs.Sound.{SoundPrograms, SoundConnection, SoundPicking, IsSound}
+use Rattle.card_core.proofs.LookUps.{same_some, ConnectionChanges, changes-with, replicated, slice_get-set, IsOnce, once-with}
 
 pub opening-sound : (shape : Shape) → IsSound (opening_world shape)
 opening-sound shape = record {

@@ -1,35 +1,30 @@
 -- Each step keeps what every world keeps that a log leads to.
-use Rattle.std.proofs.Common.{◌≡◌, ◌≢◌, ◌⊎◌, ℕ, zero, suc, ◌+◌, ◌^◌, ◌<◌, ◌≤◌, ◌==◌, Bool, true, false, cond, not, List, [], ◌∷◌, ◌++◌, All, length, length-set, length-append, set, replicate, Option, Some, None, IsSome, IsTrue, is_none, is_some, slice_get, nat_lt, nat_le, MatchOption, option_map, refl, sym, ap, ◌∙◌, subst, inl, inr, arith}
-use Rattle.std.specs.List.{list_any, list_all}
-use Rattle.std.proofs.lemmas.Bool.{and_parts, not-true, not-false, not_from_true, not_from_false, eqb-true, eqb-false, eq-eqb, ltb-false, leb-false, cases_eq}
-use Rattle.std.proofs.lemmas.List.{length-replicate}
+use Rattle.std.proofs.Common.{◌≡◌, ◌≢◌, ℕ, suc, ◌+◌, ◌^◌, ◌≤◌, ◌==◌, Bool, true, false, cond, List, [], ◌∷◌, ◌++◌, length, length-set, length-append, set, Some, None, is_none, is_some, refl, sym, ap, ◌∙◌, subst, inl, inr, arith}
+use Rattle.std.proofs.lemmas.Bool.{eq-eqb}
 use Rattle.std.proofs.lemmas.List.Elements.{All-nil, All-push}
 use Rattle.upc_cell.specs.declared.vc.Vc.{Vc}
-use Rattle.upc_cell.specs.Connection.{vc_of, is_same_vc}
-use Rattle.upc_cell.proofs.Public.{vc_cases}
+use Rattle.upc_cell.specs.Connection.{vc_of}
 use Rattle.bpf_code.specs.declared.instr.Instr.{Instr}
 use Rattle.bpf_verify.specs.Accepted.{IsAccepted}
 use Rattle.gen_arena.specs.declared.id.Id.{Id}
 use Rattle.gen_arena.specs.SameId.{is_same_id}
-use Rattle.gen_arena.proofs.Public.{id_same, id_itself, id_differs, id_cases}
+use Rattle.gen_arena.proofs.Public.{id_itself, id_differs}
 use Rattle.leaky.specs.declared.verdict.Verdict.{Verdict}
 use Rattle.leaky.specs.Moments.{GoesOn}
-use Rattle.line_record.specs.History.{NamedCell, IsHistory, moments_of, last_moment}
-use Rattle.card_core.specs.declared.answer.Answer.{Answer}
+use Rattle.line_record.specs.History.{NamedCell, moments_of, last_moment}
 use Rattle.card_core.specs.declared.ask.Ask.{Ask}
 use Rattle.card_core.specs.declared.reply.Reply.{Reply}
 use Rattle.card_core.specs.declared.reply.Reply.TheVariants.{Answered}
-use Rattle.card_core.specs.declared.shape.Shape.{Shape}
 use Rattle.card_core.specs.declared.step.Step.{Step}
 use Rattle.card_core.specs.declared.step.Step.TheVariants.{Enter, Pick, Judge, Load, Retire, Setup, Reload, Release, Cut}
-use Rattle.card_core.specs.World.{World, Loading, Connection, Picking, PortState, outside, entered, picked, is_outside, code_in, without_code, times_given, kept_cells, connection_in, without_connection, with_connection, opening_world, with_port, with_verdict, is_busy, any_below, is_named, is_open_line}
-use Rattle.card_core.specs.Refusals.{refusal, judge_refusal, picking_refusal, cell_refusal, load_fault, retire_fault, setup_fault, reload_fault}
-use Rattle.card_core.specs.Steps.{Enters, Picks, Judges, Loads, Retires, SetsUp, Reloads, Releases, Cuts, Succeeds, FindsNoMemory, IsRefused, WorldStep, left_by, with_answered, picking_of, cell_of_picking, with_cell, verdict_on, new_connection}
-use Rattle.card_core.specs.Log.{Event, Run, Leads}
-use Rattle.card_core.proofs.Sound.{SoundPrograms, SoundConnection, SoundConnections, SoundPicking, IsSound, ReachedWorldsAreSound}
-use Rattle.card_core.proofs.LookUps.{same_some, passed_on, unmapped, refused_by, mapped, is_there, is_missing, there_is, IsSome-of, ConnectionChanges, changes-with, changes-without, connection_passes, code-first, code-later, code-cases, without_code-was, without_code-others, times-same, times-grow, replicated, slice_get-set, IsOnce, once-with, once-without, with-here, with-others, without-here, without-others}
-use Rattle.card_core.proofs.SoundChanges.{opening-sound, picked_same, picks-set, sound-ported, sound-port, IsNewOrKept, changed, OneChanges, sound-changed, sound-rewritten, some-more, sound-programs}
-use Rattle.card_core.proofs.Allowed.{StepCase, succeeded, starved, rejected, step-case, IsAllowed, cell-allowed, picking-allowed, MaySetUp, setup-allowed, line-held, none_picked, MayRetire, retire-allowed}
+use Rattle.card_core.specs.World.{World, Loading, Connection, Picking, PortState, outside, entered, picked, code_in, without_code, times_given, connection_in, without_connection, with_connection, opening_world, with_verdict}
+use Rattle.card_core.specs.Refusals.{refusal, reload_fault}
+use Rattle.card_core.specs.Steps.{Enters, Picks, Judges, Loads, Retires, SetsUp, Reloads, Releases, Cuts, Succeeds, WorldStep, left_by, with_answered, picking_of, cell_of_picking, with_cell, verdict_on, new_connection}
+use Rattle.card_core.specs.Log.{Event, Run}
+use Rattle.card_core.proofs.Sound.{SoundPrograms, SoundConnection, SoundPicking, IsSound, ReachedWorldsAreSound}
+use Rattle.card_core.proofs.LookUps.{same_some, passed_on, unmapped, is_there, IsSome-of, changes-with, changes-without, connection_passes, code-first, code-later, code-cases, without_code-was, without_code-others, times-same, times-grow, once-with, once-without}
+use Rattle.card_core.proofs.SoundChanges.{opening-sound, picked_same, picks-set, sound-port, IsNewOrKept, changed, sound-changed, sound-rewritten, some-more, sound-programs}
+use Rattle.card_core.proofs.Allowed.{succeeded, starved, rejected, step-case, picking-allowed, setup-allowed, line-held, none_picked, retire-allowed}
 
 -- Cells.
 

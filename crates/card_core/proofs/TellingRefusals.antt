@@ -1,38 +1,22 @@
 -- What is refused, and what finds no memory, tells nothing but that a port moved.
-use Rattle.std.proofs.Common.{◌≡◌, ◌≢◌, ◌⊎◌, ℕ, zero, suc, ◌+◌, ◌^◌, ◌<◌, ◌≤◌, ◌==◌, Bool, true, false, cond, List, [], ◌∷◌, ◌++◌, length, set, Option, Some, None, slice_get, is_none, option_map, nat_lt, nat_le, append-nil, refl, sym, ap, ◌∙◌, subst, inl, inr, arith}
-use Rattle.std.proofs.lemmas.Bool.{eqb-true, eqb-false, eq-eqb, ne_eqb, cases_eq}
-use Rattle.upc_cell.specs.declared.side.Side.{Side}
-use Rattle.upc_cell.specs.declared.vc.Vc.{Vc}
-use Rattle.upc_cell.specs.Connection.{vc_of, is_same_vc}
-use Rattle.upc_cell.specs.Header.{has_low_priority}
-use Rattle.upc_cell.proofs.Public.{vc_itself, vc_differs, vc_cases}
-use Rattle.bpf_code.specs.declared.instr.Instr.{Instr}
-use Rattle.bpf_verify.specs.Accepted.{IsAccepted}
-use Rattle.gen_arena.specs.declared.id.Id.{Id}
-use Rattle.leaky.specs.declared.verdict.Verdict.{Verdict}
-use Rattle.line_record.specs.History.{NamedCell, numbered, buckets_after, empty_buckets, last_moment}
+use Rattle.std.proofs.Common.{◌≡◌, ℕ, ◌^◌, ◌==◌, Bool, true, false, cond, [], ◌∷◌, length, set, Option, Some, None, slice_get, is_none, nat_lt, nat_le, refl, sym, subst}
+use Rattle.upc_cell.specs.Connection.{vc_of}
+use Rattle.line_record.specs.History.{last_moment}
 use Rattle.card_core.specs.declared.answer.Answer.{Answer}
-use Rattle.card_core.specs.declared.answer.Answer.TheVariants.{Judged, NoConnection as UnknownCell, Released as PickReleased, MomentTooLate, MomentBack, JournalFull}
-use Rattle.card_core.specs.declared.ask.Ask.{Ask}
-use Rattle.card_core.specs.declared.fault.DeskFault.{DeskFault}
+use Rattle.card_core.specs.declared.answer.Answer.TheVariants.{NoConnection as UnknownCell, Released as PickReleased, MomentTooLate, MomentBack, JournalFull}
 use Rattle.card_core.specs.declared.fault.DeskFault.TheVariants.{NoMemory}
 use Rattle.card_core.specs.declared.reply.Reply.{Reply}
-use Rattle.card_core.specs.declared.reply.Reply.TheVariants.{Entered, Picked, NotNow, Answered, Loaded, NotLoaded, Retired, SetUp, NotSetUp, Reloaded, Released, Cut as CutOff, Refused}
+use Rattle.card_core.specs.declared.reply.Reply.TheVariants.{NotNow, Answered, NotLoaded, NotSetUp, Refused}
 use Rattle.card_core.specs.declared.shape.Shape.{Shape}
 use Rattle.card_core.specs.declared.step.Step.{Step}
 use Rattle.card_core.specs.declared.step.Step.TheVariants.{Enter, Pick, Judge, Load, Retire, Setup, Reload, Release, Cut}
-use Rattle.card_core.specs.World.{World, Loading, Connection, Picking, PortState, outside, entered, picked, code_in, without_code, times_given, kept_cells, connection_in, with_connection, without_connection, with_port, with_verdict}
+use Rattle.card_core.specs.World.{World, Connection, Picking, PortState, outside, entered, picked, kept_cells, connection_in, with_port}
 use Rattle.card_core.specs.Refusals.{refusal, enter_refusal, pick_refusal, judge_refusal, picking_refusal, cell_refusal, load_fault, retire_fault, setup_fault, reload_fault, missing_fault}
-use Rattle.card_core.specs.Steps.{Gives, Enters, Picks, Judges, Loads, Retires, SetsUp, Reloads, Releases, Cuts, Succeeds, FindsNoMemory, without_memory, IsRefused, WorldStep, left_by, with_answered, cell_after, cell_of_picking, with_cell, verdict_on, judgement_of, number_with, new_connection, picking_of, judged_world}
-use Rattle.card_core.specs.Headline.{code_loaded, code_retired, connection_changed, only_of, program_named, latest, Judgement, came_with, judgement_told, verdicts_on, on_line, on_connection, port_of, only_port, port_moved}
-use Rattle.card_core.proofs.Sound.{IsSound}
-use Rattle.card_core.proofs.CellLemmas.{vc-after, came}
-use Rattle.card_core.proofs.GivenOnce.{new-id}
-use Rattle.card_core.proofs.Told.{StoreTold, store_same, store_loaded, store_retired, Kept, IsFresh, Fate, kept, fresh, IsSilent, kept-silent, same-silent, connections-same, connections-with, IsPickedNow, PortsTold, ports-same, ports-moved, Tells}
-use Rattle.card_core.proofs.LookUps.{same_some, passed_on, unmapped, refused_by, mapped, is_there, is_missing, there_is, IsSome-of, ConnectionChanges, changes-with, changes-without, connection_passes, code-first, code-later, code-cases, without_code-was, without_code-others, times-same, times-grow, replicated, slice_get-set, IsOnce, once-with, once-without, with-here, with-others, without-here, without-others}
-use Rattle.card_core.proofs.SoundChanges.{opening-sound, picked_same, picks-set, sound-ported, sound-port, IsNewOrKept, changed, OneChanges, sound-changed, sound-rewritten, some-more, sound-programs}
-use Rattle.card_core.proofs.Allowed.{StepCase, succeeded, starved, rejected, step-case, IsAllowed, cell-allowed, picking-allowed, MaySetUp, setup-allowed, line-held, none_picked, MayRetire, retire-allowed}
-use Rattle.card_core.proofs.TellingCells.{IsQuiet, quiet-not_now, quiet-answered, quiet-refused, quiet-not_loaded, quiet-not_set_up, silent-quiet, no-verdicts, tells-quiet, tells-at, tells-enters, tells-picks, tells-judges}
+use Rattle.card_core.specs.Steps.{without_memory, left_by, with_answered}
+use Rattle.card_core.specs.Headline.{judgement_told, port_of, port_moved}
+use Rattle.card_core.proofs.Told.{ports-same, ports-moved, Tells}
+use Rattle.card_core.proofs.LookUps.{same_some, refused_by, mapped}
+use Rattle.card_core.proofs.TellingCells.{IsQuiet, quiet-not_now, quiet-answered, quiet-refused, quiet-not_loaded, quiet-not_set_up, tells-quiet}
 
 abbrev pub IsUnjudged : Answer → Type 0
 IsUnjudged answer = judgement_told (Answered answer) ≡ []

@@ -1,33 +1,20 @@
 -- What each step tells by its reply, of the codes, of the connections, of the ports and of the verdicts.
-use Rattle.std.proofs.Common.{◌≡◌, ◌≢◌, ◌⊎◌, ℕ, zero, suc, ◌+◌, ◌<◌, ◌≤◌, ◌==◌, Bool, true, false, cond, List, [], ◌∷◌, ◌++◌, length, set, Option, Some, None, slice_get, is_none, option_map, nat_lt, nat_le, append-nil, refl, sym, ap, ◌∙◌, subst, inl, inr, arith}
-use Rattle.std.proofs.lemmas.Bool.{eqb-true, eqb-false, eq-eqb, ne_eqb, cases_eq}
-use Rattle.upc_cell.specs.declared.side.Side.{Side}
+use Rattle.std.proofs.Common.{◌≡◌, ◌≢◌, ◌⊎◌, ℕ, ◌<◌, cond, List, [], ◌∷◌, ◌++◌, set, Some, None, slice_get, append-nil, refl, sym, ap, ◌∙◌, subst, inl, inr}
+use Rattle.std.proofs.lemmas.Bool.{ne_eqb}
 use Rattle.upc_cell.specs.declared.vc.Vc.{Vc}
-use Rattle.upc_cell.specs.Connection.{vc_of, is_same_vc}
-use Rattle.upc_cell.specs.Header.{has_low_priority}
-use Rattle.upc_cell.proofs.Public.{vc_itself, vc_differs, vc_cases}
+use Rattle.upc_cell.proofs.Public.{vc_cases}
 use Rattle.bpf_code.specs.declared.instr.Instr.{Instr}
-use Rattle.bpf_verify.specs.Accepted.{IsAccepted}
 use Rattle.gen_arena.specs.declared.id.Id.{Id}
-use Rattle.leaky.specs.declared.verdict.Verdict.{Verdict}
-use Rattle.line_record.specs.History.{NamedCell, numbered, buckets_after, empty_buckets}
-use Rattle.card_core.specs.declared.answer.Answer.{Answer}
-use Rattle.card_core.specs.declared.answer.Answer.TheVariants.{Judged, NoConnection as UnknownCell, Released as PickReleased, MomentTooLate, MomentBack, JournalFull}
 use Rattle.card_core.specs.declared.ask.Ask.{Ask}
-use Rattle.card_core.specs.declared.fault.DeskFault.{DeskFault}
 use Rattle.card_core.specs.declared.reply.Reply.{Reply}
-use Rattle.card_core.specs.declared.reply.Reply.TheVariants.{Entered, Picked, NotNow, Answered, Loaded, NotLoaded, Retired, SetUp, NotSetUp, Reloaded, Released, Cut as CutOff, Refused}
+use Rattle.card_core.specs.declared.reply.Reply.TheVariants.{Entered, Picked, Loaded, Retired, SetUp}
 use Rattle.card_core.specs.declared.shape.Shape.{Shape}
 use Rattle.card_core.specs.declared.step.Step.{Step}
-use Rattle.card_core.specs.declared.step.Step.TheVariants.{Enter, Pick, Judge, Load, Retire, Setup, Reload, Release, Cut}
-use Rattle.card_core.specs.World.{World, Loading, Connection, Picking, PortState, outside, entered, picked, code_in, without_code, connection_in, with_connection, without_connection, with_port, with_verdict}
-use Rattle.card_core.specs.Refusals.{refusal, enter_refusal, pick_refusal, judge_refusal, picking_refusal, cell_refusal}
-use Rattle.card_core.specs.Steps.{Gives, Enters, Picks, Judges, Loads, Retires, SetsUp, Reloads, Releases, Cuts, Succeeds, FindsNoMemory, without_memory, IsRefused, WorldStep, left_by, with_answered, cell_after, cell_of_picking, with_cell, verdict_on, judgement_of, number_with, new_connection, picking_of, judged_world}
-use Rattle.card_core.specs.Headline.{code_loaded, code_retired, connection_changed, only_of, program_named, latest, Judgement, came_with, judgement_told, verdicts_on, on_line, on_connection, port_of, only_port, port_moved}
-use Rattle.card_core.proofs.Sound.{IsSound}
-use Rattle.card_core.proofs.LookUps.{same_some, with-here, with-others, without-here, without-others, slice_get-set}
-use Rattle.card_core.proofs.CellLemmas.{vc-after, came}
-use Rattle.card_core.proofs.GivenOnce.{new-id}
+use Rattle.card_core.specs.declared.step.Step.TheVariants.{Enter, Pick, Load, Retire, Setup}
+use Rattle.card_core.specs.World.{World, Connection, Picking, PortState, entered, picked, code_in, without_code, connection_in, with_connection}
+use Rattle.card_core.specs.Steps.{Gives}
+use Rattle.card_core.specs.Headline.{code_loaded, code_retired, connection_changed, only_of, program_named, latest, judgement_told, verdicts_on, on_line, on_connection, only_port, port_moved}
+use Rattle.card_core.proofs.LookUps.{same_some, with-here, with-others, slice_get-set}
 
 -- Codes.
 
