@@ -15,7 +15,7 @@ use Rattle.card_core.specs.Refusals.{refusal, judge_refusal, picking_refusal, ce
 use Rattle.card_core.specs.Steps.{Succeeds, FindsNoMemory, IsRefused, WorldStep}
 use Rattle.card_core.proofs.LookUps.{same_some, passed_on, unmapped, is_there, is_missing, IsSome-of, connection_passes}
 
--- what a step that led somewhere did: it succeeded, found no memory, or was refused
+-- What a step that led somewhere did: it succeeded, found no memory, or was refused.
 pub data StepCase (before : World) (step : Step) (reply : Reply) (after : World) : Type 0 where
   succeeded : refusal before step ≡ None → Succeeds before step reply after → StepCase before step reply after
   starved : FindsNoMemory before step reply after → StepCase before step reply after
@@ -39,7 +39,7 @@ step-case before step reply after w =
 
 -- Cells.
 
--- what a cell that isn't refused is
+-- What a cell that isn't refused is.
 pub record IsAllowed (world : World) (connection : Connection) (moment : ℕ) : Type 0 where
   pub early : moment ≤ 2 ^ 62
   pub forward : last_moment 0 connection.history ≤ moment
@@ -60,7 +60,7 @@ cell-allowed world connection moment e =
       counted = leb-false (2 ^ 62) (length (world.judged connection.line)) four.0;
     }
 
--- a picked cell that isn't refused is on the connection that was picked
+-- A picked cell that isn't refused is on the connection that was picked.
 pub picking-allowed : (world : World) (port : ℕ) (picking : Picking) (connection : Connection)
     → slice_get world.ports port ≡ Some (picked picking)
     → connection_in world.connections picking.vc ≡ Some connection
@@ -85,7 +85,7 @@ picking-allowed world port picking connection had found e =
 
 -- The desk.
 
--- what a connection needs that isn't refused
+-- What a connection needs that isn't refused.
 pub record MaySetUp (before : World) (ask : Ask) : Type 0 where
   pub live : IsSome (code_in before.live ask.program)
   pub free : connection_in before.connections ask.vc ≡ None
@@ -108,7 +108,7 @@ setup-allowed before ask allowed =
       used = leb-false (2 ^ 62) before.used five.0;
     }
 
--- the line of a connection isn't open
+-- The line of a connection isn't open.
 pub line-held : (before : World) (line : ℕ) → is_open_line before line ≡ true
     → (other : Vc) (another : Connection) → connection_in before.connections other ≡ Some another → another.line ≢ line
 line-held before line free other another found same =
@@ -117,7 +117,7 @@ line-held before line free other another found same =
     (λ vc. eq-eqb another.line line same) in
     absurd (cc)
 
--- where no port has a cell none has one that was picked
+-- Where no port has a cell none has one that was picked.
 pub none_picked : (ports : List PortState) → list_all is_outside ports ≡ true → (port : ℕ) (picking : Picking)
     → slice_get ports port ≡ Some (picked picking) → ⊥
 none_picked [] all port picking e = absurd (cc)
@@ -129,7 +129,7 @@ none_picked (first ∷ later) all zero picking e =
 none_picked (first ∷ later) all (suc port) picking e =
     none_picked later (and_parts (is_outside first) (list_all is_outside later) all).1 port picking e
 
--- what a program needs that is retired
+-- What a program needs that is retired.
 pub record MayRetire (before : World) (id : Id) : Type 0 where
   pub idle : list_all is_outside before.ports ≡ true
   pub live : IsSome (code_in before.live id)

@@ -34,7 +34,7 @@ given-left before (Pick port) refused = given-answered before port refused
 given-left before (Judge port) refused = given-answered before port refused
 given-left before _ refused = refl
 
--- an id that is of the next generation of its slot was not given
+-- An id that is of the next generation of its slot was not given.
 pub new-id : (world : World) → IsSound world → (id : Id) → id.generation ≡ times_given world.given id.slot + 1
     → code_in world.given id ≡ None
 new-id world sound id next =
@@ -100,7 +100,7 @@ IsGivenOnce given = (place other : ℕ) (one another : Loading)
 abbrev AreAccepted : List Loading → Type 0
 AreAccepted given = (place : ℕ) (loading : Loading) → slice_get given place ≡ Some loading → IsAccepted loading.code
 
--- an id that nothing is looked up under stands nowhere
+-- An id that nothing is looked up under stands nowhere.
 stands-nowhere : (given : List Loading) (id : Id) → code_in given id ≡ None → (place : ℕ) (loading : Loading)
     → slice_get given place ≡ Some loading → loading.id ≢ id
 stands-nowhere [] id none place loading e same = absurd (cc)

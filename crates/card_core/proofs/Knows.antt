@@ -24,7 +24,7 @@ use Rattle.card_core.proofs.KnowsCodes.{told-more, told-none, latest-append, cut
 
 -- Connections.
 
--- a connection was set up, and what was told since then is what it has; but for its program
+-- A connection was set up, and what was told since then is what it has; but for its program.
 pub record Stood (shape : Shape) (log : List Event) (vc : Vc) (connection : Connection) (ask : Ask) (since : List Event) : Type 0 where
   pub stands : StandsSince log vc ask since
   pub incarnation : stands.incarnation ≡ connection.incarnation
@@ -32,14 +32,14 @@ pub record Stood (shape : Shape) (log : List Event) (vc : Vc) (connection : Conn
   pub cells : connection.history ≡ cells_of shape vc since
   pub held : connection.history ≡ cells_on connection.line since
 
--- and its program is the one that was named last
+-- And its program is the one that was named last.
 pub record KnowsConnection (shape : Shape) (log : List Event) (vc : Vc) (connection : Connection) : Type 0 where
   pub ask : Ask
   pub since : List Event
   pub stood : Stood shape log vc connection ask since
   pub program : connection.program ≡ latest ask.program (programs_named vc since)
 
--- one more event
+-- One more event.
 pub stood-more : (shape : Shape) (log : List Event) (vc : Vc) (old connection : Connection) (ask : Ask) (since : List Event) (step : Step) (reply : Reply)
     → Kept shape old connection vc step reply → Stood shape log vc old ask since
     → Stood shape (log ++ event_of step reply ∷ []) vc connection ask (since ++ event_of step reply ∷ [])
@@ -102,7 +102,7 @@ connection-fresh shape log used vc connection step reply new =
 
 -- Ports.
 
--- a cell entered, and its port hasn't moved since
+-- A cell entered, and its port hasn't moved since.
 entered-more : (log : List Event) (port : ℕ) (cell : List ℕ) (moment : ℕ) (step : Step) (reply : Reply)
     → only_port port (port_moved reply step) ≡ [] → HasEntered log port cell moment
     → HasEntered (log ++ event_of step reply ∷ []) port cell moment
@@ -125,8 +125,8 @@ entered-now log port cell moment step reply step_is reply_is =
     subst (λ (s : Step). HasEntered (log ++ event_of s reply ∷ []) port cell moment) (sym step_is)
     (subst (λ (r : Reply). HasEntered (log ++ event_of (Enter port cell moment) r ∷ []) port cell moment) (sym reply_is) now)
 
--- the connection of a picked cell: what is known of it since it was set up, and the program that it
--- named when the cell was picked
+-- The connection of a picked cell: what is known of it since it was set up, and the program that it
+-- named when the cell was picked.
 pub record KnowsPickedOn (shape : Shape) (log since : List Event) (port : ℕ) (pick : Picking) (connection : Connection) : Type 0 where
   pub ask : Ask
   pub until : List Event
@@ -146,7 +146,7 @@ pub record KnowsPick (shape : Shape) (log : List Event) (given : List Loading) (
   pub standing : (connection : Connection) → connection_in connections pick.vc ≡ Some connection
       → connection.incarnation ≡ pick.incarnation → KnowsPickedOn shape log since port pick connection
 
--- one more event, in which the port doesn't move
+-- One more event, in which the port doesn't move.
 pick-more : (shape : Shape) (log : List Event) (before after : World) (step : Step) (reply : Reply) (port : ℕ) (pick : Picking)
     → IsSound before → Tells shape before step reply after
     → ((id : Id) (code : List Instr) → code_in before.given id ≡ Some code → code_in after.given id ≡ Some code)
@@ -180,7 +180,7 @@ pick-more shape log before after step reply port pick sound tells keeps_codes ha
       ];
     }
 
--- the event in which the cell is picked
+-- The event in which the cell is picked.
 pick-now : (shape : Shape) (log : List Event) (before after : World) (step : Step) (reply : Reply) (port : ℕ) (pick : Picking)
     → Tells shape before step reply after
     → ((id : Id) (code : List Instr) → code_in before.given id ≡ Some code → code_in after.given id ≡ Some code)

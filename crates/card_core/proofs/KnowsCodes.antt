@@ -27,7 +27,7 @@ module _ {X : Type 0} (told : Event → List X) where
   pub told-more : (log : List Event) (event : Event) → flat_map told (log ++ event ∷ []) ≡ flat_map told log ++ told event
   told-more log event = told-append log (event ∷ []) ∙ ap (λ rest. flat_map told log ++ rest) (append-nil (told event))
 
-  -- nothing was told before, and nothing is told now
+  -- Nothing was told before, and nothing is told now.
   pub told-none : (log : List Event) (event : Event) → flat_map told log ≡ [] → told event ≡ []
       → flat_map told (log ++ event ∷ []) ≡ []
   told-none log event none now =
@@ -37,7 +37,7 @@ pub latest-append : (program : Id) (some more : List Id) → latest program (som
 latest-append program [] more = refl
 latest-append program (next ∷ later) more = latest-append next later more
 
--- a cut of the log is one of the longer log
+-- A cut of the log is one of the longer log.
 pub cut-more : (log earlier later : List Event) (at event : Event) → log ≡ earlier ++ at ∷ later
     → log ++ event ∷ [] ≡ earlier ++ at ∷ (later ++ event ∷ [])
 cut-more log earlier later at event cut =

@@ -22,6 +22,7 @@ pub mod SetupSteps
 pub mod Sound
 pub mod SoundChanges
 pub mod SoundSteps
+pub mod Spares
 pub mod Standing
 pub mod StoreLemmas
 pub mod StoreSteps

@@ -17,7 +17,7 @@ use Rattle.card_core.specs.World.{Loading, Connection, code_in, without_code, ti
 pub same_some : {X : Type 0} (x y : X) → Some x ≡ Some y → x ≡ y
 same_some x y e = same_Some x y e
 
--- what was refused by a test, and by what follows it
+-- What was refused by a test, and by what follows it.
 pub passed_on : {X : Type 0} (test : Bool) (refused : X) (rest : Option X)
     → cond test (Some refused) rest ≡ None → (test ≡ false) × (rest ≡ None)
 passed_on true refused rest e = absurd (cc)
@@ -42,7 +42,7 @@ there_is (Some x) e = (x, refl)
 pub IsSome-of : {X : Type 0} (o : Option X) (x : X) → o ≡ Some x → IsSome o
 IsSome-of o x e = ap is_some e
 
--- what passes a chain of tests, of which each refuses with something of this kind
+-- What passes a chain of tests, of which each refuses with something of this kind.
 pub refused_by : {X : Type 0} (P : X → Type 0) (test : Bool) (refused : X) (rest : Option X) → P refused
     → ((x : X) → rest ≡ Some x → P x) → (x : X) → cond test (Some refused) rest ≡ Some x → P x
 refused_by P true refused rest here later x e = subst P (same_some refused x e) here
@@ -100,7 +100,7 @@ with-others connections vc connection other apart =
     connection-later vc other connection (without_connection connections vc) (vc_differs other vc apart)
     ∙ without-others connections vc other apart
 
--- one connection of the list changed, and no other
+-- One connection of the list changed, and no other.
 pub record ConnectionChanges (old new : List (Vc × Connection)) (vc : Vc) (connection : Option Connection) : Type 0 where
   pub here : connection_in new vc ≡ connection
   pub others : (other : Vc) → other ≢ vc → connection_in new other ≡ connection_in old other
@@ -119,7 +119,7 @@ changes-without old vc = record {
   others = λ other apart. without-others old vc other apart;
 }
 
--- a connection that the test finds
+-- A connection that the test finds.
 pub connection_passes : (test : (Vc × Connection) → Bool) (connections : List (Vc × Connection)) (vc : Vc) (connection : Connection)
     → connection_in connections vc ≡ Some connection → ((other : Vc) → test (other, connection) ≡ true)
     → list_any test connections ≡ true
@@ -174,7 +174,7 @@ without_code-others (here ∷ later) id other apart =
     ] in
     choice (is_same_id id here.id) refl
 
--- what was there without one code was there
+-- What was there without one code was there.
 pub without_code-was : (loadings : List Loading) (gone id : Id) (code : List Instr)
     → code_in (without_code loadings gone) id ≡ Some code → (id ≢ gone) × (code_in loadings id ≡ Some code)
 without_code-was loadings gone id code e = elim (id_cases id gone) [
@@ -186,7 +186,7 @@ without_code-was loadings gone id code e = elim (id_cases id gone) [
   | inr apart ↦ (apart, sym (without_code-others loadings gone id apart) ∙ e)
 ]
 
--- how often a slot was given, once it or another was given once more
+-- How often a slot was given, once it or another was given once more.
 pub times-same : (loading : Loading) (later : List Loading) (slot : ℕ) → loading.id.slot ≡ slot
     → times_given (loading ∷ later) slot ≡ suc (times_given later slot)
 times-same loading later slot e =
@@ -201,7 +201,7 @@ times-grow loading later slot =
     ] in
     choice (loading.id.slot == slot)
 
--- what is looked up once a code was put in is that, or what was there
+-- What is looked up once a code was put in is that, or what was there.
 pub code-cases : (loading : Loading) (later : List Loading) (id : Id) (code : List Instr)
     → code_in (loading ∷ later) id ≡ Some code
     → ((id ≡ loading.id) × (loading.code ≡ code)) ⊎ ((id ≢ loading.id) × (code_in later id ≡ Some code))
@@ -233,7 +233,7 @@ module _ {X : Type 0} where
   slice_get-set_other (y ∷ xs) (suc k) zero x apart = refl
   slice_get-set_other (y ∷ xs) (suc k) (suc j) x apart = slice_get-set_other xs k j x (λ e. apart (ap suc e))
 
-  -- what a place has after a write is what was written there, or what it had
+  -- What a place has after a write is what was written there, or what it had.
   pub slice_get-set : (xs : List X) (k j : ℕ) (x y : X) → slice_get (set xs k x) j ≡ Some y
       → ((j ≡ k) × (x ≡ y)) ⊎ ((j ≢ k) × (slice_get xs j ≡ Some y))
   slice_get-set xs k j x y e = elim (cases_eq j k) [
@@ -251,7 +251,7 @@ replicated (suc n) (suc k) x y e = replicated n k x y e
 
 -- Entries.
 
--- each connection of the list is the one that is looked up
+-- Each connection of the list is the one that is looked up.
 abbrev pub IsOnce : List (Vc × Connection) → Type 0
 IsOnce connections = (here : Vc × Connection) → Contains connections here → connection_in connections here.0 ≡ Some here.1
 
@@ -263,7 +263,7 @@ contains-first : (first entry : Vc × Connection) (later : List (Vc × Connectio
 contains-first first entry later (zero, within, is) = inl is
 contains-first first entry later (suc place, within, is) = inr (place, omega (arith, within), is)
 
--- what the list has without one connection it had, and it is another's
+-- What the list has without one connection it had, and it is another's.
 pub contains-without : (connections : List (Vc × Connection)) (vc : Vc) (entry : Vc × Connection)
     → Contains (without_connection connections vc) entry → Contains connections entry × (entry.0 ≢ vc)
 contains-without [] vc entry there = absurd (omega (arith, there.1))

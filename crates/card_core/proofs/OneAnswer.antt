@@ -35,14 +35,14 @@ tails : (one other : Event) (xs ys : List Event) → one ∷ xs ≡ other ∷ ys
 unfolding rest_of
 tails one other xs ys e = ap rest_of e
 
--- both cuts of one log are at its last event that tells something
+-- Both cuts of one log are at its last event that tells something.
 pub record AreOneCut (before other : List Event) (at another : Event) (after later : List Event) : Type 0 where
   pub fronts : before ≡ other
   pub events : at ≡ another
   pub ends : after ≡ later
 
 module _ {X : Type 0} (told : Event → List X) where
-  -- an event that tells something isn't among those that tell nothing
+  -- An event that tells something isn't among those that tell nothing.
   silent : (xs : List Event) (event : Event) (ys zs : List Event) (x : X) → told event ≡ x ∷ [] → flat_map told zs ≡ []
       → zs ≡ xs ++ event ∷ ys → ⊥
   silent xs event ys zs x tells none e =
@@ -108,7 +108,7 @@ moves port event = only_port port (port_moved event.reply event.step)
 own-port : (port : ℕ) → only_port port (port ∷ []) ≡ port ∷ []
 own-port port = ap (λ b. cond b (port ∷ []) []) (eq-eqb port port refl)
 
--- the cell that entered a port last
+-- The cell that entered a port last.
 one-entered : (log : List Event) (port : ℕ) (cell other : List ℕ) (moment later : ℕ) → HasEntered log port cell moment
     → HasEntered log port other later → (cell ≡ other) × (moment ≡ later)
 unfolding moves
@@ -117,7 +117,7 @@ one-entered log port cell other moment later one another =
     one.later another.later port port (own-port port) (own-port port) one.alone another.alone (sym one.cut ∙ another.cut) in
     one_cell port port cell other moment later cut.events
 
--- the setting up since which a connection stands
+-- The setting up since which a connection stands.
 changes : Vc → Event → List Vc
 changes vc event = only_of vc (connection_changed event.reply event.step)
 

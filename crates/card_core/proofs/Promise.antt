@@ -49,7 +49,7 @@ nothing-behind : {X : Type 0} (x : X) (xs : List X) → x ∷ xs ≡ x ∷ [] �
 unfolding tail_of
 nothing-behind x xs e = ap tail_of e
 
--- a code that was live after the log and is after all that follows was so all the time
+-- A code that was live after the log and is after all that follows was so all the time.
 live-through : (log further : List Event) (id : Id) (code : List Instr) → codes_loaded id log ≡ code ∷ []
     → codes_loaded id (log ++ further) ≡ code ∷ [] → codes_retired id (log ++ further) ≡ []
     → IsLiveThrough log further id code
@@ -142,7 +142,7 @@ promised-judges shape log before port reply after parts sound known allowed w is
     subst (PromisedOf shape log port) same
     (promised-picked shape log before sound known port w.picking w.had w.connection w.found may.0)
 
--- a refused Judge wasn't answered Judged
+-- A refused Judge wasn't answered Judged.
 unjudged-parts : (answer : Answer) → judgement_told (Answered answer) ≡ [] → parts_of (Answered answer) ≡ None
 unjudged-parts (Judged line number moment value program verdict leaving) e = absurd (cc)
 unjudged-parts _ e = refl

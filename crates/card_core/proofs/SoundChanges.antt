@@ -41,7 +41,7 @@ pub picked_same : (one other : Picking) → picked one ≡ picked other → one 
 unfolding picking_in
 picked_same one other e = ap (λ state. picking_in state one) e
 
--- what is picked once a port was written
+-- What is picked once a port was written.
 pub picks-set : (before : World) (port : ℕ) (state : PortState) → IsSound before
     → ((picking : Picking) → state ≡ picked picking → SoundPicking before picking)
     → (place : ℕ) (picking : Picking) → slice_get (set before.ports port state) place ≡ Some (picked picking)
@@ -94,7 +94,7 @@ sound-port before port state sound new =
 
 -- One connection.
 
--- the connection is new, on a line of no connection; or it has its incarnation and line from before
+-- The connection is new, on a line of no connection; or it has its incarnation and line from before.
 abbrev pub IsNewOrKept : World → Vc → Connection → Type 0
 IsNewOrKept before vc connection =
     (before.used < connection.incarnation)
@@ -103,7 +103,7 @@ IsNewOrKept before vc connection =
     ⊎ ((old : Connection) × (connection_in before.connections vc ≡ Some old)
     × (connection.incarnation ≡ old.incarnation) × (connection.line ≡ old.line))
 
--- the world with all of its connections, incarnations, verdicts and ports anew
+-- The world with all of its connections, incarnations, verdicts and ports anew.
 abbrev pub changed : World → List (Vc × Connection) → ℕ → (ℕ → List Verdict) → List PortState → World
 changed before connections used judged ports =
     record before { connections = connections; used = used; judged = judged; ports = ports }
@@ -149,7 +149,7 @@ module _ (before : World) (connections : List (Vc × Connection)) (used : ℕ) (
         }
   ]
 
-  -- another connection than the new one has another line and another incarnation
+  -- Another connection than the new one has another line and another incarnation.
   alone : (connection : Connection) → new ≡ Some connection → (other : Vc) (another : Connection) → other ≢ vc
       → connection_in before.connections other ≡ Some another
       → (another.line ≢ connection.line) × (another.incarnation ≢ connection.incarnation)
@@ -231,7 +231,7 @@ module _ (before : World) (connections : List (Vc × Connection)) (used : ℕ) (
     used = c.most;
   }
 
--- a connection that changes in what the others don't share
+-- A connection that changes in what the others don't share.
 pub sound-rewritten : (before : World) (vc : Vc) (connection new : Connection) → IsSound before
     → connection_in before.connections vc ≡ Some connection
     → new.incarnation ≡ connection.incarnation → new.line ≡ connection.line
@@ -262,7 +262,7 @@ some-more loading later id there =
     ] in
     choice (is_same_id id loading.id)
 
--- a world whose programs alone changed
+-- A world whose programs alone changed.
 pub sound-programs : (before : World) (given live : List Loading) → IsSound before
     → SoundPrograms (record before { given = given; live = live })
     → ((vc : Vc) (connection : Connection) → connection_in before.connections vc ≡ Some connection

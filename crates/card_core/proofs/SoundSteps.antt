@@ -110,7 +110,7 @@ sound-judges before port reply after sound allowed w =
 
 -- The desk.
 
--- another program, or more cells handed out, change nothing of that
+-- Another program, or more cells handed out, change nothing of that.
 sound-reloads : (before : World) (vc : Vc) (program : Id) (reply : Reply) (after : World) → IsSound before
     → refusal before (Reload vc program) ≡ None → Reloads before vc program reply after → IsSound after
 sound-reloads before vc program reply after sound allowed w =

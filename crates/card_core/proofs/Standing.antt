@@ -52,7 +52,7 @@ apart-from vc other none same =
 abbrev IsThere : World → Vc → Type 0
 IsThere world vc = IsSome (connection_in world.connections vc)
 
--- what a reply and a step tell of the connections
+-- What a reply and a step tell of the connections.
 abbrev Unchanged : Vc → Step → Reply → Type 0
 Unchanged vc step reply = only_of vc (connection_changed reply step) ≡ []
 

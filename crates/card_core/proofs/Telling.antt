@@ -51,7 +51,7 @@ tells-retires shape before id reply after w =
       verdicts = λ line. no-verdicts (before.judged line) line (Retired w.code) refl;
     })
 
--- a connection isn't another's
+-- A connection isn't another's.
 not-of : (other vc : Vc) → other ≢ vc → only_of other (vc ∷ []) ≡ []
 not-of other vc apart = ap (λ b. cond b (vc ∷ []) []) (vc_differs other vc apart)
 

@@ -100,7 +100,7 @@ tells-quiet shape before step reply ports quiet moves = record {
   verdicts = λ line. no-verdicts (before.judged line) line reply quiet.no_cell;
 }
 
--- the reply and the world that a step led to are those that are known
+-- The reply and the world that a step led to are those that are known.
 pub tells-at : (shape : Shape) (before : World) (step : Step) (one other : Reply) (after later : World)
     → one ≡ other → after ≡ later → Tells shape before step other later → Tells shape before step one after
 tells-at shape before step one other after later same leads tells =
@@ -163,7 +163,7 @@ tells-picks shape before port reply after w =
       verdicts = λ line. no-verdicts (before.judged line) line Picked refl;
     })
 
--- what the answer to a judged cell tells
+-- What the answer to a judged cell tells.
 abbrev pub judgement_on : World → Picking → Connection → Judgement
 judgement_on before picking connection = record {
   line = connection.line;
@@ -177,7 +177,7 @@ judgement_on before picking connection = record {
   };
 }
 
--- it tells the cell as the history has it
+-- It tells the cell as the history has it.
 pub told-cell : (before : World) (picking : Picking) (connection : Connection)
     → (judgement_on before picking connection).cell ≡ cell_of_picking picking
 told-cell before picking connection =

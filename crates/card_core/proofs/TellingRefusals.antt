@@ -21,7 +21,7 @@ use Rattle.card_core.proofs.TellingCells.{IsQuiet, quiet-not_now, quiet-answered
 abbrev pub IsUnjudged : Answer → Type 0
 IsUnjudged answer = judgement_told (Answered answer) ≡ []
 
--- what a Pick or a Judge is refused with
+-- What a Pick or a Judge is refused with.
 pub data CellRefused (refused : Reply) : Type 0 where
   at_no_time : refused ≡ NotNow → CellRefused refused
   with_answer : (answer : Answer) → refused ≡ Answered answer → IsUnjudged answer → CellRefused refused
@@ -68,13 +68,13 @@ judge-refused before (Some (picked picking)) refused e =
     let found = mapped Answered (picking_refusal before picking (connection_in before.connections picking.vc)) refused e in
     with_answer found.0 found.2 (picking-refused before picking (connection_in before.connections picking.vc) found.0 found.1)
 
--- a step that leaves the world as it was, with an answer that tells nothing
+-- A step that leaves the world as it was, with an answer that tells nothing.
 tells-nothing : (shape : Shape) (before : World) (step : Step) (reply : Reply) → IsQuiet reply → port_moved reply step ≡ []
     → Tells shape before step reply before
 tells-nothing shape before step reply quiet still =
     tells-quiet shape before step reply before.ports quiet (ports-same before before step reply refl still)
 
--- a Pick or a Judge that is refused
+-- A Pick or a Judge that is refused.
 tells-cell_refused : (shape : Shape) (before : World) (step : Step) (port : ℕ) (refused : Reply) → port_of step ≡ port ∷ []
     → CellRefused refused → Tells shape before step refused (with_answered before port refused)
 tells-cell_refused shape before step port refused at (at_no_time is) =

@@ -34,7 +34,7 @@ pub data StoreTold (before after : World) (step : Step) (reply : Reply) : Type 0
 
 -- Connections.
 
--- a connection that was there before, and what was told of it
+-- A connection that was there before, and what was told of it.
 pub record Kept (shape : Shape) (old connection : Connection) (vc : Vc) (step : Step) (reply : Reply) : Type 0 where
   pub incarnation : connection.incarnation ≡ old.incarnation
   pub line : connection.line ≡ old.line
@@ -44,7 +44,7 @@ pub record Kept (shape : Shape) (old connection : Connection) (vc : Vc) (step : 
   pub cells : connection.history ≡ old.history ++ on_connection shape vc (judgement_told reply)
   pub held : connection.history ≡ old.history ++ on_line old.line (judgement_told reply)
 
--- a connection that is there since this step
+-- A connection that is there since this step.
 pub record IsFresh (used : ℕ) (connection : Connection) (vc : Vc) (step : Step) (reply : Reply) : Type 0 where
   pub ask : Ask
   pub asked : ask.vc ≡ vc
@@ -64,13 +64,13 @@ abbrev pub ConnectionsTold : Shape → World → World → Step → Reply → Ty
 ConnectionsTold shape before after step reply = (vc : Vc) (connection : Connection)
     → connection_in after.connections vc ≡ Some connection → Fate shape before vc connection step reply
 
--- nothing is told of the connection
+-- Nothing is told of the connection.
 pub record IsSilent (vc : Vc) (step : Step) (reply : Reply) : Type 0 where
   pub standing : only_of vc (connection_changed reply step) ≡ []
   pub programs : program_named vc reply step ≡ []
   pub cells : judgement_told reply ≡ []
 
--- then it is as it was, but for what the log doesn't tell
+-- Then it is as it was, but for what the log doesn't tell.
 pub kept-silent : (shape : Shape) (old connection : Connection) (vc : Vc) (step : Step) (reply : Reply) → IsSilent vc step reply
     → connection.incarnation ≡ old.incarnation → connection.line ≡ old.line → connection.contracts ≡ old.contracts
     → connection.program ≡ old.program → connection.history ≡ old.history → Kept shape old connection vc step reply
@@ -96,7 +96,7 @@ connections-same shape before after step reply silent same vc connection found =
     kept connection (subst (λ (l : List (Vc × Connection)). connection_in l vc ≡ Some connection) same found)
     (same-silent shape connection connection vc step reply (silent vc) refl)
 
--- one connection is written anew, of which that is told, and the others stay
+-- One connection is written anew, of which that is told, and the others stay.
 pub connections-with : (shape : Shape) (before after : World) (step : Step) (reply : Reply) (vc : Vc) (new : Connection)
     → after.connections ≡ with_connection before.connections vc new
     → Fate shape before vc new step reply
@@ -121,12 +121,12 @@ connections-with shape before after step reply vc new same here others other con
 
 -- Ports.
 
--- a port keeps its state, and didn't move
+-- A port keeps its state, and didn't move.
 abbrev pub PortStays : World → ℕ → PortState → Step → Reply → Type 0
 PortStays before port state step reply =
     (slice_get before.ports port ≡ Some state) × (only_port port (port_moved reply step) ≡ [])
 
--- a port's cell is picked in this step
+-- A port's cell is picked in this step.
 pub record IsPickedNow (before : World) (port : ℕ) (picking : Picking) (step : Step) (reply : Reply) : Type 0 where
   pub step_is : step ≡ Pick port
   pub reply_is : reply ≡ Picked

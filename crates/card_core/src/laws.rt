@@ -2,7 +2,7 @@
 //! is its contract.
 
 ghost use Rattle.card_core.specs.Headline.{EachJudgedCellIsPromised};
-ghost use Rattle.card_core.specs.Laws.{NamedProgramsAreLive, IdsAreGivenOnce, IdsNameOneCode, ConnectionsAreApart, ConnectionsBoundBursts, StepsHaveReplies, ConnectionsAreAsTold, PromisesLeaveOneAnswer};
+ghost use Rattle.card_core.specs.Laws.{NamedProgramsAreLive, IdsAreGivenOnce, IdsNameOneCode, ConnectionsAreApart, ConnectionsBoundBursts, StepsHaveReplies, SomeAnswersNeverCome, ConnectionsAreAsTold, PromisesLeaveOneAnswer};
 
 /// Each connection and each picked cell names a live program.
 pub fn named_programs_are_live()
@@ -33,6 +33,11 @@ pub fn connections_bound_bursts()
 /// Each step has a reply in every world, and none need be for want of memory.
 pub fn steps_have_replies()
     ensures { StepsHaveReplies }
+{}
+
+/// `Stale` never comes, and `NoMemory` only to a Setup or a Cut.
+pub fn some_answers_never_come()
+    ensures { SomeAnswersNeverCome }
 {}
 
 /// The headline: wherever a log has a judged cell, what is promised of it holds.
