@@ -12,12 +12,14 @@ pub mod KnowsCodes
 pub mod LineLemmas
 pub mod LookUps
 pub mod OneAnswer
+pub mod OpeningLemmas
 pub mod OwnerLemmas
 pub mod PickSteps
 pub mod PortLemmas
 pub mod PortSteps
 pub mod Promise
 pub mod Replies
+pub mod RunLemmas
 pub mod SetupSteps
 pub mod Sound
 pub mod SoundChanges

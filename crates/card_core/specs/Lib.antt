@@ -4,6 +4,7 @@ pub mod World
 pub mod Refusals
 pub mod Steps
 pub mod Log
+pub mod Shapes
 pub mod Agreement
 pub mod Headline
 pub mod Laws
