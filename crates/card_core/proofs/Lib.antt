@@ -10,6 +10,7 @@ pub mod JudgeSteps
 pub mod Knows
 pub mod KnowsCodes
 pub mod LineLemmas
+pub mod LogBursts
 pub mod LookUps
 pub mod OneAnswer
 pub mod OpeningLemmas

@@ -126,7 +126,7 @@ unfolding changes
 own-change vc ask incarnation same =
     ap (λ b. cond b (ask.vc ∷ []) []) (subst (λ (v : Vc). is_same_vc vc v ≡ true) (sym same) (vc_itself vc))
 
-one-standing : (log : List Event) (vc : Vc) (ask other : Ask) (since later : List Event) → StandsSince log vc ask since
+pub one-standing : (log : List Event) (vc : Vc) (ask other : Ask) (since later : List Event) → StandsSince log vc ask since
     → StandsSince log vc other later → (ask ≡ other) × (since ≡ later)
 unfolding changes
 one-standing log vc ask other since later one another =

@@ -146,6 +146,15 @@ abbrev pub ConnectionsAreAsTold : Type 0
 ConnectionsAreAsTold = (shape : Shape) (log : List Event) (world : World) → Leads shape log world
     → TellsConnections shape log world
 
+-- The burst bound over the log alone: of the cells that were judged on a connection since it was set
+-- up, and that one of its contracts passed or tagged.
+abbrev pub LogsBoundBursts : Type 0
+LogsBoundBursts = (shape : Shape) (log : List Event) → IsLog shape log
+    → (vc : Vc) (ask : Ask) (since : List Event) → StandsSince log vc ask since
+    → (number : ℕ) (contract : Contract) → numbered ask.contracts.items number ≡ Some contract
+    → (first span : ℕ)
+    → IsBounded first span (peak_charges number (judged ask.contracts.items empty_buckets [] (cells_of shape vc since))) (peak_of contract)
+
 -- All that an answer to a judged cell says but the line.
 pub record AreOneAnswer (number another moment other_moment value other_value : ℕ) (program other : Id) (verdict other_verdict : Verdict) (leaving other_leaving : List ℕ) : Type 0 where
   pub numbers : number ≡ another
