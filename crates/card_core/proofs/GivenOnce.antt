@@ -1,23 +1,23 @@
 -- No id is given twice.
-use Rattle.std.proofs.Common.{◌≡◌, ◌≢◌, ◌⊎◌, ℕ, zero, suc, ◌+◌, ◌<◌, ◌≤◌, Bool, true, false, cond, List, [], ◌∷◌, Option, Some, None, slice_get, refl, sym, ap, ◌∙◌, subst, inl, inr, arith}
+use Rattle.std.proofs.Common.{◌≡◌, ◌≢◌, ℕ, zero, suc, ◌+◌, Bool, true, false, cond, List, [], ◌∷◌, Option, Some, None, slice_get, refl, sym, ap, ◌∙◌, subst, arith}
 use Rattle.bpf_code.specs.declared.instr.Instr.{Instr}
 use Rattle.bpf_verify.specs.Accepted.{IsAccepted}
 use Rattle.gen_arena.specs.declared.id.Id.{Id}
 use Rattle.gen_arena.specs.SameId.{is_same_id}
-use Rattle.gen_arena.proofs.Public.{id_same, id_itself, id_differs}
+use Rattle.gen_arena.proofs.Public.{id_itself, id_differs}
 use Rattle.card_core.specs.declared.reply.Reply.{Reply}
 use Rattle.card_core.specs.declared.reply.Reply.TheVariants.{Answered}
-use Rattle.card_core.specs.declared.shape.Shape.{Shape}
 use Rattle.card_core.specs.declared.step.Step.{Step}
 use Rattle.card_core.specs.declared.step.Step.TheVariants.{Enter, Pick, Judge, Load, Retire, Setup, Reload, Release, Cut}
 use Rattle.card_core.specs.World.{World, Loading, code_in, times_given, opening_world}
-use Rattle.card_core.specs.Refusals.{refusal}
 use Rattle.card_core.specs.Steps.{Succeeds, WorldStep, left_by, with_answered}
-use Rattle.card_core.specs.Log.{Event, Run, Leads}
-use Rattle.card_core.specs.Laws.{GivesEachIdOnce, IdsAreGivenOnce, IdsNameOneCode}
+use Rattle.card_core.specs.Log.{Event, Run}
+use Rattle.card_core.specs.Laws.{IdsAreGivenOnce, IdsNameOneCode}
 use Rattle.card_core.proofs.Sound.{IsSound}
 use Rattle.card_core.proofs.LookUps.{same_some, code-first, code-later}
-use Rattle.card_core.proofs.SoundSteps.{StepCase, succeeded, starved, rejected, step-case, sound-step, opening-sound, reached-sound}
+use Rattle.card_core.proofs.Allowed.{succeeded, starved, rejected, step-case}
+use Rattle.card_core.proofs.SoundChanges.{opening-sound}
+use Rattle.card_core.proofs.SoundSteps.{sound-step, reached-sound}
 
 -- What a step does to the codes that were ever put in: nothing, or one more under an id that is new.
 pub data GivenCase (before after : List Loading) : Type 0 where
@@ -34,7 +34,7 @@ given-left before (Pick port) refused = given-answered before port refused
 given-left before (Judge port) refused = given-answered before port refused
 given-left before _ refused = refl
 
--- an id that is of the next generation of its slot was not given
+-- An id that is of the next generation of its slot was not given.
 pub new-id : (world : World) → IsSound world → (id : Id) → id.generation ≡ times_given world.given id.slot + 1
     → code_in world.given id ≡ None
 new-id world sound id next =
@@ -100,7 +100,7 @@ IsGivenOnce given = (place other : ℕ) (one another : Loading)
 abbrev AreAccepted : List Loading → Type 0
 AreAccepted given = (place : ℕ) (loading : Loading) → slice_get given place ≡ Some loading → IsAccepted loading.code
 
--- an id that nothing is looked up under stands nowhere
+-- An id that nothing is looked up under stands nowhere.
 stands-nowhere : (given : List Loading) (id : Id) → code_in given id ≡ None → (place : ℕ) (loading : Loading)
     → slice_get given place ≡ Some loading → loading.id ≢ id
 stands-nowhere [] id none place loading e same = absurd (cc)

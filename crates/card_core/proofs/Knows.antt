@@ -1,160 +1,30 @@
 -- What a log tells of the world that it leads to: of its codes, its connections, its ports and its verdicts.
-use Rattle.std.proofs.Common.{◌≡◌, ◌≢◌, ◌⊎◌, ℕ, suc, ◌+◌, ◌<◌, ◌≤◌, Bool, true, false, cond, List, [], ◌∷◌, ◌++◌, replicate, Option, Some, None, IsSome, slice_get, flat_map, option_to_list, append_assoc, append-nil, refl, sym, ap, ◌∙◌, subst, inl, inr, arith}
+use Rattle.std.proofs.Common.{◌≡◌, ℕ, List, [], ◌∷◌, ◌++◌, Some, slice_get, option_to_list, append_assoc, append-nil, refl, sym, ap, ◌∙◌, subst, inl, inr, arith}
 use Rattle.upc_cell.specs.declared.vc.Vc.{Vc}
 use Rattle.bpf_code.specs.declared.instr.Instr.{Instr}
 use Rattle.gen_arena.specs.declared.id.Id.{Id}
-use Rattle.gen_arena.specs.SameId.{is_same_id}
-use Rattle.gen_arena.proofs.Public.{id_same, id_itself, id_differs, id_cases}
-use Rattle.leaky.specs.declared.verdict.Verdict.{Verdict}
-use Rattle.line_record.specs.History.{NamedCell}
 use Rattle.card_core.specs.declared.ask.Ask.{Ask}
 use Rattle.card_core.specs.declared.reply.Reply.{Reply}
-use Rattle.card_core.specs.declared.reply.Reply.TheVariants.{Entered, Picked, Loaded, Retired, SetUp}
+use Rattle.card_core.specs.declared.reply.Reply.TheVariants.{Entered}
 use Rattle.card_core.specs.declared.shape.Shape.{Shape}
 use Rattle.card_core.specs.declared.step.Step.{Step}
-use Rattle.card_core.specs.declared.step.Step.TheVariants.{Enter, Pick, Load, Retire, Setup}
-use Rattle.card_core.specs.World.{World, Loading, Connection, Picking, PortState, outside, entered, picked, code_in, without_code, connection_in, opening_world}
+use Rattle.card_core.specs.declared.step.Step.TheVariants.{Enter, Pick, Setup}
+use Rattle.card_core.specs.World.{World, Loading, Connection, Picking, outside, entered, picked, code_in, connection_in, opening_world}
 use Rattle.card_core.specs.Steps.{Gives, WorldStep}
 use Rattle.card_core.specs.Log.{Event, Run, Leads}
-use Rattle.card_core.specs.Headline.{code_loaded, codes_loaded, code_retired, codes_retired, only_of, connection_changed, changes_of, program_named, programs_named, latest, judgement_told, verdicts_on, verdicts_given, on_line, cells_on, on_connection, cells_of, only_port, port_moved, moves_of, entering, picking, setting_up, HasEntered, StandsSince}
+use Rattle.card_core.specs.Headline.{codes_loaded, only_of, connection_changed, program_named, programs_named, latest, judgement_told, verdicts_on, verdicts_given, on_line, cells_on, on_connection, cells_of, only_port, port_moved, moves_of, entering, picking, setting_up, HasEntered, StandsSince}
 use Rattle.card_core.proofs.Sound.{IsSound}
-use Rattle.card_core.proofs.LookUps.{same_some, there_is, IsSome-of, without_code-was}
-use Rattle.card_core.proofs.SoundSteps.{opening-sound, sound-step, code-cases, replicated}
-use Rattle.card_core.proofs.GivenOnce.{GivenCase, given-step, code-kept}
-use Rattle.card_core.proofs.Told.{StoreTold, store_same, store_loaded, store_retired, Kept, IsFresh, Fate, kept, fresh, IsPickedNow, PortsTold, Tells}
+use Rattle.card_core.proofs.GivenOnce.{given-step, code-kept}
+use Rattle.card_core.proofs.Told.{Kept, IsFresh, kept, fresh, IsPickedNow, Tells}
 use Rattle.card_core.proofs.Telling.{step-tells}
-
--- What the events tell one after another.
-
-module _ {X : Type 0} (told : Event → List X) where
-  pub told-append : (log later : List Event) → flat_map told (log ++ later) ≡ flat_map told log ++ flat_map told later
-  told-append [] later = refl
-  told-append (event ∷ log) later =
-      ap (λ rest. told event ++ rest) (told-append log later)
-      ∙ sym (append_assoc (told event) (flat_map told log) (flat_map told later))
-
-  pub told-more : (log : List Event) (event : Event) → flat_map told (log ++ event ∷ []) ≡ flat_map told log ++ told event
-  told-more log event = told-append log (event ∷ []) ∙ ap (λ rest. flat_map told log ++ rest) (append-nil (told event))
-
-  -- nothing was told before, and nothing is told now
-  pub told-none : (log : List Event) (event : Event) → flat_map told log ≡ [] → told event ≡ []
-      → flat_map told (log ++ event ∷ []) ≡ []
-  told-none log event none now =
-      told-more log event ∙ ap (λ told_before. told_before ++ told event) none ∙ now
-
-pub latest-append : (program : Id) (some more : List Id) → latest program (some ++ more) ≡ latest (latest program some) more
-latest-append program [] more = refl
-latest-append program (next ∷ later) more = latest-append next later more
-
--- a cut of the log is one of the longer log
-pub cut-more : (log earlier later : List Event) (at event : Event) → log ≡ earlier ++ at ∷ later
-    → log ++ event ∷ [] ≡ earlier ++ at ∷ (later ++ event ∷ [])
-cut-more log earlier later at event cut =
-    ap (λ (l : List Event). l ++ event ∷ []) cut ∙ append_assoc earlier (at ∷ later) (event ∷ [])
-
--- Codes.
-
-pub record KnowsCodes (log : List Event) (given live : List Loading) : Type 0 where
-  pub loaded : (id : Id) → codes_loaded id log ≡ option_to_list (code_in given id)
-  pub kept : (id : Id) (code : List Instr) → code_in live id ≡ Some code → codes_retired id log ≡ []
-  pub untouched : (id : Id) → code_in given id ≡ None → codes_retired id log ≡ []
-
-loaded-same : (log : List Event) (event : Event) (given : List Loading) → ((id : Id) → codes_loaded id log ≡ option_to_list (code_in given id))
-    → ((id : Id) → code_loaded id event.reply event.step ≡ [])
-    → (id : Id) → codes_loaded id (log ++ event ∷ []) ≡ option_to_list (code_in given id)
-loaded-same log event given known none id =
-    told-more (λ (e : Event). code_loaded id e.reply e.step) log event
-    ∙ ap (λ now. codes_loaded id log ++ now) (none id) ∙ append-nil (codes_loaded id log) ∙ known id
-
-abbrev loading_event : Id → List Instr → Event
-loading_event id code = record { step = Load code; reply = Loaded id }
-
-loaded-more : (log : List Event) (given : List Loading) (id : Id) (code : List Instr)
-    → ((other : Id) → codes_loaded other log ≡ option_to_list (code_in given other)) → code_in given id ≡ None
-    → (other : Id) → codes_loaded other (log ++ loading_event id code ∷ [])
-    ≡ option_to_list (code_in (record { id = id; code = code } ∷ given) other)
-loaded-more log given id code known new other =
-    let more = told-more (λ (e : Event). code_loaded other e.reply e.step) log (loading_event id code) in
-    let before : codes_loaded other log ≡ option_to_list (code_in given other) = known other in
-    elim (id_cases other id) [
-      | inl same ↦
-          let at : is_same_id other id ≡ true = subst (λ (i : Id). is_same_id other i ≡ true) same (id_itself other) in
-          let none : code_in given other ≡ None = subst (λ (i : Id). code_in given i ≡ None) (sym same) new in
-          more ∙ ap (λ told. told ++ cond (is_same_id other id) (code ∷ []) []) (before ∙ ap option_to_list none)
-          ∙ ap (λ b. cond b (code ∷ []) []) at
-          ∙ ap (λ b. option_to_list (cond b (Some code) (code_in given other))) (sym at)
-      | inr apart ↦
-          let at : is_same_id other id ≡ false = id_differs other id apart in
-          more ∙ ap (λ b. codes_loaded other log ++ cond b (code ∷ []) []) at ∙ append-nil (codes_loaded other log) ∙ before
-          ∙ ap (λ b. option_to_list (cond b (Some code) (code_in given other))) (sym at)
-    ]
-
-retired-none : (log : List Event) (event : Event) (id : Id) → codes_retired id log ≡ []
-    → code_retired id event.reply event.step ≡ [] → codes_retired id (log ++ event ∷ []) ≡ []
-retired-none log event id none now = told-none (λ (e : Event). code_retired id e.reply e.step) log event none now
-
-abbrev event_of : Step → Reply → Event
-event_of step reply = record { step = step; reply = reply }
-
-codes-step : (log : List Event) (before after : World) (step : Step) (reply : Reply) → IsSound before
-    → KnowsCodes log before.given before.live → StoreTold before after step reply
-    → KnowsCodes (log ++ event_of step reply ∷ []) after.given after.live
-codes-step log before after step reply sound known (store_same given live none_loaded none_retired) =
-    subst (λ (g : List Loading). KnowsCodes (log ++ event_of step reply ∷ []) g after.live) (sym given)
-    (subst (λ (l : List Loading). KnowsCodes (log ++ event_of step reply ∷ []) before.given l) (sym live) (record {
-      loaded = loaded-same log (event_of step reply) before.given known.loaded none_loaded;
-      kept = λ id code e. retired-none log (event_of step reply) id (known.kept id code e) (none_retired id);
-      untouched = λ id e. retired-none log (event_of step reply) id (known.untouched id e) (none_retired id);
-    }))
-codes-step log before after step reply sound known (store_loaded id code step_is reply_is given live new) =
-    let loading : Loading = record { id = id; code = code } in
-    let now : KnowsCodes (log ++ loading_event id code ∷ []) (loading ∷ before.given) (loading ∷ before.live) = record {
-      loaded = loaded-more log before.given id code known.loaded new;
-      kept = λ other found e. elim (code-cases loading before.live other found e) [
-        | inl here ↦
-            let none : code_in before.given other ≡ None = subst (λ (i : Id). code_in before.given i ≡ None) (sym here.0) new in
-            retired-none log (loading_event id code) other (known.untouched other none) refl
-        | inr there ↦ retired-none log (loading_event id code) other (known.kept other found there.1) refl
-      ];
-      untouched = λ other e. elim (id_cases other id) [
-        | inl same ↦
-            retired-none log (loading_event id code) other
-            (known.untouched other (subst (λ (i : Id). code_in before.given i ≡ None) (sym same) new)) refl
-        | inr apart ↦
-            let at : is_same_id other id ≡ false = id_differs other id apart in
-            let none : code_in before.given other ≡ None =
-            ap (λ b. cond b (Some code) (code_in before.given other)) (sym at) ∙ e in
-            retired-none log (loading_event id code) other (known.untouched other none) refl
-      ];
-    } in
-    subst (λ (s : Step). KnowsCodes (log ++ event_of s reply ∷ []) after.given after.live) (sym step_is)
-    (subst (λ (r : Reply). KnowsCodes (log ++ event_of (Load code) r ∷ []) after.given after.live) (sym reply_is)
-    (subst (λ (g : List Loading). KnowsCodes (log ++ loading_event id code ∷ []) g after.live) (sym given)
-    (subst (λ (l : List Loading). KnowsCodes (log ++ loading_event id code ∷ []) (loading ∷ before.given) l) (sym live) now)))
-codes-step log before after step reply sound known (store_retired id code step_is reply_is given live was) =
-    let event : Event = event_of (Retire id) (Retired code) in
-    let away : (other : Id) → other ≢ id → code_retired other (Retired code) (Retire id) ≡ [] = λ other apart.
-    ap (λ b. cond b (code ∷ []) []) (id_differs other id apart) in
-    let now : KnowsCodes (log ++ event ∷ []) before.given (without_code before.live id) = record {
-      loaded = loaded-same log event before.given known.loaded (λ other. refl);
-      kept = λ other found e.
-          let there = without_code-was before.live id other found e in
-          retired-none log event other (known.kept other found there.1) (away other there.0);
-      untouched = λ other e.
-          let apart : other ≢ id = λ same.
-          let given_too = sound.programs.live_given id code was in
-          let none : code_in before.given id ≡ None = subst (λ (i : Id). code_in before.given i ≡ None) same e in
-          absurd (cc) in
-          retired-none log event other (known.untouched other e) (away other apart);
-    } in
-    subst (λ (s : Step). KnowsCodes (log ++ event_of s reply ∷ []) after.given after.live) (sym step_is)
-    (subst (λ (r : Reply). KnowsCodes (log ++ event_of (Retire id) r ∷ []) after.given after.live) (sym reply_is)
-    (subst (λ (g : List Loading). KnowsCodes (log ++ event ∷ []) g after.live) (sym given)
-    (subst (λ (l : List Loading). KnowsCodes (log ++ event ∷ []) before.given l) (sym live) now)))
+use Rattle.card_core.proofs.LookUps.{same_some, replicated}
+use Rattle.card_core.proofs.SoundChanges.{opening-sound}
+use Rattle.card_core.proofs.SoundSteps.{sound-step}
+use Rattle.card_core.proofs.KnowsCodes.{told-more, told-none, latest-append, cut-more, event_of, KnowsCodes, codes-step}
 
 -- Connections.
 
--- a connection was set up, and what was told since then is what it has; but for its program
+-- A connection was set up, and what was told since then is what it has; but for its program.
 pub record Stood (shape : Shape) (log : List Event) (vc : Vc) (connection : Connection) (ask : Ask) (since : List Event) : Type 0 where
   pub stands : StandsSince log vc ask since
   pub incarnation : stands.incarnation ≡ connection.incarnation
@@ -162,14 +32,14 @@ pub record Stood (shape : Shape) (log : List Event) (vc : Vc) (connection : Conn
   pub cells : connection.history ≡ cells_of shape vc since
   pub held : connection.history ≡ cells_on connection.line since
 
--- and its program is the one that was named last
+-- And its program is the one that was named last.
 pub record KnowsConnection (shape : Shape) (log : List Event) (vc : Vc) (connection : Connection) : Type 0 where
   pub ask : Ask
   pub since : List Event
   pub stood : Stood shape log vc connection ask since
   pub program : connection.program ≡ latest ask.program (programs_named vc since)
 
--- one more event
+-- One more event.
 pub stood-more : (shape : Shape) (log : List Event) (vc : Vc) (old connection : Connection) (ask : Ask) (since : List Event) (step : Step) (reply : Reply)
     → Kept shape old connection vc step reply → Stood shape log vc old ask since
     → Stood shape (log ++ event_of step reply ∷ []) vc connection ask (since ++ event_of step reply ∷ [])
@@ -232,7 +102,7 @@ connection-fresh shape log used vc connection step reply new =
 
 -- Ports.
 
--- a cell entered, and its port hasn't moved since
+-- A cell entered, and its port hasn't moved since.
 entered-more : (log : List Event) (port : ℕ) (cell : List ℕ) (moment : ℕ) (step : Step) (reply : Reply)
     → only_port port (port_moved reply step) ≡ [] → HasEntered log port cell moment
     → HasEntered (log ++ event_of step reply ∷ []) port cell moment
@@ -255,8 +125,8 @@ entered-now log port cell moment step reply step_is reply_is =
     subst (λ (s : Step). HasEntered (log ++ event_of s reply ∷ []) port cell moment) (sym step_is)
     (subst (λ (r : Reply). HasEntered (log ++ event_of (Enter port cell moment) r ∷ []) port cell moment) (sym reply_is) now)
 
--- the connection of a picked cell: what is known of it since it was set up, and the program that it
--- named when the cell was picked
+-- The connection of a picked cell: what is known of it since it was set up, and the program that it
+-- named when the cell was picked.
 pub record KnowsPickedOn (shape : Shape) (log since : List Event) (port : ℕ) (pick : Picking) (connection : Connection) : Type 0 where
   pub ask : Ask
   pub until : List Event
@@ -276,7 +146,7 @@ pub record KnowsPick (shape : Shape) (log : List Event) (given : List Loading) (
   pub standing : (connection : Connection) → connection_in connections pick.vc ≡ Some connection
       → connection.incarnation ≡ pick.incarnation → KnowsPickedOn shape log since port pick connection
 
--- one more event, in which the port doesn't move
+-- One more event, in which the port doesn't move.
 pick-more : (shape : Shape) (log : List Event) (before after : World) (step : Step) (reply : Reply) (port : ℕ) (pick : Picking)
     → IsSound before → Tells shape before step reply after
     → ((id : Id) (code : List Instr) → code_in before.given id ≡ Some code → code_in after.given id ≡ Some code)
@@ -310,7 +180,7 @@ pick-more shape log before after step reply port pick sound tells keeps_codes ha
       ];
     }
 
--- the event in which the cell is picked
+-- The event in which the cell is picked.
 pick-now : (shape : Shape) (log : List Event) (before after : World) (step : Step) (reply : Reply) (port : ℕ) (pick : Picking)
     → Tells shape before step reply after
     → ((id : Id) (code : List Instr) → code_in before.given id ≡ Some code → code_in after.given id ≡ Some code)

@@ -1,3 +1,4 @@
+pub mod Allowed
 pub mod CellLemmas
 pub mod ConnectionLemmas
 pub mod DeskLemmas
@@ -7,7 +8,9 @@ pub mod GivenOnce
 pub mod JudgeLemmas
 pub mod JudgeSteps
 pub mod Knows
+pub mod KnowsCodes
 pub mod LineLemmas
+pub mod LogBursts
 pub mod LookUps
 pub mod OneAnswer
 pub mod OpeningLemmas
@@ -20,9 +23,13 @@ pub mod Replies
 pub mod RunLemmas
 pub mod SetupSteps
 pub mod Sound
+pub mod SoundChanges
 pub mod SoundSteps
+pub mod Spares
 pub mod Standing
 pub mod StoreLemmas
 pub mod StoreSteps
 pub mod Telling
+pub mod TellingCells
+pub mod TellingRefusals
 pub mod Told

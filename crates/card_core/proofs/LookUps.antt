@@ -1,12 +1,11 @@
 -- Look-ups in the lists of a world, before and after a change.
-use Rattle.std.proofs.Common.{◌≡◌, ◌≢◌, ◌⊎◌, ℕ, suc, ◌+◌, ◌<◌, ◌≤◌, ◌||◌, ◌==◌, Bool, true, false, cond, not, List, [], ◌∷◌, ◌++◌, length, length-set, zero, set, Option, Some, None, IsSome, is_none, is_some, slice_get, nat_lt, nat_le, MatchOption, option_map, refl, sym, ap, ◌∙◌, subst, inl, inr, arith}
+use Rattle.std.proofs.Common.{◌≡◌, ◌≢◌, ◌⊎◌, ℕ, suc, ◌<◌, ◌≤◌, ◌==◌, Bool, true, false, cond, List, [], ◌∷◌, length, length-set, zero, set, replicate, Option, Some, None, IsSome, is_none, is_some, slice_get, option_map, refl, sym, ap, ◌∙◌, subst, inl, inr, arith}
 use Rattle.std.specs.List.{list_any, Contains}
-use Rattle.std.proofs.lemmas.Bool.{and_parts, or_parts, or_cases, or_left, or_right, not-true, eqb-true, eq-eqb, eqb-false, ne_eqb, cases_eq}
-use Rattle.std.proofs.lemmas.Bool.Decides.{nat_tests}
+use Rattle.std.proofs.lemmas.Bool.{or_left, or_right, eq-eqb, cases_eq}
 use Rattle.std.proofs.lemmas.Option.{same_Some, slice_get_within}
 use Rattle.upc_cell.specs.declared.vc.Vc.{Vc}
 use Rattle.upc_cell.specs.Connection.{is_same_vc}
-use Rattle.upc_cell.proofs.Public.{vc_same, vc_itself, vc_differs, vc_cases}
+use Rattle.upc_cell.proofs.Public.{vc_same, vc_itself, vc_differs}
 use Rattle.bpf_code.specs.declared.instr.Instr.{Instr}
 use Rattle.gen_arena.specs.declared.id.Id.{Id}
 use Rattle.gen_arena.specs.SameId.{is_same_id}
@@ -18,7 +17,7 @@ use Rattle.card_core.specs.World.{Loading, Connection, code_in, without_code, ti
 pub same_some : {X : Type 0} (x y : X) → Some x ≡ Some y → x ≡ y
 same_some x y e = same_Some x y e
 
--- what was refused by a test, and by what follows it
+-- What was refused by a test, and by what follows it.
 pub passed_on : {X : Type 0} (test : Bool) (refused : X) (rest : Option X)
     → cond test (Some refused) rest ≡ None → (test ≡ false) × (rest ≡ None)
 passed_on true refused rest e = absurd (cc)
@@ -42,6 +41,16 @@ there_is (Some x) e = (x, refl)
 
 pub IsSome-of : {X : Type 0} (o : Option X) (x : X) → o ≡ Some x → IsSome o
 IsSome-of o x e = ap is_some e
+
+-- What passes a chain of tests, of which each refuses with something of this kind.
+pub refused_by : {X : Type 0} (P : X → Type 0) (test : Bool) (refused : X) (rest : Option X) → P refused
+    → ((x : X) → rest ≡ Some x → P x) → (x : X) → cond test (Some refused) rest ≡ Some x → P x
+refused_by P true refused rest here later x e = subst P (same_some refused x e) here
+refused_by P false refused rest here later x e = later x e
+
+pub mapped : {X Y : Type 0} (f : X → Y) (o : Option X) (y : Y) → option_map f o ≡ Some y → (x : X) × (o ≡ Some x) × (y ≡ f x)
+mapped f None y e = absurd (cc)
+mapped f (Some x) y e = (x, refl, sym (same_some (f x) y e))
 
 -- Connections.
 
@@ -91,7 +100,7 @@ with-others connections vc connection other apart =
     connection-later vc other connection (without_connection connections vc) (vc_differs other vc apart)
     ∙ without-others connections vc other apart
 
--- one connection of the list changed, and no other
+-- One connection of the list changed, and no other.
 pub record ConnectionChanges (old new : List (Vc × Connection)) (vc : Vc) (connection : Option Connection) : Type 0 where
   pub here : connection_in new vc ≡ connection
   pub others : (other : Vc) → other ≢ vc → connection_in new other ≡ connection_in old other
@@ -110,7 +119,7 @@ changes-without old vc = record {
   others = λ other apart. without-others old vc other apart;
 }
 
--- a connection that the test finds
+-- A connection that the test finds.
 pub connection_passes : (test : (Vc × Connection) → Bool) (connections : List (Vc × Connection)) (vc : Vc) (connection : Connection)
     → connection_in connections vc ≡ Some connection → ((other : Vc) → test (other, connection) ≡ true)
     → list_any test connections ≡ true
@@ -165,7 +174,7 @@ without_code-others (here ∷ later) id other apart =
     ] in
     choice (is_same_id id here.id) refl
 
--- what was there without one code was there
+-- What was there without one code was there.
 pub without_code-was : (loadings : List Loading) (gone id : Id) (code : List Instr)
     → code_in (without_code loadings gone) id ≡ Some code → (id ≢ gone) × (code_in loadings id ≡ Some code)
 without_code-was loadings gone id code e = elim (id_cases id gone) [
@@ -177,7 +186,7 @@ without_code-was loadings gone id code e = elim (id_cases id gone) [
   | inr apart ↦ (apart, sym (without_code-others loadings gone id apart) ∙ e)
 ]
 
--- how often a slot was given, once it or another was given once more
+-- How often a slot was given, once it or another was given once more.
 pub times-same : (loading : Loading) (later : List Loading) (slot : ℕ) → loading.id.slot ≡ slot
     → times_given (loading ∷ later) slot ≡ suc (times_given later slot)
 times-same loading later slot e =
@@ -191,6 +200,23 @@ times-grow loading later slot =
       | false ↦ omega arith
     ] in
     choice (loading.id.slot == slot)
+
+-- What is looked up once a code was put in is that, or what was there.
+pub code-cases : (loading : Loading) (later : List Loading) (id : Id) (code : List Instr)
+    → code_in (loading ∷ later) id ≡ Some code
+    → ((id ≡ loading.id) × (loading.code ≡ code)) ⊎ ((id ≢ loading.id) × (code_in later id ≡ Some code))
+code-cases loading later id code e =
+    let choice : (b : Bool) → is_same_id id loading.id ≡ b → cond b (Some loading.code) (code_in later id) ≡ Some code
+    → ((id ≡ loading.id) × (loading.code ≡ code)) ⊎ ((id ≢ loading.id) × (code_in later id ≡ Some code)) = elim [
+      | true ↦ λ same at. inl (id_same id loading.id same, same_some loading.code code at)
+      | false ↦ λ differs at. inr (
+        λ same.
+            let itself : is_same_id id loading.id ≡ true = subst (λ (i : Id). is_same_id id i ≡ true) same (id_itself id) in
+            cc,
+        at,
+      )
+    ] in
+    choice (is_same_id id loading.id) refl e
 
 -- Ports.
 
@@ -207,7 +233,7 @@ module _ {X : Type 0} where
   slice_get-set_other (y ∷ xs) (suc k) zero x apart = refl
   slice_get-set_other (y ∷ xs) (suc k) (suc j) x apart = slice_get-set_other xs k j x (λ e. apart (ap suc e))
 
-  -- what a place has after a write is what was written there, or what it had
+  -- What a place has after a write is what was written there, or what it had.
   pub slice_get-set : (xs : List X) (k j : ℕ) (x y : X) → slice_get (set xs k x) j ≡ Some y
       → ((j ≡ k) × (x ≡ y)) ⊎ ((j ≢ k) × (slice_get xs j ≡ Some y))
   slice_get-set xs k j x y e = elim (cases_eq j k) [
@@ -218,9 +244,14 @@ module _ {X : Type 0} where
     | inr apart ↦ inr (apart, sym (slice_get-set_other xs k j x apart) ∙ e)
   ]
 
+pub replicated : {X : Type 0} (n k : ℕ) (x y : X) → slice_get (replicate n x) k ≡ Some y → x ≡ y
+replicated zero k x y e = absurd (cc)
+replicated (suc n) zero x y e = same_some x y e
+replicated (suc n) (suc k) x y e = replicated n k x y e
+
 -- Entries.
 
--- each connection of the list is the one that is looked up
+-- Each connection of the list is the one that is looked up.
 abbrev pub IsOnce : List (Vc × Connection) → Type 0
 IsOnce connections = (here : Vc × Connection) → Contains connections here → connection_in connections here.0 ≡ Some here.1
 
@@ -232,7 +263,7 @@ contains-first : (first entry : Vc × Connection) (later : List (Vc × Connectio
 contains-first first entry later (zero, within, is) = inl is
 contains-first first entry later (suc place, within, is) = inr (place, omega (arith, within), is)
 
--- what the list has without one connection it had, and it is another's
+-- What the list has without one connection it had, and it is another's.
 pub contains-without : (connections : List (Vc × Connection)) (vc : Vc) (entry : Vc × Connection)
     → Contains (without_connection connections vc) entry → Contains connections entry × (entry.0 ≢ vc)
 contains-without [] vc entry there = absurd (omega (arith, there.1))

@@ -1,5 +1,5 @@
 -- The headline leaves one answer.
-use Rattle.std.proofs.Common.{◌≡◌, ◌≢◌, ◌⊎◌, ℕ, suc, ◌+◌, ◌<◌, ◌≤◌, Bool, true, false, cond, List, [], ◌∷◌, ◌++◌, Option, Some, None, flat_map, append-nil, refl, sym, ap, ◌∙◌, subst, inl, inr, arith}
+use Rattle.std.proofs.Common.{◌≡◌, ℕ, true, cond, List, [], ◌∷◌, ◌++◌, flat_map, refl, sym, ap, ◌∙◌, subst}
 use Rattle.std.proofs.lemmas.Bool.{eq-eqb}
 use Rattle.upc_cell.specs.declared.vc.Vc.{Vc}
 use Rattle.upc_cell.specs.Connection.{vc_of, is_same_vc}
@@ -7,21 +7,15 @@ use Rattle.upc_cell.proofs.Public.{vc_itself}
 use Rattle.bpf_code.specs.declared.instr.Instr.{Instr}
 use Rattle.bpf_interp.proofs.Public.{Value-unique}
 use Rattle.gen_arena.specs.declared.id.Id.{Id}
-use Rattle.leaky.specs.declared.contract.Contract.{Contract}
-use Rattle.leaky.specs.declared.verdict.Verdict.{Verdict}
-use Rattle.line_record.specs.History.{NamedCell, empty_buckets, verdict_after}
+use Rattle.line_record.specs.History.{empty_buckets, verdict_after}
 use Rattle.card_core.specs.declared.ask.Ask.{Ask}
-use Rattle.card_core.specs.declared.reply.Reply.{Reply}
-use Rattle.card_core.specs.declared.reply.Reply.TheVariants.{Entered, Picked, SetUp}
-use Rattle.card_core.specs.declared.shape.Shape.{Shape}
 use Rattle.card_core.specs.declared.step.Step.{Step}
-use Rattle.card_core.specs.declared.step.Step.TheVariants.{Enter, Pick, Judge, Load, Retire, Setup, Reload, Release, Cut}
+use Rattle.card_core.specs.declared.step.Step.TheVariants.{Enter, Setup}
 use Rattle.card_core.specs.Steps.{Gives, cell_after, named_cell, number_with}
 use Rattle.card_core.specs.Log.{Event}
-use Rattle.card_core.specs.Headline.{codes_loaded, connection_changed, only_of, changes_of, programs_named, latest, cells_of, only_port, port_moved, moves_of, verdicts_given, entering, picking, setting_up, HasEntered, StandsSince, IsPromised}
-use Rattle.card_core.specs.Laws.{AreOneAnswer, PromisesLeaveOneAnswer}
-use Rattle.card_core.proofs.LookUps.{same_some}
-use Rattle.card_core.proofs.Knows.{told-append}
+use Rattle.card_core.specs.Headline.{codes_loaded, connection_changed, only_of, programs_named, latest, cells_of, only_port, port_moved, verdicts_given, entering, picking, setting_up, HasEntered, StandsSince}
+use Rattle.card_core.specs.Laws.{PromisesLeaveOneAnswer}
+use Rattle.card_core.proofs.KnowsCodes.{told-append}
 
 -- The last event that tells something.
 
@@ -41,14 +35,14 @@ tails : (one other : Event) (xs ys : List Event) → one ∷ xs ≡ other ∷ ys
 unfolding rest_of
 tails one other xs ys e = ap rest_of e
 
--- both cuts of one log are at its last event that tells something
+-- Both cuts of one log are at its last event that tells something.
 pub record AreOneCut (before other : List Event) (at another : Event) (after later : List Event) : Type 0 where
   pub fronts : before ≡ other
   pub events : at ≡ another
   pub ends : after ≡ later
 
 module _ {X : Type 0} (told : Event → List X) where
-  -- an event that tells something isn't among those that tell nothing
+  -- An event that tells something isn't among those that tell nothing.
   silent : (xs : List Event) (event : Event) (ys zs : List Event) (x : X) → told event ≡ x ∷ [] → flat_map told zs ≡ []
       → zs ≡ xs ++ event ∷ ys → ⊥
   silent xs event ys zs x tells none e =
@@ -114,7 +108,7 @@ moves port event = only_port port (port_moved event.reply event.step)
 own-port : (port : ℕ) → only_port port (port ∷ []) ≡ port ∷ []
 own-port port = ap (λ b. cond b (port ∷ []) []) (eq-eqb port port refl)
 
--- the cell that entered a port last
+-- The cell that entered a port last.
 one-entered : (log : List Event) (port : ℕ) (cell other : List ℕ) (moment later : ℕ) → HasEntered log port cell moment
     → HasEntered log port other later → (cell ≡ other) × (moment ≡ later)
 unfolding moves
@@ -123,7 +117,7 @@ one-entered log port cell other moment later one another =
     one.later another.later port port (own-port port) (own-port port) one.alone another.alone (sym one.cut ∙ another.cut) in
     one_cell port port cell other moment later cut.events
 
--- the setting up since which a connection stands
+-- The setting up since which a connection stands.
 changes : Vc → Event → List Vc
 changes vc event = only_of vc (connection_changed event.reply event.step)
 
@@ -132,7 +126,7 @@ unfolding changes
 own-change vc ask incarnation same =
     ap (λ b. cond b (ask.vc ∷ []) []) (subst (λ (v : Vc). is_same_vc vc v ≡ true) (sym same) (vc_itself vc))
 
-one-standing : (log : List Event) (vc : Vc) (ask other : Ask) (since later : List Event) → StandsSince log vc ask since
+pub one-standing : (log : List Event) (vc : Vc) (ask other : Ask) (since later : List Event) → StandsSince log vc ask since
     → StandsSince log vc other later → (ask ≡ other) × (since ≡ later)
 unfolding changes
 one-standing log vc ask other since later one another =

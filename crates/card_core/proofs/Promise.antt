@@ -1,29 +1,30 @@
 -- The headline: what is promised of each judged cell.
-use Rattle.std.proofs.Common.{◌≡◌, ◌≢◌, ◌⊎◌, ℕ, suc, ◌+◌, ◌<◌, ◌≤◌, Bool, true, false, cond, List, [], ◌∷◌, ◌++◌, Option, Some, None, IsSome, slice_get, option_to_list, append_assoc, append-nil, refl, sym, ap, ◌∙◌, subst, inl, inr, arith}
+use Rattle.std.proofs.Common.{◌≡◌, ℕ, List, [], ◌∷◌, ◌++◌, Option, Some, None, slice_get, option_to_list, append_assoc, append-nil, refl, sym, ap, ◌∙◌, subst}
 use Rattle.upc_cell.specs.declared.vc.Vc.{Vc}
 use Rattle.upc_cell.specs.Connection.{vc_of}
 use Rattle.bpf_code.specs.declared.instr.Instr.{Instr}
 use Rattle.gen_arena.specs.declared.id.Id.{Id}
 use Rattle.leaky.specs.declared.contract.Contract.{Contract}
 use Rattle.leaky.specs.declared.verdict.Verdict.{Verdict}
-use Rattle.line_record.specs.History.{NamedCell, empty_buckets, verdict_after}
+use Rattle.line_record.specs.History.{empty_buckets, verdict_after}
 use Rattle.card_core.specs.declared.answer.Answer.{Answer}
 use Rattle.card_core.specs.declared.answer.Answer.TheVariants.{Judged}
 use Rattle.card_core.specs.declared.reply.Reply.{Reply}
-use Rattle.card_core.specs.declared.reply.Reply.TheVariants.{Answered, NotNow}
+use Rattle.card_core.specs.declared.reply.Reply.TheVariants.{Answered}
 use Rattle.card_core.specs.declared.shape.Shape.{Shape}
-use Rattle.card_core.specs.declared.step.Step.{Step}
 use Rattle.card_core.specs.declared.step.Step.TheVariants.{Judge}
-use Rattle.card_core.specs.World.{World, Loading, Connection, Picking, picked, code_in, connection_in, opening_world}
+use Rattle.card_core.specs.World.{World, Connection, Picking, picked, code_in, connection_in, opening_world}
 use Rattle.card_core.specs.Refusals.{refusal}
-use Rattle.card_core.specs.Steps.{Judges, WorldStep, cell_after, cell_of_picking, named_cell, verdict_on, judgement_of, number_with}
-use Rattle.card_core.specs.Log.{Event, Run, Leads, IsLog}
-use Rattle.card_core.specs.Headline.{codes_loaded, codes_retired, code_loaded, code_retired, judgement_told, verdicts_given, picking, judging, latest, programs_named, cells_of, StandsSince, IsLive, IsLiveThrough, IsPromised, EachJudgedCellIsPromised}
+use Rattle.card_core.specs.Steps.{Judges, WorldStep, cell_after, cell_of_picking, verdict_on, number_with}
+use Rattle.card_core.specs.Log.{Event, Run}
+use Rattle.card_core.specs.Headline.{codes_loaded, codes_retired, code_loaded, code_retired, judgement_told, picking, judging, latest, programs_named, cells_of, StandsSince, IsLiveThrough, IsPromised, EachJudgedCellIsPromised}
 use Rattle.card_core.proofs.Sound.{IsSound}
 use Rattle.card_core.proofs.LookUps.{same_some, there_is}
-use Rattle.card_core.proofs.SoundSteps.{StepCase, succeeded, starved, rejected, step-case, picking-allowed, reached-sound}
-use Rattle.card_core.proofs.Telling.{CellRefused, at_no_time, with_answer, judge-refused}
-use Rattle.card_core.proofs.Knows.{told-append, KnowsCodes, Knows, KnowsPick, KnowsPickedOn, leads-knows}
+use Rattle.card_core.proofs.Allowed.{succeeded, starved, rejected, step-case, picking-allowed}
+use Rattle.card_core.proofs.SoundSteps.{reached-sound}
+use Rattle.card_core.proofs.TellingRefusals.{CellRefused, at_no_time, with_answer, judge-refused}
+use Rattle.card_core.proofs.KnowsCodes.{told-append}
+use Rattle.card_core.proofs.Knows.{Knows, KnowsPick, leads-knows}
 
 -- Runs in two parts.
 
@@ -48,7 +49,7 @@ nothing-behind : {X : Type 0} (x : X) (xs : List X) → x ∷ xs ≡ x ∷ [] �
 unfolding tail_of
 nothing-behind x xs e = ap tail_of e
 
--- a code that was live after the log and is after all that follows was so all the time
+-- A code that was live after the log and is after all that follows was so all the time.
 live-through : (log further : List Event) (id : Id) (code : List Instr) → codes_loaded id log ≡ code ∷ []
     → codes_loaded id (log ++ further) ≡ code ∷ [] → codes_retired id (log ++ further) ≡ []
     → IsLiveThrough log further id code
@@ -141,7 +142,7 @@ promised-judges shape log before port reply after parts sound known allowed w is
     subst (PromisedOf shape log port) same
     (promised-picked shape log before sound known port w.picking w.had w.connection w.found may.0)
 
--- a refused Judge wasn't answered Judged
+-- A refused Judge wasn't answered Judged.
 unjudged-parts : (answer : Answer) → judgement_told (Answered answer) ≡ [] → parts_of (Answered answer) ≡ None
 unjudged-parts (Judged line number moment value program verdict leaving) e = absurd (cc)
 unjudged-parts _ e = refl

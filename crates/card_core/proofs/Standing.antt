@@ -1,28 +1,24 @@
 -- The connections of a world are those of which its log tells.
-use Rattle.std.proofs.Common.{◌≡◌, ◌≢◌, ◌⊎◌, ℕ, suc, ◌+◌, Bool, true, false, cond, List, [], ◌∷◌, ◌++◌, Option, Some, None, IsSome, is_some, option_map, refl, sym, ap, ◌∙◌, subst, inl, inr}
+use Rattle.std.proofs.Common.{◌≡◌, ◌≢◌, ℕ, ◌+◌, Bool, true, false, cond, List, [], ◌∷◌, ◌++◌, Some, IsSome, is_some, refl, sym, ap, ◌∙◌, subst, inl, inr}
 use Rattle.upc_cell.specs.declared.vc.Vc.{Vc}
 use Rattle.upc_cell.specs.Connection.{is_same_vc}
 use Rattle.upc_cell.proofs.Public.{vc_itself, vc_cases}
-use Rattle.bpf_code.specs.declared.instr.Instr.{Instr}
-use Rattle.gen_arena.specs.declared.id.Id.{Id}
 use Rattle.line_record.specs.declared.owner.Owner.{Owner}
-use Rattle.card_core.specs.declared.answer.Answer.{Answer}
 use Rattle.card_core.specs.declared.ask.Ask.{Ask}
 use Rattle.card_core.specs.declared.fault.DeskFault.TheVariants.{NoMemory}
 use Rattle.card_core.specs.declared.reply.Reply.{Reply}
-use Rattle.card_core.specs.declared.reply.Reply.TheVariants.{Answered, Released, SetUp, NotSetUp}
+use Rattle.card_core.specs.declared.reply.Reply.TheVariants.{Answered, SetUp, NotSetUp}
 use Rattle.card_core.specs.declared.shape.Shape.{Shape}
 use Rattle.card_core.specs.declared.step.Step.{Step}
 use Rattle.card_core.specs.declared.step.Step.TheVariants.{Enter, Pick, Judge, Load, Retire, Setup, Reload, Release, Cut}
-use Rattle.card_core.specs.World.{World, Connection, connection_in, without_connection, with_connection, opening_world}
-use Rattle.card_core.specs.Refusals.{refusal, setup_fault}
-use Rattle.card_core.specs.Steps.{Succeeds, SetsUp, WorldStep, left_by, with_answered, new_connection}
+use Rattle.card_core.specs.World.{World, Connection, connection_in, with_connection, opening_world}
+use Rattle.card_core.specs.Refusals.{setup_fault}
+use Rattle.card_core.specs.Steps.{Succeeds, WorldStep, left_by, with_answered, new_connection}
 use Rattle.card_core.specs.Log.{Event, Run, Leads}
 use Rattle.card_core.specs.Headline.{connection_changed, only_of, changes_of, setting_up, StandsSince}
-use Rattle.card_core.specs.Laws.{IsAsTold, TellsConnections, ConnectionsAreAsTold}
-use Rattle.card_core.proofs.LookUps.{IsSome-of, with-here, with-others, without-others}
-use Rattle.card_core.proofs.SoundSteps.{StepCase, succeeded, starved, rejected, step-case}
-use Rattle.card_core.proofs.Telling.{mapped}
+use Rattle.card_core.specs.Laws.{IsAsTold, ConnectionsAreAsTold}
+use Rattle.card_core.proofs.LookUps.{mapped, with-here, with-others, without-others}
+use Rattle.card_core.proofs.Allowed.{succeeded, starved, rejected, step-case}
 use Rattle.card_core.proofs.Knows.{KnowsConnection, leads-knows}
 use Rattle.card_core.proofs.Promise.{run-parts}
 
@@ -56,7 +52,7 @@ apart-from vc other none same =
 abbrev IsThere : World → Vc → Type 0
 IsThere world vc = IsSome (connection_in world.connections vc)
 
--- what a reply and a step tell of the connections
+-- What a reply and a step tell of the connections.
 abbrev Unchanged : Vc → Step → Reply → Type 0
 Unchanged vc step reply = only_of vc (connection_changed reply step) ≡ []
 

@@ -1,34 +1,20 @@
 -- What each step tells by its reply, of the codes, of the connections, of the ports and of the verdicts.
-use Rattle.std.proofs.Common.{◌≡◌, ◌≢◌, ◌⊎◌, ℕ, zero, suc, ◌+◌, ◌<◌, ◌≤◌, ◌==◌, Bool, true, false, cond, List, [], ◌∷◌, ◌++◌, length, set, Option, Some, None, slice_get, is_none, option_map, nat_lt, nat_le, append-nil, refl, sym, ap, ◌∙◌, subst, inl, inr, arith}
-use Rattle.std.proofs.lemmas.Bool.{eqb-true, eqb-false, eq-eqb, ne_eqb, cases_eq}
-use Rattle.upc_cell.specs.declared.side.Side.{Side}
+use Rattle.std.proofs.Common.{◌≡◌, ◌≢◌, ◌⊎◌, ℕ, ◌<◌, cond, List, [], ◌∷◌, ◌++◌, set, Some, None, slice_get, append-nil, refl, sym, ap, ◌∙◌, subst, inl, inr}
+use Rattle.std.proofs.lemmas.Bool.{ne_eqb}
 use Rattle.upc_cell.specs.declared.vc.Vc.{Vc}
-use Rattle.upc_cell.specs.Connection.{vc_of, is_same_vc}
-use Rattle.upc_cell.specs.Header.{has_low_priority}
-use Rattle.upc_cell.proofs.Public.{vc_itself, vc_differs, vc_cases}
+use Rattle.upc_cell.proofs.Public.{vc_cases}
 use Rattle.bpf_code.specs.declared.instr.Instr.{Instr}
-use Rattle.bpf_verify.specs.Accepted.{IsAccepted}
 use Rattle.gen_arena.specs.declared.id.Id.{Id}
-use Rattle.leaky.specs.declared.verdict.Verdict.{Verdict}
-use Rattle.line_record.specs.History.{NamedCell, numbered, buckets_after, empty_buckets}
-use Rattle.card_core.specs.declared.answer.Answer.{Answer}
-use Rattle.card_core.specs.declared.answer.Answer.TheVariants.{Judged, NoConnection as UnknownCell, Released as PickReleased, MomentTooLate, MomentBack, JournalFull}
 use Rattle.card_core.specs.declared.ask.Ask.{Ask}
-use Rattle.card_core.specs.declared.fault.DeskFault.{DeskFault}
 use Rattle.card_core.specs.declared.reply.Reply.{Reply}
-use Rattle.card_core.specs.declared.reply.Reply.TheVariants.{Entered, Picked, NotNow, Answered, Loaded, NotLoaded, Retired, SetUp, NotSetUp, Reloaded, Released, Cut as CutOff, Refused}
+use Rattle.card_core.specs.declared.reply.Reply.TheVariants.{Entered, Picked, Loaded, Retired, SetUp}
 use Rattle.card_core.specs.declared.shape.Shape.{Shape}
 use Rattle.card_core.specs.declared.step.Step.{Step}
-use Rattle.card_core.specs.declared.step.Step.TheVariants.{Enter, Pick, Judge, Load, Retire, Setup, Reload, Release, Cut}
-use Rattle.card_core.specs.World.{World, Loading, Connection, Picking, PortState, outside, entered, picked, code_in, without_code, connection_in, with_connection, without_connection, with_port, with_verdict}
-use Rattle.card_core.specs.Refusals.{refusal, enter_refusal, pick_refusal, judge_refusal, picking_refusal, cell_refusal}
-use Rattle.card_core.specs.Steps.{Gives, Enters, Picks, Judges, Loads, Retires, SetsUp, Reloads, Releases, Cuts, Succeeds, FindsNoMemory, without_memory, IsRefused, WorldStep, left_by, with_answered, cell_after, cell_of_picking, with_cell, verdict_on, judgement_of, number_with, new_connection, picking_of, judged_world}
-use Rattle.card_core.specs.Headline.{code_loaded, code_retired, connection_changed, only_of, program_named, latest, Judgement, came_with, judgement_told, verdicts_on, on_line, on_connection, port_of, only_port, port_moved}
-use Rattle.card_core.proofs.Sound.{IsSound}
-use Rattle.card_core.proofs.LookUps.{same_some, with-here, with-others, without-here, without-others, slice_get-set}
-use Rattle.card_core.proofs.CellLemmas.{vc-after, came}
-use Rattle.card_core.proofs.SoundSteps.{StepCase, succeeded, starved, rejected, step-case, picked_same, setup-allowed}
-use Rattle.card_core.proofs.GivenOnce.{new-id}
+use Rattle.card_core.specs.declared.step.Step.TheVariants.{Enter, Pick, Load, Retire, Setup}
+use Rattle.card_core.specs.World.{World, Connection, Picking, PortState, entered, picked, code_in, without_code, connection_in, with_connection}
+use Rattle.card_core.specs.Steps.{Gives}
+use Rattle.card_core.specs.Headline.{code_loaded, code_retired, connection_changed, only_of, program_named, latest, judgement_told, verdicts_on, on_line, on_connection, only_port, port_moved}
+use Rattle.card_core.proofs.LookUps.{same_some, with-here, with-others, slice_get-set}
 
 -- Codes.
 
@@ -48,7 +34,7 @@ pub data StoreTold (before after : World) (step : Step) (reply : Reply) : Type 0
 
 -- Connections.
 
--- a connection that was there before, and what was told of it
+-- A connection that was there before, and what was told of it.
 pub record Kept (shape : Shape) (old connection : Connection) (vc : Vc) (step : Step) (reply : Reply) : Type 0 where
   pub incarnation : connection.incarnation ≡ old.incarnation
   pub line : connection.line ≡ old.line
@@ -58,7 +44,7 @@ pub record Kept (shape : Shape) (old connection : Connection) (vc : Vc) (step : 
   pub cells : connection.history ≡ old.history ++ on_connection shape vc (judgement_told reply)
   pub held : connection.history ≡ old.history ++ on_line old.line (judgement_told reply)
 
--- a connection that is there since this step
+-- A connection that is there since this step.
 pub record IsFresh (used : ℕ) (connection : Connection) (vc : Vc) (step : Step) (reply : Reply) : Type 0 where
   pub ask : Ask
   pub asked : ask.vc ≡ vc
@@ -78,13 +64,13 @@ abbrev pub ConnectionsTold : Shape → World → World → Step → Reply → Ty
 ConnectionsTold shape before after step reply = (vc : Vc) (connection : Connection)
     → connection_in after.connections vc ≡ Some connection → Fate shape before vc connection step reply
 
--- nothing is told of the connection
+-- Nothing is told of the connection.
 pub record IsSilent (vc : Vc) (step : Step) (reply : Reply) : Type 0 where
   pub standing : only_of vc (connection_changed reply step) ≡ []
   pub programs : program_named vc reply step ≡ []
   pub cells : judgement_told reply ≡ []
 
--- then it is as it was, but for what the log doesn't tell
+-- Then it is as it was, but for what the log doesn't tell.
 pub kept-silent : (shape : Shape) (old connection : Connection) (vc : Vc) (step : Step) (reply : Reply) → IsSilent vc step reply
     → connection.incarnation ≡ old.incarnation → connection.line ≡ old.line → connection.contracts ≡ old.contracts
     → connection.program ≡ old.program → connection.history ≡ old.history → Kept shape old connection vc step reply
@@ -110,7 +96,7 @@ connections-same shape before after step reply silent same vc connection found =
     kept connection (subst (λ (l : List (Vc × Connection)). connection_in l vc ≡ Some connection) same found)
     (same-silent shape connection connection vc step reply (silent vc) refl)
 
--- one connection is written anew, of which that is told, and the others stay
+-- One connection is written anew, of which that is told, and the others stay.
 pub connections-with : (shape : Shape) (before after : World) (step : Step) (reply : Reply) (vc : Vc) (new : Connection)
     → after.connections ≡ with_connection before.connections vc new
     → Fate shape before vc new step reply
@@ -135,12 +121,12 @@ connections-with shape before after step reply vc new same here others other con
 
 -- Ports.
 
--- a port keeps its state, and didn't move
+-- A port keeps its state, and didn't move.
 abbrev pub PortStays : World → ℕ → PortState → Step → Reply → Type 0
 PortStays before port state step reply =
     (slice_get before.ports port ≡ Some state) × (only_port port (port_moved reply step) ≡ [])
 
--- a port's cell is picked in this step
+-- A port's cell is picked in this step.
 pub record IsPickedNow (before : World) (port : ℕ) (picking : Picking) (step : Step) (reply : Reply) : Type 0 where
   pub step_is : step ≡ Pick port
   pub reply_is : reply ≡ Picked

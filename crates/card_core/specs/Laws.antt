@@ -1,5 +1,5 @@
 -- What holds of every world that a log leads to.
-use Rattle.std.specs.Prelude.{◌≡◌, ℕ, Bool, true, false, ⊤, List, [], ◌++◌, Some, IsSome, slice_get}
+use Rattle.std.specs.Prelude.{◌≡◌, ℕ, Bool, true, false, ⊤, List, [], ◌∷◌, ◌++◌, Some, IsSome, slice_get}
 use Rattle.upc_cell.specs.declared.vc.Vc.{Vc}
 use Rattle.bpf_code.specs.declared.instr.Instr.{Instr}
 use Rattle.bpf_verify.specs.Accepted.{IsAccepted}
@@ -10,17 +10,17 @@ use Rattle.leaky.specs.Contract.{peak_of}
 use Rattle.leaky.specs.Laws.{IsBounded}
 use Rattle.line_record.specs.History.{numbered, empty_buckets, judged}
 use Rattle.line_record.specs.Bursts.{peak_charges}
-use Rattle.card_core.specs.declared.answer.Answer.TheVariants.{NoMemory as CellMemory}
+use Rattle.card_core.specs.declared.answer.Answer.TheVariants.{NoMemory as CellMemory, Stale as CellStale}
 use Rattle.card_core.specs.declared.ask.Ask.{Ask}
-use Rattle.card_core.specs.declared.fault.DeskFault.TheVariants.{NoMemory}
+use Rattle.card_core.specs.declared.fault.DeskFault.TheVariants.{NoMemory, Stale}
 use Rattle.card_core.specs.declared.reply.Reply.{Reply}
 use Rattle.card_core.specs.declared.reply.Reply.TheVariants.{Answered, NotLoaded, NotSetUp, Refused}
 use Rattle.card_core.specs.declared.shape.Shape.{Shape}
 use Rattle.card_core.specs.declared.step.Step.{Step}
-use Rattle.card_core.specs.declared.step.Step.TheVariants.{Load}
+use Rattle.card_core.specs.declared.step.Step.TheVariants.{Load, Setup, Cut}
 use Rattle.card_core.specs.World.{World, Loading, Connection, Picking, picked, code_in, connection_in}
 use Rattle.card_core.specs.Steps.{WorldStep}
-use Rattle.card_core.specs.Log.{Event, Run, Leads}
+use Rattle.card_core.specs.Log.{Event, Run, Leads, IsLog}
 use Rattle.card_core.specs.Headline.{latest, programs_named, cells_of, cells_on, StandsSince, IsPromised}
 
 -- The program of each connection is live, and so is that of each port's picked cell, although its
@@ -96,6 +96,30 @@ StepsHaveReplies = (shape : Shape) (log : List Event) (world : World) → Leads 
     → (step : Step) → LoadsAccepted step
     → (reply : Reply) × (after : World) × WorldStep world step reply after × (is_of_memory reply ≡ false)
 
+-- The reply says that what was lent isn't what it was taken for.
+abbrev pub is_stale : Reply → Bool
+is_stale (Answered CellStale) = true
+is_stale (NotLoaded Stale code) = true
+is_stale (NotSetUp Stale ask) = true
+is_stale (Refused Stale) = true
+is_stale _ = false
+
+-- The step takes memory: that of the journal which a connection begins, or goes on with after a cut.
+abbrev pub takes_memory : Step → Bool
+takes_memory (Setup ask) = true
+takes_memory (Cut vc) = true
+takes_memory _ = false
+
+-- The reply isn't Stale, and it is NoMemory only where the step takes memory.
+pub record AnswersAsItMay (event : Event) : Type 0 where
+  pub never_stale : is_stale event.reply ≡ false
+  pub memory : is_of_memory event.reply ≡ true → takes_memory event.step ≡ true
+
+-- So it is with every event of a log: Stale never comes, and no cell is refused for want of memory.
+abbrev pub SomeAnswersNeverCome : Type 0
+SomeAnswersNeverCome = (shape : Shape) (before after : List Event) (event : Event)
+    → IsLog shape (before ++ event ∷ after) → AnswersAsItMay event
+
 -- What the log tells of a connection: it was set up as this was asked, as so many-th among all, and has
 -- stood since; its program is the one that was named last; and its history is what was judged since,
 -- on its virtual connection and on its line alike.
@@ -121,6 +145,15 @@ pub record TellsConnections (shape : Shape) (log : List Event) (world : World) :
 abbrev pub ConnectionsAreAsTold : Type 0
 ConnectionsAreAsTold = (shape : Shape) (log : List Event) (world : World) → Leads shape log world
     → TellsConnections shape log world
+
+-- The burst bound over the log alone: of the cells that were judged on a connection since it was set
+-- up, and that one of its contracts passed or tagged.
+abbrev pub LogsBoundBursts : Type 0
+LogsBoundBursts = (shape : Shape) (log : List Event) → IsLog shape log
+    → (vc : Vc) (ask : Ask) (since : List Event) → StandsSince log vc ask since
+    → (number : ℕ) (contract : Contract) → numbered ask.contracts.items number ≡ Some contract
+    → (first span : ℕ)
+    → IsBounded first span (peak_charges number (judged ask.contracts.items empty_buckets [] (cells_of shape vc since))) (peak_of contract)
 
 -- All that an answer to a judged cell says but the line.
 pub record AreOneAnswer (number another moment other_moment value other_value : ℕ) (program other : Id) (verdict other_verdict : Verdict) (leaving other_leaving : List ℕ) : Type 0 where

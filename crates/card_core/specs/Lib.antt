@@ -1,5 +1,6 @@
 -- The card in whole histories, what its steps do, what a log of them tells, and when a core agrees
--- with it. To be read in the order World, Refusals, Steps, Log, Agreement, Headline.
+-- with it. To be read in the order World, Refusals, Steps, Log, Agreement, Headline;
+-- Laws has what holds beside the headline.
 pub mod World
 pub mod Refusals
 pub mod Steps

@@ -2,7 +2,7 @@
 //! is its contract.
 
 ghost use Rattle.card_core.specs.Headline.{EachJudgedCellIsPromised};
-ghost use Rattle.card_core.specs.Laws.{NamedProgramsAreLive, IdsAreGivenOnce, IdsNameOneCode, ConnectionsAreApart, ConnectionsBoundBursts, StepsHaveReplies, ConnectionsAreAsTold, PromisesLeaveOneAnswer};
+ghost use Rattle.card_core.specs.Laws.{NamedProgramsAreLive, IdsAreGivenOnce, IdsNameOneCode, ConnectionsAreApart, ConnectionsBoundBursts, StepsHaveReplies, SomeAnswersNeverCome, ConnectionsAreAsTold, LogsBoundBursts, PromisesLeaveOneAnswer};
 
 /// Each connection and each picked cell names a live program.
 pub fn named_programs_are_live()
@@ -35,6 +35,11 @@ pub fn steps_have_replies()
     ensures { StepsHaveReplies }
 {}
 
+/// `Stale` never comes, and `NoMemory` only to a Setup or a Cut.
+pub fn some_answers_never_come()
+    ensures { SomeAnswersNeverCome }
+{}
+
 /// The headline: wherever a log has a judged cell, what is promised of it holds.
 pub fn each_judged_cell_is_promised()
     ensures { EachJudgedCellIsPromised }
@@ -48,4 +53,9 @@ pub fn promises_leave_one_answer()
 /// The connections are those of which the log tells, with what it tells of them.
 pub fn connections_are_as_told()
     ensures { ConnectionsAreAsTold }
+{}
+
+/// The burst bound of each contract's bucket 1, over the cells that the log tells of a connection.
+pub fn logs_bound_bursts()
+    ensures { LogsBoundBursts }
 {}

@@ -1,4 +1,5 @@
--- What every world keeps that a log leads to. `law` proves it; the proofs of the core's steps use it.
+-- What every world keeps that a log leads to. Each step is proved to keep it, and the proofs of the
+-- core use it.
 use Rattle.std.specs.Prelude.{◌≡◌, ℕ, ◌^◌, ◌<◌, ◌≤◌, List, length, Option, Some, IsSome, All, Contains, slice_get}
 use Rattle.upc_cell.specs.declared.vc.Vc.{Vc}
 use Rattle.upc_cell.specs.Connection.{vc_of}

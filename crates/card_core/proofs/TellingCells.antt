@@ -1,0 +1,283 @@
+-- Each step at a port tells what it does.
+use Rattle.std.proofs.Common.{◌≡◌, ◌≢◌, ℕ, Bool, true, cond, List, [], ◌∷◌, ◌++◌, Some, slice_get, append-nil, refl, sym, ap, ◌∙◌, subst, inl, inr}
+use Rattle.std.proofs.lemmas.Bool.{eq-eqb, ne_eqb, cases_eq}
+use Rattle.upc_cell.specs.declared.vc.Vc.{Vc}
+use Rattle.upc_cell.specs.Connection.{vc_of, is_same_vc}
+use Rattle.upc_cell.proofs.Public.{vc_itself, vc_differs}
+use Rattle.bpf_code.specs.declared.instr.Instr.{Instr}
+use Rattle.gen_arena.specs.declared.id.Id.{Id}
+use Rattle.leaky.specs.declared.verdict.Verdict.{Verdict}
+use Rattle.line_record.specs.History.{NamedCell, numbered, buckets_after, empty_buckets}
+use Rattle.card_core.specs.declared.answer.Answer.{Answer}
+use Rattle.card_core.specs.declared.ask.Ask.{Ask}
+use Rattle.card_core.specs.declared.fault.DeskFault.{DeskFault}
+use Rattle.card_core.specs.declared.reply.Reply.{Reply}
+use Rattle.card_core.specs.declared.reply.Reply.TheVariants.{Entered, Picked, NotNow, Answered, NotLoaded, NotSetUp, Refused}
+use Rattle.card_core.specs.declared.shape.Shape.{Shape}
+use Rattle.card_core.specs.declared.step.Step.{Step}
+use Rattle.card_core.specs.declared.step.Step.TheVariants.{Enter, Pick, Judge}
+use Rattle.card_core.specs.World.{World, Connection, Picking, PortState, outside, entered, picked, connection_in, with_port, with_verdict}
+use Rattle.card_core.specs.Steps.{Enters, Picks, Judges, cell_after, cell_of_picking, with_cell, verdict_on, judgement_of, picking_of, judged_world}
+use Rattle.card_core.specs.Headline.{code_loaded, code_retired, connection_changed, only_of, program_named, Judgement, came_with, judgement_told, verdicts_on, on_line, on_connection}
+use Rattle.card_core.proofs.Sound.{IsSound}
+use Rattle.card_core.proofs.CellLemmas.{vc-after, came}
+use Rattle.card_core.proofs.Told.{store_same, Kept, kept, IsSilent, connections-same, connections-with, IsPickedNow, PortsTold, ports-moved, Tells}
+use Rattle.card_core.proofs.SoundChanges.{picked_same}
+
+-- Some answers tell nothing.
+
+pub record IsQuiet (reply : Reply) : Type 0 where
+  pub no_code : (id : Id) (step : Step) → code_loaded id reply step ≡ []
+  pub none_retired : (id : Id) (step : Step) → code_retired id reply step ≡ []
+  pub no_change : (step : Step) → connection_changed reply step ≡ []
+  pub no_program : (vc : Vc) (step : Step) → program_named vc reply step ≡ []
+  pub no_cell : judgement_told reply ≡ []
+
+pub quiet-not_now : IsQuiet NotNow
+quiet-not_now = record {
+  no_code = λ id step. refl;
+  none_retired = λ id step. refl;
+  no_change = λ step. refl;
+  no_program = λ vc step. refl;
+  no_cell = refl;
+}
+
+pub quiet-answered : (answer : Answer) → judgement_told (Answered answer) ≡ [] → IsQuiet (Answered answer)
+quiet-answered answer unjudged = record {
+  no_code = λ id step. refl;
+  none_retired = λ id step. refl;
+  no_change = λ step. refl;
+  no_program = λ vc step. refl;
+  no_cell = unjudged;
+}
+
+pub quiet-refused : (fault : DeskFault) → IsQuiet (Refused fault)
+quiet-refused fault = record {
+  no_code = λ id step. refl;
+  none_retired = λ id step. refl;
+  no_change = λ step. refl;
+  no_program = λ vc step. refl;
+  no_cell = refl;
+}
+
+pub quiet-not_loaded : (fault : DeskFault) (code : List Instr) → IsQuiet (NotLoaded fault code)
+quiet-not_loaded fault code = record {
+  no_code = λ id step. refl;
+  none_retired = λ id step. refl;
+  no_change = λ step. refl;
+  no_program = λ vc step. refl;
+  no_cell = refl;
+}
+
+pub quiet-not_set_up : (fault : DeskFault) (ask : Ask) → IsQuiet (NotSetUp fault ask)
+quiet-not_set_up fault ask = record {
+  no_code = λ id step. refl;
+  none_retired = λ id step. refl;
+  no_change = λ step. refl;
+  no_program = λ vc step. refl;
+  no_cell = refl;
+}
+
+pub silent-quiet : (vc : Vc) (step : Step) (reply : Reply) → IsQuiet reply → IsSilent vc step reply
+silent-quiet vc step reply quiet = record {
+  standing = ap (only_of vc) (quiet.no_change step);
+  programs = quiet.no_program vc step;
+  cells = quiet.no_cell;
+}
+
+pub no-verdicts : (judged : List Verdict) (line : ℕ) (reply : Reply) → judgement_told reply ≡ []
+    → judged ≡ judged ++ verdicts_on line (judgement_told reply)
+no-verdicts judged line reply none = sym (ap (λ told. judged ++ verdicts_on line told) none ∙ append-nil judged)
+
+pub tells-quiet : (shape : Shape) (before : World) (step : Step) (reply : Reply) (ports : List PortState) → IsQuiet reply
+    → PortsTold before (record before { ports = ports }) step reply
+    → Tells shape before step reply (record before { ports = ports })
+tells-quiet shape before step reply ports quiet moves = record {
+  shape_same = refl;
+  store = store_same refl refl (λ id. quiet.no_code id step) (λ id. quiet.none_retired id step);
+  connections = connections-same shape before (record before { ports = ports }) step reply (λ vc. silent-quiet vc step reply quiet) refl;
+  ports = moves;
+  verdicts = λ line. no-verdicts (before.judged line) line reply quiet.no_cell;
+}
+
+-- The reply and the world that a step led to are those that are known.
+pub tells-at : (shape : Shape) (before : World) (step : Step) (one other : Reply) (after later : World)
+    → one ≡ other → after ≡ later → Tells shape before step other later → Tells shape before step one after
+tells-at shape before step one other after later same leads tells =
+    subst (λ (r : Reply). Tells shape before step r after) (sym same)
+    (subst (λ (w : World). Tells shape before step other w) (sym leads) tells)
+
+-- Cells.
+
+enter_of : ℕ → PortState → Step
+enter_of port outside = Enter port [] 0
+enter_of port (entered cell moment) = Enter port cell moment
+enter_of port (picked picking) = Enter port [] 0
+
+enter_same : (port : ℕ) (one other : List ℕ) (moment another : ℕ) → entered one moment ≡ entered other another
+    → Enter port one moment ≡ Enter port other another
+unfolding enter_of
+enter_same port one other moment another e = ap (enter_of port) e
+
+pub tells-enters : (shape : Shape) (before : World) (port : ℕ) (cell : List ℕ) (moment : ℕ) (reply : Reply) (after : World)
+    → Enters before port cell moment reply after → Tells shape before (Enter port cell moment) reply after
+tells-enters shape before port cell moment reply after w =
+    let step : Step = Enter port cell moment in
+    let later : World = with_port before port (entered cell moment) in
+    tells-at shape before step reply Entered after later w.answer w.world (record {
+      shape_same = refl;
+      store = store_same refl refl (λ id. refl) (λ id. refl);
+      connections = connections-same shape before later step Entered (λ vc. record { standing = refl; programs = refl; cells = refl }) refl;
+      ports = ports-moved before later step Entered port (entered cell moment) refl refl
+          (λ other another e. (enter_same port cell other moment another e, refl))
+          (λ picking e. absurd (cc));
+      verdicts = λ line. no-verdicts (before.judged line) line Entered refl;
+    })
+
+pub tells-picks : (shape : Shape) (before : World) (port : ℕ) (reply : Reply) (after : World)
+    → Picks before port reply after → Tells shape before (Pick port) reply after
+tells-picks shape before port reply after w =
+    let step : Step = Pick port in
+    let vc : Vc = vc_of before.shape.side w.cell in
+    let new : Picking = picking_of w.cell w.moment vc w.connection w.value in
+    let later : World = with_port before port (picked new) in
+    let now : IsPickedNow before port new step Picked = record {
+      step_is = refl;
+      reply_is = refl;
+      had = w.had;
+      connection = w.connection;
+      found = w.found;
+      incarnation = refl;
+      program = refl;
+      code = w.code;
+      given = w.named;
+      gives = w.gives;
+    } in
+    tells-at shape before step reply Picked after later w.answer w.world (record {
+      shape_same = refl;
+      store = store_same refl refl (λ id. refl) (λ id. refl);
+      connections = connections-same shape before later step Picked (λ vc. record { standing = refl; programs = refl; cells = refl }) refl;
+      ports = ports-moved before later step Picked port (picked new) refl refl
+          (λ cell moment e. absurd (cc))
+          (λ picking e. subst (λ (p : Picking). IsPickedNow before port p step Picked) (picked_same new picking e) now);
+      verdicts = λ line. no-verdicts (before.judged line) line Picked refl;
+    })
+
+-- What the answer to a judged cell tells.
+abbrev pub judgement_on : World → Picking → Connection → Judgement
+judgement_on before picking connection = record {
+  line = connection.line;
+  verdict = verdict_on connection (cell_of_picking picking);
+  leaving = cell_after (verdict_on connection (cell_of_picking picking)) picking.cell;
+  cell = record {
+    moment = picking.moment;
+    clp = came_with (verdict_on connection (cell_of_picking picking)) (cell_after (verdict_on connection (cell_of_picking picking)) picking.cell);
+    value = picking.value;
+    program = picking.program;
+  };
+}
+
+-- It tells the cell as the history has it.
+pub told-cell : (before : World) (picking : Picking) (connection : Connection)
+    → (judgement_on before picking connection).cell ≡ cell_of_picking picking
+told-cell before picking connection =
+    let as_told : Bool → NamedCell = λ clp. record {
+      moment = picking.moment;
+      clp = clp;
+      value = picking.value;
+      program = picking.program;
+    } in
+    ap as_told (came picking.cell (numbered connection.contracts picking.value)
+    (buckets_after connection.contracts empty_buckets connection.history picking.value) (cell_of_picking picking) refl)
+
+module _ (shape : Shape) (before : World) (sound : IsSound before) (same_shape : before.shape ≡ shape) (port : ℕ) (picking : Picking) (had : slice_get before.ports port ≡ Some (picked picking)) (connection : Connection) (found : connection_in before.connections picking.vc ≡ Some connection) where
+  judged_reply : Reply
+  judged_reply = Answered (judgement_of before picking connection)
+
+  told_vc : vc_of shape.side (judgement_on before picking connection).leaving ≡ picking.vc
+  told_vc =
+      vc-after shape.side (verdict_on connection (cell_of_picking picking)) picking.cell
+      ∙ ap (λ (s : Shape). vc_of s.side picking.cell) (sym same_shape)
+      ∙ sym (sound.ports port picking had).own
+
+  told_here : on_connection shape picking.vc (judgement_on before picking connection ∷ []) ≡ cell_of_picking picking ∷ []
+  told_here =
+      let at : is_same_vc picking.vc (vc_of shape.side (judgement_on before picking connection).leaving) ≡ true =
+      subst (λ (v : Vc). is_same_vc picking.vc v ≡ true) (sym told_vc) (vc_itself picking.vc) in
+      ap (λ b. cond b ((judgement_on before picking connection).cell ∷ []) []) at
+      ∙ ap (λ (c : NamedCell). c ∷ []) (told-cell before picking connection)
+
+  told_others : (other : Vc) → other ≢ picking.vc → on_connection shape other (judgement_on before picking connection ∷ []) ≡ []
+  told_others other apart =
+      ap (λ b. cond b ((judgement_on before picking connection).cell ∷ []) [])
+      (vc_differs other (vc_of shape.side (judgement_on before picking connection).leaving) (λ same. apart (same ∙ told_vc)))
+
+  told_on_line : on_line connection.line (judgement_on before picking connection ∷ []) ≡ cell_of_picking picking ∷ []
+  told_on_line =
+      ap (λ b. cond b ((judgement_on before picking connection).cell ∷ []) []) (eq-eqb connection.line connection.line refl)
+      ∙ ap (λ (c : NamedCell). c ∷ []) (told-cell before picking connection)
+
+  told_on_others : (line : ℕ) → connection.line ≢ line → on_line line (judgement_on before picking connection ∷ []) ≡ []
+  told_on_others line apart =
+      ap (λ b. cond b ((judgement_on before picking connection).cell ∷ []) []) (ne_eqb connection.line line apart)
+
+  judged-here : Kept shape connection (with_cell connection (cell_of_picking picking)) picking.vc (Judge port) judged_reply
+  unfolding judged_reply
+  judged-here = record {
+    incarnation = refl;
+    line = refl;
+    contracts = refl;
+    standing = refl;
+    program = refl;
+    cells = sym (ap (λ told. connection.history ++ told) told_here);
+    held = sym (ap (λ told. connection.history ++ told) told_on_line);
+  }
+
+  judged-others : (other : Vc) → other ≢ picking.vc → (old : Connection) → connection_in before.connections other ≡ Some old
+      → Kept shape old old other (Judge port) judged_reply
+  unfolding judged_reply
+  judged-others other apart old at = record {
+    incarnation = refl;
+    line = refl;
+    contracts = refl;
+    standing = refl;
+    program = refl;
+    cells = sym (ap (λ told. old.history ++ told) (told_others other apart) ∙ append-nil old.history);
+    held = sym (ap (λ told. old.history ++ told)
+        (told_on_others old.line (λ same. apart (sym (sound.connections.lines_apart picking.vc other connection old found at same))))
+        ∙ append-nil old.history);
+  }
+
+  told_verdict : (line : ℕ) → with_verdict before.judged connection.line (verdict_on connection (cell_of_picking picking)) line
+      ≡ before.judged line ++ verdicts_on line (judgement_on before picking connection ∷ [])
+  told_verdict line =
+      let verdict : Verdict = verdict_on connection (cell_of_picking picking) in
+      elim (cases_eq line connection.line) [
+        | inl same ↦
+            ap (λ b. cond b (before.judged line ++ verdict ∷ []) (before.judged line)) (eq-eqb line connection.line same)
+            ∙ ap (λ b. before.judged line ++ cond b (verdict ∷ []) []) (sym (eq-eqb connection.line line (sym same)))
+        | inr apart ↦
+            ap (λ b. cond b (before.judged line ++ verdict ∷ []) (before.judged line)) (ne_eqb line connection.line apart)
+            ∙ sym (append-nil (before.judged line))
+            ∙ ap (λ b. before.judged line ++ cond b (verdict ∷ []) []) (sym (ne_eqb connection.line line (λ same. apart (sym same))))
+      ]
+
+  judged-tells : Tells shape before (Judge port) judged_reply (judged_world before port picking connection)
+  unfolding judged_reply
+  judged-tells = record {
+    shape_same = refl;
+    store = store_same refl refl (λ id. refl) (λ id. refl);
+    connections = connections-with shape before (judged_world before port picking connection) (Judge port) judged_reply picking.vc
+        (with_cell connection (cell_of_picking picking)) refl (kept connection found judged-here) judged-others;
+    ports = ports-moved before (judged_world before port picking connection) (Judge port) judged_reply port outside refl refl
+        (λ cell moment e. absurd (cc)) (λ picking e. absurd (cc));
+    verdicts = told_verdict;
+  }
+
+pub tells-judges : (shape : Shape) (before : World) (port : ℕ) (reply : Reply) (after : World) → IsSound before → before.shape ≡ shape
+    → Judges before port reply after → Tells shape before (Judge port) reply after
+unfolding judged_reply
+tells-judges shape before port reply after sound same_shape w =
+    tells-at shape before (Judge port) reply (Answered (judgement_of before w.picking w.connection)) after
+    (judged_world before port w.picking w.connection) w.answer w.world
+    (judged-tells shape before sound same_shape port w.picking w.had w.connection w.found)

@@ -1,0 +1,132 @@
+-- What is refused, and what finds no memory, tells nothing but that a port moved.
+use Rattle.std.proofs.Common.{◌≡◌, ℕ, ◌^◌, ◌==◌, Bool, true, false, cond, [], ◌∷◌, length, set, Option, Some, None, slice_get, is_none, nat_lt, nat_le, refl, sym, subst}
+use Rattle.upc_cell.specs.Connection.{vc_of}
+use Rattle.line_record.specs.History.{last_moment}
+use Rattle.card_core.specs.declared.answer.Answer.{Answer}
+use Rattle.card_core.specs.declared.answer.Answer.TheVariants.{NoConnection as UnknownCell, Released as PickReleased, MomentTooLate, MomentBack, JournalFull}
+use Rattle.card_core.specs.declared.fault.DeskFault.TheVariants.{NoMemory}
+use Rattle.card_core.specs.declared.reply.Reply.{Reply}
+use Rattle.card_core.specs.declared.reply.Reply.TheVariants.{NotNow, Answered, NotLoaded, NotSetUp, Refused}
+use Rattle.card_core.specs.declared.shape.Shape.{Shape}
+use Rattle.card_core.specs.declared.step.Step.{Step}
+use Rattle.card_core.specs.declared.step.Step.TheVariants.{Enter, Pick, Judge, Load, Retire, Setup, Reload, Release, Cut}
+use Rattle.card_core.specs.World.{World, Connection, Picking, PortState, outside, entered, picked, kept_cells, connection_in, with_port}
+use Rattle.card_core.specs.Refusals.{refusal, enter_refusal, pick_refusal, judge_refusal, picking_refusal, cell_refusal, load_fault, retire_fault, setup_fault, reload_fault, missing_fault}
+use Rattle.card_core.specs.Steps.{without_memory, left_by, with_answered}
+use Rattle.card_core.specs.Headline.{judgement_told, port_of, port_moved}
+use Rattle.card_core.proofs.Told.{ports-same, ports-moved, Tells}
+use Rattle.card_core.proofs.LookUps.{same_some, refused_by, mapped}
+use Rattle.card_core.proofs.TellingCells.{IsQuiet, quiet-not_now, quiet-answered, quiet-refused, quiet-not_loaded, quiet-not_set_up, tells-quiet}
+
+abbrev pub IsUnjudged : Answer → Type 0
+IsUnjudged answer = judgement_told (Answered answer) ≡ []
+
+-- What a Pick or a Judge is refused with.
+pub data CellRefused (refused : Reply) : Type 0 where
+  at_no_time : refused ≡ NotNow → CellRefused refused
+  with_answer : (answer : Answer) → refused ≡ Answered answer → IsUnjudged answer → CellRefused refused
+
+enter-refused : (o : Option PortState) (refused : Reply) → enter_refusal o ≡ Some refused → refused ≡ NotNow
+enter-refused None refused e = sym (same_some NotNow refused e)
+enter-refused (Some outside) refused e = absurd (cc)
+enter-refused (Some (entered cell moment)) refused e = sym (same_some NotNow refused e)
+enter-refused (Some (picked picking)) refused e = sym (same_some NotNow refused e)
+
+pub pick-refused : (before : World) (o : Option PortState) (refused : Reply) → pick_refusal before o ≡ Some refused → CellRefused refused
+pick-refused before None refused e = at_no_time (sym (same_some NotNow refused e))
+pick-refused before (Some outside) refused e = at_no_time (sym (same_some NotNow refused e))
+pick-refused before (Some (entered cell moment)) refused e =
+    refused_by CellRefused (is_none (connection_in before.connections (vc_of before.shape.side cell))) (Answered UnknownCell) None
+    (with_answer UnknownCell refl refl) (λ x e. absurd (cc)) refused e
+pick-refused before (Some (picked picking)) refused e = at_no_time (sym (same_some NotNow refused e))
+
+cell-refused : (before : World) (connection : Connection) (moment : ℕ) (answer : Answer)
+    → cell_refusal before connection moment ≡ Some answer → IsUnjudged answer
+cell-refused before connection moment =
+    refused_by IsUnjudged (nat_lt (2 ^ 62) moment) MomentTooLate _ refl
+    (refused_by IsUnjudged (nat_lt moment (last_moment 0 connection.history)) (MomentBack (last_moment 0 connection.history)) _ refl
+    (refused_by IsUnjudged (nat_le before.shape.journal (length (kept_cells connection))) JournalFull _ refl
+    (refused_by IsUnjudged (nat_le (2 ^ 62) (length (before.judged connection.line))) JournalFull None refl
+    (λ x e. absurd (cc)))))
+
+picking-refused : (before : World) (picking : Picking) (o : Option Connection) (answer : Answer)
+    → picking_refusal before picking o ≡ Some answer → IsUnjudged answer
+picking-refused before picking None answer e = subst IsUnjudged (same_some PickReleased answer e) refl
+picking-refused before picking (Some connection) answer e =
+    let choice : (b : Bool) → cond b (cell_refusal before connection picking.moment) (Some PickReleased) ≡ Some answer
+    → IsUnjudged answer = elim [
+      | true ↦ λ e. cell-refused before connection picking.moment answer e
+      | false ↦ λ e. subst IsUnjudged (same_some PickReleased answer e) refl
+    ] in
+    choice (connection.incarnation == picking.incarnation) e
+
+pub judge-refused : (before : World) (o : Option PortState) (refused : Reply) → judge_refusal before o ≡ Some refused → CellRefused refused
+judge-refused before None refused e = at_no_time (sym (same_some NotNow refused e))
+judge-refused before (Some outside) refused e = at_no_time (sym (same_some NotNow refused e))
+judge-refused before (Some (entered cell moment)) refused e = at_no_time (sym (same_some NotNow refused e))
+judge-refused before (Some (picked picking)) refused e =
+    let found = mapped Answered (picking_refusal before picking (connection_in before.connections picking.vc)) refused e in
+    with_answer found.0 found.2 (picking-refused before picking (connection_in before.connections picking.vc) found.0 found.1)
+
+-- A step that leaves the world as it was, with an answer that tells nothing.
+tells-nothing : (shape : Shape) (before : World) (step : Step) (reply : Reply) → IsQuiet reply → port_moved reply step ≡ []
+    → Tells shape before step reply before
+tells-nothing shape before step reply quiet still =
+    tells-quiet shape before step reply before.ports quiet (ports-same before before step reply refl still)
+
+-- A Pick or a Judge that is refused.
+tells-cell_refused : (shape : Shape) (before : World) (step : Step) (port : ℕ) (refused : Reply) → port_of step ≡ port ∷ []
+    → CellRefused refused → Tells shape before step refused (with_answered before port refused)
+tells-cell_refused shape before step port refused at (at_no_time is) =
+    subst (λ (r : Reply). Tells shape before step r (with_answered before port r)) (sym is)
+    (tells-nothing shape before step NotNow quiet-not_now refl)
+tells-cell_refused shape before step port refused at (with_answer answer is unjudged) =
+    subst (λ (r : Reply). Tells shape before step r (with_answered before port r)) (sym is)
+    (tells-quiet shape before step (Answered answer) (set before.ports port outside) (quiet-answered answer unjudged)
+    (ports-moved before (with_port before port outside) step (Answered answer) port outside refl at
+    (λ cell moment e. absurd (cc)) (λ picking e. absurd (cc))))
+
+pub tells-refused : (shape : Shape) (before : World) (step : Step) (refused : Reply) → refusal before step ≡ Some refused
+    → Tells shape before step refused (left_by before step refused)
+tells-refused shape before (Enter port cell moment) refused e =
+    subst (λ (r : Reply). Tells shape before (Enter port cell moment) r before)
+    (sym (enter-refused (slice_get before.ports port) refused e))
+    (tells-nothing shape before (Enter port cell moment) NotNow quiet-not_now refl)
+tells-refused shape before (Pick port) refused e =
+    tells-cell_refused shape before (Pick port) port refused refl (pick-refused before (slice_get before.ports port) refused e)
+tells-refused shape before (Judge port) refused e =
+    tells-cell_refused shape before (Judge port) port refused refl (judge-refused before (slice_get before.ports port) refused e)
+tells-refused shape before (Load code) refused e =
+    let found = mapped (λ fault. NotLoaded fault code) (load_fault before) refused e in
+    subst (λ (r : Reply). Tells shape before (Load code) r before) (sym found.2)
+    (tells-nothing shape before (Load code) (NotLoaded found.0 code) (quiet-not_loaded found.0 code) refl)
+tells-refused shape before (Retire id) refused e =
+    let found = mapped Refused (retire_fault before id) refused e in
+    subst (λ (r : Reply). Tells shape before (Retire id) r before) (sym found.2)
+    (tells-nothing shape before (Retire id) (Refused found.0) (quiet-refused found.0) refl)
+tells-refused shape before (Setup ask) refused e =
+    let found = mapped (λ fault. NotSetUp fault ask) (setup_fault before ask) refused e in
+    subst (λ (r : Reply). Tells shape before (Setup ask) r before) (sym found.2)
+    (tells-nothing shape before (Setup ask) (NotSetUp found.0 ask) (quiet-not_set_up found.0 ask) refl)
+tells-refused shape before (Reload vc program) refused e =
+    let found = mapped Refused (reload_fault before vc program) refused e in
+    subst (λ (r : Reply). Tells shape before (Reload vc program) r before) (sym found.2)
+    (tells-nothing shape before (Reload vc program) (Refused found.0) (quiet-refused found.0) refl)
+tells-refused shape before (Release vc) refused e =
+    let found = mapped Refused (missing_fault before vc) refused e in
+    subst (λ (r : Reply). Tells shape before (Release vc) r before) (sym found.2)
+    (tells-nothing shape before (Release vc) (Refused found.0) (quiet-refused found.0) refl)
+tells-refused shape before (Cut vc) refused e =
+    let found = mapped Refused (missing_fault before vc) refused e in
+    subst (λ (r : Reply). Tells shape before (Cut vc) r before) (sym found.2)
+    (tells-nothing shape before (Cut vc) (Refused found.0) (quiet-refused found.0) refl)
+
+pub tells-starved : (shape : Shape) (before : World) (step : Step) (reply : Reply) → without_memory step ≡ Some reply
+    → Tells shape before step reply before
+tells-starved shape before (Setup ask) reply e =
+    subst (λ (r : Reply). Tells shape before (Setup ask) r before) (same_some (NotSetUp NoMemory ask) reply e)
+    (tells-nothing shape before (Setup ask) (NotSetUp NoMemory ask) (quiet-not_set_up NoMemory ask) refl)
+tells-starved shape before (Cut vc) reply e =
+    subst (λ (r : Reply). Tells shape before (Cut vc) r before) (same_some (Refused NoMemory) reply e)
+    (tells-nothing shape before (Cut vc) (Refused NoMemory) (quiet-refused NoMemory) refl)
+tells-starved shape before _ reply e = absurd (cc)
