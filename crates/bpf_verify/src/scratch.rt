@@ -82,9 +82,13 @@ fn pass_on(written: &mut [u16], at: usize, instr: Instr, mask: u16) -> u16
             written[at + 1]
         }
         Instr::Branch { jt, jf, .. } => {
-            narrow(written, at, u32::from(jt), mask);
-            narrow(written, at, u32::from(jf), mask);
-            written[at + 1]
+            let there = narrow(written, at, u32::from(jt), mask);
+            let here = narrow(written, at, u32::from(jf), mask);
+            match (jt, jf) {
+                (_, 0) => here,
+                (0, _) => there,
+                _ => written[at + 1],
+            }
         }
         Instr::RetK(_) | Instr::RetA => written[at + 1],
         _ => narrow(written, at, 0, mask),
