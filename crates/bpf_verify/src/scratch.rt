@@ -12,10 +12,14 @@ use crate::check::MAX_INSTRUCTIONS;
 use crate::fault::Fault;
 use bpf_code::Instr;
 
+/// One place more than a program has, so that behind each there is another.
+const PLACES: usize = MAX_INSTRUCTIONS + 1;
+
 /// The first place that some path reaches without a store of the word that it reads, if there is one.
 ///
 /// Each place has a mask of the words that every path to it stores, all of them as long as no path is
-/// known. Jumps go forward, so at the visit of a place its mask has met every path to it.
+/// known. Jumps go forward, so at the visit of a place its mask has met every path to it. The mask of
+/// the next place is kept at hand, since to read what was only just written takes a processor long.
 pub(crate) fn first_unwritten(code: &[Instr]) -> Option<Fault>
     requires sized { IsSized code.now }
     requires sound { IsSoundBelow code.now (length code.now) }
@@ -23,14 +27,14 @@ pub(crate) fn first_unwritten(code: &[Instr]) -> Option<Fault>
     ensures none { IfNone result ((place : ℕ) → IsWrittenAt code.now place) }
     ensures some { IfSome result (FailsFirst code.now) }
 {
-    let mut written = [u16::MAX; MAX_INSTRUCTIONS];
+    let mut written = [u16::MAX; PLACES];
     written[0] = 0;
+    let mut here = 0;
     for (at, instr) in code.iter().enumerate() {
-        let here = written[at];
         if let Some(word) = unwritten_word(*instr, here) {
             return Some(Fault::Unwritten { at, word });
         }
-        pass_on(&mut written, at, *instr, with_stored(*instr, here));
+        here = pass_on(&mut written, at, *instr, with_stored(*instr, here));
     }
     None
 }
@@ -59,39 +63,54 @@ fn with_stored(instr: Instr, mask: u16) -> u16
     }
 }
 
-/// Hands the mask behind an instruction on to its successors. A return has none.
-fn pass_on(written: &mut [u16], at: usize, instr: Instr, mask: u16)
-    requires size { length written.old ≡ MAX_INSTRUCTIONS }
+/// Hands the mask behind an instruction on to its successors, of which a return has none, and answers the
+/// mask that the place behind it then has.
+fn pass_on(written: &mut [u16], at: usize, instr: Instr, mask: u16) -> u16
+    requires size { length written.old ≡ PLACES }
+    requires place { at < MAX_INSTRUCTIONS }
     requires within { (next : ℕ) → LeadsTo at instr next → next < MAX_INSTRUCTIONS }
     ensures successors { (next word : ℕ) → LeadsTo at instr next
         → bit_at (slice_index written.new next) word
         ≡ min (bit_at (slice_index written.old next) word) (bit_at mask word) }
     ensures others { (place : ℕ) → ¬ LeadsTo at instr place
         → slice_index written.new place ≡ slice_index written.old place }
+    ensures behind { result ≡ slice_index written.new (at + 1) }
 {
     match instr {
-        Instr::Jump(skipped) => narrow(written, at, skipped, mask),
-        Instr::Branch { jt, jf, .. } => {
-            narrow(written, at, u32::from(jt), mask);
-            narrow(written, at, u32::from(jf), mask);
+        Instr::Jump(skipped) => {
+            narrow(written, at, skipped, mask);
+            written[at + 1]
         }
-        Instr::RetK(_) | Instr::RetA => {}
+        Instr::Branch { jt, jf, .. } => {
+            let there = narrow(written, at, u32::from(jt), mask);
+            let here = narrow(written, at, u32::from(jf), mask);
+            match (jt, jf) {
+                (_, 0) => here,
+                (0, _) => there,
+                _ => written[at + 1],
+            }
+        }
+        Instr::RetK(_) | Instr::RetA => written[at + 1],
         _ => narrow(written, at, 0, mask),
     }
 }
 
-/// Leaves the place behind so many skipped instructions the words that a further path to it stores too.
-fn narrow(written: &mut [u16], at: usize, skipped: u32, mask: u16)
-    requires size { length written.old ≡ MAX_INSTRUCTIONS }
+/// Leaves the place behind so many skipped instructions the words that a further path to it stores too,
+/// and answers them.
+fn narrow(written: &mut [u16], at: usize, skipped: u32, mask: u16) -> u16
+    requires size { length written.old ≡ PLACES }
     requires within { at + 1 + skipped < MAX_INSTRUCTIONS }
     ensures place { (place word : ℕ) → place ≡ at + 1 + skipped
         → bit_at (slice_index written.new place) word
         ≡ min (bit_at (slice_index written.old place) word) (bit_at mask word) }
     ensures others { (other : ℕ) → other ≢ at + 1 + skipped
         → slice_index written.new other ≡ slice_index written.old other }
+    ensures words { result ≡ slice_index written.new (at + 1 + skipped) }
 {
     let place = at + 1 + skipped as usize;
-    written[place] &= mask;
+    let narrowed = written[place] & mask;
+    written[place] = narrowed;
+    narrowed
 }
 
 /// The scratch word that an instruction reads.

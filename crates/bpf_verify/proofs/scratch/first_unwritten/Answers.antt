@@ -1,4 +1,5 @@
-use Rattle.std.proofs.Common.{◌≡◌, ℕ, ◌<◌, length, get_or, set, replicate, refl, ◌∙◌, arith}
+use Rattle.std.proofs.Common.{◌≡◌, ℕ, ◌<◌, length, get_or, set, replicate, refl, ap, sym, ◌∙◌, arith}
+use Rattle.std.specs.Int.{bit_at}
 use Rattle.std.proofs.lemmas.Grind.{common_steps}
 use Rattle.bpf_verify.proofs.Masks.{unwritten-from_mask, written-at_first, written-from_mask, written_next}
 use Rattle.bpf_verify.proofs.Visit.{all_written, next_within, one_more, read_within, stands_there, stored_within}
@@ -11,7 +12,8 @@ begins_full size all place gt lt = grind (arith, common_steps)
 pub loop-at-init : goal.loop-at-init
 loop-at-init c = record {
   size = refl;
-  marks = written-at_first c.args.code.now _ refl (λ place gt lt. begins_full 4096 65535 place gt lt);
+  here = refl;
+  marks = written-at_first c.args.code.now _ refl (λ place gt lt. begins_full 4097 65535 place gt lt);
   before = λ place lt. absurd (omega (arith, lt));
 }
 
@@ -26,34 +28,35 @@ returns-in-Some-clause-some c =
       c.requires.sound,
       c.requires.ends,
       c.loop-at.invariant.before,
-      unwritten-from_mask c.args.code.now c.loop-at.written c.loop-at.at c.in-Some.word _ (stands_there c.args.code.now c.loop-at.at _ within) c.loop-at.invariant.marks (omega (arith, c.loop-at.invariant.size, c.requires.sized.most)) (read_within c.args.code.now c.loop-at.at _ within c.requires.sound c.in-Some.word found.0) found.0 found.1,
+      unwritten-from_mask c.args.code.now c.loop-at.written c.loop-at.at c.in-Some.word _ (stands_there c.args.code.now c.loop-at.at _ within) c.loop-at.invariant.marks (omega (arith, c.loop-at.invariant.size, c.requires.sized.most)) (read_within c.args.code.now c.loop-at.at _ within c.requires.sound c.in-Some.word found.0) found.0 (ap (λ n. bit_at n c.in-Some.word) (sym c.loop-at.invariant.here) ∙ found.1),
     )
 
 pub with_stored-requires : goal.with_stored-requires
 with_stored-requires c = stored_within c.args.code.now c.loop-at.at _ (omega arith) c.requires.sound
 
-pub pass_on-requires-clause-within : goal.pass_on-requires-clause-within
-pass_on-requires-clause-within c = next_within c.args.code.now c.loop-at.at _ (omega arith) c.requires.sized c.requires.sound c.requires.ends
+pub pass_on-here-requires-clause-within : goal.pass_on-here-requires-clause-within
+pass_on-here-requires-clause-within c = next_within c.args.code.now c.loop-at.at _ (omega arith) c.requires.sized c.requires.sound c.requires.ends
 
 pub loop-at-preserved : goal.loop-at-preserved
 loop-at-preserved c =
     let within : c.loop-at.at < length c.args.code.now = omega arith in
     let stands = stands_there c.args.code.now c.loop-at.at _ within in
-    let same_length : length c.pass_on.new.written ≡ length c.loop-at.written = c.pass_on.auto.written in
+    let same_length : length c.pass_on-here.new.written ≡ length c.loop-at.written = c.pass_on-here.auto.written in
     record {
       size = same_length ∙ c.loop-at.invariant.size;
-      marks = written_next c.args.code.now c.loop-at.written c.pass_on.new.written c.loop-at.at c.with_stored.result _ stands
+      here = c.pass_on-here.ensures.behind;
+      marks = written_next c.args.code.now c.loop-at.written c.pass_on-here.new.written c.loop-at.at c.with_stored.result _ stands
           (omega (arith, c.loop-at.invariant.size, c.requires.sized.most))
           (record {
             stored = c.with_stored.ensures.stored;
-            kept = c.with_stored.ensures.others;
-            successors = c.pass_on.ensures.successors;
-            others = c.pass_on.ensures.others;
+            kept = λ word keeps. c.with_stored.ensures.others word keeps ∙ ap (λ n. bit_at n word) c.loop-at.invariant.here;
+            successors = c.pass_on-here.ensures.successors;
+            others = c.pass_on-here.ensures.others;
             same_length = same_length;
           })
           c.loop-at.invariant.marks;
       before = one_more c.args.code.now c.loop-at.at c.loop-at.invariant.before
-          (written-from_mask c.args.code.now c.loop-at.written c.loop-at.at _ stands c.loop-at.invariant.marks c.in_default.ensures.none);
+          (written-from_mask c.args.code.now c.loop-at.written c.loop-at.at _ stands c.loop-at.invariant.marks (λ word reads. ap (λ n. bit_at n word) (sym c.loop-at.invariant.here) ∙ c.in_default.ensures.none word reads));
     }
 
 pub returns-clause-none : goal.returns-clause-none
