@@ -8,7 +8,6 @@ use Rattle.leaky.specs.declared.verdict.Verdict.TheVariants.{Pass, Tag, Discard,
 use Rattle.line_record.specs.declared.tally.Tally.{Tally}
 use Rattle.line_record.specs.declared.entry.Entry.{Entry}
 use Rattle.line_record.specs.Tally.{nothing, counted, cells_in, tally_of, plus, total, FitsWords, IsPart}
-use Rattle.line_record.specs.Run.{tallied}
 use Rattle.line_record.specs.Laws.{TotalsCount, TotalsJoin, PartsAreWithin, VerdictsCount, EntriesCount}
 
 tally_is : (one other : Tally) → one.passed ≡ other.passed → one.tagged ≡ other.tagged

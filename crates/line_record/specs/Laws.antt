@@ -10,7 +10,7 @@ use Rattle.leaky.specs.Laws.{IsBounded}
 use Rattle.line_record.specs.declared.entry.Entry.{Entry}
 use Rattle.line_record.specs.declared.state.State.{State}
 use Rattle.line_record.specs.declared.tally.Tally.{Tally}
-use Rattle.line_record.specs.Tally.{counted, number_of, cells_in, tally_of, plus, total, IsPart}
+use Rattle.line_record.specs.Tally.{counted, cells_in, tally_of, plus, total, IsPart}
 use Rattle.line_record.specs.History.{NamedCell, IsHistory, moments_of, numbered, empty_buckets, cells_of, buckets_after, verdict_after, judged}
 use Rattle.line_record.specs.Run.{tallied, StandsFor, IsRun}
 use Rattle.line_record.specs.StateAfter.{IsStateAfter}

@@ -1,5 +1,5 @@
 -- The virtual connection that a cell's header names, and when two are the same.
-use Rattle.std.specs.Prelude.{ℕ, Bool, ◌%◌, ◌^◌, ◌&&◌, ◌==◌, List}
+use Rattle.std.specs.Prelude.{ℕ, Bool, ◌%◌, ◌&&◌, ◌==◌, List}
 use Rattle.std.proofs.Math.Nat.{mod-lt, zero-lt-suc, le_of_suc-le-suc}
 use Rattle.upc_cell.specs.declared.side.Side.{Side}
 use Rattle.upc_cell.specs.declared.vc.Vc.{Vc}
