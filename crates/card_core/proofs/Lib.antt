@@ -21,6 +21,7 @@ pub mod RunLemmas
 pub mod SetupSteps
 pub mod Sound
 pub mod SoundSteps
+pub mod StaleLemmas
 pub mod Standing
 pub mod StoreLemmas
 pub mod StoreSteps
