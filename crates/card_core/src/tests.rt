@@ -49,16 +49,16 @@ fn ask(program: Id) -> Result<Ask, Fail> {
     })
 }
 
-fn id_of(reply: Reply) -> Result<Id, Fail> {
+fn id_of(reply: &Reply) -> Result<Id, Fail> {
     match reply {
-        Reply::Loaded(id) => Ok(id),
+        Reply::Loaded(id) => Ok(*id),
         _ => Err(Fail::from("not loaded")),
     }
 }
 
-fn owner_of(reply: Reply) -> Result<Owner, Fail> {
+fn owner_of(reply: &Reply) -> Result<Owner, Fail> {
     match reply {
-        Reply::SetUp(owner) => Ok(owner),
+        Reply::SetUp(owner) => Ok(*owner),
         _ => Err(Fail::from("not set up")),
     }
 }
@@ -70,17 +70,17 @@ fn piece_of(reply: Reply) -> Result<Piece, Fail> {
     }
 }
 
-fn answer_of(reply: Reply) -> Option<Answer> {
+fn answer_of(reply: &Reply) -> Option<Answer> {
     match reply {
-        Reply::Answered(answer) => Some(answer),
+        Reply::Answered(answer) => Some(*answer),
         _ => None,
     }
 }
 
-fn fault_of(reply: Reply) -> Option<DeskFault> {
+fn fault_of(reply: &Reply) -> Option<DeskFault> {
     match reply {
         Reply::NotLoaded(fault, _) | Reply::NotSetUp(fault, _) | Reply::Refused(fault) => {
-            Some(fault)
+            Some(*fault)
         }
         _ => None,
     }
@@ -98,7 +98,7 @@ fn pick_at(core: &mut Core, port: u8, moment: u64) -> bool {
 }
 
 fn judge_at_port(core: &mut Core, port: u8) -> Option<Answer> {
-    answer_of(core.step(Step::Judge { port }))
+    answer_of(&core.step(Step::Judge { port }))
 }
 
 /// The verdict, its number on the line, and the program that named the contract.
@@ -146,13 +146,13 @@ fn a_port_takes_its_steps_in_order(rt: HostRuntime) -> Result<(), Fail> {
         _ => return Err(Fail::from("loaded")),
     }
     assert_eq!(rt;
-        fault_of(core.step(Step::Retire(id))),
+        fault_of(&core.step(Step::Retire(id))),
         Some(DeskFault::Busy)
     );
-    let missed = answer_of(core.step(Step::Pick { port: 0 }));
+    let missed = answer_of(&core.step(Step::Pick { port: 0 }));
     assert_eq!(rt; missed, Some(Answer::NoConnection));
     assert_eq!(rt;
-        fault_of(core.step(Step::Retire(id))),
+        fault_of(&core.step(Step::Retire(id))),
         Some(DeskFault::NoProgram)
     );
     Ok(())
@@ -161,8 +161,8 @@ fn a_port_takes_its_steps_in_order(rt: HostRuntime) -> Result<(), Fail> {
 #[test]
 fn cells_of_two_ports_meet_on_one_line(rt: HostRuntime) -> Result<(), Fail> {
     let mut core = Core::new(rt.alloc(), shape(1, 2, 1))?;
-    let program = id_of(core.step(Step::Load(constant(rt.alloc(), 1)?)))?;
-    let owner = owner_of(core.step(Step::Setup(ask(program)?)))?;
+    let program = id_of(&core.step(Step::Load(constant(rt.alloc(), 1)?)))?;
+    let owner = owner_of(&core.step(Step::Setup(ask(program)?)))?;
     assert_eq!(rt; owner.incarnation, 1);
     assert!(rt; pick_at(&mut core, 0, 10));
     assert!(rt; pick_at(&mut core, 1, 5));
@@ -178,13 +178,13 @@ fn cells_of_two_ports_meet_on_one_line(rt: HostRuntime) -> Result<(), Fail> {
 #[test]
 fn a_reload_leaves_a_picked_cell_its_program(rt: HostRuntime) -> Result<(), Fail> {
     let mut core = Core::new(rt.alloc(), shape(2, 1, 4))?;
-    let first = id_of(core.step(Step::Load(constant(rt.alloc(), 1)?)))?;
-    let second = id_of(core.step(Step::Load(constant(rt.alloc(), 1)?)))?;
+    let first = id_of(&core.step(Step::Load(constant(rt.alloc(), 1)?)))?;
+    let second = id_of(&core.step(Step::Load(constant(rt.alloc(), 1)?)))?;
     assert_eq!(rt; (first.generation, second.generation), (1, 1));
-    owner_of(core.step(Step::Setup(ask(first)?)))?;
+    owner_of(&core.step(Step::Setup(ask(first)?)))?;
     assert!(rt; pick_at(&mut core, 0, 0));
     let busy = core.step(Step::Load(constant(rt.alloc(), 1)?));
-    assert_eq!(rt; fault_of(busy), Some(DeskFault::Busy));
+    assert_eq!(rt; fault_of(&busy), Some(DeskFault::Busy));
     let vc = Vc::new(1, 100)?;
     match core.step(Step::Reload {
         vc,
@@ -196,10 +196,10 @@ fn a_reload_leaves_a_picked_cell_its_program(rt: HostRuntime) -> Result<(), Fail
     let answer = judge_at_port(&mut core, 0);
     assert_eq!(rt; judged(answer), Some((Verdict::Pass, 1, first)));
     assert!(rt; matches!(core.step(Step::Retire(first)), Reply::Retired(_)));
-    let third = id_of(core.step(Step::Load(constant(rt.alloc(), 1)?)))?;
+    let third = id_of(&core.step(Step::Load(constant(rt.alloc(), 1)?)))?;
     assert_eq!(rt; (third.slot, third.generation), (first.slot, 2));
     assert_eq!(rt;
-        fault_of(core.step(Step::Retire(first))),
+        fault_of(&core.step(Step::Retire(first))),
         Some(DeskFault::NoProgram)
     );
     Ok(())
@@ -208,15 +208,15 @@ fn a_reload_leaves_a_picked_cell_its_program(rt: HostRuntime) -> Result<(), Fail
 #[test]
 fn a_connection_that_is_set_up_again_is_another(rt: HostRuntime) -> Result<(), Fail> {
     let mut core = Core::new(rt.alloc(), shape(1, 1, 4))?;
-    let program = id_of(core.step(Step::Load(constant(rt.alloc(), 1)?)))?;
-    owner_of(core.step(Step::Setup(ask(program)?)))?;
+    let program = id_of(&core.step(Step::Load(constant(rt.alloc(), 1)?)))?;
+    owner_of(&core.step(Step::Setup(ask(program)?)))?;
     assert!(rt; pick_at(&mut core, 0, 0));
     assert!(rt; judged(judge_at_port(&mut core, 0)).is_some());
     assert!(rt; pick_at(&mut core, 0, 20));
     let vc = Vc::new(1, 100)?;
     let last = piece_of(core.step(Step::Release(vc)))?;
     assert_eq!(rt; last.entries().len(), 1);
-    let again = owner_of(core.step(Step::Setup(ask(program)?)))?;
+    let again = owner_of(&core.step(Step::Setup(ask(program)?)))?;
     assert_eq!(rt; again.incarnation, 2);
     assert_eq!(rt; judge_at_port(&mut core, 0), Some(Answer::Released));
     let piece = piece_of(core.step(Step::Cut(vc)))?;
