@@ -26,6 +26,7 @@ pub mod Sound
 pub mod SoundChanges
 pub mod SoundSteps
 pub mod Spares
+pub mod StaleLemmas
 pub mod Standing
 pub mod StoreLemmas
 pub mod StoreSteps

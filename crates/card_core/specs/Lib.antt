@@ -7,6 +7,7 @@ pub mod Steps
 pub mod Log
 pub mod Shapes
 pub mod Agreement
+pub mod Stale
 pub mod Headline
 pub mod Laws
 pub mod Sections

@@ -52,6 +52,7 @@ impl Core {
     ghost use Rattle.card_core.specs.Shapes.{shape_fault};
     ghost use Rattle.card_core.specs.declared.step.Step.TheVariants.{Enter, Pick, Judge, Load, Retire, Setup, Reload, Release, Cut};
     ghost use Rattle.card_core.specs.Agreement.{Agrees, Follows, FollowsAll};
+    ghost use Rattle.card_core.specs.Stale.{IsNeverStale};
 
     /// A card of this shape: without programs and connections, and with every port outside.
     ///
@@ -92,6 +93,17 @@ impl Core {
 
     /// Takes one step.
     pub fn step(&mut self, step: Step) -> Reply
+        ensures follows { Follows self.old step result self.new }
+
+        // No cell takes memory; and what was found stays what it was found to be.
+        ensures judged { (port : ℕ) → step ≡ Judge port → result ≢ Reply.Answered Answer.NoMemory }
+        ensures fresh { IsNeverStale self.old result }
+    {
+        self.take(step)
+    }
+
+    // Takes one step.
+    fn take(&mut self, step: Step) -> Reply
         ensures follows { Follows self.old step result self.new }
         ensures judged { (port : ℕ) → step ≡ Judge port → result ≢ Reply.Answered Answer.NoMemory }
     {
