@@ -44,16 +44,15 @@ pub(crate) fn judge_named(
     if number == 0 {
         return Verdict::Refuse;
     }
+    // There are as many levels as contracts, and their number lies nearer to what is read next.
     let place = number as usize - 1;
-    match contracts.get(place) {
-        Some(contract) => {
-            let mut after = levels[place];
-            let verdict = leaky::judge(contract, &mut after, clp, moment);
-            put(levels, place, after);
-            verdict
-        }
-        None => Verdict::Refuse,
+    if place >= levels.len() {
+        return Verdict::Refuse;
     }
+    let mut after = levels[place];
+    let verdict = leaky::judge(&contracts[place], &mut after, clp, moment);
+    put(levels, place, after);
+    verdict
 }
 
 #[inline]

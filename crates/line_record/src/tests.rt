@@ -313,3 +313,29 @@ fn a_connection_is_policed(rt: HostRuntime) -> Result<(), Fail> {
     );
     Ok(())
 }
+
+// As many connections as a card has lines at most, each found on its own line.
+#[test]
+fn a_directory_of_4096_lines_is_filled(rt: HostRuntime) -> Result<(), Fail> {
+    let mut directory = Directory::new(rt.alloc(), 4096, 1)?;
+    for number in 0..4096u16 {
+        let vc = Vc::new_at(Side::Nni, number, 100)?;
+        assert_eq!(rt; directory.find(vc), None);
+        let line = directory.free_line().ok_or("a free line")?;
+        assert!(rt; !directory.worn());
+        assert_eq!(rt;
+            directory.put(vc, line, program(0)),
+            Ok(u64::from(number) + 1)
+        );
+    }
+    assert_eq!(rt; directory.free_line(), None);
+    for number in 0..4096u16 {
+        let seat = directory
+            .take(Vc::new_at(Side::Nni, number, 100)?)
+            .ok_or("a seat")?;
+        assert_eq!(rt; seat.incarnation, u64::from(number) + 1);
+    }
+    assert_eq!(rt; directory.free_line(), Some(0));
+    assert!(rt; Directory::new(rt.alloc(), u16::MAX, 1).is_ok());
+    Ok(())
+}

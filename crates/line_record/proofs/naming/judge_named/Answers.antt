@@ -8,8 +8,8 @@ use Rattle.line_record.specs.History.{numbered}
 use Rattle.line_record.proofs.NumberLemmas.{numbered-above, numbered-set_same, numbered-within}
 use Rattle.line_record.proofs.naming.judge_named.Goals as goal
 
-pub returns-in-Some-clause-levels : goal.returns-in-Some-clause-levels
-returns-in-Some-clause-levels c contract before after buckets named stood stands agrees charged =
+pub returns-clause-levels : goal.returns-clause-levels
+returns-clause-levels c contract before after buckets named stood stands agrees charged =
     let number = c.args.number in
     let old = c.args.levels.now.items in
     let contracts = c.args.contracts.now in
@@ -22,8 +22,9 @@ returns-in-Some-clause-levels c contract before after buckets named stood stands
     sym (numbered-above contracts number within.0) ∙ named in
     let read_is : read ≡ before =
     c.index-deref-place.is ∙ rw c.deref.ensures.0 (get_or_from_slice_get old (number - 1) before read stood_at) in
-    let contract_is : c.in-Some.contract.now ≡ contract =
-    c.in-Some.ensures.lookup.1 ∙ get_or_from_slice_get contracts (number - 1) contract c.in-Some.contract.now named_at in
+    let read_too = c.index-contracts-place.result in
+    let contract_is : read_too ≡ contract =
+    c.index-contracts-place.is ∙ get_or_from_slice_get contracts (number - 1) contract read_too named_at in
     let set_at : numbered (set old (number - 1) written) number ≡ Some written =
     numbered-set_same old number written within.0 within.1 in
     let written_is : written ≡ after =
@@ -32,13 +33,3 @@ returns-in-Some-clause-levels c contract before after buckets named stood stands
     let judged = c.judge-verdict.ensures.levels buckets of_read charged in
     subst (λ (l : Levels). Agrees l (buckets_after contract buckets c.args.clp c.args.moment)) written_is
     (subst (λ (k : Contract). Agrees written (buckets_after k buckets c.args.clp c.args.moment)) contract_is judged)
-
-pub returns-in-None-clause-verdict : goal.returns-in-None-clause-verdict
-returns-in-None-clause-verdict c contract before buckets named stood agrees charged =
-    let within = numbered-within c.args.contracts.now c.args.number contract named in
-    absurd (grind (arith, within, c.in-None.ensures.lookup))
-
-pub returns-in-None-clause-levels : goal.returns-in-None-clause-levels
-returns-in-None-clause-levels c contract before after buckets named stood stands agrees charged =
-    let within = numbered-within c.args.contracts.now c.args.number contract named in
-    absurd (grind (arith, within, c.in-None.ensures.lookup))
