@@ -1,3 +1,5 @@
+mod interleaving;
+
 use super::*;
 use arrayvec::ArrayVec;
 use bpf_code::Instr;
