@@ -127,6 +127,40 @@ static void make_five_hundred(struct program *program)
 	APPEND(program, BPF_STMT(BPF_RET | BPF_A, 0));
 }
 
+/* Two ways through headers and payload, with arithmetic and a scratch word. The pairs of instructions that
+ * the machine runs as one were not chosen by it. */
+static void make_other(struct program *program)
+{
+	APPEND(program,
+		BPF_STMT(BPF_LD | BPF_B | BPF_ABS, 1),
+		BPF_STMT(BPF_ALU | BPF_RSH | BPF_K, 4),
+		BPF_JUMP(BPF_JMP | BPF_JEQ | BPF_K, 1, 0, 9),
+		BPF_STMT(BPF_LD | BPF_H | BPF_ABS, 4),
+		BPF_STMT(BPF_ALU | BPF_SUB | BPF_K, 0x400),
+		BPF_JUMP(BPF_JMP | BPF_JGE | BPF_K, 0xf000, 0, 3),
+		BPF_STMT(BPF_LD | BPF_B | BPF_ABS, 6),
+		BPF_STMT(BPF_ALU | BPF_ADD | BPF_K, 3),
+		BPF_STMT(BPF_RET | BPF_A, 0),
+		BPF_STMT(BPF_LD | BPF_W | BPF_ABS, 8),
+		BPF_STMT(BPF_ALU | BPF_MUL | BPF_K, 2654435761u),
+		BPF_STMT(BPF_JMP | BPF_JA, 8),
+		BPF_STMT(BPF_LDX | BPF_MSH | BPF_B, 40),
+		BPF_STMT(BPF_LD | BPF_H | BPF_IND, 0),
+		BPF_STMT(BPF_ALU | BPF_AND | BPF_K, 0xfff),
+		BPF_STMT(BPF_ST, 5),
+		BPF_STMT(BPF_LD | BPF_B | BPF_ABS, 12),
+		BPF_STMT(BPF_LDX | BPF_MEM, 5),
+		BPF_STMT(BPF_ALU | BPF_ADD | BPF_X, 0),
+		BPF_STMT(BPF_ALU | BPF_LSH | BPF_K, 7),
+		BPF_STMT(BPF_ALU | BPF_RSH | BPF_K, 3),
+		BPF_STMT(BPF_MISC | BPF_TAX, 0),
+		BPF_STMT(BPF_LD | BPF_B | BPF_ABS, 30),
+		BPF_STMT(BPF_ALU | BPF_ADD | BPF_X, 0),
+		BPF_JUMP(BPF_JMP | BPF_JGT | BPF_K, 0xffffff, 0, 1),
+		BPF_STMT(BPF_ALU | BPF_NEG, 0),
+		BPF_STMT(BPF_RET | BPF_A, 0));
+}
+
 /* 4096 instructions without a branch. */
 static void make_straight(struct program *program)
 {
@@ -157,10 +191,12 @@ static struct program to_run[] = {
 	{ .name = "4", .times = 2000 },
 	{ .name = "20", .times = 400 },
 	{ .name = "500", .times = 16 },
+	{ .name = "27", .times = 300 },
 };
 static struct program to_check[] = {
 	{ .name = "straight", .times = 200 },
 	{ .name = "ladder", .times = 200 },
+	{ .name = "short", .times = 2000 },
 };
 
 enum { TO_RUN = sizeof to_run / sizeof *to_run, TO_CHECK = sizeof to_check / sizeof *to_check };
@@ -170,8 +206,10 @@ static void make_programs(void)
 	make_four(&to_run[0]);
 	make_twenty(&to_run[1]);
 	make_five_hundred(&to_run[2]);
+	make_other(&to_run[3]);
 	make_straight(&to_check[0]);
 	make_ladder(&to_check[1]);
+	make_twenty(&to_check[2]);
 }
 
 static void write_digits(const uint8_t *octets, unsigned count)
