@@ -1,0 +1,157 @@
+-- No id is given twice.
+use Rattle.std.proofs.Common.{◌≡◌, ◌≢◌, ◌⊎◌, ℕ, zero, suc, ◌+◌, ◌<◌, ◌≤◌, Bool, true, false, cond, List, [], ◌∷◌, Option, Some, None, slice_get, refl, sym, ap, ◌∙◌, subst, inl, inr, arith}
+use Rattle.bpf_code.specs.declared.instr.Instr.{Instr}
+use Rattle.bpf_verify.specs.Accepted.{IsAccepted}
+use Rattle.gen_arena.specs.declared.id.Id.{Id}
+use Rattle.gen_arena.specs.SameId.{is_same_id}
+use Rattle.gen_arena.proofs.Public.{id_same, id_itself, id_differs}
+use Rattle.card_core.specs.declared.reply.Reply.{Reply}
+use Rattle.card_core.specs.declared.reply.Reply.TheVariants.{Answered}
+use Rattle.card_core.specs.declared.shape.Shape.{Shape}
+use Rattle.card_core.specs.declared.step.Step.{Step}
+use Rattle.card_core.specs.declared.step.Step.TheVariants.{Enter, Pick, Judge, Load, Retire, Setup, Reload, Release, Cut}
+use Rattle.card_core.specs.World.{World, Loading, code_in, times_given, opening_world}
+use Rattle.card_core.specs.Refusals.{refusal}
+use Rattle.card_core.specs.Steps.{Succeeds, WorldStep, left_by, with_answered}
+use Rattle.card_core.specs.Log.{Event, Run, Leads}
+use Rattle.card_core.specs.Laws.{GivesEachIdOnce, IdsAreGivenOnce, IdsNameOneCode}
+use Rattle.card_core.proofs.Sound.{IsSound}
+use Rattle.card_core.proofs.LookUps.{same_some, code-first, code-later}
+use Rattle.card_core.proofs.SoundSteps.{StepCase, succeeded, starved, rejected, step-case, sound-step, opening-sound, reached-sound}
+
+-- What a step does to the codes that were ever put in: nothing, or one more under an id that is new.
+pub data GivenCase (before after : List Loading) : Type 0 where
+  as_before : after ≡ before → GivenCase before after
+  one_more : (loading : Loading) → after ≡ loading ∷ before → IsAccepted loading.code
+      → code_in before loading.id ≡ None → GivenCase before after
+
+given-answered : (before : World) (port : ℕ) (reply : Reply) → (with_answered before port reply).given ≡ before.given
+given-answered before port (Answered answer) = refl
+given-answered before port _ = refl
+
+given-left : (before : World) (step : Step) (refused : Reply) → (left_by before step refused).given ≡ before.given
+given-left before (Pick port) refused = given-answered before port refused
+given-left before (Judge port) refused = given-answered before port refused
+given-left before _ refused = refl
+
+-- an id that is of the next generation of its slot was not given
+new-id : (world : World) → IsSound world → (id : Id) → id.generation ≡ times_given world.given id.slot + 1
+    → code_in world.given id ≡ None
+new-id world sound id next =
+    let choice : (o : Option (List Instr)) → code_in world.given id ≡ o → o ≡ None = elim [
+      | None ↦ λ e. refl
+      | Some code ↦ λ e. absurd (omega (arith, sound.programs.once id code e, next))
+    ] in
+    choice (code_in world.given id) refl
+
+given-success : (before : World) (step : Step) (reply : Reply) (after : World) → IsSound before
+    → Succeeds before step reply after → GivenCase before.given after.given
+given-success before (Enter port cell moment) reply after sound w = as_before (ap (λ (v : World). v.given) w.world)
+given-success before (Pick port) reply after sound w = as_before (ap (λ (v : World). v.given) w.world)
+given-success before (Judge port) reply after sound w = as_before (ap (λ (v : World). v.given) w.world)
+given-success before (Load code) reply after sound w =
+    one_more (record { id = w.id; code = code }) (ap (λ (v : World). v.given) w.world) w.accepted
+    (new-id before sound w.id (subst (λ slot. w.id.generation ≡ times_given before.given slot + 1) (sym w.here) w.next))
+given-success before (Retire id) reply after sound w = as_before (ap (λ (v : World). v.given) w.world)
+given-success before (Setup ask) reply after sound w = as_before (ap (λ (v : World). v.given) w.world)
+given-success before (Reload vc program) reply after sound w = as_before (ap (λ (v : World). v.given) w.world)
+given-success before (Release vc) reply after sound w = as_before (ap (λ (v : World). v.given) w.world)
+given-success before (Cut vc) reply after sound w = as_before (ap (λ (v : World). v.given) w.world)
+
+given-step : (before : World) (step : Step) (reply : Reply) (after : World) → IsSound before
+    → WorldStep before step reply after → GivenCase before.given after.given
+given-step before step reply after sound w = elim (step-case before step reply after w) [
+  | succeeded allowed success ↦ given-success before step reply after sound success
+  | starved memory ↦ as_before (ap (λ (v : World). v.given) memory.world)
+  | rejected refused e refusing ↦ as_before (ap (λ (v : World). v.given) refusing.world ∙ given-left before step refused)
+]
+
+-- An id names one code.
+
+code-kept : (before after : List Loading) → GivenCase before after → (id : Id) (code : List Instr)
+    → code_in before id ≡ Some code → code_in after id ≡ Some code
+code-kept before after (as_before same) id code e = subst (λ (l : List Loading). code_in l id ≡ Some code) (sym same) e
+code-kept before after (one_more loading same accepted new) id code e =
+    let apart : id ≢ loading.id = λ at.
+    let there : code_in before loading.id ≡ Some code = subst (λ (i : Id). code_in before i ≡ Some code) at e in
+    absurd (cc) in
+    subst (λ (l : List Loading). code_in l id ≡ Some code) (sym same)
+    (code-later loading before id (id_differs id loading.id apart) ∙ e)
+
+code-run : (before : World) (log : List Event) (after : World) → IsSound before → Run before log after
+    → (id : Id) (code : List Instr) → code_in before.given id ≡ Some code → code_in after.given id ≡ Some code
+code-run before [] after sound run id code e =
+    subst (λ (v : World). code_in v.given id ≡ Some code) (sym run) e
+code-run before (event ∷ later) after sound run id code e =
+    code-run run.0 later after (sound-step before event.step event.reply run.0 sound run.1) run.2 id code
+    (code-kept before.given run.0.given (given-step before event.step event.reply run.0 sound run.1) id code e)
+
+pub one-code : IdsNameOneCode
+one-code shape log further world later leads run id code e =
+    code-run world further later (reached-sound shape log world leads) run id code e
+
+-- No id stands twice.
+
+abbrev IsGivenOnce : List Loading → Type 0
+IsGivenOnce given = (place other : ℕ) (one another : Loading)
+    → slice_get given place ≡ Some one → slice_get given other ≡ Some another
+    → one.id ≡ another.id → place ≡ other
+
+abbrev AreAccepted : List Loading → Type 0
+AreAccepted given = (place : ℕ) (loading : Loading) → slice_get given place ≡ Some loading → IsAccepted loading.code
+
+-- an id that nothing is looked up under stands nowhere
+stands-nowhere : (given : List Loading) (id : Id) → code_in given id ≡ None → (place : ℕ) (loading : Loading)
+    → slice_get given place ≡ Some loading → loading.id ≢ id
+stands-nowhere [] id none place loading e same = absurd (cc)
+stands-nowhere (first ∷ later) id none zero loading e same =
+    let at : id ≡ first.id = sym same ∙ ap (λ (l : Loading). l.id) (sym (same_some first loading e)) in
+    let here : is_same_id id first.id ≡ true = subst (λ (i : Id). is_same_id id i ≡ true) at (id_itself id) in
+    let found = code-first first later id here in
+    absurd (cc)
+stands-nowhere (first ∷ later) id none (suc place) loading e same =
+    let choice : (b : Bool) → is_same_id id first.id ≡ b → cond b (Some first.code) (code_in later id) ≡ None → ⊥ = elim [
+      | true ↦ λ here none. absurd (cc)
+      | false ↦ λ away none. stands-nowhere later id none place loading e same
+    ] in
+    choice (is_same_id id first.id) refl none
+
+once-more : (before : List Loading) (loading : Loading) → code_in before loading.id ≡ None → IsGivenOnce before
+    → IsGivenOnce (loading ∷ before)
+once-more before loading new once zero zero one another e f same = refl
+once-more before loading new once zero (suc other) one another e f same =
+    let at : another.id ≡ loading.id = sym same ∙ ap (λ (l : Loading). l.id) (sym (same_some loading one e)) in
+    absurd (stands-nowhere before loading.id new other another f at)
+once-more before loading new once (suc place) zero one another e f same =
+    let at : one.id ≡ loading.id = same ∙ ap (λ (l : Loading). l.id) (sym (same_some loading another f)) in
+    absurd (stands-nowhere before loading.id new place one e at)
+once-more before loading new once (suc place) (suc other) one another e f same =
+    ap suc (once place other one another e f same)
+
+accepted-more : (before : List Loading) (loading : Loading) → IsAccepted loading.code → AreAccepted before
+    → AreAccepted (loading ∷ before)
+accepted-more before loading accepted all zero one e =
+    subst (λ (l : Loading). IsAccepted l.code) (same_some loading one e) accepted
+accepted-more before loading accepted all (suc place) one e = all place one e
+
+given-kept : (before after : List Loading) → GivenCase before after → IsGivenOnce before × AreAccepted before
+    → IsGivenOnce after × AreAccepted after
+given-kept before after (as_before same) keeps =
+    subst (λ (l : List Loading). IsGivenOnce l × AreAccepted l) (sym same) keeps
+given-kept before after (one_more loading same accepted new) keeps =
+    subst (λ (l : List Loading). IsGivenOnce l × AreAccepted l) (sym same)
+    (once-more before loading new keeps.0, accepted-more before loading accepted keeps.1)
+
+given-run : (before : World) (log : List Event) (after : World) → IsSound before → Run before log after
+    → IsGivenOnce before.given × AreAccepted before.given → IsGivenOnce after.given × AreAccepted after.given
+given-run before [] after sound run keeps =
+    subst (λ (v : World). IsGivenOnce v.given × AreAccepted v.given) (sym run) keeps
+given-run before (event ∷ later) after sound run keeps =
+    given-run run.0 later after (sound-step before event.step event.reply run.0 sound run.1) run.2
+    (given-kept before.given run.0.given (given-step before event.step event.reply run.0 sound run.1) keeps)
+
+pub given-once : IdsAreGivenOnce
+given-once shape log world leads =
+    let none : IsGivenOnce [] × AreAccepted [] = (λ place other one another e f same. absurd (cc), λ place loading e. absurd (cc)) in
+    let keeps = given-run (opening_world shape) log world (opening-sound shape) leads none in
+    record { once = keeps.0; accepted = keeps.1 }

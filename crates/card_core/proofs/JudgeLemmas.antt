@@ -1,0 +1,111 @@
+-- What a judged cell is to the line and to the connection's history.
+use Rattle.std.proofs.Common.{◌≡◌, ◌≢◌, ℕ, suc, ◌+◌, ◌-◌, ◌^◌, ◌<◌, ◌≤◌, Bool, true, false, cond, Option, Some, None, List, [], ◌∷◌, ◌++◌, length, take, drop, refl, sym, ap, subst, ◌∙◌, arith, length-append, length-drop}
+use Rattle.std.specs.Prelude.{slice_get, option_map, nat_lt, nat_le, ◌==◌, MatchOption}
+use Rattle.std.proofs.lemmas.Bool.Decides.{nat_tests, Decides-eqb}
+use Rattle.std.proofs.lemmas.List.{take-append-drop, take-append-le, drop-append-le}
+use Rattle.leaky.specs.declared.verdict.Verdict.{Verdict}
+use Rattle.leaky.specs.declared.contract.Contract.{Contract}
+use Rattle.leaky.specs.Contract.{Buckets}
+use Rattle.line_record.specs.declared.entry.Entry.{Entry}
+use Rattle.line_record.specs.declared.fault.LineFault.{LineFault}
+use Rattle.line_record.specs.declared.fault.LineFault.TheVariants.{TooLate, Back, Full}
+use Rattle.line_record.specs.History.{NamedCell, last_moment, cell_of, entry_of, empty_buckets, verdict_after, judged}
+use Rattle.line_record.specs.Line.{LineView, line_refusal}
+use Rattle.line_record.specs.Tally.{cells_in}
+use Rattle.line_record.proofs.Public.{cells_are_judged_in_turn, each_cell_is_judged}
+use Rattle.card_core.specs.declared.answer.Answer.{Answer}
+use Rattle.card_core.specs.declared.answer.Answer.TheVariants.{MomentTooLate, MomentBack, JournalFull}
+use Rattle.card_core.specs.World.{World, Connection, kept_cells, handed_cells, verdicts_before, with_verdict}
+use Rattle.card_core.specs.Refusals.{cell_refusal}
+use Rattle.card_core.specs.Steps.{with_cell}
+use Rattle.card_core.specs.Sections.{answer_for}
+
+-- What a match on an option says where the option is known.
+pub match_some : {X : Type 0} (o : Option X) (P : Type 0) (Q : X → Type 0) (x : X) → o ≡ Some x → MatchOption o P Q → Q x
+match_some o P Q x e m = subst (λ p. MatchOption p P Q) e m
+
+pub match_none : {X : Type 0} (o : Option X) (P : Type 0) (Q : X → Type 0) → o ≡ None → MatchOption o P Q → P
+match_none o P Q e m = subst (λ p. MatchOption p P Q) e m
+
+-- Four tests in turn refuse a cell of a line and of a connection alike.
+by_tests : (late back full worn : Bool) (last : ℕ)
+    → option_map answer_for (cond late (Some TooLate) (cond back (Some (Back last)) (cond full (Some Full) (cond worn (Some Full) None))))
+    ≡ cond late (Some MomentTooLate) (cond back (Some (MomentBack last)) (cond full (Some JournalFull) (cond worn (Some JournalFull) None)))
+by_tests true back full worn last = refl
+by_tests false true full worn last = refl
+by_tests false false true worn last = refl
+by_tests false false false true last = refl
+by_tests false false false false last = refl
+
+-- The refusals of a line are those of the connection that it serves.
+pub refusals_agree : (line : LineView) (world : World) (connection : Connection) (moment : ℕ)
+    → line.journal ≡ world.shape.journal → line.state.last ≡ last_moment 0 connection.history
+    → length line.entries ≡ length (kept_cells connection)
+    → cells_in line.state.counts ≡ length (world.judged connection.line)
+    → option_map answer_for (line_refusal line moment) ≡ cell_refusal world connection moment
+refusals_agree line world connection moment journals lasts entries counts =
+    let Refuses : ℕ → ℕ → ℕ → ℕ → Option Answer = λ journal last kept cells.
+    cond (nat_lt (2 ^ 62) moment) (Some MomentTooLate)
+    (cond (nat_lt moment last) (Some (MomentBack last))
+    (cond (nat_le journal kept) (Some JournalFull) (cond (nat_le (2 ^ 62) cells) (Some JournalFull) None))) in
+    by_tests (nat_lt (2 ^ 62) moment) (nat_lt moment line.state.last) (nat_le line.journal (length line.entries))
+    (nat_le (2 ^ 62) (cells_in line.state.counts)) line.state.last
+    ∙ ap (λ (n : ℕ). Refuses n line.state.last (length line.entries) (cells_in line.state.counts)) journals
+    ∙ ap (λ (n : ℕ). Refuses world.shape.journal n (length line.entries) (cells_in line.state.counts)) lasts
+    ∙ ap (λ (n : ℕ). Refuses world.shape.journal (last_moment 0 connection.history) n (cells_in line.state.counts)) entries
+    ∙ ap (λ (n : ℕ). Refuses world.shape.journal (last_moment 0 connection.history) (length (kept_cells connection)) n) counts
+
+-- The cells that no cut has handed out, with one more.
+pub kept-with_cell : (connection : Connection) (cell : NamedCell) → connection.handed ≤ length connection.history
+    → kept_cells (with_cell connection cell) ≡ kept_cells connection ++ cell ∷ []
+kept-with_cell connection cell within = drop-append-le connection.handed connection.history (cell ∷ []) within
+
+pub handed-with_cell : (connection : Connection) (cell : NamedCell) → connection.handed ≤ length connection.history
+    → handed_cells (with_cell connection cell) ≡ handed_cells connection
+handed-with_cell connection cell within = take-append-le connection.handed connection.history (cell ∷ []) within
+
+-- The journal with one more cell is that of the longer history.
+pub judged-with_cell : (connection : Connection) (cell : NamedCell) (entry : Entry) → connection.handed ≤ length connection.history
+    → cell_of entry ≡ cell → entry.verdict ≡ verdict_after connection.contracts empty_buckets connection.history cell
+    → judged connection.contracts empty_buckets (handed_cells connection) (kept_cells connection) ++ entry ∷ []
+    ≡ judged connection.contracts empty_buckets (handed_cells (with_cell connection cell)) (kept_cells (with_cell connection cell))
+judged-with_cell connection cell entry within cells verdict =
+    let contracts = connection.contracts in
+    let handed = handed_cells connection in
+    let kept = kept_cells connection in
+    let whole : handed ++ kept ≡ connection.history = take-append-drop connection.handed connection.history in
+    let is_entry : entry ≡ entry_of cell (verdict_after contracts empty_buckets connection.history cell) =
+    λ i. entry_of (cells i) (verdict i) in
+    let one : judged contracts empty_buckets (handed ++ kept) (cell ∷ []) ≡ entry ∷ [] =
+    ap (λ (history : List NamedCell). entry_of cell (verdict_after contracts empty_buckets history cell) ∷ []) whole
+    ∙ ap (λ (e : Entry). e ∷ []) (sym is_entry) in
+    sym (cells_are_judged_in_turn contracts empty_buckets handed kept (cell ∷ [])
+    ∙ ap (λ (later : List Entry). judged contracts empty_buckets handed kept ++ later) one)
+    ∙ ap (judged contracts empty_buckets handed) (sym (kept-with_cell connection cell within))
+    ∙ ap (λ (before : List NamedCell). judged contracts empty_buckets before (kept_cells (with_cell connection cell)))
+    (sym (handed-with_cell connection cell within))
+
+-- A line's verdicts with one more.
+pub with_verdict-here : (verdicts : ℕ → List Verdict) (line : ℕ) (verdict : Verdict)
+    → with_verdict verdicts line verdict line ≡ verdicts line ++ verdict ∷ []
+with_verdict-here verdicts line verdict =
+    ap (λ (b : Bool). cond b (verdicts line ++ verdict ∷ []) (verdicts line)) ((Decides-eqb line line).1 refl)
+
+pub with_verdict-other : (verdicts : ℕ → List Verdict) (line : ℕ) (verdict : Verdict) (other : ℕ) → other ≢ line
+    → with_verdict verdicts line verdict other ≡ verdicts other
+with_verdict-other verdicts line verdict other apart =
+    let differs : (other == line) ≡ false = grind (arith, nat_tests) in
+    ap (λ (b : Bool). cond b (verdicts other ++ verdict ∷ []) (verdicts other)) differs
+
+-- The verdicts before the cells that no cut has handed out stay.
+pub verdicts_before-with_cell : (verdicts : List Verdict) (verdict : Verdict) (connection : Connection) (cell : NamedCell)
+    → connection.handed ≤ length connection.history
+    → verdicts_before (verdicts ++ verdict ∷ []) (with_cell connection cell) ≡ verdicts_before verdicts connection
+verdicts_before-with_cell verdicts verdict connection cell within =
+    let kept : length (kept_cells (with_cell connection cell)) ≡ length (kept_cells connection) + 1 =
+    ap length (kept-with_cell connection cell within) ∙ length-append (kept_cells connection) (cell ∷ []) in
+    let all : length (verdicts ++ verdict ∷ []) ≡ length verdicts + 1 = length-append verdicts (verdict ∷ []) in
+    let same : length (verdicts ++ verdict ∷ []) - length (kept_cells (with_cell connection cell))
+    ≡ length verdicts - length (kept_cells connection) = omega (arith, kept, all) in
+    ap (λ (n : ℕ). take n (verdicts ++ verdict ∷ [])) same
+    ∙ take-append-le (length verdicts - length (kept_cells connection)) verdicts (verdict ∷ []) (omega arith)

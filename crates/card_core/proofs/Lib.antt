@@ -1,0 +1,13 @@
+pub mod ConnectionLemmas
+pub mod Follow
+pub mod GivenOnce
+pub mod JudgeLemmas
+pub mod JudgeSteps
+pub mod LineLemmas
+pub mod LookUps
+pub mod OwnerLemmas
+pub mod PickSteps
+pub mod PortLemmas
+pub mod PortSteps
+pub mod Sound
+pub mod SoundSteps

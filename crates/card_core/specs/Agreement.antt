@@ -1,0 +1,101 @@
+-- When a core agrees with a world. A core keeps slots, a directory, lines and ports; the world has
+-- whole histories. Each part agrees by itself.
+use Rattle.std.specs.Prelude.{◌≡◌, ℕ, List, [], ◌∷◌, ◌++◌, length, Option, Some, None, option_map, slice_get}
+use Rattle.upc_cell.specs.declared.vc.Vc.{Vc}
+use Rattle.bpf_code.specs.declared.instr.Instr.{Instr}
+use Rattle.gen_arena.specs.declared.id.Id.{Id}
+use Rattle.gen_arena.specs.Slot.{Slot, generation_at}
+use Rattle.gen_arena.specs.Live.{live_value}
+use Rattle.leaky.specs.declared.verdict.Verdict.{Verdict}
+use Rattle.line_record.specs.declared.owner.Owner.{Owner}
+use Rattle.line_record.specs.declared.directory.Seating.{Seating}
+use Rattle.line_record.specs.Directory.{DirectoryView, seat_of}
+use Rattle.line_record.specs.History.{empty_buckets, judged}
+use Rattle.line_record.specs.Line.{LineView}
+use Rattle.line_record.specs.StateAfter.{IsStateAfter}
+use Rattle.card_core.specs.declared.shape.Shape.{Shape}
+use Rattle.line_record.specs.Tally.{tally_of}
+use Rattle.card_core.specs.declared.reply.Reply.{Reply}
+use Rattle.card_core.specs.declared.step.Step.{Step}
+use Rattle.card_core.specs.Log.{Event, Leads}
+use Rattle.card_core.specs.World.{World, Loading, Connection, PortState, code_in, times_given, connection_in, handed_cells, kept_cells, verdicts_before}
+
+-- What contracts see of a core: its shape, the slots for programs, the directory, the lines, and the
+-- ports.
+pub record CoreView : Type 0 where
+  pub shape : Shape
+  pub store : List (Slot (List Instr))
+  pub directory : DirectoryView
+  pub lines : List LineView
+  pub ports : List PortState
+
+-- Each slot's generation is how often it was given, and exactly the live ids have a value, which is
+-- their code.
+pub record StoreAgrees (shape : Shape) (slots : List (Slot (List Instr))) (given live : List Loading) : Type 0 where
+  pub sized : length slots ≡ shape.programs
+  pub generations : (slot : ℕ) → generation_at slots slot ≡ times_given given slot
+  pub values : (id : Id) → live_value slots id ≡ code_in live id
+
+-- Where the directory has the connection.
+abbrev pub seating_of : Connection → Seating
+seating_of connection = record {
+  line = connection.line;
+  incarnation = connection.incarnation;
+  program = connection.program;
+}
+
+-- The directory has each connection's line, incarnation and program, no other connection, and has
+-- given as many incarnations.
+pub record SeatsAgree (shape : Shape) (directory : DirectoryView) (connections : List (Vc × Connection)) (used : ℕ) : Type 0 where
+  pub lines : directory.lines ≡ shape.lines
+  pub used_up : directory.used ≡ used
+  pub seats : (vc : Vc) → seat_of directory vc ≡ option_map seating_of (connection_in connections vc)
+
+-- Who holds the line of a connection.
+abbrev pub owner_of : Vc → Connection → Owner
+owner_of vc connection = record { vc = vc; incarnation = connection.incarnation }
+
+-- The line, on which these verdicts were given, serves the connection under its contracts; its journal
+-- has the cells that no cut has handed out, with their verdicts; and its states are those after the
+-- cells that were handed out and after all.
+pub record Serves (line : LineView) (vc : Vc) (connection : Connection) (verdicts : List Verdict) : Type 0 where
+  pub owner : line.owner ≡ Some (owner_of vc connection)
+  pub contracts : line.contracts ≡ connection.contracts
+  pub entries : line.entries ≡ judged connection.contracts empty_buckets (handed_cells connection) (kept_cells connection)
+  pub start : IsStateAfter connection.contracts (handed_cells connection) line.start
+  pub counts_before : line.start.counts ≡ tally_of (verdicts_before verdicts connection)
+  pub state : IsStateAfter connection.contracts connection.history line.state
+
+-- The line of this number and its owner are those of a connection.
+pub record IsLineOf (connections : List (Vc × Connection)) (number : ℕ) (owner : Owner) : Type 0 where
+  pub connection : Connection
+  pub found : connection_in connections owner.vc ≡ Some connection
+  pub incarnation : connection.incarnation ≡ owner.incarnation
+  pub line : connection.line ≡ number
+
+-- Each connection has a line that serves it, no other line serves any, and each line has counted all
+-- verdicts ever given on it.
+pub record LinesAgree (shape : Shape) (lines : List LineView) (connections : List (Vc × Connection)) (verdicts : ℕ → List Verdict) : Type 0 where
+  pub sized : length lines ≡ shape.lines
+  pub journals : (number : ℕ) (line : LineView) → slice_get lines number ≡ Some line → line.journal ≡ shape.journal
+  pub serving : (vc : Vc) (connection : Connection) → connection_in connections vc ≡ Some connection
+      → (line : LineView) × (slice_get lines connection.line ≡ Some line) × Serves line vc connection (verdicts connection.line)
+  pub owned : (number : ℕ) (line : LineView) (owner : Owner) → slice_get lines number ≡ Some line
+      → line.owner ≡ Some owner → IsLineOf connections number owner
+  pub counts : (number : ℕ) (line : LineView) → slice_get lines number ≡ Some line
+      → line.state.counts ≡ tally_of (verdicts number)
+
+-- The core agrees with the world in each part.
+pub record Agrees (core : CoreView) (world : World) : Type 0 where
+  pub shape : core.shape ≡ world.shape
+  pub store : StoreAgrees world.shape core.store world.given world.live
+  pub seats : SeatsAgree world.shape core.directory world.connections world.used
+  pub lines : LinesAgree world.shape core.lines world.connections world.judged
+  pub ports : core.ports ≡ world.ports
+
+-- The core goes on by this event: wherever a log has led to a world that the old core agrees with,
+-- the log with this event leads to one that the new core agrees with.
+abbrev pub Follows : CoreView → Step → Reply → CoreView → Type 0
+Follows old step reply new = (shape : Shape) (log : List Event) (before : World)
+    → Leads shape log before → Agrees old before
+    → (after : World) × Leads shape (log ++ record { step = step; reply = reply } ∷ []) after × Agrees new after

@@ -1,0 +1,11 @@
+-- The card in whole histories, what its steps do, what a log of them tells, and when a core agrees
+-- with it. To be read in the order World, Refusals, Steps, Log, Agreement, Headline.
+pub mod World
+pub mod Refusals
+pub mod Steps
+pub mod Log
+pub mod Agreement
+pub mod Headline
+pub mod Laws
+pub mod Sections
+pub mod inner

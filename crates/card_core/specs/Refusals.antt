@@ -1,0 +1,111 @@
+-- When a step is refused. The refusals of each step are tried in the order in which they stand.
+use Rattle.std.specs.Prelude.{ℕ, ◌-◌, ◌^◌, ◌==◌, nat_lt, nat_le, Bool, not, if◌then◌else◌, List, length, Option, Some, None, is_some, is_none, option_map, slice_get}
+use Rattle.upc_cell.specs.declared.vc.Vc.{Vc}
+use Rattle.bpf_code.specs.declared.instr.Instr.{Instr}
+use Rattle.gen_arena.specs.declared.id.Id.{Id}
+use Rattle.line_record.specs.History.{last_moment}
+use Rattle.card_core.specs.declared.answer.Answer.{Answer}
+use Rattle.card_core.specs.declared.answer.Answer.TheVariants.{NoConnection as UnknownCell, Released as PickReleased, MomentTooLate, MomentBack, JournalFull}
+use Rattle.card_core.specs.declared.ask.Ask.{Ask}
+use Rattle.card_core.specs.declared.fault.DeskFault.{DeskFault}
+use Rattle.card_core.specs.declared.fault.DeskFault.TheVariants.{NoProgram, NoConnection, Taken, NoLine, InUse, ProgramsFull, Exhausted, BadContracts, Busy}
+use Rattle.card_core.specs.declared.reply.Reply.{Reply}
+use Rattle.card_core.specs.declared.reply.Reply.TheVariants.{NotNow, Answered, NotLoaded, NotSetUp, Refused}
+use Rattle.card_core.specs.declared.step.Step.{Step}
+use Rattle.card_core.specs.declared.step.Step.TheVariants.{Enter, Pick, Judge, Load, Retire, Setup, Reload, Release, Cut}
+use Rattle.upc_cell.specs.Connection.{vc_of}
+use Rattle.card_core.specs.World.{World, Connection, Picking, PortState, outside, entered, picked, code_in, connection_in, kept_cells, is_busy, any_below, is_open_slot, is_open_line, is_named}
+
+-- Enter: the port isn't outside, or there is no such port.
+abbrev pub enter_refusal : Option PortState → Option Reply
+enter_refusal None = Some NotNow
+enter_refusal (Some outside) = None
+enter_refusal (Some (entered cell moment)) = Some NotNow
+enter_refusal (Some (picked picking)) = Some NotNow
+
+-- Pick: the port has no cell that entered, or there is no such port; the cell's virtual connection
+-- has no connection.
+abbrev pub pick_refusal : World → Option PortState → Option Reply
+pick_refusal world None = Some NotNow
+pick_refusal world (Some outside) = Some NotNow
+pick_refusal world (Some (entered cell moment)) =
+    if is_none (connection_in world.connections (vc_of world.shape.side cell))
+    then Some (Answered UnknownCell)
+    else None
+pick_refusal world (Some (picked picking)) = Some NotNow
+
+-- A cell of this moment on the connection: it is later than 2^62, or earlier than the last judged
+-- cell; as many cells were judged since the last cut as a journal holds, or 2^62 cells on the line.
+abbrev pub cell_refusal : World → Connection → ℕ → Option Answer
+cell_refusal world connection moment =
+    if nat_lt (2 ^ 62) moment then Some MomentTooLate
+    else if nat_lt moment (last_moment 0 connection.history) then Some (MomentBack (last_moment 0 connection.history))
+    else if nat_le world.shape.journal (length (kept_cells connection)) then Some JournalFull
+    else if nat_le (2 ^ 62) (length (world.judged connection.line)) then Some JournalFull
+    else None
+
+-- A picked cell: the connection that was picked is gone; or its cell is refused.
+abbrev pub picking_refusal : World → Picking → Option Connection → Option Answer
+picking_refusal world picking None = Some PickReleased
+picking_refusal world picking (Some connection) =
+    if connection.incarnation == picking.incarnation
+    then cell_refusal world connection picking.moment
+    else Some PickReleased
+
+-- Judge: the port has no cell that was picked, or there is no such port; or the picked cell is
+-- refused.
+abbrev pub judge_refusal : World → Option PortState → Option Reply
+judge_refusal world None = Some NotNow
+judge_refusal world (Some outside) = Some NotNow
+judge_refusal world (Some (entered cell moment)) = Some NotNow
+judge_refusal world (Some (picked picking)) =
+    option_map Answered (picking_refusal world picking (connection_in world.connections picking.vc))
+
+-- Load: some port has a cell; each slot is a live id's, or was given 4294967295 times.
+abbrev pub load_fault : World → Option DeskFault
+load_fault world =
+    if is_busy world then Some Busy
+    else if not (any_below world.shape.programs (is_open_slot world)) then Some ProgramsFull
+    else None
+
+-- Retire: some port has a cell; the id isn't live; some connection names it.
+abbrev pub retire_fault : World → Id → Option DeskFault
+retire_fault world id =
+    if is_busy world then Some Busy
+    else if is_none (code_in world.live id) then Some NoProgram
+    else if is_named world id then Some InUse
+    else None
+
+-- Setup: the program isn't live; the virtual connection has a connection; there is no contract;
+-- every line is some connection's; the last incarnation was given.
+abbrev pub setup_fault : World → Ask → Option DeskFault
+setup_fault world ask =
+    if is_none (code_in world.live ask.program) then Some NoProgram
+    else if is_some (connection_in world.connections ask.vc) then Some Taken
+    else if length ask.contracts.items == 0 then Some BadContracts
+    else if not (any_below world.shape.lines (is_open_line world)) then Some NoLine
+    else if nat_le (2 ^ 62) world.used then Some Exhausted
+    else None
+
+-- Reload: the program isn't live; there is no such connection.
+abbrev pub reload_fault : World → Vc → Id → Option DeskFault
+reload_fault world vc program =
+    if is_none (code_in world.live program) then Some NoProgram
+    else if is_none (connection_in world.connections vc) then Some NoConnection
+    else None
+
+-- Release and Cut: there is no such connection.
+abbrev pub missing_fault : World → Vc → Option DeskFault
+missing_fault world vc = if is_none (connection_in world.connections vc) then Some NoConnection else None
+
+-- What is answered to a step that is refused, and nothing where it isn't.
+abbrev pub refusal : World → Step → Option Reply
+refusal world (Enter port cell moment) = enter_refusal (slice_get world.ports port)
+refusal world (Pick port) = pick_refusal world (slice_get world.ports port)
+refusal world (Judge port) = judge_refusal world (slice_get world.ports port)
+refusal world (Load code) = option_map (λ fault. NotLoaded fault code) (load_fault world)
+refusal world (Retire id) = option_map Refused (retire_fault world id)
+refusal world (Setup ask) = option_map (λ fault. NotSetUp fault ask) (setup_fault world ask)
+refusal world (Reload vc program) = option_map Refused (reload_fault world vc program)
+refusal world (Release vc) = option_map Refused (missing_fault world vc)
+refusal world (Cut vc) = option_map Refused (missing_fault world vc)

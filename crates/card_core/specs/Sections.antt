@@ -1,0 +1,141 @@
+-- What the locked sections do to the parts that they are lent.
+use Rattle.std.specs.Prelude.{◌≡◌, ◌≢◌, ℕ, ◌+◌, ◌^◌, ◌<◌, ◌==◌, ◌&&◌, Bool, true, false, if◌then◌else◌, List, [], ◌∷◌, ◌++◌, length, Option, Some, None, option_map, IsSome}
+use Rattle.upc_cell.specs.declared.vc.Vc.{Vc}
+use Rattle.upc_cell.specs.Connection.{is_same_vc}
+use Rattle.bpf_code.specs.declared.instr.Instr.{Instr}
+use Rattle.gen_arena.specs.declared.id.Id.{Id}
+use Rattle.gen_arena.specs.Slot.{Slot}
+use Rattle.gen_arena.specs.Live.{live_value, IsLive}
+use Rattle.leaky.specs.declared.verdict.Verdict.{Verdict}
+use Rattle.line_record.specs.declared.directory.Seating.{Seating}
+use Rattle.line_record.specs.declared.entry.Entry.{Entry}
+use Rattle.line_record.specs.declared.owner.Owner.{Owner}
+use Rattle.line_record.specs.declared.fault.LineFault.{LineFault}
+use Rattle.line_record.specs.declared.fault.LineFault.TheVariants.{TooLate, Back, Full, NoMemory as LineNoMemory}
+use Rattle.line_record.specs.Directory.{DirectoryView, seat_of, IsOpenLine, IsTakenLine}
+use Rattle.line_record.specs.History.{NamedCell, cell_of, empty_buckets, verdict_after}
+use Rattle.line_record.specs.Line.{LineView, line_refusal, Gains}
+use Rattle.line_record.specs.StateAfter.{IsStateAfter}
+use Rattle.line_record.specs.Tally.{number_of}
+use Rattle.card_core.specs.declared.answer.Answer.{Answer}
+use Rattle.card_core.specs.declared.answer.Answer.TheVariants.{Judged, Released, MomentTooLate, MomentBack, JournalFull, NoMemory}
+use Rattle.card_core.specs.declared.ask.Ask.{Ask}
+use Rattle.card_core.specs.declared.fault.DeskFault.{DeskFault}
+use Rattle.card_core.specs.declared.fault.DeskFault.TheVariants.{NoProgram, Taken, BadContracts, NoLine, Exhausted, Stale, NoMemory as DeskNoMemory}
+use Rattle.card_core.specs.Steps.{Gives, cell_after, named_cell}
+
+-- A program's value for a cell: the program, the cell and the value.
+pub record NamedView : Type 0 where
+  pub program : Id
+  pub cell : List ℕ
+  pub value : ℕ
+
+-- The live program of this id gives the value for the cell.
+pub record IsNaming (store : List (Slot (List Instr))) (id : Id) (cell : List ℕ) (named : NamedView) : Type 0 where
+  pub program : named.program ≡ id
+  pub same : named.cell ≡ cell
+  pub code : List Instr
+  pub live : live_value store id ≡ Some code
+  pub gives : Gives code cell named.value
+
+-- Who holds the line that the directory names for a connection.
+abbrev pub holder : Vc → Seating → Owner
+holder vc seating = record { vc = vc; incarnation = seating.incarnation }
+
+-- The line serves this owner.
+abbrev pub is_owned_by : Option Owner → Owner → Bool
+is_owned_by None owner = false
+is_owned_by (Some other) owner = is_same_vc other.vc owner.vc && (other.incarnation == owner.incarnation)
+
+-- What a line's refusal is answered as.
+abbrev pub answer_for : LineFault → Answer
+answer_for TooLate = MomentTooLate
+answer_for (Back last) = MomentBack last
+answer_for Full = JournalFull
+answer_for LineNoMemory = NoMemory
+
+-- Why a picked cell is not judged on the line: the line doesn't serve the connection that was picked,
+-- or it has a reason to refuse a cell of this moment.
+abbrev pub judging_refusal : LineView → Vc → Seating → ℕ → Option Answer
+judging_refusal line vc seating moment =
+    if is_owned_by line.owner (holder vc seating)
+    then option_map answer_for (line_refusal line moment)
+    else Some Released
+
+-- The line has judged the named cell, which its journal gained. After whatever history the line was,
+-- the verdict is that history's, and the line is after one more cell.
+pub record JudgesAt (old : LineView) (seating : Seating) (named : NamedView) (moment : ℕ) (answer : Answer) (new : LineView) : Type 0 where
+  pub entry : Entry
+  pub cell : cell_of entry ≡ named_cell named.cell moment named.program named.value
+  pub gains : Gains old entry new
+  pub verdict : (history : List NamedCell) → IsStateAfter old.contracts history old.state
+      → entry.verdict ≡ verdict_after old.contracts empty_buckets history (cell_of entry)
+  pub history : (history : List NamedCell) → IsStateAfter old.contracts history old.state
+      → IsStateAfter new.contracts (history ++ cell_of entry ∷ []) new.state
+  pub answered : answer ≡ Judged seating.line (number_of old.state.counts entry.verdict + 1)
+      moment named.value named.program entry.verdict (cell_after entry.verdict named.cell)
+
+-- What is told of a judged cell.
+pub record JudgedView : Type 0 where
+  pub line : ℕ
+  pub number : ℕ
+  pub moment : ℕ
+  pub value : ℕ
+  pub program : Id
+  pub verdict : Verdict
+  pub cell : List ℕ
+
+-- What an answer tells of a judged cell, where it is that one was judged.
+abbrev pub told : Answer → Option JudgedView
+told (Judged line number moment value program verdict cell) = Some (record {
+  line = line;
+  number = number;
+  moment = moment;
+  value = value;
+  program = program;
+  verdict = verdict;
+  cell = cell;
+})
+told _ = None
+
+-- The directory has no connection that names the program.
+abbrev pub IsUnnamed : DirectoryView → Id → Type 0
+IsUnnamed directory program = (vc : Vc) (seat : Seating) → seat_of directory vc ≡ Some seat → seat.program ≢ program
+
+-- What is asked may be set up on this line.
+pub record Admits (store : List (Slot (List Instr))) (directory : DirectoryView) (ask : Ask) (line : ℕ) : Type 0 where
+  pub live : IsLive store ask.program
+  pub new : seat_of directory ask.vc ≡ None
+  pub some : 0 < length ask.contracts.items
+  pub within : line < directory.lines
+  pub free : IsOpenLine directory line
+  pub unworn : directory.used < 2 ^ 62
+
+-- Why it may not: the program isn't live; the virtual connection has a connection; there is no
+-- contract; each line is some connection's; the last incarnation was given. Each is the reason only
+-- where none before it is.
+abbrev pub IsUnfit : List (Slot (List Instr)) → DirectoryView → Ask → DeskFault → Type 0
+IsUnfit store directory ask NoProgram = live_value store ask.program ≡ None
+IsUnfit store directory ask Taken =
+    IsLive store ask.program × IsSome (seat_of directory ask.vc)
+IsUnfit store directory ask BadContracts =
+    IsLive store ask.program × (seat_of directory ask.vc ≡ None) × (length ask.contracts.items ≡ 0)
+IsUnfit store directory ask NoLine =
+    IsLive store ask.program × (seat_of directory ask.vc ≡ None) × (0 < length ask.contracts.items)
+    × ((line : ℕ) → line < directory.lines → IsTakenLine directory line)
+IsUnfit store directory ask Exhausted =
+    IsLive store ask.program × (seat_of directory ask.vc ≡ None) × (0 < length ask.contracts.items)
+    × ((line : ℕ) × (line < directory.lines) × IsOpenLine directory line) × (directory.used ≡ 2 ^ 62)
+IsUnfit store directory ask _ = ⊥
+
+-- Why a line that is lent for a setup is refused: it isn't free, or else its memory was.
+abbrev pub IsUnready : LineView → DeskFault → Type 0
+IsUnready line Stale = IsSome line.owner
+IsUnready line DeskNoMemory = line.owner ≡ None
+IsUnready line _ = ⊥
+
+-- Why a line that is lent for a cut is refused: it isn't this owner's, or else its memory was.
+abbrev pub IsUncut : LineView → Owner → DeskFault → Type 0
+IsUncut line owner Stale = line.owner ≢ Some owner
+IsUncut line owner DeskNoMemory = line.owner ≡ Some owner
+IsUncut line owner _ = ⊥

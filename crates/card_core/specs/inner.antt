@@ -1,0 +1,4 @@
+-- What only private functions and proofs speak of.
+pub mod Sound
+pub mod Ports
+pub mod Parts

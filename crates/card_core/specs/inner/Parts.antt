@@ -1,0 +1,82 @@
+-- What the core's helpers do to its parts.
+use Rattle.std.specs.Prelude.{◌≡◌, ◌≢◌, ℕ, ◌+◌, false, List, [], Option, Some, None, Result, MatchOption, MatchResult, slice_get, slice_set}
+use Rattle.upc_cell.specs.declared.vc.Vc.{Vc}
+use Rattle.upc_cell.specs.declared.side.Side.{Side}
+use Rattle.upc_cell.specs.Connection.{vc_of}
+use Rattle.card_core.specs.declared.port.Came.{Came}
+use Rattle.card_core.specs.declared.port.Found.{Found}
+use Rattle.bpf_code.specs.declared.instr.Instr.{Instr}
+use Rattle.gen_arena.specs.Slot.{Slot}
+use Rattle.gen_arena.specs.Live.{live_value}
+use Rattle.line_record.specs.declared.directory.Seating.{Seating}
+use Rattle.line_record.specs.declared.owner.Owner.{Owner}
+use Rattle.line_record.specs.Directory.{DirectoryView, seat_of, Sits}
+use Rattle.line_record.specs.Line.{LineView, Opens, free_line}
+use Rattle.line_record.specs.Piece.{PieceView, IsJournalOf}
+use Rattle.line_record.specs.StateAfter.{IsStateAfter}
+use Rattle.card_core.specs.declared.answer.Answer.{Answer}
+use Rattle.card_core.specs.declared.answer.Answer.TheVariants.{NoConnection, Stale}
+use Rattle.card_core.specs.declared.ask.Ask.{Ask}
+use Rattle.card_core.specs.declared.fault.DeskFault.{DeskFault}
+use Rattle.card_core.specs.declared.fault.DeskFault.TheVariants.{Stale as DeskStale}
+use Rattle.card_core.specs.Sections.{IsNaming, judging_refusal, JudgesAt, holder, IsUnready, IsUncut}
+
+-- The directory has a seat for the cell's connection, and its program names a contract for the cell.
+pub record IsFound (store : List (Slot (List Instr))) (directory : DirectoryView) (side : Side) (came : Came) (found : Found) : Type 0 where
+  pub moment : found.moment ≡ came.moment
+  pub own : found.vc ≡ vc_of side came.cell
+  pub sits : seat_of directory found.vc ≡ Some found.seating
+  pub naming : IsNaming store found.seating.program came.cell found.named
+
+-- The directory has no such connection, or its program isn't live.
+abbrev pub IsMissed : List (Slot (List Instr)) → DirectoryView → Vc → Answer → Type 0
+IsMissed store directory vc NoConnection = seat_of directory vc ≡ None
+IsMissed store directory vc Stale = (seat : Seating) × (seat_of directory vc ≡ Some seat) × (live_value store seat.program ≡ None)
+IsMissed store directory vc _ = ⊥
+
+-- One line of these was lent to a section that did this to it, and all others are as before.
+pub record ChangesLine (old : List LineView) (number : ℕ) (Did : LineView → LineView → Type 0) (new : List LineView) : Type 0 where
+  pub line : LineView
+  pub there : slice_get old number ≡ Some line
+  pub next : LineView
+  pub did : Did line next
+  pub after : new ≡ slice_set old number next
+
+-- A picked cell is judged on the line, or there is a reason to refuse it.
+abbrev pub JudgesOrRefuses : Found → Answer → LineView → LineView → Type 0
+JudgesOrRefuses found answer old new = MatchOption (judging_refusal old found.vc found.seating found.moment)
+    (JudgesAt old found.seating found.named found.moment answer new)
+    (λ refused. (answer ≡ refused) × (new ≡ old))
+
+-- A connection was set up on a line.
+pub record IsSetUp (old new : DirectoryView) (number : ℕ) (ask : Ask) (owner : Owner) (line next : LineView) : Type 0 where
+  pub given : owner ≡ record { vc = ask.vc; incarnation = old.used + 1 }
+  pub seat : Sits old ask.vc (Some (record { line = number; incarnation = old.used + 1; program = ask.program })) new
+  pub used : new.used ≡ old.used + 1
+  pub opened : Opens line owner ask.contracts.items next
+  pub history : IsStateAfter ask.contracts.items [] next.state
+
+-- A connection was released from its line.
+pub record IsReleased (old new : DirectoryView) (vc : Vc) (piece : PieceView) (line next : LineView) : Type 0 where
+  pub journal : IsJournalOf line piece
+  pub gone : Sits old vc None new
+  pub used : new.used ≡ old.used
+  pub freed : next ≡ free_line line.journal line.state.counts false
+
+-- What was asked is set up on the line, or there is a reason to refuse it.
+abbrev pub SetsUpOrRefuses : DirectoryView → DirectoryView → ℕ → Ask → Result Owner (DeskFault × Ask) → LineView → LineView → Type 0
+SetsUpOrRefuses old new number ask result line next = MatchResult result
+    (λ owner. IsSetUp old new number ask owner line next)
+    (λ refused. IsUnready line refused.0 × (refused.1 ≡ ask) × (new ≡ old) × (next ≡ record line { ready = next.ready }))
+
+-- The connection ends on the line, or the line isn't its own.
+abbrev pub ReleasesOrRefuses : DirectoryView → DirectoryView → Vc → Seating → Result PieceView DeskFault → LineView → LineView → Type 0
+ReleasesOrRefuses old new vc seat result line next = MatchResult result
+    (λ piece. IsReleased old new vc piece line next)
+    (λ fault. (fault ≡ DeskStale) × (line.owner ≢ Some (holder vc seat)) × (new ≡ old) × (next ≡ line))
+
+-- The line's journal is handed out, or there is a reason not to.
+abbrev pub CutsOrRefuses : Vc → Seating → Result PieceView DeskFault → LineView → LineView → Type 0
+CutsOrRefuses vc seat result line next = MatchResult result
+    (λ piece. IsJournalOf line piece × (next ≡ record line { start = line.state; entries = [] }))
+    (λ fault. IsUncut line (holder vc seat) fault × (next ≡ line))

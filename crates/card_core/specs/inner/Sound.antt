@@ -1,0 +1,71 @@
+-- What every world keeps that a log leads to. `law` proves it; the proofs of the core's steps use it.
+use Rattle.std.specs.Prelude.{◌≡◌, ℕ, ◌^◌, ◌<◌, ◌≤◌, List, length, Option, Some, IsSome, All, Contains, slice_get}
+use Rattle.upc_cell.specs.declared.vc.Vc.{Vc}
+use Rattle.upc_cell.specs.Connection.{vc_of}
+use Rattle.bpf_code.specs.declared.instr.Instr.{Instr}
+use Rattle.bpf_verify.specs.Accepted.{IsAccepted}
+use Rattle.gen_arena.specs.declared.id.Id.{Id}
+use Rattle.line_record.specs.History.{NamedCell, IsHistory}
+use Rattle.card_core.specs.declared.shape.Shape.{Shape}
+use Rattle.card_core.specs.World.{World, Connection, Picking, picked, code_in, times_given, connection_in}
+use Rattle.card_core.specs.Log.{Event, Leads}
+
+-- The programs: no id has a generation that its slot was not given yet, so that the next one is new;
+-- every live code was given under its id, and every given code is accepted.
+pub record SoundPrograms (world : World) : Type 0 where
+  pub once : (id : Id) (code : List Instr) → code_in world.given id ≡ Some code
+      → id.generation ≤ times_given world.given id.slot
+  pub live_given : (id : Id) (code : List Instr) → code_in world.live id ≡ Some code
+      → code_in world.given id ≡ Some code
+  pub accepted : (id : Id) (code : List Instr) → code_in world.given id ≡ Some code → IsAccepted code
+
+-- One connection: its line is one of the card's, its incarnation one of those that were given, its
+-- program is live, it has a contract, and its history's moments don't go back and are at most 2^62.
+pub record SoundConnection (world : World) (connection : Connection) : Type 0 where
+  pub within : connection.line < world.shape.lines
+  pub first : 1 ≤ connection.incarnation
+  pub old : connection.incarnation ≤ world.used
+  pub named_live : IsSome (code_in world.live connection.program)
+  pub some : 0 < length connection.contracts
+  pub history : IsHistory connection.history
+  pub early : All (λ cell. cell.moment ≤ 2 ^ 62) connection.history
+  pub handed : connection.handed ≤ length connection.history
+  pub counted : length connection.history ≤ length (world.judged connection.line)
+
+-- The connections: each virtual connection stands once in their list, and no two share a line or an
+-- incarnation.
+pub record SoundConnections (world : World) : Type 0 where
+  pub once : (here : Vc × Connection) → Contains world.connections here
+      → connection_in world.connections here.0 ≡ Some here.1
+  pub each : (vc : Vc) (connection : Connection) → connection_in world.connections vc ≡ Some connection
+      → SoundConnection world connection
+  pub lines_apart : (one other : Vc) (connection another : Connection)
+      → connection_in world.connections one ≡ Some connection
+      → connection_in world.connections other ≡ Some another
+      → connection.line ≡ another.line → one ≡ other
+  pub apart : (one other : Vc) (connection another : Connection)
+      → connection_in world.connections one ≡ Some connection
+      → connection_in world.connections other ≡ Some another
+      → connection.incarnation ≡ another.incarnation → one ≡ other
+
+-- A cell that was picked: its program is live, its incarnation was given before, and its virtual
+-- connection's connection, if it has that incarnation still, has the line that was found.
+pub record SoundPicking (world : World) (picking : Picking) : Type 0 where
+  pub own : picking.vc ≡ vc_of world.shape.side picking.cell
+  pub live : IsSome (code_in world.live picking.program)
+  pub old : picking.incarnation ≤ world.used
+  pub same_line : (connection : Connection) → connection_in world.connections picking.vc ≡ Some connection
+      → connection.incarnation ≡ picking.incarnation → connection.line ≡ picking.line
+
+-- What every world keeps that a log leads to.
+pub record IsSound (world : World) : Type 0 where
+  pub programs : SoundPrograms world
+  pub connections : SoundConnections world
+  pub ports : (port : ℕ) (picking : Picking) → slice_get world.ports port ≡ Some (picked picking)
+      → SoundPicking world picking
+  pub sized : length world.ports ≡ world.shape.ports
+  pub used : world.used ≤ 2 ^ 62
+
+-- Each step keeps it, so that every world that a log leads to has it.
+abbrev pub ReachedWorldsAreSound : Type 0
+ReachedWorldsAreSound = (shape : Shape) (log : List Event) (world : World) → Leads shape log world → IsSound world

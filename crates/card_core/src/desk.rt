@@ -1,0 +1,247 @@
+ghost use Rattle.std.specs.Prelude.{◌≡◌, ◌≢◌, ◌+◌, ◌<◌, ◌^◌, ◌↔◌, length, IsOk, IsErr, IsErrOf, IsSome, IfOk, IfErr, OnOk, OnErr, MatchResult, Some, None, false, []};
+ghost use Rattle.bpf_verify.specs.Accepted.{IsAccepted};
+ghost use Rattle.gen_arena.specs.Free.{free_slots, NoneIsFree};
+ghost use Rattle.gen_arena.specs.Insert.{Inserts};
+ghost use Rattle.gen_arena.specs.Live.{live_value, IsLive};
+ghost use Rattle.gen_arena.specs.Past.{KeepsPast};
+ghost use Rattle.gen_arena.specs.Remove.{Removes};
+ghost use Rattle.line_record.specs.Directory.{seat_of, IsNamed, IsOpenLine, Sits};
+ghost use Rattle.line_record.specs.Line.{Opens, free_line};
+ghost use Rattle.line_record.specs.Piece.{IsJournalOf, IsPiece};
+ghost use Rattle.line_record.specs.StateAfter.{IsStateAfter};
+ghost use Rattle.line_record.specs.declared.directory.Seating.{Seating};
+ghost use Rattle.card_core.specs.Sections.{holder, Admits, IsUnfit, IsUnready, IsUncut};
+
+use crate::ask::Ask;
+use crate::fault::DeskFault;
+use crate::judging::serves;
+use crate::naming::Store;
+use bpf_verify::Program;
+use gen_arena::Id;
+use line_record::{Directory, Line, Owner, Piece, Seating};
+use upc_cell::Vc;
+
+/// Puts a program into a free slot, under an id that was never given before. Which slot is taken is
+/// open. Takes no memory.
+///
+/// # Errors
+///
+/// `ProgramsFull` with the program, exactly where no slot is free.
+pub fn load(store: &mut Store, program: Program) -> Result<Id, (DeskFault, Program)>
+    ensures loaded { IfOk result (λ id. Inserts store.old store.new id program) }
+    ensures live { IfOk result (λ id. live_value store.new id ≡ Some program) }
+    ensures accepted { IsAccepted program }
+    ensures full { IsErr result ↔ (free_slots store.old ≡ 0) }
+    ensures none_is_free { OnErr result (NoneIsFree store.old) }
+    ensures fault { IfErr result (λ refused. refused.0 ≡ DeskFault.ProgramsFull) }
+    ensures returned { IfErr result (λ refused. refused.1 ≡ program) }
+    ensures unchanged { OnErr result (store.new ≡ store.old) }
+    ensures past { KeepsPast store.old store.new }
+{
+    // What the card holds is accepted.
+    let _ = program.code();
+    match store.insert(program) {
+        Ok(id) => Ok(id),
+        Err(program) => Err((DeskFault::ProgramsFull, program)),
+    }
+}
+
+/// Takes a program out that no connection names. Its id is never live again. Takes no memory.
+///
+/// # Errors
+///
+/// `NoProgram` where the id isn't live, then `InUse` where some connection names it.
+pub fn retire(store: &mut Store, directory: &Directory, id: Id) -> Result<Program, DeskFault>
+    ensures retired { IfOk result (λ program. Removes store.old store.new id program) }
+    ensures no_program { IsErrOf result DeskFault.NoProgram ↔ (live_value store.old id ≡ None) }
+    ensures in_use { IsErrOf result DeskFault.InUse
+        ↔ (IsLive store.old id × IsNamed directory.now id) }
+    ensures ok { IsOk result ↔ (IsLive store.old id × (¬ IsNamed directory.now id)) }
+    ensures unchanged { OnErr result (store.new ≡ store.old) }
+    ensures past { KeepsPast store.old store.new }
+{
+    if !store.holds(id) {
+        return Err(DeskFault::NoProgram);
+    }
+    if directory.names(id) {
+        return Err(DeskFault::InUse);
+    }
+    store.remove(id).ok_or(DeskFault::NoProgram)
+}
+
+/// The number of a line on which what is asked may be set up. Which free line is answered is open.
+/// Takes no memory.
+///
+/// # Errors
+///
+/// `NoProgram` where the program isn't live, `Taken` where the virtual connection has a connection,
+/// `BadContracts` where there is no contract, `NoLine` where each line is some connection's, and
+/// `Exhausted` where the last incarnation was given: the first that holds.
+pub fn admit(store: &Store, directory: &Directory, ask: &Ask) -> Result<u16, DeskFault>
+    ensures { MatchResult result
+        (λ line. Admits store.now directory.now ask.now line)
+        (λ fault. IsUnfit store.now directory.now ask.now fault) }
+{
+    if !store.holds(ask.program) {
+        return Err(DeskFault::NoProgram);
+    }
+    if directory.find(ask.vc).is_some() {
+        return Err(DeskFault::Taken);
+    }
+    if ask.contracts.is_empty() {
+        return Err(DeskFault::BadContracts);
+    }
+    let Some(line) = directory.free_line() else {
+        return Err(DeskFault::NoLine);
+    };
+    if directory.worn() {
+        return Err(DeskFault::Exhausted);
+    }
+    Ok(line)
+}
+
+/// Sets a connection up on this line, which is to be free, as [`admit`] tells. All memory is taken
+/// before anything changes.
+///
+/// # Errors
+///
+/// With what was asked: `Stale` where the line isn't free, then `NoMemory` where memory is refused.
+/// The line may then have room for its next journal, and all else is as before.
+pub fn setup(
+    directory: &mut Directory,
+    line: &mut Line,
+    number: u16,
+    ask: Ask,
+) -> Result<Owner, (DeskFault, Ask)>
+    requires absent { seat_of directory.old ask.vc ≡ None }
+    requires within { number < directory.old.lines }
+    requires open { IsOpenLine directory.old number }
+    requires some { 0 < length ask.contracts.items }
+    requires unworn { directory.old.used < 2 ^ 62 }
+
+    // The connection has its seat and its line, without a cell.
+    ensures owner { IfOk result (λ owner.
+        owner ≡ record { vc = ask.vc; incarnation = directory.old.used + 1 }) }
+    ensures free { OnOk result (line.old.owner ≡ None) }
+    ensures seat { OnOk result (Sits directory.old ask.vc
+        (Some (record { line = number; incarnation = directory.old.used + 1; program = ask.program }))
+        directory.new) }
+    ensures used { OnOk result (directory.new.used ≡ directory.old.used + 1) }
+    ensures opened { IfOk result (λ owner. Opens line.old owner ask.contracts.items line.new) }
+    ensures history { OnOk result (IsStateAfter ask.contracts.items [] line.new.state) }
+
+    // It is refused for one of two reasons, and then nothing changes but a free line's room.
+    ensures refused { IfErr result (λ refused. IsUnready line.old refused.0) }
+    ensures returned { IfErr result (λ refused. refused.1 ≡ ask) }
+    ensures directory_unchanged { OnErr result (directory.new ≡ directory.old) }
+    ensures line_unchanged { OnErr result (line.new ≡ record line.old { ready = line.new.ready }) }
+
+    ensures lines { directory.new.lines ≡ directory.old.lines }
+    ensures counts { line.new.state.counts ≡ line.old.state.counts }
+{
+    if !line.is_free() {
+        return Err((DeskFault::Stale, ask));
+    }
+    if line.prepare().is_err() {
+        return Err((DeskFault::NoMemory, ask));
+    }
+    let Ok(incarnation) = directory.put(ask.vc, number, ask.program) else {
+        return Err((DeskFault::NoMemory, ask));
+    };
+    let owner = Owner {
+        vc: ask.vc,
+        incarnation,
+    };
+    match line.open(owner, ask.contracts) {
+        Ok(()) => Ok(owner),
+        Err(_) => unreachable!(),
+    }
+}
+
+/// Gives a connection another program, and answers the one that it had. Its buckets and its journal
+/// stay. Takes no memory.
+///
+/// # Errors
+///
+/// `NoProgram` where the program isn't live, then `NoConnection` where there is no connection.
+pub fn reload(
+    store: &Store,
+    directory: &mut Directory,
+    vc: Vc,
+    program: Id,
+) -> Result<Id, DeskFault>
+    ensures no_program { IsErrOf result DeskFault.NoProgram ↔ (live_value store.now program ≡ None) }
+    ensures no_connection { IsErrOf result DeskFault.NoConnection
+        ↔ (IsLive store.now program × (seat_of directory.old vc ≡ None)) }
+    ensures ok { IsOk result ↔ (IsLive store.now program × IsSome (seat_of directory.old vc)) }
+    ensures reloaded { IfOk result (λ before. (seat : Seating) → seat_of directory.old vc ≡ Some seat
+        → (before ≡ seat.program)
+        × Sits directory.old vc (Some (record seat { program = program })) directory.new) }
+    ensures unchanged { OnErr result (directory.new ≡ directory.old) }
+    ensures used { directory.new.used ≡ directory.old.used }
+    ensures lines { directory.new.lines ≡ directory.old.lines }
+{
+    if !store.holds(program) {
+        return Err(DeskFault::NoProgram);
+    }
+    directory
+        .move_to(vc, program)
+        .ok_or(DeskFault::NoConnection)
+}
+
+/// Ends a connection, on the line that the directory names for it. Takes no memory.
+///
+/// # Errors
+///
+/// `Stale`, exactly where the line doesn't serve this connection; nothing changes.
+pub fn release(directory: &mut Directory, line: &mut Line, vc: Vc) -> Result<Piece, DeskFault>
+    requires { IsSome (seat_of directory.old vc) }
+    ensures served { (seat : Seating) → seat_of directory.old vc ≡ Some seat → MatchResult result
+        (λ _. line.old.owner ≡ Some (holder vc seat))
+        (λ fault. (fault ≡ DeskFault.Stale) × (line.old.owner ≢ Some (holder vc seat))) }
+    ensures piece { IfOk result (λ piece. IsJournalOf line.old piece) }
+    ensures run { IfOk result (λ piece. IsPiece piece) }
+    ensures gone { OnOk result (Sits directory.old vc None directory.new) }
+    ensures freed { OnOk result
+        (line.new ≡ free_line line.old.journal line.old.state.counts false) }
+    ensures directory_unchanged { OnErr result (directory.new ≡ directory.old) }
+    ensures line_unchanged { OnErr result (line.new ≡ line.old) }
+    ensures used { directory.new.used ≡ directory.old.used }
+    ensures lines { directory.new.lines ≡ directory.old.lines }
+    ensures counts { line.new.state.counts ≡ line.old.state.counts }
+{
+    let Some(seating) = directory.find(vc) else {
+        unreachable!()
+    };
+    if !serves(line, vc, &seating) {
+        return Err(DeskFault::Stale);
+    }
+    directory.take(vc);
+    Ok(line.close())
+}
+
+/// Hands out a connection's journal, and begins a new one. The room for the new one is taken first.
+///
+/// # Errors
+///
+/// `Stale` where the line doesn't serve this connection, then `NoMemory` where memory is refused;
+/// nothing changes.
+pub fn cut(line: &mut Line, vc: Vc, seating: &Seating) -> Result<Piece, DeskFault>
+    ensures served { OnOk result (line.old.owner ≡ Some (holder vc seating.now)) }
+    ensures refused { IfErr result (λ fault. IsUncut line.old (holder vc seating.now) fault) }
+    ensures piece { IfOk result (λ piece. IsJournalOf line.old piece) }
+    ensures run { IfOk result (λ piece. IsPiece piece) }
+    ensures begun { OnOk result
+        (line.new ≡ record line.old { start = line.old.state; entries = [] }) }
+    ensures unchanged { OnErr result (line.new ≡ line.old) }
+    ensures owner { line.new.owner ≡ line.old.owner }
+    ensures counts { line.new.state.counts ≡ line.old.state.counts }
+{
+    if !serves(line, vc, seating) {
+        return Err(DeskFault::Stale);
+    }
+    match line.cut() {
+        Ok(piece) => Ok(piece),
+        Err(_) => Err(DeskFault::NoMemory),
+    }
+}

@@ -1,0 +1,93 @@
+ghost use Rattle.std.specs.Prelude.{◌≡◌, ◌≢◌, ◌+◌, ◌↔◌, IsTrue, IfSome, IfNone, MatchOption, Some};
+ghost use Rattle.line_record.specs.Tally.{counted, number_of};
+ghost use Rattle.card_core.specs.Steps.{cell_after};
+ghost use Rattle.card_core.specs.Sections.{holder, is_owned_by, answer_for, judging_refusal, JudgesAt, told};
+
+use crate::answer::Answer;
+use crate::naming::Named;
+use leaky::Verdict;
+use line_record::{Line, LineFault, Seating};
+use upc_cell::{Cell, Vc, same_vc};
+
+/// Judges a named cell on the line of its connection by the contract whose number was named. Takes
+/// no memory.
+///
+/// `Released` where the line doesn't serve the connection that was picked; then, as
+/// [`Line::judge`] refuses, `MomentTooLate`, `MomentBack` or `JournalFull`. The first that holds is
+/// answered, and nothing changes.
+pub fn judge_at(line: &mut Line, vc: Vc, seating: &Seating, named: &Named, moment: u64) -> Answer
+    // It is judged exactly where there is no reason to refuse it.
+    ensures judged { MatchOption (judging_refusal line.old vc seating.now moment)
+        (JudgesAt line.old seating.now named.now moment result line.new)
+        (λ refused. (result ≡ refused) × (line.new ≡ line.old)) }
+
+    // What is told of a judged cell.
+    ensures line { IfSome (told result) (λ judged. judged.line ≡ seating.now.line) }
+    ensures number { IfSome (told result) (λ judged.
+        judged.number ≡ number_of line.old.state.counts judged.verdict + 1) }
+    ensures moment { IfSome (told result) (λ judged. judged.moment ≡ moment) }
+    ensures value { IfSome (told result) (λ judged. judged.value ≡ named.now.value) }
+    ensures program { IfSome (told result) (λ judged. judged.program ≡ named.now.program) }
+    ensures cell { IfSome (told result) (λ judged. judged.cell ≡ cell_after judged.verdict named.now.cell) }
+
+    // The line's owner stays, and it counts a judged cell and no other.
+    ensures owner { line.new.owner ≡ line.old.owner }
+    ensures counts { IfSome (told result) (λ judged.
+        line.new.state.counts ≡ counted line.old.state.counts judged.verdict) }
+    ensures unchanged { IfNone (told result) (line.new ≡ line.old) }
+
+    // Since it takes no memory, none lacks; and no program is looked up.
+    ensures memory { result ≢ Answer.NoMemory }
+    ensures program_live { result ≢ Answer.Stale }
+    ensures connection { result ≢ Answer.NoConnection }
+{
+    if !serves(line, vc, seating) {
+        return Answer::Released;
+    }
+    let cell = named.cell();
+    match line.judge(moment, cell.clp(), named.value(), named.program()) {
+        Ok(entry) => Answer::Judged {
+            line: seating.line,
+            number: line.counts().of(entry.verdict),
+            moment: entry.moment,
+            value: entry.value,
+            program: entry.program,
+            verdict: entry.verdict,
+            cell: leaving(entry.verdict, &cell),
+        },
+        Err(fault) => refusal_of(fault),
+    }
+}
+
+/// Whether the line serves the connection that was picked.
+pub(crate) fn serves(line: &Line, vc: Vc, seating: &Seating) -> bool
+    ensures test { result ≡ is_owned_by line.now.owner (holder vc seating.now) }
+    ensures owner { IsTrue result ↔ (line.now.owner ≡ Some (holder vc seating.now)) }
+{
+    match line.owner() {
+        Some(owner) => same_vc(owner.vc, vc) && owner.incarnation == seating.incarnation,
+        None => false,
+    }
+}
+
+// The cell as it leaves: tagged where the verdict is Tag, else as it came.
+fn leaving(verdict: Verdict, cell: &Cell) -> Cell
+    ensures { result ≡ cell_after verdict cell.now }
+{
+    match verdict {
+        Verdict::Tag => cell.tagged(),
+        Verdict::Pass | Verdict::Discard | Verdict::Refuse => *cell,
+    }
+}
+
+// What a line's refusal is answered as.
+fn refusal_of(fault: LineFault) -> Answer
+    ensures { result ≡ answer_for fault }
+{
+    match fault {
+        LineFault::TooLate => Answer::MomentTooLate,
+        LineFault::Back(last) => Answer::MomentBack { last },
+        LineFault::Full => Answer::JournalFull,
+        LineFault::NoMemory => Answer::NoMemory,
+    }
+}

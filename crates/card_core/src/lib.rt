@@ -1,0 +1,27 @@
+//! The serial core of an ATM cell policer: the locked sections of the card, on whatever parts are
+//! lent, and the core that takes their steps one at a time.
+#![tactic(auto)]
+
+mod answer;
+mod ask;
+mod desk;
+mod fault;
+mod judging;
+pub mod laws;
+mod naming;
+mod port;
+mod reply;
+mod serial;
+mod shape;
+mod step;
+
+pub use answer::Answer;
+pub use ask::Ask;
+pub use desk::{admit, cut, load, release, reload, retire, setup};
+pub use fault::{CardFault, DeskFault};
+pub use judging::judge_at;
+pub use naming::{Named, Store, name, pick};
+pub use reply::Reply;
+pub use serial::Core;
+pub use shape::Shape;
+pub use step::Step;

@@ -1,0 +1,86 @@
+use bpf_interp::run;
+use bpf_verify::Program;
+use gen_arena::{Arena, Id};
+use line_record::{Directory, Seating};
+use std::marker::Model;
+use upc_cell::{Cell, Vc};
+
+/// The programs of a card, by id.
+pub type Store = Arena<Program>;
+
+/// A cell, a program, and the number of a contract that the program gave for the cell. [`name`]
+/// alone makes one, so that no number is judged that no program gave.
+#[derive(Clone, Copy, Debug)]
+pub struct Named {
+    program: Id,
+    cell: Cell,
+    value: u32,
+}
+
+impl Model for Named {
+    ghost use Rattle.card_core.specs.Sections.{NamedView};
+
+    ghost Value = { NamedView };
+
+    ghost view = { λ n. record { program = n.program; cell = n.cell; value = n.value } };
+
+    ghost inverse = { λ n. record { program = n.program; cell = n.cell; value = n.value } };
+}
+
+impl Named {
+    ghost use Rattle.std.specs.Prelude.{◌≡◌};
+
+    /// The program that gave the value.
+    #[inline]
+    pub fn program(&self) -> Id
+        ensures { result ≡ self.now.program }
+    {
+        self.program
+    }
+
+    /// The cell, as it came.
+    #[inline]
+    pub fn cell(&self) -> Cell
+        ensures { result ≡ self.now.cell }
+    {
+        self.cell
+    }
+
+    /// The number of a contract, counted from 1, or any other, which names none.
+    #[inline]
+    pub fn value(&self) -> u32
+        ensures { result ≡ self.now.value }
+    {
+        self.value
+    }
+}
+
+ghost use Rattle.std.specs.Prelude.{◌≡◌, ◌↔◌, IsSome, IfSome};
+ghost use Rattle.gen_arena.specs.Live.{IsLive};
+ghost use Rattle.line_record.specs.Directory.{seat_of, IsDirectory};
+ghost use Rattle.card_core.specs.Sections.{IsNaming};
+
+/// Where the connection is, if there is one. Takes no memory.
+#[inline]
+pub fn pick(directory: &Directory, vc: Vc) -> Option<Seating>
+    ensures seat { result ≡ seat_of directory.now vc }
+    ensures directory { IsDirectory directory.now }
+{
+    directory.find(vc)
+}
+
+/// The contract that the program of this id names for the cell; none exactly where the id isn't
+/// live. Takes no memory.
+#[inline]
+pub fn name(store: &Store, program: Id, cell: &Cell) -> Option<Named>
+    ensures live { IsSome result ↔ IsLive store.now program }
+    ensures named { IfSome result (λ named. IsNaming store.now program cell.now named) }
+{
+    let code = store.get(program)?;
+    let outcome = run(code, cell);
+    Some(Named {
+        program,
+        cell: *cell,
+        value: outcome.value,
+    })
+}

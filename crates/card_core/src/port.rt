@@ -1,0 +1,77 @@
+ghost use Rattle.std.specs.Prelude.{◌≡◌, slice_get, slice_set};
+ghost use Rattle.std.specs.List.{list_all};
+ghost use Rattle.card_core.specs.inner.Ports.{is_free_port, is_idle, came_in, found_in};
+
+use crate::naming::Named;
+use line_record::Seating;
+use upc_cell::{Cell, Vc};
+
+/// A cell that entered a port.
+#[derive(Clone, Copy, Debug)]
+pub(crate) struct Came {
+    pub(crate) cell: Cell,
+    pub(crate) moment: u64,
+}
+
+/// A cell whose connection was found, and for which its program named a contract.
+#[derive(Clone, Copy, Debug)]
+pub(crate) struct Found {
+    pub(crate) moment: u64,
+    pub(crate) vc: Vc,
+    pub(crate) seating: Seating,
+    pub(crate) named: Named,
+}
+
+/// What a port has.
+#[derive(Clone, Copy, Debug)]
+pub(crate) enum Port {
+    Outside,
+    Entered(Came),
+    Picked(Found),
+}
+
+/// Whether no port has a cell.
+pub(crate) fn are_outside(ports: &[Port]) -> bool
+    ensures { result ≡ list_all is_free_port ports.now }
+{
+    ports.iter().all(|port| matches!(port, Port::Outside))
+}
+
+/// Whether there is a port of this number that has no cell.
+pub(crate) fn is_idle_at(ports: &[Port], port: u8) -> bool
+    ensures { result ≡ is_idle (slice_get ports.now port) }
+{
+    match ports.get(usize::from(port)) {
+        Some(Port::Outside) => true,
+        Some(Port::Entered(_) | Port::Picked(_)) | None => false,
+    }
+}
+
+/// The cell that entered the port of this number, where there is one.
+pub(crate) fn entered_at(ports: &[Port], port: u8) -> Option<Came>
+    ensures { result ≡ came_in (slice_get ports.now port) }
+{
+    match ports.get(usize::from(port)) {
+        Some(Port::Entered(came)) => Some(*came),
+        Some(Port::Outside | Port::Picked(_)) | None => None,
+    }
+}
+
+/// The cell of the port of this number that was picked, where there is one.
+pub(crate) fn picked_at(ports: &[Port], port: u8) -> Option<Found>
+    ensures { result ≡ found_in (slice_get ports.now port) }
+{
+    match ports.get(usize::from(port)) {
+        Some(Port::Picked(found)) => Some(*found),
+        Some(Port::Outside | Port::Entered(_)) | None => None,
+    }
+}
+
+/// Gives the port of this number, where there is one, another state.
+pub(crate) fn move_port(ports: &mut Vec<Port>, port: u8, next: Port)
+    ensures { ports.new.items ≡ slice_set ports.old.items port next }
+{
+    if let Some(here) = ports.get_mut(usize::from(port)) {
+        *here = next;
+    }
+}

@@ -1,0 +1,256 @@
+ghost use Rattle.std.specs.Prelude.{◌≡◌, ℕ};
+
+use crate::answer::Answer;
+use crate::ask::Ask;
+use crate::desk;
+use crate::fault::DeskFault;
+use crate::judging::judge_at;
+use crate::naming::{Store, name, pick};
+use crate::port::{Came, Found, Port, are_outside, entered_at, is_idle_at, move_port, picked_at};
+use crate::reply::Reply;
+use crate::shape::Shape;
+use bpf_verify::Program;
+use gen_arena::Id;
+use line_record::{Directory, Line, Owner, Piece, Seating};
+use std::marker::Model;
+use upc_cell::{Cell, Side, Vc};
+
+/// A card that takes its steps one at a time.
+#[derive(Drop)]
+pub struct Core {
+    shape: Shape,
+    store: Store,
+    directory: Directory,
+    lines: Vec<Line>,
+    ports: Vec<Port>,
+}
+
+impl Model for Core {
+    ghost use Rattle.card_core.specs.Agreement.{CoreView};
+    ghost use Rattle.card_core.specs.inner.Ports.{states_of, IsCore};
+
+    ghost Value = { CoreView };
+
+    ghost view = { λ c. record {
+      shape = c.shape;
+      store = c.store;
+      directory = c.directory;
+      lines = c.lines.items;
+      ports = states_of c.ports.items;
+    } };
+
+    ghost invariant = { λ c. IsCore c.directory c.lines.items c.ports.items };
+}
+
+impl Core {
+    ghost use Rattle.card_core.specs.declared.step.Step.TheVariants.{Enter, Pick, Judge, Load, Retire, Setup, Reload, Release, Cut};
+    ghost use Rattle.card_core.specs.Agreement.{Follows};
+
+    // A cell comes to a port.
+    fn enter(&mut self, port: u8, cell: Cell, moment: u64) -> Reply
+        ensures { Follows self.old (Enter port cell moment) result self.new }
+    {
+        if !is_idle_at(&self.ports, port) {
+            return Reply::NotNow;
+        }
+        move_port(&mut self.ports, port, Port::Entered(Came { cell, moment }));
+        Reply::Entered
+    }
+
+    // The cell's connection is looked up, and its program names a contract.
+    fn pick(&mut self, port: u8) -> Reply
+        ensures { Follows self.old (Pick port) result self.new }
+    {
+        let Some(came) = entered_at(&self.ports, port) else {
+            return Reply::NotNow;
+        };
+        match find_and_name(&self.store, &self.directory, self.shape.side, &came) {
+            Ok(found) => {
+                move_port(&mut self.ports, port, Port::Picked(found));
+                Reply::Picked
+            }
+            Err(answer) => {
+                move_port(&mut self.ports, port, Port::Outside);
+                Reply::Answered(answer)
+            }
+        }
+    }
+
+    // The cell is judged by the contract that was named.
+    fn judge(&mut self, port: u8) -> Reply
+        ensures { Follows self.old (Judge port) result self.new }
+    {
+        let Some(found) = picked_at(&self.ports, port) else {
+            return Reply::NotNow;
+        };
+        let answer = judge_line(&mut self.lines, &found);
+        move_port(&mut self.ports, port, Port::Outside);
+        Reply::Answered(answer)
+    }
+
+    // A program is put into the store.
+    fn load(&mut self, program: Program) -> Reply
+        ensures { Follows self.old (Load program) result self.new }
+    {
+        if !are_outside(&self.ports) {
+            return Reply::NotLoaded(DeskFault::Busy, program);
+        }
+        match desk::load(&mut self.store, program) {
+            Ok(id) => Reply::Loaded(id),
+            Err((fault, program)) => Reply::NotLoaded(fault, program),
+        }
+    }
+
+    // A program is taken out of the store.
+    fn retire(&mut self, id: Id) -> Reply
+        ensures { Follows self.old (Retire id) result self.new }
+    {
+        if !are_outside(&self.ports) {
+            return Reply::Refused(DeskFault::Busy);
+        }
+        match desk::retire(&mut self.store, &self.directory, id) {
+            Ok(program) => Reply::Retired(program),
+            Err(fault) => Reply::Refused(fault),
+        }
+    }
+
+    // A connection is set up.
+    fn setup(&mut self, ask: Ask) -> Reply
+        ensures { Follows self.old (Setup ask) result self.new }
+    {
+        let number = match desk::admit(&self.store, &self.directory, &ask) {
+            Ok(number) => number,
+            Err(fault) => return Reply::NotSetUp(fault, ask),
+        };
+        match setup_line(&mut self.directory, &mut self.lines, number, ask) {
+            Ok(owner) => Reply::SetUp(owner),
+            Err((fault, ask)) => Reply::NotSetUp(fault, ask),
+        }
+    }
+
+    // A connection gets another program.
+    fn reload(&mut self, vc: Vc, program: Id) -> Reply
+        ensures { Follows self.old (Reload vc program) result self.new }
+    {
+        match desk::reload(&self.store, &mut self.directory, vc, program) {
+            Ok(before) => Reply::Reloaded(before),
+            Err(fault) => Reply::Refused(fault),
+        }
+    }
+
+    // A connection ends.
+    fn release(&mut self, vc: Vc) -> Reply
+        ensures { Follows self.old (Release vc) result self.new }
+    {
+        let Some(seating) = pick(&self.directory, vc) else {
+            return Reply::Refused(DeskFault::NoConnection);
+        };
+        match release_line(&mut self.directory, &mut self.lines, vc, &seating) {
+            Ok(piece) => Reply::Released(piece),
+            Err(fault) => Reply::Refused(fault),
+        }
+    }
+
+    // A connection's journal is handed out.
+    fn cut(&mut self, vc: Vc) -> Reply
+        ensures { Follows self.old (Cut vc) result self.new }
+    {
+        let Some(seating) = pick(&self.directory, vc) else {
+            return Reply::Refused(DeskFault::NoConnection);
+        };
+        match cut_line(&mut self.lines, vc, &seating) {
+            Ok(piece) => Reply::Cut(piece),
+            Err(fault) => Reply::Refused(fault),
+        }
+    }
+}
+
+ghost use Rattle.std.specs.Prelude.{◌<◌, ◌^◌, length, None, Some, IfOk, MatchResult};
+ghost use Rattle.line_record.specs.Directory.{seat_of, IsOpenLine};
+ghost use Rattle.upc_cell.specs.Connection.{vc_of};
+ghost use Rattle.card_core.specs.inner.Parts.{IsFound, IsMissed, ChangesLine, JudgesOrRefuses, SetsUpOrRefuses, ReleasesOrRefuses, CutsOrRefuses};
+
+// Where the cell's connection is, and the contract that its program names for it.
+fn find_and_name(
+    store: &Store,
+    directory: &Directory,
+    side: Side,
+    came: &Came,
+) -> Result<Found, Answer>
+    ensures found { MatchResult result
+        (λ found. IsFound store.now directory.now side came.now found)
+        (λ missed. IsMissed store.now directory.now (vc_of side came.now.cell) missed) }
+    ensures within { IfOk result (λ found. found.seating.line < directory.now.lines) }
+{
+    let vc = came.cell.vc_at(side);
+    let Some(seating) = pick(directory, vc) else {
+        return Err(Answer::NoConnection);
+    };
+    let Some(named) = name(store, seating.program, &came.cell) else {
+        return Err(Answer::Stale);
+    };
+    Ok(Found {
+        moment: came.moment,
+        vc,
+        seating,
+        named,
+    })
+}
+
+// Judges a picked cell on its line, which is one of these.
+fn judge_line(lines: &mut Vec<Line>, found: &Found) -> Answer
+    requires { found.now.seating.line < length lines.old.items }
+    ensures { ChangesLine lines.old.items found.now.seating.line
+        (JudgesOrRefuses found.now result) lines.new.items }
+{
+    let line = &mut lines[usize::from(found.seating.line)];
+    judge_at(line, found.vc, &found.seating, &found.named, found.moment)
+}
+
+// Sets up a connection on the line of this number.
+fn setup_line(
+    directory: &mut Directory,
+    lines: &mut Vec<Line>,
+    number: u16,
+    ask: Ask,
+) -> Result<Owner, (DeskFault, Ask)>
+    requires there { number < length lines.old.items }
+    requires absent { seat_of directory.old ask.vc ≡ None }
+    requires within { number < directory.old.lines }
+    requires open { IsOpenLine directory.old number }
+    requires some { 0 < length ask.contracts.items }
+    requires unworn { directory.old.used < 2 ^ 62 }
+    ensures line { ChangesLine lines.old.items number
+        (SetsUpOrRefuses directory.old directory.new number ask result) lines.new.items }
+    ensures lines { directory.new.lines ≡ directory.old.lines }
+{
+    let line = &mut lines[usize::from(number)];
+    desk::setup(directory, line, number, ask)
+}
+
+// Releases a connection from its line.
+fn release_line(
+    directory: &mut Directory,
+    lines: &mut Vec<Line>,
+    vc: Vc,
+    seating: &Seating,
+) -> Result<Piece, DeskFault>
+    requires there { seating.now.line < length lines.old.items }
+    requires sits { seat_of directory.old vc ≡ Some seating.now }
+    ensures line { ChangesLine lines.old.items seating.now.line
+        (ReleasesOrRefuses directory.old directory.new vc seating.now result) lines.new.items }
+    ensures lines { directory.new.lines ≡ directory.old.lines }
+{
+    let line = &mut lines[usize::from(seating.line)];
+    desk::release(directory, line, vc)
+}
+
+// Hands out the journal of a connection's line.
+fn cut_line(lines: &mut Vec<Line>, vc: Vc, seating: &Seating) -> Result<Piece, DeskFault>
+    requires { seating.now.line < length lines.old.items }
+    ensures { ChangesLine lines.old.items seating.now.line
+        (CutsOrRefuses vc seating.now result) lines.new.items }
+{
+    let line = &mut lines[usize::from(seating.line)];
+    desk::cut(line, vc, seating)
+}

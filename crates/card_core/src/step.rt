@@ -1,0 +1,44 @@
+use crate::ask::Ask;
+use bpf_verify::Program;
+use gen_arena::Id;
+use upc_cell::{Cell, Vc};
+
+/// One step of the core. Each cell takes three steps at its port, between which any steps of other
+/// ports and of the desk may come.
+#[derive(Debug, Drop)]
+pub enum Step {
+    /// A cell comes to a port that is outside. From here to its judging no program is loaded or
+    /// retired.
+    Enter {
+        /// The number of the port, from 0.
+        port: u8,
+        cell: Cell,
+        /// When it comes, in ticks.
+        moment: u64,
+    },
+    /// The cell's connection is looked up, and its program names a contract.
+    Pick {
+        /// The number of the port, from 0.
+        port: u8,
+    },
+    /// The cell is judged by the contract that was named.
+    Judge {
+        /// The number of the port, from 0.
+        port: u8,
+    },
+    /// A program is put into the store.
+    Load(Program),
+    /// A program is taken out of the store.
+    Retire(Id),
+    /// A connection is set up.
+    Setup(Ask),
+    /// A connection gets another program. Its buckets and its journal stay.
+    Reload {
+        vc: Vc,
+        program: Id,
+    },
+    /// A connection ends.
+    Release(Vc),
+    /// A connection's journal is handed out, and a new one begins.
+    Cut(Vc),
+}
