@@ -11,3 +11,5 @@ pub mod PortLemmas
 pub mod PortSteps
 pub mod Sound
 pub mod SoundSteps
+pub mod StoreLemmas
+pub mod StoreSteps
