@@ -35,7 +35,7 @@ given-left before (Judge port) refused = given-answered before port refused
 given-left before _ refused = refl
 
 -- an id that is of the next generation of its slot was not given
-new-id : (world : World) → IsSound world → (id : Id) → id.generation ≡ times_given world.given id.slot + 1
+pub new-id : (world : World) → IsSound world → (id : Id) → id.generation ≡ times_given world.given id.slot + 1
     → code_in world.given id ≡ None
 new-id world sound id next =
     let choice : (o : Option (List Instr)) → code_in world.given id ≡ o → o ≡ None = elim [
@@ -58,7 +58,7 @@ given-success before (Reload vc program) reply after sound w = as_before (ap (λ
 given-success before (Release vc) reply after sound w = as_before (ap (λ (v : World). v.given) w.world)
 given-success before (Cut vc) reply after sound w = as_before (ap (λ (v : World). v.given) w.world)
 
-given-step : (before : World) (step : Step) (reply : Reply) (after : World) → IsSound before
+pub given-step : (before : World) (step : Step) (reply : Reply) (after : World) → IsSound before
     → WorldStep before step reply after → GivenCase before.given after.given
 given-step before step reply after sound w = elim (step-case before step reply after w) [
   | succeeded allowed success ↦ given-success before step reply after sound success
@@ -68,7 +68,7 @@ given-step before step reply after sound w = elim (step-case before step reply a
 
 -- An id names one code.
 
-code-kept : (before after : List Loading) → GivenCase before after → (id : Id) (code : List Instr)
+pub code-kept : (before after : List Loading) → GivenCase before after → (id : Id) (code : List Instr)
     → code_in before id ≡ Some code → code_in after id ≡ Some code
 code-kept before after (as_before same) id code e = subst (λ (l : List Loading). code_in l id ≡ Some code) (sym same) e
 code-kept before after (one_more loading same accepted new) id code e =

@@ -1,5 +1,5 @@
 -- The agreement of lines and of seats with the connections, after one connection changed.
-use Rattle.std.proofs.Common.{◌≡◌, ◌≢◌, ◌⊎◌, ℕ, zero, suc, ◌<◌, Option, Some, None, List, [], ◌∷◌, length, set, refl, sym, ap, subst, ◌∙◌, inl, inr, arith}
+use Rattle.std.proofs.Common.{◌≡◌, ◌≢◌, ◌⊎◌, ℕ, zero, suc, ◌<◌, Bool, Option, Some, None, List, [], ◌∷◌, length, set, refl, sym, ap, subst, ◌∙◌, inl, inr, arith}
 use Rattle.std.specs.Prelude.{slice_get, option_map}
 use Rattle.std.proofs.lemmas.Bool.{cases_eq}
 use Rattle.std.proofs.lemmas.List.{length-set, set-get_or}
@@ -164,6 +164,57 @@ module _ (shape : Shape) (lines : List LineView) (connections : List (Vc × Conn
             ]
       ];
       counts = counts-set;
+    }
+
+-- A line that differs in nothing but its room serves as before.
+serves-ready : (line : LineView) (ready : Bool) (vc : Vc) (connection : Connection) (verdicts : List Verdict)
+    → Serves line vc connection verdicts → Serves (record line { ready = ready }) vc connection verdicts
+serves-ready line ready vc connection verdicts serves = record {
+  owner = serves.owner;
+  contracts = serves.contracts;
+  entries = serves.entries;
+  start = serves.start;
+  counts_before = serves.counts_before;
+  state = serves.state;
+}
+
+-- And the lines agree as before.
+pub lines-ready : (shape : Shape) (lines : List LineView) (connections : List (Vc × Connection)) (verdicts : ℕ → List Verdict)
+    (agrees : LinesAgree shape lines connections verdicts) (number : ℕ) (line next : LineView)
+    → slice_get lines number ≡ Some line → next ≡ record line { ready = next.ready }
+    → LinesAgree shape (set lines number next) connections verdicts
+lines-ready shape lines connections verdicts agrees number line next there same =
+    let change : Change shape lines connections verdicts agrees number line next verdicts = record {
+      there = there;
+      journal = ap (λ (l : LineView). l.journal) same;
+      counts = ap (λ (l : LineView). l.state.counts) same ∙ agrees.counts number line there;
+      others = λ other apart. refl;
+    } in
+    record {
+      sized = length-set lines number next ∙ agrees.sized;
+      journals = journals-set shape lines connections verdicts agrees number line next verdicts change;
+      serving = λ vc connection found. elim (cases_eq connection.line number) [
+        | inl on ↦
+            let old = agrees.serving vc connection found in
+            let is : old.0 ≡ line = is_same_Some old.0 line (sym old.1 ∙ ap (slice_get lines) on ∙ there) in
+            let serves : Serves line vc connection (verdicts connection.line) =
+            subst (λ (l : LineView). Serves l vc connection (verdicts connection.line)) is old.2 in
+            (
+              next,
+              ap (slice_get (set lines number next)) on ∙ get-set_same lines number next line there,
+              subst (λ (l : LineView). Serves l vc connection (verdicts connection.line)) (sym same)
+                  (serves-ready line next.ready vc connection (verdicts connection.line) serves),
+            )
+        | inr off ↦ serving-other shape lines connections verdicts agrees number line next verdicts change vc connection found off
+      ];
+      owned = λ k l owner at has. elim (cases_eq k number) [
+        | inl e ↦
+            let is : next ≡ l = now_there shape lines connections verdicts agrees number line next verdicts change k l at e in
+            agrees.owned k line owner (ap (slice_get lines) e ∙ there)
+            (sym (ap (λ (x : LineView). x.owner) same) ∙ ap (λ (x : LineView). x.owner) is ∙ has)
+        | inr off ↦ agrees.owned k l owner (was_there shape lines connections verdicts agrees number line next verdicts change k l at off) has
+      ];
+      counts = counts-set shape lines connections verdicts agrees number line next verdicts change;
     }
 
 module _ (shape : Shape) (directory : DirectoryView) (connections : List (Vc × Connection)) (used : ℕ)

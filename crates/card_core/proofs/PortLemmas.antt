@@ -137,3 +137,14 @@ pub IsCore-left : (old new : DirectoryView) (lines others : List LineView) (port
     → IsCore new others after
 IsCore-left old new lines others ports after port is same_lines same_length e =
     IsCore-moved old new lines others ports after port Outside is same_lines same_length e (λ found there. absurd (cc))
+
+-- A change of one line alone.
+pub IsCore-kept : (old new : DirectoryView) (lines after : List LineView) (ports : List Port) (number : ℕ) (next : LineView)
+    → IsCore old lines ports → new.lines ≡ old.lines → after ≡ set lines number next → IsCore new after ports
+IsCore-kept old new lines after ports number next is same e =
+    let long : length after ≡ length lines = ap length e ∙ length-set lines number next in
+    record {
+      sized = same ∙ is.sized ∙ sym long;
+      within = subst (λ (most : ℕ). (k : ℕ) (found : Found) → found_in (slice_get ports k) ≡ Some found → found.seating.line < most)
+          (sym long) is.within;
+    }

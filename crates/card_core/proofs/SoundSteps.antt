@@ -31,7 +31,7 @@ use Rattle.card_core.proofs.LookUps.{same_some, passed_on, unmapped, is_there, i
 
 -- The opening world.
 
-replicated : {X : Type 0} (n k : ℕ) (x y : X) → slice_get (replicate n x) k ≡ Some y → x ≡ y
+pub replicated : {X : Type 0} (n k : ℕ) (x y : X) → slice_get (replicate n x) k ≡ Some y → x ≡ y
 replicated zero k x y e = absurd (cc)
 replicated (suc n) zero x y e = same_some x y e
 replicated (suc n) (suc k) x y e = replicated n k x y e

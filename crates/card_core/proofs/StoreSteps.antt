@@ -43,7 +43,7 @@ all-outside (Entered came ∷ later) = refl
 all-outside (Picked found ∷ later) = refl
 
 -- A connection that passes a test, where one does.
-tested-connection : (connections : List (Vc × Connection)) (test : (Vc × Connection) → Bool) → list_any test connections ≡ true
+pub tested-connection : (connections : List (Vc × Connection)) (test : (Vc × Connection) → Bool) → list_any test connections ≡ true
     → (here : Vc × Connection) × Contains connections here × (test here ≡ true)
 tested-connection [] test e = absurd (cc)
 tested-connection (first ∷ later) test e =

@@ -1,17 +1,27 @@
 -- What holds of every world that a log leads to.
-use Rattle.std.specs.Prelude.{◌≡◌, ℕ, List, [], Some, IsSome, slice_get}
+use Rattle.std.specs.Prelude.{◌≡◌, ℕ, Bool, true, false, ⊤, List, [], ◌++◌, Some, IsSome, slice_get}
 use Rattle.upc_cell.specs.declared.vc.Vc.{Vc}
 use Rattle.bpf_code.specs.declared.instr.Instr.{Instr}
 use Rattle.bpf_verify.specs.Accepted.{IsAccepted}
 use Rattle.gen_arena.specs.declared.id.Id.{Id}
 use Rattle.leaky.specs.declared.contract.Contract.{Contract}
+use Rattle.leaky.specs.declared.verdict.Verdict.{Verdict}
 use Rattle.leaky.specs.Contract.{peak_of}
 use Rattle.leaky.specs.Laws.{IsBounded}
 use Rattle.line_record.specs.History.{numbered, empty_buckets, judged}
 use Rattle.line_record.specs.Bursts.{peak_charges}
+use Rattle.card_core.specs.declared.answer.Answer.TheVariants.{NoMemory as CellMemory}
+use Rattle.card_core.specs.declared.ask.Ask.{Ask}
+use Rattle.card_core.specs.declared.fault.DeskFault.TheVariants.{NoMemory}
+use Rattle.card_core.specs.declared.reply.Reply.{Reply}
+use Rattle.card_core.specs.declared.reply.Reply.TheVariants.{Answered, NotLoaded, NotSetUp, Refused}
 use Rattle.card_core.specs.declared.shape.Shape.{Shape}
+use Rattle.card_core.specs.declared.step.Step.{Step}
+use Rattle.card_core.specs.declared.step.Step.TheVariants.{Load}
 use Rattle.card_core.specs.World.{World, Loading, Connection, Picking, picked, code_in, connection_in}
+use Rattle.card_core.specs.Steps.{WorldStep}
 use Rattle.card_core.specs.Log.{Event, Run, Leads}
+use Rattle.card_core.specs.Headline.{latest, programs_named, cells_of, cells_on, StandsSince, IsPromised}
 
 -- The program of each connection is live, and so is that of each port's picked cell, although its
 -- connection may have been given another since, or released, or set up again.
@@ -66,3 +76,67 @@ ConnectionsBoundBursts = (shape : Shape) (log : List Event) (world : World) → 
     → (number : ℕ) (contract : Contract) → numbered connection.contracts number ≡ Some contract
     → (first span : ℕ)
     → IsBounded first span (peak_charges number (judged connection.contracts empty_buckets [] connection.history)) (peak_of contract)
+
+-- The reply says that memory was refused.
+abbrev pub is_of_memory : Reply → Bool
+is_of_memory (Answered CellMemory) = true
+is_of_memory (NotLoaded NoMemory code) = true
+is_of_memory (NotSetUp NoMemory ask) = true
+is_of_memory (Refused NoMemory) = true
+is_of_memory _ = false
+
+-- The code of a step that loads one is accepted, as every program's is.
+abbrev pub LoadsAccepted : Step → Type 0
+LoadsAccepted (Load code) = IsAccepted code
+LoadsAccepted _ = ⊤
+
+-- In every world each step has a reply that says nothing of memory: what was begun can be ended.
+abbrev pub StepsHaveReplies : Type 0
+StepsHaveReplies = (shape : Shape) (log : List Event) (world : World) → Leads shape log world
+    → (step : Step) → LoadsAccepted step
+    → (reply : Reply) × (after : World) × WorldStep world step reply after × (is_of_memory reply ≡ false)
+
+-- What the log tells of a connection: it was set up as this was asked, as so many-th among all, and has
+-- stood since; its program is the one that was named last; and its history is what was judged since,
+-- on its virtual connection and on its line alike.
+pub record IsAsTold (shape : Shape) (log : List Event) (vc : Vc) (connection : Connection) : Type 0 where
+  pub ask : Ask
+  pub since : List Event
+  pub stands : StandsSince log vc ask since
+  pub incarnation : connection.incarnation ≡ stands.incarnation
+  pub contracts : connection.contracts ≡ ask.contracts.items
+  pub program : connection.program ≡ latest ask.program (programs_named vc since)
+  pub cells : connection.history ≡ cells_of shape vc since
+  pub held : connection.history ≡ cells_on connection.line since
+
+-- Each connection of the world that a log leads to is as the log tells, and each that the log has
+-- stand is there.
+pub record TellsConnections (shape : Shape) (log : List Event) (world : World) : Type 0 where
+  pub told : (vc : Vc) (connection : Connection) → connection_in world.connections vc ≡ Some connection
+      → IsAsTold shape log vc connection
+  pub there : (vc : Vc) (ask : Ask) (since : List Event) → StandsSince log vc ask since
+      → IsSome (connection_in world.connections vc)
+
+-- So it is in every world.
+abbrev pub ConnectionsAreAsTold : Type 0
+ConnectionsAreAsTold = (shape : Shape) (log : List Event) (world : World) → Leads shape log world
+    → TellsConnections shape log world
+
+-- All that an answer to a judged cell says but the line.
+pub record AreOneAnswer (number another moment other_moment value other_value : ℕ) (program other : Id) (verdict other_verdict : Verdict) (leaving other_leaving : List ℕ) : Type 0 where
+  pub numbers : number ≡ another
+  pub moments : moment ≡ other_moment
+  pub values : value ≡ other_value
+  pub programs : program ≡ other
+  pub verdicts : verdict ≡ other_verdict
+  pub cells : leaving ≡ other_leaving
+
+-- The headline leaves one answer: of a cell that is judged at this port after these events, on this
+-- line, it promises one number, moment, value, program, verdict and leaving cell, and no others.
+abbrev pub PromisesLeaveOneAnswer : Type 0
+PromisesLeaveOneAnswer = (shape : Shape) (before : List Event) (port line : ℕ)
+    → (number another moment other_moment value other_value : ℕ) (program other : Id)
+    → (verdict other_verdict : Verdict) (leaving other_leaving : List ℕ)
+    → IsPromised shape before port line number moment value program verdict leaving
+    → IsPromised shape before port line another other_moment other_value other other_verdict other_leaving
+    → AreOneAnswer number another moment other_moment value other_value program other verdict other_verdict leaving other_leaving

@@ -1,0 +1,92 @@
+-- Pieces, and a line at its connection's setup and cut.
+use Rattle.std.proofs.Common.{◌≡◌, ◌≢◌, ℕ, ◌-◌, false, Option, Some, None, List, [], ◌∷◌, length, take, drop, refl, sym, ap, subst, ◌∙◌, arith}
+use Rattle.std.specs.Prelude.{Result, Ok, Err, MatchResult, IfOk, OnOk, OnErr}
+use Rattle.line_record.specs.declared.directory.Seating.{Seating}
+use Rattle.line_record.specs.Directory.{DirectoryView, Sits}
+use Rattle.card_core.specs.declared.fault.DeskFault.{DeskFault}
+use Rattle.card_core.specs.declared.fault.DeskFault.TheVariants.{Stale}
+use Rattle.card_core.specs.Sections.{holder}
+use Rattle.card_core.specs.inner.Parts.{ReleasesOrRefuses}
+use Rattle.leaky.specs.declared.contract.Contract.{Contract}
+use Rattle.leaky.specs.declared.verdict.Verdict.{Verdict}
+use Rattle.upc_cell.specs.declared.vc.Vc.{Vc}
+use Rattle.line_record.specs.declared.owner.Owner.{Owner}
+use Rattle.line_record.specs.declared.state.State.{State}
+use Rattle.line_record.specs.History.{NamedCell, empty_buckets, judged}
+use Rattle.line_record.specs.Line.{LineView, Opens, free_line}
+use Rattle.line_record.specs.Piece.{PieceView, IsJournalOf}
+use Rattle.line_record.specs.StateAfter.{IsStateAfter}
+use Rattle.line_record.specs.Tally.{tally_of}
+use Rattle.card_core.specs.declared.ask.Ask.{Ask}
+use Rattle.card_core.specs.World.{World, Connection, handed_cells, kept_cells, verdicts_before}
+use Rattle.card_core.specs.Steps.{IsPieceOf, new_connection}
+use Rattle.card_core.specs.Agreement.{Serves, owner_of}
+use Rattle.card_core.proofs.ConnectionLemmas.{is_same_Some}
+
+take-all : {X : Type 0} (xs : List X) → take (length xs) xs ≡ xs
+take-all [] = refl
+take-all (x ∷ xs) = ap (λ later. x ∷ later) (take-all xs)
+
+drop-all : {X : Type 0} (xs : List X) → drop (length xs) xs ≡ []
+drop-all [] = refl
+drop-all (x ∷ xs) = drop-all xs
+
+take-less : {X : Type 0} (xs : List X) → take (length xs - 0) xs ≡ xs
+take-less xs = ap (λ (n : ℕ). take n xs) (let e : length xs - 0 ≡ length xs = omega arith in e) ∙ take-all xs
+
+-- The journal of a line that serves a connection is a piece of the connection's record.
+pub piece-is : (world : World) (vc : Vc) (connection : Connection) (line : LineView) (piece : PieceView)
+    → Serves line vc connection (world.judged connection.line) → line.state.counts ≡ tally_of (world.judged connection.line)
+    → IsJournalOf line piece → IsPieceOf world vc connection piece
+piece-is world vc connection line piece serves counts journal = record {
+  owner = is_same_Some piece.owner (owner_of vc connection) (sym journal.owner ∙ serves.owner);
+  contracts = journal.contracts ∙ serves.contracts;
+  entries = journal.entries ∙ serves.entries;
+  start = subst (λ (state : State). IsStateAfter connection.contracts (handed_cells connection) state) (sym journal.start) serves.start;
+  end = subst (λ (state : State). IsStateAfter connection.contracts connection.history state) (sym journal.end) serves.state;
+  counts_before = ap (λ (state : State). state.counts) journal.start ∙ serves.counts_before;
+  counts = ap (λ (state : State). state.counts) journal.end ∙ counts;
+}
+
+-- A line that was cut serves its connection, all of whose cells were handed out.
+pub cut-serves : (vc : Vc) (connection : Connection) (line : LineView) (verdicts : List Verdict)
+    → Serves line vc connection verdicts → line.state.counts ≡ tally_of verdicts
+    → Serves (record line { start = line.state; entries = [] }) vc (record connection { handed = length connection.history }) verdicts
+cut-serves vc connection line verdicts serves counts =
+    let history = connection.history in
+    let none : drop (length history) history ≡ [] = drop-all history in
+    record {
+      owner = serves.owner;
+      contracts = serves.contracts;
+      entries = sym (ap (judged connection.contracts empty_buckets (take (length history) history)) none);
+      start = subst (λ (cells : List NamedCell). IsStateAfter connection.contracts cells line.state) (sym (take-all history)) serves.state;
+      counts_before = counts ∙ sym (ap (λ (cells : List NamedCell). tally_of (take (length verdicts - length cells) verdicts)) none
+          ∙ ap tally_of (take-less verdicts));
+      state = serves.state;
+    }
+
+-- A line that was opened serves the connection that was set up.
+pub open-serves : (ask : Ask) (number incarnation : ℕ) (line next : LineView) (owner : Owner) (verdicts : List Verdict)
+    → owner ≡ record { vc = ask.vc; incarnation = incarnation } → Opens line owner ask.contracts.items next
+    → IsStateAfter ask.contracts.items [] next.state → line.state.counts ≡ tally_of verdicts
+    → Serves next ask.vc (new_connection ask number incarnation) verdicts
+open-serves ask number incarnation line next owner verdicts given opens history counts = record {
+  owner = opens.owner ∙ ap Some given;
+  contracts = opens.contracts;
+  entries = opens.entries;
+  start = subst (λ (state : State). IsStateAfter ask.contracts.items [] state) (sym opens.start) history;
+  counts_before = ap (λ (state : State). state.counts) opens.start ∙ opens.state.counts ∙ counts ∙ ap tally_of (sym (take-less verdicts));
+  state = history;
+}
+
+-- What a release on lent parts did, in one match.
+pub releases : (old new : DirectoryView) (vc : Vc) (seat : Seating) (line next : LineView) (result : Result PieceView DeskFault)
+    → MatchResult result (λ piece. line.owner ≡ Some (holder vc seat)) (λ fault. (fault ≡ Stale) × (line.owner ≢ Some (holder vc seat)))
+    → IfOk result (λ piece. IsJournalOf line piece) → OnOk result (Sits old vc None new)
+    → OnOk result (next ≡ free_line line.journal line.state.counts false)
+    → OnErr result (new ≡ old) → OnErr result (next ≡ line) → new.used ≡ old.used
+    → ReleasesOrRefuses old new vc seat result line next
+releases old new vc seat line next (Ok piece) served journal gone freed same_directory same_line used =
+    record { journal = journal; gone = gone; used = used; freed = freed }
+releases old new vc seat line next (Err fault) served journal gone freed same_directory same_line used =
+    (served.0, served.1, same_directory, same_line)

@@ -1,0 +1,427 @@
+-- What a log tells of the world that it leads to: of its codes, its connections, its ports and its verdicts.
+use Rattle.std.proofs.Common.{◌≡◌, ◌≢◌, ◌⊎◌, ℕ, suc, ◌+◌, ◌<◌, ◌≤◌, Bool, true, false, cond, List, [], ◌∷◌, ◌++◌, replicate, Option, Some, None, IsSome, slice_get, flat_map, option_to_list, append_assoc, append-nil, refl, sym, ap, ◌∙◌, subst, inl, inr, arith}
+use Rattle.upc_cell.specs.declared.vc.Vc.{Vc}
+use Rattle.bpf_code.specs.declared.instr.Instr.{Instr}
+use Rattle.gen_arena.specs.declared.id.Id.{Id}
+use Rattle.gen_arena.specs.SameId.{is_same_id}
+use Rattle.gen_arena.proofs.Public.{id_same, id_itself, id_differs, id_cases}
+use Rattle.leaky.specs.declared.verdict.Verdict.{Verdict}
+use Rattle.line_record.specs.History.{NamedCell}
+use Rattle.card_core.specs.declared.ask.Ask.{Ask}
+use Rattle.card_core.specs.declared.reply.Reply.{Reply}
+use Rattle.card_core.specs.declared.reply.Reply.TheVariants.{Entered, Picked, Loaded, Retired, SetUp}
+use Rattle.card_core.specs.declared.shape.Shape.{Shape}
+use Rattle.card_core.specs.declared.step.Step.{Step}
+use Rattle.card_core.specs.declared.step.Step.TheVariants.{Enter, Pick, Load, Retire, Setup}
+use Rattle.card_core.specs.World.{World, Loading, Connection, Picking, PortState, outside, entered, picked, code_in, without_code, connection_in, opening_world}
+use Rattle.card_core.specs.Steps.{Gives, WorldStep}
+use Rattle.card_core.specs.Log.{Event, Run, Leads}
+use Rattle.card_core.specs.Headline.{code_loaded, codes_loaded, code_retired, codes_retired, only_of, connection_changed, changes_of, program_named, programs_named, latest, judgement_told, verdicts_on, verdicts_given, on_line, cells_on, on_connection, cells_of, only_port, port_moved, moves_of, entering, picking, setting_up, HasEntered, StandsSince}
+use Rattle.card_core.proofs.Sound.{IsSound}
+use Rattle.card_core.proofs.LookUps.{same_some, there_is, IsSome-of, without_code-was}
+use Rattle.card_core.proofs.SoundSteps.{opening-sound, sound-step, code-cases, replicated}
+use Rattle.card_core.proofs.GivenOnce.{GivenCase, given-step, code-kept}
+use Rattle.card_core.proofs.Told.{StoreTold, store_same, store_loaded, store_retired, Kept, IsFresh, Fate, kept, fresh, IsPickedNow, PortsTold, Tells}
+use Rattle.card_core.proofs.Telling.{step-tells}
+
+-- What the events tell one after another.
+
+module _ {X : Type 0} (told : Event → List X) where
+  pub told-append : (log later : List Event) → flat_map told (log ++ later) ≡ flat_map told log ++ flat_map told later
+  told-append [] later = refl
+  told-append (event ∷ log) later =
+      ap (λ rest. told event ++ rest) (told-append log later)
+      ∙ sym (append_assoc (told event) (flat_map told log) (flat_map told later))
+
+  pub told-more : (log : List Event) (event : Event) → flat_map told (log ++ event ∷ []) ≡ flat_map told log ++ told event
+  told-more log event = told-append log (event ∷ []) ∙ ap (λ rest. flat_map told log ++ rest) (append-nil (told event))
+
+  -- nothing was told before, and nothing is told now
+  pub told-none : (log : List Event) (event : Event) → flat_map told log ≡ [] → told event ≡ []
+      → flat_map told (log ++ event ∷ []) ≡ []
+  told-none log event none now =
+      told-more log event ∙ ap (λ told_before. told_before ++ told event) none ∙ now
+
+pub latest-append : (program : Id) (some more : List Id) → latest program (some ++ more) ≡ latest (latest program some) more
+latest-append program [] more = refl
+latest-append program (next ∷ later) more = latest-append next later more
+
+-- a cut of the log is one of the longer log
+pub cut-more : (log earlier later : List Event) (at event : Event) → log ≡ earlier ++ at ∷ later
+    → log ++ event ∷ [] ≡ earlier ++ at ∷ (later ++ event ∷ [])
+cut-more log earlier later at event cut =
+    ap (λ (l : List Event). l ++ event ∷ []) cut ∙ append_assoc earlier (at ∷ later) (event ∷ [])
+
+-- Codes.
+
+pub record KnowsCodes (log : List Event) (given live : List Loading) : Type 0 where
+  pub loaded : (id : Id) → codes_loaded id log ≡ option_to_list (code_in given id)
+  pub kept : (id : Id) (code : List Instr) → code_in live id ≡ Some code → codes_retired id log ≡ []
+  pub untouched : (id : Id) → code_in given id ≡ None → codes_retired id log ≡ []
+
+loaded-same : (log : List Event) (event : Event) (given : List Loading) → ((id : Id) → codes_loaded id log ≡ option_to_list (code_in given id))
+    → ((id : Id) → code_loaded id event.reply event.step ≡ [])
+    → (id : Id) → codes_loaded id (log ++ event ∷ []) ≡ option_to_list (code_in given id)
+loaded-same log event given known none id =
+    told-more (λ (e : Event). code_loaded id e.reply e.step) log event
+    ∙ ap (λ now. codes_loaded id log ++ now) (none id) ∙ append-nil (codes_loaded id log) ∙ known id
+
+abbrev loading_event : Id → List Instr → Event
+loading_event id code = record { step = Load code; reply = Loaded id }
+
+loaded-more : (log : List Event) (given : List Loading) (id : Id) (code : List Instr)
+    → ((other : Id) → codes_loaded other log ≡ option_to_list (code_in given other)) → code_in given id ≡ None
+    → (other : Id) → codes_loaded other (log ++ loading_event id code ∷ [])
+    ≡ option_to_list (code_in (record { id = id; code = code } ∷ given) other)
+loaded-more log given id code known new other =
+    let more = told-more (λ (e : Event). code_loaded other e.reply e.step) log (loading_event id code) in
+    let before : codes_loaded other log ≡ option_to_list (code_in given other) = known other in
+    elim (id_cases other id) [
+      | inl same ↦
+          let at : is_same_id other id ≡ true = subst (λ (i : Id). is_same_id other i ≡ true) same (id_itself other) in
+          let none : code_in given other ≡ None = subst (λ (i : Id). code_in given i ≡ None) (sym same) new in
+          more ∙ ap (λ told. told ++ cond (is_same_id other id) (code ∷ []) []) (before ∙ ap option_to_list none)
+          ∙ ap (λ b. cond b (code ∷ []) []) at
+          ∙ ap (λ b. option_to_list (cond b (Some code) (code_in given other))) (sym at)
+      | inr apart ↦
+          let at : is_same_id other id ≡ false = id_differs other id apart in
+          more ∙ ap (λ b. codes_loaded other log ++ cond b (code ∷ []) []) at ∙ append-nil (codes_loaded other log) ∙ before
+          ∙ ap (λ b. option_to_list (cond b (Some code) (code_in given other))) (sym at)
+    ]
+
+retired-none : (log : List Event) (event : Event) (id : Id) → codes_retired id log ≡ []
+    → code_retired id event.reply event.step ≡ [] → codes_retired id (log ++ event ∷ []) ≡ []
+retired-none log event id none now = told-none (λ (e : Event). code_retired id e.reply e.step) log event none now
+
+abbrev event_of : Step → Reply → Event
+event_of step reply = record { step = step; reply = reply }
+
+codes-step : (log : List Event) (before after : World) (step : Step) (reply : Reply) → IsSound before
+    → KnowsCodes log before.given before.live → StoreTold before after step reply
+    → KnowsCodes (log ++ event_of step reply ∷ []) after.given after.live
+codes-step log before after step reply sound known (store_same given live none_loaded none_retired) =
+    subst (λ (g : List Loading). KnowsCodes (log ++ event_of step reply ∷ []) g after.live) (sym given)
+    (subst (λ (l : List Loading). KnowsCodes (log ++ event_of step reply ∷ []) before.given l) (sym live) (record {
+      loaded = loaded-same log (event_of step reply) before.given known.loaded none_loaded;
+      kept = λ id code e. retired-none log (event_of step reply) id (known.kept id code e) (none_retired id);
+      untouched = λ id e. retired-none log (event_of step reply) id (known.untouched id e) (none_retired id);
+    }))
+codes-step log before after step reply sound known (store_loaded id code step_is reply_is given live new) =
+    let loading : Loading = record { id = id; code = code } in
+    let now : KnowsCodes (log ++ loading_event id code ∷ []) (loading ∷ before.given) (loading ∷ before.live) = record {
+      loaded = loaded-more log before.given id code known.loaded new;
+      kept = λ other found e. elim (code-cases loading before.live other found e) [
+        | inl here ↦
+            let none : code_in before.given other ≡ None = subst (λ (i : Id). code_in before.given i ≡ None) (sym here.0) new in
+            retired-none log (loading_event id code) other (known.untouched other none) refl
+        | inr there ↦ retired-none log (loading_event id code) other (known.kept other found there.1) refl
+      ];
+      untouched = λ other e. elim (id_cases other id) [
+        | inl same ↦
+            retired-none log (loading_event id code) other
+            (known.untouched other (subst (λ (i : Id). code_in before.given i ≡ None) (sym same) new)) refl
+        | inr apart ↦
+            let at : is_same_id other id ≡ false = id_differs other id apart in
+            let none : code_in before.given other ≡ None =
+            ap (λ b. cond b (Some code) (code_in before.given other)) (sym at) ∙ e in
+            retired-none log (loading_event id code) other (known.untouched other none) refl
+      ];
+    } in
+    subst (λ (s : Step). KnowsCodes (log ++ event_of s reply ∷ []) after.given after.live) (sym step_is)
+    (subst (λ (r : Reply). KnowsCodes (log ++ event_of (Load code) r ∷ []) after.given after.live) (sym reply_is)
+    (subst (λ (g : List Loading). KnowsCodes (log ++ loading_event id code ∷ []) g after.live) (sym given)
+    (subst (λ (l : List Loading). KnowsCodes (log ++ loading_event id code ∷ []) (loading ∷ before.given) l) (sym live) now)))
+codes-step log before after step reply sound known (store_retired id code step_is reply_is given live was) =
+    let event : Event = event_of (Retire id) (Retired code) in
+    let away : (other : Id) → other ≢ id → code_retired other (Retired code) (Retire id) ≡ [] = λ other apart.
+    ap (λ b. cond b (code ∷ []) []) (id_differs other id apart) in
+    let now : KnowsCodes (log ++ event ∷ []) before.given (without_code before.live id) = record {
+      loaded = loaded-same log event before.given known.loaded (λ other. refl);
+      kept = λ other found e.
+          let there = without_code-was before.live id other found e in
+          retired-none log event other (known.kept other found there.1) (away other there.0);
+      untouched = λ other e.
+          let apart : other ≢ id = λ same.
+          let given_too = sound.programs.live_given id code was in
+          let none : code_in before.given id ≡ None = subst (λ (i : Id). code_in before.given i ≡ None) same e in
+          absurd (cc) in
+          retired-none log event other (known.untouched other e) (away other apart);
+    } in
+    subst (λ (s : Step). KnowsCodes (log ++ event_of s reply ∷ []) after.given after.live) (sym step_is)
+    (subst (λ (r : Reply). KnowsCodes (log ++ event_of (Retire id) r ∷ []) after.given after.live) (sym reply_is)
+    (subst (λ (g : List Loading). KnowsCodes (log ++ event ∷ []) g after.live) (sym given)
+    (subst (λ (l : List Loading). KnowsCodes (log ++ event ∷ []) before.given l) (sym live) now)))
+
+-- Connections.
+
+-- a connection was set up, and what was told since then is what it has; but for its program
+pub record Stood (shape : Shape) (log : List Event) (vc : Vc) (connection : Connection) (ask : Ask) (since : List Event) : Type 0 where
+  pub stands : StandsSince log vc ask since
+  pub incarnation : stands.incarnation ≡ connection.incarnation
+  pub contracts : connection.contracts ≡ ask.contracts.items
+  pub cells : connection.history ≡ cells_of shape vc since
+  pub held : connection.history ≡ cells_on connection.line since
+
+-- and its program is the one that was named last
+pub record KnowsConnection (shape : Shape) (log : List Event) (vc : Vc) (connection : Connection) : Type 0 where
+  pub ask : Ask
+  pub since : List Event
+  pub stood : Stood shape log vc connection ask since
+  pub program : connection.program ≡ latest ask.program (programs_named vc since)
+
+-- one more event
+pub stood-more : (shape : Shape) (log : List Event) (vc : Vc) (old connection : Connection) (ask : Ask) (since : List Event) (step : Step) (reply : Reply)
+    → Kept shape old connection vc step reply → Stood shape log vc old ask since
+    → Stood shape (log ++ event_of step reply ∷ []) vc connection ask (since ++ event_of step reply ∷ [])
+stood-more shape log vc old connection ask since step reply keeps known =
+    let event : Event = event_of step reply in
+    record {
+      stands = record {
+        earlier = known.stands.earlier;
+        incarnation = known.stands.incarnation;
+        asked = known.stands.asked;
+        cut = cut-more log known.stands.earlier since (setting_up ask known.stands.incarnation) event known.stands.cut;
+        standing = told-none (λ (e : Event). only_of vc (connection_changed e.reply e.step)) since event
+            known.stands.standing keeps.standing;
+      };
+      incarnation = known.incarnation ∙ sym keeps.incarnation;
+      contracts = keeps.contracts ∙ known.contracts;
+      cells = keeps.cells ∙ ap (λ cells. cells ++ on_connection shape vc (judgement_told reply)) known.cells
+          ∙ sym (told-more (λ (e : Event). on_connection shape vc (judgement_told e.reply)) since event);
+      held = subst (λ line. connection.history ≡ cells_on line (since ++ event ∷ [])) (sym keeps.line)
+          (keeps.held ∙ ap (λ cells. cells ++ on_line old.line (judgement_told reply)) known.held
+          ∙ sym (told-more (λ (e : Event). on_line old.line (judgement_told e.reply)) since event));
+    }
+
+connection-more : (shape : Shape) (log : List Event) (vc : Vc) (old connection : Connection) (step : Step) (reply : Reply)
+    → Kept shape old connection vc step reply → KnowsConnection shape log vc old
+    → KnowsConnection shape (log ++ event_of step reply ∷ []) vc connection
+connection-more shape log vc old connection step reply keeps known = record {
+  ask = known.ask;
+  since = known.since ++ event_of step reply ∷ [];
+  stood = stood-more shape log vc old connection known.ask known.since step reply keeps known.stood;
+  program = keeps.program ∙ ap (λ (p : Id). latest p (program_named vc reply step)) known.program
+      ∙ sym (latest-append known.ask.program (programs_named vc known.since) (program_named vc reply step))
+      ∙ ap (latest known.ask.program)
+      (sym (told-more (λ (e : Event). program_named vc e.reply e.step) known.since (event_of step reply)));
+}
+
+connection-fresh : (shape : Shape) (log : List Event) (used : ℕ) (vc : Vc) (connection : Connection) (step : Step) (reply : Reply)
+    → IsFresh used connection vc step reply → KnowsConnection shape (log ++ event_of step reply ∷ []) vc connection
+connection-fresh shape log used vc connection step reply new =
+    let now : KnowsConnection shape (log ++ setting_up new.ask connection.incarnation ∷ []) vc connection = record {
+      ask = new.ask;
+      since = [];
+      stood = record {
+        stands = record {
+          earlier = log;
+          incarnation = connection.incarnation;
+          asked = new.asked;
+          cut = refl;
+          standing = refl;
+        };
+        incarnation = refl;
+        contracts = new.contracts;
+        cells = new.history;
+        held = new.history;
+      };
+      program = new.program;
+    } in
+    subst (λ (s : Step). KnowsConnection shape (log ++ event_of s reply ∷ []) vc connection) (sym new.step_is)
+    (subst (λ (r : Reply). KnowsConnection shape (log ++ event_of (Setup new.ask) r ∷ []) vc connection) (sym new.reply_is) now)
+
+-- Ports.
+
+-- a cell entered, and its port hasn't moved since
+entered-more : (log : List Event) (port : ℕ) (cell : List ℕ) (moment : ℕ) (step : Step) (reply : Reply)
+    → only_port port (port_moved reply step) ≡ [] → HasEntered log port cell moment
+    → HasEntered (log ++ event_of step reply ∷ []) port cell moment
+entered-more log port cell moment step reply still known = record {
+  earlier = known.earlier;
+  later = known.later ++ event_of step reply ∷ [];
+  cut = cut-more log known.earlier known.later (entering port cell moment) (event_of step reply) known.cut;
+  alone = told-none (λ (e : Event). only_port port (port_moved e.reply e.step)) known.later (event_of step reply) known.alone still;
+}
+
+entered-now : (log : List Event) (port : ℕ) (cell : List ℕ) (moment : ℕ) (step : Step) (reply : Reply)
+    → step ≡ Enter port cell moment → reply ≡ Entered → HasEntered (log ++ event_of step reply ∷ []) port cell moment
+entered-now log port cell moment step reply step_is reply_is =
+    let now : HasEntered (log ++ entering port cell moment ∷ []) port cell moment = record {
+      earlier = log;
+      later = [];
+      cut = refl;
+      alone = refl;
+    } in
+    subst (λ (s : Step). HasEntered (log ++ event_of s reply ∷ []) port cell moment) (sym step_is)
+    (subst (λ (r : Reply). HasEntered (log ++ event_of (Enter port cell moment) r ∷ []) port cell moment) (sym reply_is) now)
+
+-- the connection of a picked cell: what is known of it since it was set up, and the program that it
+-- named when the cell was picked
+pub record KnowsPickedOn (shape : Shape) (log since : List Event) (port : ℕ) (pick : Picking) (connection : Connection) : Type 0 where
+  pub ask : Ask
+  pub until : List Event
+  pub stood : Stood shape log pick.vc connection ask (until ++ picking port ∷ since)
+  pub named : pick.program ≡ latest ask.program (programs_named pick.vc until)
+
+pub record KnowsPick (shape : Shape) (log : List Event) (given : List Loading) (connections : List (Vc × Connection)) (port : ℕ) (pick : Picking) : Type 0 where
+  pub at_pick : List Event
+  pub since : List Event
+  pub cut : log ≡ at_pick ++ picking port ∷ since
+  pub alone : moves_of port since ≡ []
+  pub arrived : HasEntered at_pick port pick.cell pick.moment
+  pub code : List Instr
+  pub given_code : code_in given pick.program ≡ Some code
+  pub loaded : codes_loaded pick.program at_pick ≡ code ∷ []
+  pub gives : Gives code pick.cell pick.value
+  pub standing : (connection : Connection) → connection_in connections pick.vc ≡ Some connection
+      → connection.incarnation ≡ pick.incarnation → KnowsPickedOn shape log since port pick connection
+
+-- one more event, in which the port doesn't move
+pick-more : (shape : Shape) (log : List Event) (before after : World) (step : Step) (reply : Reply) (port : ℕ) (pick : Picking)
+    → IsSound before → Tells shape before step reply after
+    → ((id : Id) (code : List Instr) → code_in before.given id ≡ Some code → code_in after.given id ≡ Some code)
+    → slice_get before.ports port ≡ Some (picked pick) → only_port port (port_moved reply step) ≡ []
+    → KnowsPick shape log before.given before.connections port pick
+    → KnowsPick shape (log ++ event_of step reply ∷ []) after.given after.connections port pick
+pick-more shape log before after step reply port pick sound tells keeps_codes had still known =
+    let event : Event = event_of step reply in
+    record {
+      at_pick = known.at_pick;
+      since = known.since ++ event ∷ [];
+      cut = cut-more log known.at_pick known.since (picking port) event known.cut;
+      alone = told-none (λ (e : Event). only_port port (port_moved e.reply e.step)) known.since event known.alone still;
+      arrived = known.arrived;
+      code = known.code;
+      given_code = keeps_codes pick.program known.code known.given_code;
+      loaded = known.loaded;
+      gives = known.gives;
+      standing = λ connection found same. elim (tells.connections pick.vc connection found) [
+        | kept old at keeps ↦
+            let on = known.standing old at (sym keeps.incarnation ∙ same) in
+            record {
+              ask = on.ask;
+              until = on.until;
+              stood = subst (λ (s : List Event). Stood shape (log ++ event ∷ []) pick.vc connection on.ask s)
+                  (append_assoc on.until (picking port ∷ known.since) (event ∷ []))
+                  (stood-more shape log pick.vc old connection on.ask (on.until ++ picking port ∷ known.since) step reply keeps on.stood);
+              named = on.named;
+            }
+        | fresh new ↦ absurd (omega (arith, new.later, same, (sound.ports port pick had).old))
+      ];
+    }
+
+-- the event in which the cell is picked
+pick-now : (shape : Shape) (log : List Event) (before after : World) (step : Step) (reply : Reply) (port : ℕ) (pick : Picking)
+    → Tells shape before step reply after
+    → ((id : Id) (code : List Instr) → code_in before.given id ≡ Some code → code_in after.given id ≡ Some code)
+    → KnowsCodes log before.given before.live
+    → ((vc : Vc) (connection : Connection) → connection_in before.connections vc ≡ Some connection → KnowsConnection shape log vc connection)
+    → HasEntered log port pick.cell pick.moment
+    → IsSound before
+    → IsPickedNow before port pick step reply
+    → KnowsPick shape (log ++ event_of step reply ∷ []) after.given after.connections port pick
+pick-now shape log before after step reply port pick tells keeps_codes codes connections arrived sound now =
+    let event : Event = event_of step reply in
+    let event_is : event ≡ picking port =
+    ap (λ (s : Step). event_of s reply) now.step_is ∙ ap (λ (r : Reply). event_of (Pick port) r) now.reply_is in
+    record {
+      at_pick = log;
+      since = [];
+      cut = ap (λ (e : Event). log ++ e ∷ []) event_is;
+      alone = refl;
+      arrived = arrived;
+      code = now.code;
+      given_code = keeps_codes pick.program now.code now.given;
+      loaded = codes.loaded pick.program ∙ ap option_to_list now.given;
+      gives = now.gives;
+      standing = λ connection found same. elim (tells.connections pick.vc connection found) [
+        | kept old at keeps ↦
+            let known = connections pick.vc old at in
+            let named : pick.program ≡ old.program =
+            now.program ∙ ap (λ (c : Connection). c.program) (same_some now.connection old (sym now.found ∙ at)) in
+            record {
+              ask = known.ask;
+              until = known.since;
+              stood = subst (λ (e : Event). Stood shape (log ++ event ∷ []) pick.vc connection known.ask (known.since ++ e ∷ []))
+                  event_is
+                  (stood-more shape log pick.vc old connection known.ask known.since step reply keeps known.stood);
+              named = named ∙ known.program;
+            }
+        | fresh new ↦
+            let was = (sound.connections.each pick.vc now.connection now.found).old in
+            absurd (omega (arith, new.later, same, now.incarnation, was))
+      ];
+    }
+
+-- All of it.
+
+pub record Knows (shape : Shape) (log : List Event) (world : World) : Type 0 where
+  pub shape_is : world.shape ≡ shape
+  pub codes : KnowsCodes log world.given world.live
+  pub connections : (vc : Vc) (connection : Connection) → connection_in world.connections vc ≡ Some connection
+      → KnowsConnection shape log vc connection
+  pub entered_ports : (port : ℕ) (cell : List ℕ) (moment : ℕ) → slice_get world.ports port ≡ Some (entered cell moment)
+      → HasEntered log port cell moment
+  pub picked_ports : (port : ℕ) (pick : Picking) → slice_get world.ports port ≡ Some (picked pick)
+      → KnowsPick shape log world.given world.connections port pick
+  pub verdicts : (line : ℕ) → world.judged line ≡ verdicts_given line log
+
+knows-opening : (shape : Shape) → Knows shape [] (opening_world shape)
+knows-opening shape = record {
+  shape_is = refl;
+  codes = record {
+    loaded = λ id. refl;
+    kept = λ id code e. refl;
+    untouched = λ id e. refl;
+  };
+  connections = λ vc connection e. absurd (cc);
+  entered_ports = λ port cell moment e.
+      let none : outside ≡ entered cell moment = replicated shape.ports port outside (entered cell moment) e in absurd (cc);
+  picked_ports = λ port pick e.
+      let none : outside ≡ picked pick = replicated shape.ports port outside (picked pick) e in absurd (cc);
+  verdicts = λ line. refl;
+}
+
+pub knows-step : (shape : Shape) (log : List Event) (before after : World) (step : Step) (reply : Reply) → IsSound before
+    → Knows shape log before → WorldStep before step reply after → Knows shape (log ++ event_of step reply ∷ []) after
+knows-step shape log before after step reply sound known w =
+    let tells = step-tells shape before step reply after sound known.shape_is w in
+    let keeps_codes = code-kept before.given after.given (given-step before step reply after sound w) in
+    record {
+      shape_is = tells.shape_same ∙ known.shape_is;
+      codes = codes-step log before after step reply sound known.codes tells.store;
+      connections = λ vc connection found. elim (tells.connections vc connection found) [
+        | kept old at keeps ↦ connection-more shape log vc old connection step reply keeps (known.connections vc old at)
+        | fresh new ↦ connection-fresh shape log before.used vc connection step reply new
+      ];
+      entered_ports = λ port cell moment e. elim (tells.ports.entered_ports port cell moment e) [
+        | inl stays ↦ entered-more log port cell moment step reply stays.1 (known.entered_ports port cell moment stays.0)
+        | inr now ↦ entered-now log port cell moment step reply now.0 now.1
+      ];
+      picked_ports = λ port pick e. elim (tells.ports.picked_ports port pick e) [
+        | inl stays ↦
+            pick-more shape log before after step reply port pick sound tells keeps_codes stays.0 stays.1
+            (known.picked_ports port pick stays.0)
+        | inr now ↦
+            pick-now shape log before after step reply port pick tells keeps_codes known.codes known.connections
+            (known.entered_ports port pick.cell pick.moment now.had) sound now
+      ];
+      verdicts = λ line.
+          tells.verdicts line ∙ ap (λ verdicts. verdicts ++ verdicts_on line (judgement_told reply)) (known.verdicts line)
+          ∙ sym (told-more (λ (e : Event). verdicts_on line (judgement_told e.reply)) log (event_of step reply));
+    }
+
+pub knows-run : (shape : Shape) (log : List Event) (before : World) (further : List Event) (after : World) → IsSound before
+    → Knows shape log before → Run before further after → Knows shape (log ++ further) after
+knows-run shape log before [] after sound known run =
+    subst (λ (w : World). Knows shape (log ++ []) w) (sym run)
+    (subst (λ (l : List Event). Knows shape l before) (sym (append-nil log)) known)
+knows-run shape log before (event ∷ later) after sound known run =
+    subst (λ (l : List Event). Knows shape l after) (append_assoc log (event ∷ []) later)
+    (knows-run shape (log ++ event ∷ []) run.0 later after
+    (sound-step before event.step event.reply run.0 sound run.1)
+    (knows-step shape log before run.0 event.step event.reply sound known run.1) run.2)
+
+pub leads-knows : (shape : Shape) (log : List Event) (world : World) → Leads shape log world → Knows shape log world
+leads-knows shape log world leads =
+    knows-run shape [] (opening_world shape) log world (opening-sound shape) (knows-opening shape) leads

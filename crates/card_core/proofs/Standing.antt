@@ -1,0 +1,158 @@
+-- The connections of a world are those of which its log tells.
+use Rattle.std.proofs.Common.{◌≡◌, ◌≢◌, ◌⊎◌, ℕ, suc, ◌+◌, Bool, true, false, cond, List, [], ◌∷◌, ◌++◌, Option, Some, None, IsSome, is_some, option_map, refl, sym, ap, ◌∙◌, subst, inl, inr}
+use Rattle.upc_cell.specs.declared.vc.Vc.{Vc}
+use Rattle.upc_cell.specs.Connection.{is_same_vc}
+use Rattle.upc_cell.proofs.Public.{vc_itself, vc_cases}
+use Rattle.bpf_code.specs.declared.instr.Instr.{Instr}
+use Rattle.gen_arena.specs.declared.id.Id.{Id}
+use Rattle.line_record.specs.declared.owner.Owner.{Owner}
+use Rattle.card_core.specs.declared.answer.Answer.{Answer}
+use Rattle.card_core.specs.declared.ask.Ask.{Ask}
+use Rattle.card_core.specs.declared.fault.DeskFault.TheVariants.{NoMemory}
+use Rattle.card_core.specs.declared.reply.Reply.{Reply}
+use Rattle.card_core.specs.declared.reply.Reply.TheVariants.{Answered, Released, SetUp, NotSetUp}
+use Rattle.card_core.specs.declared.shape.Shape.{Shape}
+use Rattle.card_core.specs.declared.step.Step.{Step}
+use Rattle.card_core.specs.declared.step.Step.TheVariants.{Enter, Pick, Judge, Load, Retire, Setup, Reload, Release, Cut}
+use Rattle.card_core.specs.World.{World, Connection, connection_in, without_connection, with_connection, opening_world}
+use Rattle.card_core.specs.Refusals.{refusal, setup_fault}
+use Rattle.card_core.specs.Steps.{Succeeds, SetsUp, WorldStep, left_by, with_answered, new_connection}
+use Rattle.card_core.specs.Log.{Event, Run, Leads}
+use Rattle.card_core.specs.Headline.{connection_changed, only_of, changes_of, setting_up, StandsSince}
+use Rattle.card_core.specs.Laws.{IsAsTold, TellsConnections, ConnectionsAreAsTold}
+use Rattle.card_core.proofs.LookUps.{IsSome-of, with-here, with-others, without-others}
+use Rattle.card_core.proofs.SoundSteps.{StepCase, succeeded, starved, rejected, step-case}
+use Rattle.card_core.proofs.Telling.{mapped}
+use Rattle.card_core.proofs.Knows.{KnowsConnection, leads-knows}
+use Rattle.card_core.proofs.Promise.{run-parts}
+
+-- Both of two lists are empty if they are together.
+
+nothing-first : {X : Type 0} (xs ys : List X) → xs ++ ys ≡ [] → xs ≡ []
+nothing-first [] ys e = refl
+nothing-first (x ∷ xs) ys e = absurd (cc)
+
+nothing-second : {X : Type 0} (xs ys : List X) → xs ++ ys ≡ [] → ys ≡ []
+nothing-second [] ys e = e
+nothing-second (x ∷ xs) ys e = absurd (cc)
+
+-- A connection that is there stays, unless it is released.
+
+there-with : (connections : List (Vc × Connection)) (other : Vc) (new : Connection) (vc : Vc)
+    → IsSome (connection_in connections vc) → IsSome (connection_in (with_connection connections other new) vc)
+there-with connections other new vc there = elim (vc_cases vc other) [
+  | inl same ↦
+      subst (λ (v : Vc). IsSome (connection_in (with_connection connections other new) v)) (sym same)
+      (ap is_some (with-here connections other new))
+  | inr apart ↦ ap is_some (with-others connections other new vc apart) ∙ there
+]
+
+apart-from : (vc other : Vc) → only_of vc (other ∷ []) ≡ [] → vc ≢ other
+apart-from vc other none same =
+    let at : is_same_vc vc other ≡ true = subst (λ (v : Vc). is_same_vc vc v ≡ true) same (vc_itself vc) in
+    let some : only_of vc (other ∷ []) ≡ other ∷ [] = ap (λ b. cond b (other ∷ []) []) at in
+    absurd (cc)
+
+abbrev IsThere : World → Vc → Type 0
+IsThere world vc = IsSome (connection_in world.connections vc)
+
+-- what a reply and a step tell of the connections
+abbrev Unchanged : Vc → Step → Reply → Type 0
+Unchanged vc step reply = only_of vc (connection_changed reply step) ≡ []
+
+stays-success : (before : World) (step : Step) (reply : Reply) (after : World) (vc : Vc) → IsThere before vc
+    → Succeeds before step reply after → Unchanged vc step reply → IsThere after vc
+stays-success before (Enter port cell moment) reply after vc there w still = subst (λ (v : World). IsThere v vc) (sym w.world) there
+stays-success before (Pick port) reply after vc there w still = subst (λ (v : World). IsThere v vc) (sym w.world) there
+stays-success before (Judge port) reply after vc there w still =
+    subst (λ (v : World). IsThere v vc) (sym w.world) (there-with before.connections w.picking.vc _ vc there)
+stays-success before (Load code) reply after vc there w still = subst (λ (v : World). IsThere v vc) (sym w.world) there
+stays-success before (Retire id) reply after vc there w still = subst (λ (v : World). IsThere v vc) (sym w.world) there
+stays-success before (Setup ask) reply after vc there w still =
+    subst (λ (v : World). IsThere v vc) (sym w.world) (there-with before.connections ask.vc _ vc there)
+stays-success before (Reload other program) reply after vc there w still =
+    subst (λ (v : World). IsThere v vc) (sym w.world) (there-with before.connections other _ vc there)
+stays-success before (Release other) reply after vc there w still =
+    let told : only_of vc (other ∷ []) ≡ [] = subst (λ (r : Reply). Unchanged vc (Release other) r) w.answer still in
+    subst (λ (v : World). IsThere v vc) (sym w.world)
+    (ap is_some (without-others before.connections other vc (apart-from vc other told)) ∙ there)
+stays-success before (Cut other) reply after vc there w still =
+    subst (λ (v : World). IsThere v vc) (sym w.world) (there-with before.connections other _ vc there)
+
+there-answered : (before : World) (port : ℕ) (reply : Reply) (vc : Vc) → IsThere before vc → IsThere (with_answered before port reply) vc
+there-answered before port (Answered answer) vc there = there
+there-answered before port _ vc there = there
+
+there-left : (before : World) (step : Step) (refused : Reply) (vc : Vc) → IsThere before vc → IsThere (left_by before step refused) vc
+there-left before (Pick port) refused vc there = there-answered before port refused vc there
+there-left before (Judge port) refused vc there = there-answered before port refused vc there
+there-left before _ refused vc there = there
+
+stays : (before : World) (step : Step) (reply : Reply) (after : World) (vc : Vc) → IsThere before vc
+    → WorldStep before step reply after → Unchanged vc step reply → IsThere after vc
+stays before step reply after vc there w still = elim (step-case before step reply after w) [
+  | succeeded allowed success ↦ stays-success before step reply after vc there success still
+  | starved memory ↦ subst (λ (v : World). IsThere v vc) (sym memory.world) there
+  | rejected refused e refusing ↦ subst (λ (v : World). IsThere v vc) (sym refusing.world) (there-left before step refused vc there)
+]
+
+stays-run : (before : World) (log : List Event) (after : World) (vc : Vc) → IsThere before vc
+    → Run before log after → changes_of vc log ≡ [] → IsThere after vc
+stays-run before [] after vc there run still = subst (λ (v : World). IsThere v vc) (sym run) there
+stays-run before (event ∷ later) after vc there run still =
+    stays-run run.0 later after vc
+    (stays before event.step event.reply run.0 vc there run.1
+    (nothing-first (only_of vc (connection_changed event.reply event.step)) (changes_of vc later) still))
+    run.2 (nothing-second (only_of vc (connection_changed event.reply event.step)) (changes_of vc later) still)
+
+-- A connection that was set up is there.
+
+has_set_up : Reply → Bool
+has_set_up (SetUp owner) = true
+has_set_up _ = false
+
+set-up-there : (before : World) (ask : Ask) (owner : Owner) (after : World) → WorldStep before (Setup ask) (SetUp owner) after
+    → IsThere after ask.vc
+unfolding has_set_up
+set-up-there before ask owner after w = elim (step-case before (Setup ask) (SetUp owner) after w) [
+  | succeeded allowed success ↦
+      subst (λ (v : World). IsThere v ask.vc) (sym success.world)
+      (ap is_some (with-here before.connections ask.vc (new_connection ask success.line (before.used + 1))))
+  | starved memory ↦
+      let answered : Some (NotSetUp NoMemory ask) ≡ Some (SetUp owner) = memory.answer in
+      absurd (cc)
+  | rejected refused e refusing ↦
+      let found = mapped (λ fault. NotSetUp fault ask) (setup_fault before ask) refused e in
+      let answered : SetUp owner ≡ NotSetUp found.0 ask = refusing.answer ∙ found.2 in
+      absurd (cc)
+]
+
+standing-there : (shape : Shape) (log : List Event) (world : World) → Leads shape log world
+    → (vc : Vc) (ask : Ask) (since : List Event) → StandsSince log vc ask since → IsThere world vc
+standing-there shape log world leads vc ask since stands =
+    let run : Run (opening_world shape) (stands.earlier ++ setting_up ask stands.incarnation ∷ since) world =
+    subst (λ (l : List Event). Run (opening_world shape) l world) stands.cut leads in
+    let parts = run-parts (opening_world shape) stands.earlier (setting_up ask stands.incarnation ∷ since) world run in
+    let there : IsThere parts.2.0 vc =
+    subst (λ (v : Vc). IsThere parts.2.0 v) stands.asked
+    (set-up-there parts.0 ask (record { vc = ask.vc; incarnation = stands.incarnation }) parts.2.0 parts.2.1) in
+    stays-run parts.2.0 since world vc there parts.2.2 stands.standing
+
+as-told : (shape : Shape) (log : List Event) (vc : Vc) (connection : Connection) → KnowsConnection shape log vc connection
+    → IsAsTold shape log vc connection
+as-told shape log vc connection known = record {
+  ask = known.ask;
+  since = known.since;
+  stands = known.stood.stands;
+  incarnation = sym known.stood.incarnation;
+  contracts = known.stood.contracts;
+  program = known.program;
+  cells = known.stood.cells;
+  held = known.stood.held;
+}
+
+pub connections-told : ConnectionsAreAsTold
+connections-told shape log world leads = record {
+  told = λ vc connection found. as-told shape log vc connection ((leads-knows shape log world leads).connections vc connection found);
+  there = standing-there shape log world leads;
+}

@@ -1,0 +1,205 @@
+-- What each step tells by its reply, of the codes, of the connections, of the ports and of the verdicts.
+use Rattle.std.proofs.Common.{◌≡◌, ◌≢◌, ◌⊎◌, ℕ, zero, suc, ◌+◌, ◌<◌, ◌≤◌, ◌==◌, Bool, true, false, cond, List, [], ◌∷◌, ◌++◌, length, set, Option, Some, None, slice_get, is_none, option_map, nat_lt, nat_le, append-nil, refl, sym, ap, ◌∙◌, subst, inl, inr, arith}
+use Rattle.std.proofs.lemmas.Bool.{eqb-true, eqb-false, eq-eqb, ne_eqb, cases_eq}
+use Rattle.upc_cell.specs.declared.side.Side.{Side}
+use Rattle.upc_cell.specs.declared.vc.Vc.{Vc}
+use Rattle.upc_cell.specs.Connection.{vc_of, is_same_vc}
+use Rattle.upc_cell.specs.Header.{has_low_priority}
+use Rattle.upc_cell.proofs.Public.{vc_itself, vc_differs, vc_cases}
+use Rattle.bpf_code.specs.declared.instr.Instr.{Instr}
+use Rattle.bpf_verify.specs.Accepted.{IsAccepted}
+use Rattle.gen_arena.specs.declared.id.Id.{Id}
+use Rattle.leaky.specs.declared.verdict.Verdict.{Verdict}
+use Rattle.line_record.specs.History.{NamedCell, numbered, buckets_after, empty_buckets}
+use Rattle.card_core.specs.declared.answer.Answer.{Answer}
+use Rattle.card_core.specs.declared.answer.Answer.TheVariants.{Judged, NoConnection as UnknownCell, Released as PickReleased, MomentTooLate, MomentBack, JournalFull}
+use Rattle.card_core.specs.declared.ask.Ask.{Ask}
+use Rattle.card_core.specs.declared.fault.DeskFault.{DeskFault}
+use Rattle.card_core.specs.declared.reply.Reply.{Reply}
+use Rattle.card_core.specs.declared.reply.Reply.TheVariants.{Entered, Picked, NotNow, Answered, Loaded, NotLoaded, Retired, SetUp, NotSetUp, Reloaded, Released, Cut as CutOff, Refused}
+use Rattle.card_core.specs.declared.shape.Shape.{Shape}
+use Rattle.card_core.specs.declared.step.Step.{Step}
+use Rattle.card_core.specs.declared.step.Step.TheVariants.{Enter, Pick, Judge, Load, Retire, Setup, Reload, Release, Cut}
+use Rattle.card_core.specs.World.{World, Loading, Connection, Picking, PortState, outside, entered, picked, code_in, without_code, connection_in, with_connection, without_connection, with_port, with_verdict}
+use Rattle.card_core.specs.Refusals.{refusal, enter_refusal, pick_refusal, judge_refusal, picking_refusal, cell_refusal}
+use Rattle.card_core.specs.Steps.{Gives, Enters, Picks, Judges, Loads, Retires, SetsUp, Reloads, Releases, Cuts, Succeeds, FindsNoMemory, without_memory, IsRefused, WorldStep, left_by, with_answered, cell_after, cell_of_picking, with_cell, verdict_on, judgement_of, number_with, new_connection, picking_of, judged_world}
+use Rattle.card_core.specs.Headline.{code_loaded, code_retired, connection_changed, only_of, program_named, latest, Judgement, came_with, judgement_told, verdicts_on, on_line, on_connection, port_of, only_port, port_moved}
+use Rattle.card_core.proofs.Sound.{IsSound}
+use Rattle.card_core.proofs.LookUps.{same_some, with-here, with-others, without-here, without-others, slice_get-set}
+use Rattle.card_core.proofs.CellLemmas.{vc-after, came}
+use Rattle.card_core.proofs.SoundSteps.{StepCase, succeeded, starved, rejected, step-case, picked_same, setup-allowed}
+use Rattle.card_core.proofs.GivenOnce.{new-id}
+
+-- Codes.
+
+pub data StoreTold (before after : World) (step : Step) (reply : Reply) : Type 0 where
+  store_same : after.given ≡ before.given → after.live ≡ before.live
+      → ((id : Id) → code_loaded id reply step ≡ []) → ((id : Id) → code_retired id reply step ≡ [])
+      → StoreTold before after step reply
+  store_loaded : (id : Id) (code : List Instr) → step ≡ Load code → reply ≡ Loaded id
+      → after.given ≡ record { id = id; code = code } ∷ before.given
+      → after.live ≡ record { id = id; code = code } ∷ before.live
+      → code_in before.given id ≡ None
+      → StoreTold before after step reply
+  store_retired : (id : Id) (code : List Instr) → step ≡ Retire id → reply ≡ Retired code
+      → after.given ≡ before.given → after.live ≡ without_code before.live id
+      → code_in before.live id ≡ Some code
+      → StoreTold before after step reply
+
+-- Connections.
+
+-- a connection that was there before, and what was told of it
+pub record Kept (shape : Shape) (old connection : Connection) (vc : Vc) (step : Step) (reply : Reply) : Type 0 where
+  pub incarnation : connection.incarnation ≡ old.incarnation
+  pub line : connection.line ≡ old.line
+  pub contracts : connection.contracts ≡ old.contracts
+  pub standing : only_of vc (connection_changed reply step) ≡ []
+  pub program : connection.program ≡ latest old.program (program_named vc reply step)
+  pub cells : connection.history ≡ old.history ++ on_connection shape vc (judgement_told reply)
+  pub held : connection.history ≡ old.history ++ on_line old.line (judgement_told reply)
+
+-- a connection that is there since this step
+pub record IsFresh (used : ℕ) (connection : Connection) (vc : Vc) (step : Step) (reply : Reply) : Type 0 where
+  pub ask : Ask
+  pub asked : ask.vc ≡ vc
+  pub step_is : step ≡ Setup ask
+  pub reply_is : reply ≡ SetUp (record { vc = ask.vc; incarnation = connection.incarnation })
+  pub later : used < connection.incarnation
+  pub contracts : connection.contracts ≡ ask.contracts.items
+  pub program : connection.program ≡ ask.program
+  pub history : connection.history ≡ []
+
+pub data Fate (shape : Shape) (before : World) (vc : Vc) (connection : Connection) (step : Step) (reply : Reply) : Type 0 where
+  kept : (old : Connection) → connection_in before.connections vc ≡ Some old → Kept shape old connection vc step reply
+      → Fate shape before vc connection step reply
+  fresh : IsFresh before.used connection vc step reply → Fate shape before vc connection step reply
+
+abbrev pub ConnectionsTold : Shape → World → World → Step → Reply → Type 0
+ConnectionsTold shape before after step reply = (vc : Vc) (connection : Connection)
+    → connection_in after.connections vc ≡ Some connection → Fate shape before vc connection step reply
+
+-- nothing is told of the connection
+pub record IsSilent (vc : Vc) (step : Step) (reply : Reply) : Type 0 where
+  pub standing : only_of vc (connection_changed reply step) ≡ []
+  pub programs : program_named vc reply step ≡ []
+  pub cells : judgement_told reply ≡ []
+
+-- then it is as it was, but for what the log doesn't tell
+pub kept-silent : (shape : Shape) (old connection : Connection) (vc : Vc) (step : Step) (reply : Reply) → IsSilent vc step reply
+    → connection.incarnation ≡ old.incarnation → connection.line ≡ old.line → connection.contracts ≡ old.contracts
+    → connection.program ≡ old.program → connection.history ≡ old.history → Kept shape old connection vc step reply
+kept-silent shape old connection vc step reply silent incarnation line contracts program history = record {
+  incarnation = incarnation;
+  line = line;
+  contracts = contracts;
+  standing = silent.standing;
+  program = program ∙ sym (ap (latest old.program) silent.programs);
+  cells = history ∙ sym (ap (λ told. old.history ++ on_connection shape vc told) silent.cells ∙ append-nil old.history);
+  held = history ∙ sym (ap (λ told. old.history ++ on_line old.line told) silent.cells ∙ append-nil old.history);
+}
+
+pub same-silent : (shape : Shape) (old connection : Connection) (vc : Vc) (step : Step) (reply : Reply) → IsSilent vc step reply
+    → connection ≡ old → Kept shape old connection vc step reply
+same-silent shape old connection vc step reply silent same =
+    subst (λ (c : Connection). Kept shape old c vc step reply) (sym same)
+    (kept-silent shape old old vc step reply silent refl refl refl refl refl)
+
+pub connections-same : (shape : Shape) (before after : World) (step : Step) (reply : Reply) → ((vc : Vc) → IsSilent vc step reply)
+    → after.connections ≡ before.connections → ConnectionsTold shape before after step reply
+connections-same shape before after step reply silent same vc connection found =
+    kept connection (subst (λ (l : List (Vc × Connection)). connection_in l vc ≡ Some connection) same found)
+    (same-silent shape connection connection vc step reply (silent vc) refl)
+
+-- one connection is written anew, of which that is told, and the others stay
+pub connections-with : (shape : Shape) (before after : World) (step : Step) (reply : Reply) (vc : Vc) (new : Connection)
+    → after.connections ≡ with_connection before.connections vc new
+    → Fate shape before vc new step reply
+    → ((other : Vc) → other ≢ vc → (old : Connection) → connection_in before.connections other ≡ Some old
+    → Kept shape old old other step reply)
+    → ConnectionsTold shape before after step reply
+connections-with shape before after step reply vc new same here others other connection found =
+    let at : connection_in (with_connection before.connections vc new) other ≡ Some connection =
+    subst (λ (l : List (Vc × Connection)). connection_in l other ≡ Some connection) same found in
+    elim (vc_cases other vc) [
+      | inl is ↦
+          let at_vc : connection_in (with_connection before.connections vc new) vc ≡ Some connection =
+          subst (λ (v : Vc). connection_in (with_connection before.connections vc new) v ≡ Some connection) is at in
+          let new_is : new ≡ connection = same_some new connection (sym (with-here before.connections vc new) ∙ at_vc) in
+          subst (λ (v : Vc). Fate shape before v connection step reply) (sym is)
+          (subst (λ (c : Connection). Fate shape before vc c step reply) new_is here)
+      | inr apart ↦
+          let old : connection_in before.connections other ≡ Some connection =
+          sym (with-others before.connections vc new other apart) ∙ at in
+          kept connection old (others other apart connection old)
+    ]
+
+-- Ports.
+
+-- a port keeps its state, and didn't move
+abbrev pub PortStays : World → ℕ → PortState → Step → Reply → Type 0
+PortStays before port state step reply =
+    (slice_get before.ports port ≡ Some state) × (only_port port (port_moved reply step) ≡ [])
+
+-- a port's cell is picked in this step
+pub record IsPickedNow (before : World) (port : ℕ) (picking : Picking) (step : Step) (reply : Reply) : Type 0 where
+  pub step_is : step ≡ Pick port
+  pub reply_is : reply ≡ Picked
+  pub had : slice_get before.ports port ≡ Some (entered picking.cell picking.moment)
+  pub connection : Connection
+  pub found : connection_in before.connections picking.vc ≡ Some connection
+  pub incarnation : picking.incarnation ≡ connection.incarnation
+  pub program : picking.program ≡ connection.program
+  pub code : List Instr
+  pub given : code_in before.given picking.program ≡ Some code
+  pub gives : Gives code picking.cell picking.value
+
+pub record PortsTold (before after : World) (step : Step) (reply : Reply) : Type 0 where
+  pub entered_ports : (port : ℕ) (cell : List ℕ) (moment : ℕ) → slice_get after.ports port ≡ Some (entered cell moment)
+      → PortStays before port (entered cell moment) step reply ⊎ ((step ≡ Enter port cell moment) × (reply ≡ Entered))
+  pub picked_ports : (port : ℕ) (picking : Picking) → slice_get after.ports port ≡ Some (picked picking)
+      → PortStays before port (picked picking) step reply ⊎ IsPickedNow before port picking step reply
+
+pub ports-same : (before after : World) (step : Step) (reply : Reply) → after.ports ≡ before.ports
+    → port_moved reply step ≡ [] → PortsTold before after step reply
+ports-same before after step reply same still = record {
+  entered_ports = λ port cell moment e.
+      inl (subst (λ (l : List PortState). slice_get l port ≡ Some (entered cell moment)) same e, ap (only_port port) still);
+  picked_ports = λ port picking e.
+      inl (subst (λ (l : List PortState). slice_get l port ≡ Some (picked picking)) same e, ap (only_port port) still);
+}
+
+others-still : (other port : ℕ) → other ≢ port → only_port other (port ∷ []) ≡ []
+others-still other port apart = ap (λ b. cond b (port ∷ []) []) (ne_eqb other port apart)
+
+pub ports-moved : (before after : World) (step : Step) (reply : Reply) (port : ℕ) (state : PortState)
+    → after.ports ≡ set before.ports port state → port_moved reply step ≡ port ∷ []
+    → ((cell : List ℕ) (moment : ℕ) → state ≡ entered cell moment → (step ≡ Enter port cell moment) × (reply ≡ Entered))
+    → ((picking : Picking) → state ≡ picked picking → IsPickedNow before port picking step reply)
+    → PortsTold before after step reply
+ports-moved before after step reply port state same moved enters picks = record {
+  entered_ports = λ other cell moment e.
+      elim (slice_get-set before.ports port other state (entered cell moment)
+      (subst (λ (l : List PortState). slice_get l other ≡ Some (entered cell moment)) same e)) [
+        | inl here ↦
+            subst (λ place. PortStays before place (entered cell moment) step reply ⊎ ((step ≡ Enter place cell moment) × (reply ≡ Entered)))
+            (sym here.0) (inr (enters cell moment here.1))
+        | inr there ↦ inl (there.1, ap (only_port other) moved ∙ others-still other port there.0)
+      ];
+  picked_ports = λ other picking e.
+      elim (slice_get-set before.ports port other state (picked picking)
+      (subst (λ (l : List PortState). slice_get l other ≡ Some (picked picking)) same e)) [
+        | inl here ↦
+            subst (λ place. PortStays before place (picked picking) step reply ⊎ IsPickedNow before place picking step reply)
+            (sym here.0) (inr (picks picking here.1))
+        | inr there ↦ inl (there.1, ap (only_port other) moved ∙ others-still other port there.0)
+      ];
+}
+
+-- All of it.
+
+pub record Tells (shape : Shape) (before : World) (step : Step) (reply : Reply) (after : World) : Type 0 where
+  pub shape_same : after.shape ≡ before.shape
+  pub store : StoreTold before after step reply
+  pub connections : ConnectionsTold shape before after step reply
+  pub ports : PortsTold before after step reply
+  pub verdicts : (line : ℕ) → after.judged line ≡ before.judged line ++ verdicts_on line (judgement_told reply)

@@ -1,0 +1,50 @@
+use Rattle.std.proofs.Common.{◌≡◌, Some, None, List, refl, sym, ap, subst, ◌∙◌, arith}
+use Rattle.line_record.specs.Directory.{seat_of}
+use Rattle.line_record.specs.Line.{LineView}
+use Rattle.card_core.specs.declared.fault.DeskFault.TheVariants.{NoConnection}
+use Rattle.card_core.specs.declared.reply.Reply.{Reply}
+use Rattle.card_core.specs.declared.reply.Reply.TheVariants.{Cut as CutOff, Refused}
+use Rattle.card_core.specs.declared.step.Step.TheVariants.{Cut}
+use Rattle.card_core.specs.Agreement.{CoreView, Follows}
+use Rattle.card_core.proofs.PortLemmas.{core_of, IsCore-kept}
+use Rattle.card_core.proofs.DeskSteps.{cut-missing, cut-goes, cut-refused}
+use Rattle.card_core.proofs.serial.Core.cut.Goals as goal
+use Rattle.card_core.proofs.serial.Core.cut.Goals.{in-Ok, in-Err}
+
+pub cut_line-requires : goal.cut_line-requires
+cut_line-requires c =
+    let l = c.self.inside in
+    let there : seat_of l.directory c.args.vc ≡ Some c.in-Some.seating = sym c.in-Some.ensures.seat in
+    let within = c.in-Some.ensures.directory.within c.args.vc c.in-Some.seating there in
+    omega (arith, within, c.self.invariant.sized)
+
+pub returns-in_default : goal.returns-in_default
+returns-in_default c =
+    let l = c.self.inside in
+    let none : seat_of l.directory c.args.vc ≡ None = sym c.in_default.ensures.seat in
+    subst (λ (core : CoreView). Follows core (Cut c.args.vc) (Refused NoConnection) core) c.self.view_is
+    (cut-missing l.shape l.store l.directory l.lines.items l.ports.items c.args.vc none)
+
+pub invariant_of-self : goal.invariant_of-self
+invariant_of-self c =
+    let l = c.self.inside in
+    IsCore-kept l.directory l.directory l.lines.items c.cut_line.new.lines.items l.ports.items c.in-Some.seating.line
+    c.cut_line.ensures.next c.self.invariant refl c.cut_line.ensures.after
+
+pub returns : goal.returns
+returns c =
+    let l = c.self.inside in
+    let there : seat_of l.directory c.args.vc ≡ Some c.in-Some.seating = sym c.in-Some.ensures.seat in
+    let after = c.cut_line.new.lines.items in
+    let Goal : Reply → CoreView → Type 0 = λ reply old.
+    Follows old (Cut c.args.vc) reply (core_of l.shape l.store l.directory after l.ports.items) in
+    elim c.match-cut_line.branch [
+      | in-Ok w ↦ subst (λ (reply : Reply). Goal reply c.args.self.now) (sym w.result-is)
+          (subst (Goal (CutOff w.in-Ok.piece)) c.self.view_is
+              (cut-goes l.shape l.store l.directory l.lines.items l.ports.items c.args.vc c.in-Some.seating c.cut_line.result after
+                  there c.cut_line.ensures w.in-Ok.piece w.in-Ok.is))
+      | in-Err w ↦ subst (λ (reply : Reply). Goal reply c.args.self.now) (sym w.result-is)
+          (subst (Goal (Refused w.in-Err.fault)) c.self.view_is
+              (cut-refused l.shape l.store l.directory l.lines.items l.ports.items c.args.vc c.in-Some.seating c.cut_line.result after
+                  there c.cut_line.ensures w.in-Err.fault w.in-Err.is))
+    ]

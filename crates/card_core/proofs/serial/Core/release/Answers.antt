@@ -1,0 +1,50 @@
+use Rattle.std.proofs.Common.{◌≡◌, Some, None, List, refl, sym, ap, subst, ◌∙◌, arith}
+use Rattle.line_record.specs.Directory.{seat_of}
+use Rattle.line_record.specs.Line.{LineView}
+use Rattle.card_core.specs.declared.fault.DeskFault.TheVariants.{NoConnection}
+use Rattle.card_core.specs.declared.reply.Reply.{Reply}
+use Rattle.card_core.specs.declared.reply.Reply.TheVariants.{Released, Refused}
+use Rattle.card_core.specs.declared.step.Step.TheVariants.{Release}
+use Rattle.card_core.specs.Agreement.{CoreView, Follows}
+use Rattle.card_core.proofs.PortLemmas.{core_of, IsCore-kept}
+use Rattle.card_core.proofs.DeskSteps.{release-missing, release-goes, release-never}
+use Rattle.card_core.proofs.serial.Core.release.Goals as goal
+use Rattle.card_core.proofs.serial.Core.release.Goals.{in-Ok, in-Err}
+
+pub release_line-requires-clause-there : goal.release_line-requires-clause-there
+release_line-requires-clause-there c =
+    let l = c.self.inside in
+    let there : seat_of l.directory c.args.vc ≡ Some c.in-Some.seating = sym c.in-Some.ensures.seat in
+    let within = c.in-Some.ensures.directory.within c.args.vc c.in-Some.seating there in
+    omega (arith, within, c.self.invariant.sized)
+
+pub returns-in_default : goal.returns-in_default
+returns-in_default c =
+    let l = c.self.inside in
+    let none : seat_of l.directory c.args.vc ≡ None = sym c.in_default.ensures.seat in
+    subst (λ (core : CoreView). Follows core (Release c.args.vc) (Refused NoConnection) core) c.self.view_is
+    (release-missing l.shape l.store l.directory l.lines.items l.ports.items c.args.vc none)
+
+pub invariant_of-self : goal.invariant_of-self
+invariant_of-self c =
+    let l = c.self.inside in
+    IsCore-kept l.directory c.release_line.new.directory l.lines.items c.release_line.new.lines.items l.ports.items c.in-Some.seating.line
+    c.release_line.ensures.line.next c.self.invariant c.release_line.ensures.lines c.release_line.ensures.line.after
+
+pub returns : goal.returns
+returns c =
+    let l = c.self.inside in
+    let there : seat_of l.directory c.args.vc ≡ Some c.in-Some.seating = sym c.in-Some.ensures.seat in
+    let after = c.release_line.new.lines.items in
+    let Goal : Reply → CoreView → Type 0 = λ reply old.
+    Follows old (Release c.args.vc) reply (core_of l.shape l.store c.release_line.new.directory after l.ports.items) in
+    elim c.match-release_line.branch [
+      | in-Ok w ↦ subst (λ (reply : Reply). Goal reply c.args.self.now) (sym w.result-is)
+          (subst (Goal (Released w.in-Ok.piece)) c.self.view_is
+              (release-goes l.shape l.store l.directory l.lines.items l.ports.items c.args.vc c.in-Some.seating c.release_line.new.directory c.release_line.result after
+                  there c.release_line.ensures.line w.in-Ok.piece w.in-Ok.is))
+      | in-Err w ↦ subst (λ (reply : Reply). Goal reply c.args.self.now) (sym w.result-is)
+          (subst (Goal (Refused w.in-Err.fault)) c.self.view_is
+              (release-never l.shape l.store l.directory l.lines.items l.ports.items c.args.vc c.in-Some.seating c.release_line.new.directory c.release_line.result after
+                  there c.release_line.ensures.line w.in-Err.fault w.in-Err.is))
+    ]

@@ -1,0 +1,41 @@
+use Rattle.std.proofs.Common.{◌≡◌, ◌<◌, Some, None, List, length, refl, sym, ap, subst, ◌∙◌, arith}
+use Rattle.line_record.specs.Line.{LineView}
+use Rattle.card_core.specs.declared.reply.Reply.{Reply}
+use Rattle.card_core.specs.declared.reply.Reply.TheVariants.{SetUp, NotSetUp}
+use Rattle.card_core.specs.declared.step.Step.TheVariants.{Setup}
+use Rattle.card_core.specs.Agreement.{CoreView, Follows}
+use Rattle.card_core.proofs.PortLemmas.{core_of, IsCore-kept}
+use Rattle.card_core.proofs.SetupSteps.{setup-unfit, setup-goes, setup-refused}
+use Rattle.card_core.proofs.serial.Core.setup.Goals as goal
+use Rattle.card_core.proofs.serial.Core.setup.Goals.{in-Ok-setup_line, in-Err-setup_line}
+
+pub returns-in-Err : goal.returns-in-Err
+returns-in-Err c =
+    let l = c.self.inside in
+    subst (λ (core : CoreView). Follows core (Setup c.args.ask) (NotSetUp c.in-Err.fault c.args.ask) core) c.self.view_is
+    (setup-unfit l.shape l.store l.directory l.lines.items l.ports.items c.args.ask c.in-Err.fault c.in-Err.ensures)
+
+pub invariant_of-self : goal.invariant_of-self
+invariant_of-self c =
+    let l = c.self.inside in
+    IsCore-kept l.directory c.setup_line.new.directory l.lines.items c.setup_line.new.lines.items l.ports.items c.in-Ok.number
+    c.setup_line.ensures.line.next c.self.invariant c.setup_line.ensures.lines c.setup_line.ensures.line.after
+
+pub returns : goal.returns
+returns c =
+    let l = c.self.inside in
+    let ask = c.args.ask in
+    let after = c.setup_line.new.lines.items in
+    let new = c.setup_line.new.directory in
+    let Goal : Reply → CoreView → Type 0 = λ reply old.
+    Follows old (Setup ask) reply (core_of l.shape l.store new after l.ports.items) in
+    elim c.match-setup_line.branch [
+      | in-Ok-setup_line w ↦ subst (λ (reply : Reply). Goal reply c.args.self.now) (sym w.result-is)
+          (subst (Goal (SetUp w.in-Ok-setup_line.owner)) c.self.view_is
+              (setup-goes l.shape l.store l.directory l.lines.items l.ports.items ask c.in-Ok.number c.in-Ok.ensures new c.setup_line.result after
+                  c.setup_line.ensures.line w.in-Ok-setup_line.owner w.in-Ok-setup_line.is))
+      | in-Err-setup_line w ↦ subst (λ (reply : Reply). Goal reply c.args.self.now) (sym w.result-is)
+          (subst (Goal (NotSetUp w.in-Err-setup_line.fault w.in-Err-setup_line.ask)) c.self.view_is
+              (setup-refused l.shape l.store l.directory l.lines.items l.ports.items ask c.in-Ok.number c.in-Ok.ensures new c.setup_line.result after
+                  c.setup_line.ensures.line w.in-Err-setup_line.fault w.in-Err-setup_line.ask w.in-Err-setup_line.is))
+    ]
