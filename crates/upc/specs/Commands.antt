@@ -3,7 +3,8 @@ use Rattle.std.specs.Prelude.{ℕ, nat_le, ◌&&◌, if◌then◌else◌, List, 
 use Rattle.std.specs.Str.{bytes_eq}
 use Rattle.upc_cell.specs.declared.side.Side.{Side}
 use Rattle.upc_cell.specs.declared.vc.Vc.{Vc}
-use Rattle.upc.specs.ScriptWords.{Wanted, with_both, number_of, program_of, vc_named, wanted_of_each}
+use Rattle.upc.specs.declared.script_words.Wanted.{Wanted}
+use Rattle.upc.specs.ScriptWords.{with_both, number_of, program_of, vc_named, wanted_of_each}
 
 -- What a line asks of the card. Programs are named by number; the octets of a program and of a cell are
 -- still a word of digits, whose faults come after those of all other words.

@@ -27,7 +27,7 @@ use Rattle.upc.specs.FaultLines.{bad_hex, bad_line, gcra_fault, no_card, no_such
 use Rattle.upc.specs.Hexadecimal.{octets_of, cell_of}
 use Rattle.upc.specs.Program.{Reading, is_program, is_refused, ReadsAs}
 use Rattle.upc.specs.Replies.{answer_text, program_named, reply_text}
-use Rattle.upc.specs.ScriptWords.{Wanted}
+use Rattle.upc.specs.declared.script_words.Wanted.{Wanted}
 
 -- A card, and the ids of the programs that were put in, in the order of their names.
 pub record Card : Type 0 where

@@ -7,7 +7,9 @@ use Rattle.std.specs.Str.{bytes_eq}
 use Rattle.upc_cell.specs.Side.{last_vpi}
 use Rattle.upc_cell.specs.declared.side.Side.{Side}
 use Rattle.upc_cell.specs.declared.vc.Vc.{Vc}
-use Rattle.dialogue.specs.Words.{part_begun_with}
+use Rattle.upc.specs.declared.script_words.Rate.{Rate}
+use Rattle.upc.specs.declared.script_words.Wanted.{Wanted}
+use Rattle.upc.specs.declared.script_words.Wanted.TheVariants.{Cbr1, Vbr1, Vbr2, Vbr3}
 
 -- Both, joined, where there are both.
 abbrev pub with_both : {One Other Joined : Type 0} → (One → Other → Joined) → Option One → Option Other → Option Joined
@@ -23,21 +25,25 @@ is_digit octet = nat_le 48 octet && nat_le octet 57
 
 -- The number that digits spell behind digits of the value `high`, the highest first; none where an octet
 -- is no digit.
-abbrev pub spelled_behind : ℕ → List ℕ → Option ℕ
+unfoldable pub spelled_behind : ℕ → List ℕ → Option ℕ
 spelled_behind high [] = Some high
 spelled_behind high (octet ∷ octets) =
     if is_digit octet then spelled_behind (high * 10 + (octet - 48)) octets else None
 
--- The number that one or more digits spell, at most 2^64 - 1. Zeros may stand before it.
+-- The greatest number of a word: 2^64 - 1.
+abbrev pub most_number : ℕ
+most_number = 18446744073709551615
+
+-- The number that one or more digits spell, if it isn't above the greatest. Zeros may stand before it.
 abbrev pub number_of : List ℕ → Option ℕ
 number_of [] = None
-number_of (octet ∷ octets) = option_and_then (up_to (2 ^ 64 - 1)) (spelled_behind 0 (octet ∷ octets))
+number_of (octet ∷ octets) = option_and_then (up_to most_number) (spelled_behind 0 (octet ∷ octets))
 
 -- The number that a word spells, where it is at most this.
 abbrev pub number_up_to : ℕ → List ℕ → Option ℕ
 number_up_to most word = option_and_then (up_to most) (number_of word)
 
--- The number of a program's name: a number behind the letter `p`.
+-- The number of a program's name: a number behind the letter `p` (112).
 abbrev pub program_of : List ℕ → Option ℕ
 program_of [] = None
 program_of (letter ∷ digits) = if letter == 112 then number_of digits else None
@@ -55,51 +61,38 @@ connection_of path channel = record {
 abbrev pub vc_named : Side → List ℕ → List ℕ → Option Vc
 vc_named side path channel = with_both connection_of (number_up_to (last_vpi side) path) (number_up_to 65535 channel)
 
--- What stands before, between and after the marks.
-abbrev pub parts_at : ℕ → List ℕ → List (List ℕ)
-parts_at mark [] = [] ∷ []
-parts_at mark (octet ∷ octets) =
-    if octet == mark then [] ∷ parts_at mark octets else part_begun_with octet (parts_at mark octets)
+-- What stands before the first such mark, and what stands behind it; none where there is no mark.
+unfoldable pub cut_at : ℕ → List ℕ → Option (List ℕ × List ℕ)
+cut_at mark [] = None
+cut_at mark (octet ∷ octets) =
+    if octet == mark then Some ([], octets)
+    else option_map (λ (cut : List ℕ × List ℕ). (octet ∷ cut.0, cut.1)) (cut_at mark octets)
 
--- A rate as it is asked for, whose numbers may be out of all limits: an increment and a limit, in ticks.
-pub record Rate : Type 0 where
-  pub increment : ℕ
-  pub limit : ℕ
+abbrev pub rate_with : ℕ → ℕ → Rate
+rate_with ticks tolerance = record { increment = ticks; limit = tolerance }
 
-abbrev pub rate_of_parts : List (List ℕ) → Option Rate
-rate_of_parts (increment ∷ limit ∷ []) =
-    with_both (λ ticks tolerance. record { increment = ticks; limit = tolerance }) (number_of increment) (number_of limit)
-rate_of_parts _ = None
-
--- Two numbers with a slash (47) between them.
+-- A rate: its increment and its limit, with a slash (47) between them.
 abbrev pub rate_of : List ℕ → Option Rate
-rate_of word = rate_of_parts (parts_at 47 word)
+rate_of word =
+    option_and_then (λ (cut : List ℕ × List ℕ). with_both rate_with (number_of cut.0) (number_of cut.1)) (cut_at 47 word)
 
--- A contract as it is asked for: its kind, and its rates, that of the peak first.
-pub data Wanted : Type 0 where
-  cbr1 : Rate → Wanted
-  vbr1 : Rate → Rate → Wanted
-  vbr2 : Rate → Rate → Wanted
-  vbr3 : Rate → Rate → Wanted
+-- Two rates, with a colon (58) between them.
+abbrev pub two_rates : (Rate → Rate → Wanted) → List ℕ → Option Wanted
+two_rates kind rates =
+    option_and_then (λ (cut : List ℕ × List ℕ). with_both kind (rate_of cut.0) (rate_of cut.1)) (cut_at 58 rates)
 
--- The kinds with two rates.
-abbrev pub kind_of_two : List ℕ → Option (Rate → Rate → Wanted)
-kind_of_two kind =
-    if bytes_eq kind (codes "vbr1") then Some (λ peak sustained. vbr1 peak sustained)
-    else if bytes_eq kind (codes "vbr2") then Some (λ peak sustained. vbr2 peak sustained)
-    else if bytes_eq kind (codes "vbr3") then Some (λ peak sustained. vbr3 peak sustained)
+-- A contract of the kind of this name, with these rates, that of the peak first.
+abbrev pub wanted_with : List ℕ → List ℕ → Option Wanted
+wanted_with kind rates =
+    if bytes_eq kind (codes "cbr1") then option_map (λ rate. Cbr1 rate) (rate_of rates)
+    else if bytes_eq kind (codes "vbr1") then two_rates (λ peak sustained. Vbr1 peak sustained) rates
+    else if bytes_eq kind (codes "vbr2") then two_rates (λ peak sustained. Vbr2 peak sustained) rates
+    else if bytes_eq kind (codes "vbr3") then two_rates (λ peak sustained. Vbr3 peak sustained) rates
     else None
 
-abbrev pub wanted_of_parts : List (List ℕ) → Option Wanted
-wanted_of_parts (kind ∷ peak ∷ []) =
-    if bytes_eq kind (codes "cbr1") then option_map (λ rate. cbr1 rate) (rate_of peak) else None
-wanted_of_parts (kind ∷ peak ∷ sustained ∷ []) =
-    option_and_then (λ join. with_both join (rate_of peak) (rate_of sustained)) (kind_of_two kind)
-wanted_of_parts _ = None
-
--- A kind and its rates, with a colon (58) before each.
+-- A contract: its kind, a colon (58) and its rates.
 abbrev pub wanted_of : List ℕ → Option Wanted
-wanted_of word = wanted_of_parts (parts_at 58 word)
+wanted_of word = option_and_then (λ (cut : List ℕ × List ℕ). wanted_with cut.0 cut.1) (cut_at 58 word)
 
 -- Contracts, a word each.
 abbrev pub wanted_of_each : List (List ℕ) → Option (List Wanted)

@@ -1,4 +1,5 @@
 -- What only private functions and proofs need.
 pub mod CellWord
+pub mod Digits
 pub mod Finding
 pub mod EvalLaws

@@ -11,6 +11,7 @@ mod hexadecimal;
 mod invocation;
 mod laws;
 mod program;
+mod script_words;
 mod subcommand;
 #[cfg(test)]
 mod tests;
