@@ -108,8 +108,7 @@ module _ (shape : Shape) (store : List (Slot (List Instr))) (directory : Directo
       let world : World = record before { connections = without_connection before.connections vc } in
       let lines_new : LinesAgree before.shape after (without_connection before.connections vc) before.judged =
       subst (λ (list : List LineView). LinesAgree before.shape list (without_connection before.connections vc) before.judged)
-      (sym (change.after ∙ ap (λ (n : ℕ). set lines n next) (sym on))) lines_after in
-      (
+      (sym (change.after ∙ ap (λ (n : ℕ). set lines n next) (sym on))) lines_after in (
         world,
         step-taken before world (Release vc) (Released piece) (ap (option_map Refused) fault) (record {
           connection = connection;
@@ -171,8 +170,7 @@ module _ (shape : Shape) (store : List (Slot (List Instr))) (directory : Directo
       let world : World = record before { connections = with_connection before.connections vc later } in
       let lines_new : LinesAgree before.shape after (with_connection before.connections vc later) before.judged =
       subst (λ (list : List LineView). LinesAgree before.shape list (with_connection before.connections vc later) before.judged)
-      (sym (change.after ∙ ap (λ (n : ℕ). set lines n next) (sym on))) lines_after in
-      (
+      (sym (change.after ∙ ap (λ (n : ℕ). set lines n next) (sym on))) lines_after in (
         world,
         step-taken before world (Cut vc) (CutOff piece) (ap (option_map Refused) fault) (record {
           connection = connection;
@@ -217,8 +215,7 @@ module _ (shape : Shape) (store : List (Slot (List Instr))) (directory : Directo
       only-memory change.line (holder vc seat) fault (holds before vc seat known.0 change.line known.2 serves) did.0 in
       let free = missing-is before vc (Some known.0) known.1 in
       let same : after ≡ lines =
-      change.after ∙ ap (set lines seat.line) did.1 ∙ set-again lines seat.line change.line change.there in
-      (
+      change.after ∙ ap (set lines seat.line) did.1 ∙ set-again lines seat.line change.line change.there in (
         before,
         subst (λ (f : DeskFault). WorldStep before (Cut vc) (Refused f) before) (sym memory)
             (step-without_memory before (Cut vc) (Refused NoMemory) (ap (option_map Refused) free) refl),
@@ -265,8 +262,7 @@ module _ (shape : Shape) (store : List (Slot (List Instr))) (directory : Directo
       let free = reload-is before vc program (Some there.0) (Some connection) there.1 known.1 in
       let world : World = record before { connections = with_connection before.connections vc later } in
       let seats : Some (record seat { program = program }) ≡ Some (seating_of later) =
-      ap (λ (s : Seating). Some (record s { program = program })) (sym known.2) in
-      (
+      ap (λ (s : Seating). Some (record s { program = program })) (sym known.2) in (
         world,
         step-taken before world (Reload vc program) (Reloaded gone) (ap (option_map Refused) free) (record {
           connection = connection;

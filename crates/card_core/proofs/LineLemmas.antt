@@ -198,8 +198,7 @@ lines-ready shape lines connections verdicts agrees number line next there same 
             let old = agrees.serving vc connection found in
             let is : old.0 ≡ line = is_same_Some old.0 line (sym old.1 ∙ ap (slice_get lines) on ∙ there) in
             let serves : Serves line vc connection (verdicts connection.line) =
-            subst (λ (l : LineView). Serves l vc connection (verdicts connection.line)) is old.2 in
-            (
+            subst (λ (l : LineView). Serves l vc connection (verdicts connection.line)) is old.2 in (
               next,
               ap (slice_get (set lines number next)) on ∙ get-set_same lines number next line there,
               subst (λ (l : LineView). Serves l vc connection (verdicts connection.line)) (sym same)

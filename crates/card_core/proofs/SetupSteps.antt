@@ -46,7 +46,7 @@ module _ (shape : Shape) (store : List (Slot (List Instr))) (directory : Directo
   abbrev fault_by : Bool → Bool → Bool → Bool → Bool → Option DeskFault
   fault_by dead taken empty room worn =
       cond dead (Some NoProgram) (cond taken (Some Taken) (cond empty (Some BadContracts)
-          (cond (not room) (Some NoLine) (cond worn (Some Exhausted) None))))
+      (cond (not room) (Some NoLine) (cond worn (Some Exhausted) None))))
 
   tests-are : (before : World) (dead taken empty room worn : Bool)
       → is_none (code_in before.live ask.program) ≡ dead → is_some (connection_in before.connections ask.vc) ≡ taken
@@ -101,7 +101,7 @@ module _ (shape : Shape) (store : List (Slot (List Instr))) (directory : Directo
       (sym (agrees.seats.seats taken.vc) ∙ taken.sits) in
       let at : known.0.line ≡ line = ap (λ (seat : Seating). seat.line) known.2 ∙ taken.there in
       ap not (connection_passes (λ (here : Vc × Connection). here.1.line == line) before.connections taken.vc known.0 known.1
-          (λ other. (Decides-eqb known.0.line line).1 at))
+      (λ other. (Decides-eqb known.0.line line).1 at))
 
   empty-is : (n : ℕ) → n ≡ 0 → (n == 0) ≡ true
   empty-is n e = (Decides-eqb n 0).1 e
@@ -157,12 +157,11 @@ module _ (shape : Shape) (store : List (Slot (List Instr))) (directory : Directo
   unfit-is before sound agrees Stale why = absurd why
 
   pub setup-unfit : (fault : DeskFault) → IsUnfit store directory ask fault → Follows Old (Setup ask) (NotSetUp fault ask) Old
-  setup-unfit fault why = follows Old Old (Setup ask) (NotSetUp fault ask) (λ before sound agrees.
-      (
-        before,
-        step-refused before (Setup ask) (NotSetUp fault ask) (ap (option_map (λ f. NotSetUp f ask)) (unfit-is before sound agrees fault why)),
-        agrees,
-      ))
+  setup-unfit fault why = follows Old Old (Setup ask) (NotSetUp fault ask) (λ before sound agrees. (
+    before,
+    step-refused before (Setup ask) (NotSetUp fault ask) (ap (option_map (λ f. NotSetUp f ask)) (unfit-is before sound agrees fault why)),
+    agrees,
+  ))
 
   fit-is : (before : World) → IsSound before → Agrees Old before → (line : ℕ) → Admits store directory ask line → setup_fault before ask ≡ None
   fit-is before sound agrees line admits =
@@ -173,7 +172,6 @@ module _ (shape : Shape) (store : List (Slot (List Instr))) (directory : Directo
 
   module _ (number : ℕ) (admits : Admits store directory ask number) (new : DirectoryView) (result : Result Owner (DeskFault × Ask))
       (after : List LineView) (change : ChangesLine lines number (SetsUpOrRefuses directory new number ask result) after) where
-
     pub setup-goes : (owner : Owner) → result ≡ Ok owner → Follows Old (Setup ask) (SetUp owner) (core_of shape store new after ports)
     setup-goes owner is = follows Old _ (Setup ask) (SetUp owner) (λ before sound agrees.
         let line = change.line in
@@ -201,17 +199,16 @@ module _ (shape : Shape) (store : List (Slot (List Instr))) (directory : Directo
         } in
         let seat : Sits directory ask.vc (Some (seating_of connection)) new =
         subst (λ (n : ℕ). Sits directory ask.vc (Some (record { line = number; incarnation = n + 1; program = ask.program })) new)
-        agrees.seats.used_up did.seat in
-        (
+        agrees.seats.used_up did.seat in (
           world,
           step-taken before world (Setup ask) (SetUp owner)
               (ap (option_map (λ f. NotSetUp f ask)) (fit-is before sound agrees number admits)) (record {
-            line = number;
-            within = omega (arith, admits.within, agrees.seats.lines);
-            open_line = line-open before sound agrees number admits.free;
-            answer = ap SetUp given;
-            world = refl;
-          }),
+                line = number;
+                within = omega (arith, admits.within, agrees.seats.lines);
+                open_line = line-open before sound agrees number admits.free;
+                answer = ap SetUp given;
+                world = refl;
+              }),
           record {
             shape = agrees.shape;
             store = agrees.store;
@@ -246,12 +243,11 @@ module _ (shape : Shape) (store : List (Slot (List Instr))) (directory : Directo
         let did = subst (λ (r : Result Owner (DeskFault × Ask)). SetsUpOrRefuses directory new number ask r change.line change.next) is change.did in
         let memory : fault ≡ NoMemory = only-memory before agrees fault did.0 in
         let reply : NotSetUp NoMemory ask ≡ NotSetUp fault returned =
-        ap (λ f. NotSetUp f ask) (sym memory) ∙ ap (NotSetUp fault) (sym did.1) in
-        (
+        ap (λ f. NotSetUp f ask) (sym memory) ∙ ap (NotSetUp fault) (sym did.1) in (
           before,
           subst (λ (r : Reply). WorldStep before (Setup ask) r before) reply
               (step-without_memory before (Setup ask) (NotSetUp NoMemory ask)
-                  (ap (option_map (λ f. NotSetUp f ask)) (fit-is before sound agrees number admits)) refl),
+              (ap (option_map (λ f. NotSetUp f ask)) (fit-is before sound agrees number admits)) refl),
           record {
             shape = agrees.shape;
             store = agrees.store;

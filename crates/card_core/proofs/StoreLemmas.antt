@@ -104,7 +104,6 @@ times-other loading later slot apart =
     ap (λ b. cond b (suc (times_given later slot)) (times_given later slot)) differs
 
 module _ (shape : Shape) (store : List (Slot (List Instr))) (given live : List Loading) (agrees : StoreAgrees shape store given live) where
-
   -- The slot of an id that was just given is open.
   pub inserted-open : (world : World) → world.given ≡ given → world.live ≡ live → (new : List (Slot (List Instr))) (id : Id) (code : List Instr)
       → Inserts store new id code → is_open_slot world id.slot ≡ true

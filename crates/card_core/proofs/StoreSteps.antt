@@ -97,8 +97,7 @@ module _ (shape : Shape) (store : List (Slot (List Instr))) (directory : Directo
       (below-passes before.shape.programs (is_open_slot before) id.slot there open_slot) in
       let loading : Loading = record { id = id; code = code } in
       let stored = store-inserted before.shape store before.given before.live agrees.store new id code insert in
-      let after : World = record before { given = loading ∷ before.given; live = loading ∷ before.live } in
-      (
+      let after : World = record before { given = loading ∷ before.given; live = loading ∷ before.live } in (
         after,
         step-taken before after (Load code) (Loaded id) (ap (option_map (λ f. NotLoaded f code)) fault) (record {
           accepted = accepted;
@@ -161,8 +160,7 @@ module _ (shape : Shape) (store : List (Slot (List Instr))) (directory : Directo
       ] in
       let names : is_named before id ≡ false = choice (is_named before id) refl in
       let fault = retire-fault-is before agrees id free (Some code) live false names in
-      let after : World = record before { live = without_code before.live id } in
-      (
+      let after : World = record before { live = without_code before.live id } in (
         after,
         step-taken before after (Retire id) (Retired code) (ap (option_map Refused) fault) (record {
           code = code;

@@ -99,3 +99,15 @@ abbrev pub Follows : CoreView → Step → Reply → CoreView → Type 0
 Follows old step reply new = (shape : Shape) (log : List Event) (before : World)
     → Leads shape log before → Agrees old before
     → (after : World) × Leads shape (log ++ record { step = step; reply = reply } ∷ []) after × Agrees new after
+
+-- The steps with their replies, in order.
+abbrev pub events_of : List Step → List Reply → List Event
+events_of [] replies = []
+events_of (step ∷ steps) [] = []
+events_of (step ∷ steps) (reply ∷ replies) = record { step = step; reply = reply } ∷ events_of steps replies
+
+-- The core goes on by all these events.
+abbrev pub FollowsAll : CoreView → List Step → List Reply → CoreView → Type 0
+FollowsAll old steps replies new = (shape : Shape) (log : List Event) (before : World)
+    → Leads shape log before → Agrees old before
+    → (after : World) × Leads shape (log ++ events_of steps replies) after × Agrees new after

@@ -4,7 +4,9 @@ pub mod World
 pub mod Refusals
 pub mod Steps
 pub mod Log
+pub mod Shapes
 pub mod Agreement
+pub mod Stale
 pub mod Headline
 pub mod Laws
 pub mod Sections

@@ -25,3 +25,6 @@ pub use reply::Reply;
 pub use serial::Core;
 pub use shape::Shape;
 pub use step::Step;
+
+#[cfg(test)]
+mod tests;

@@ -1,9 +1,10 @@
-ghost use Rattle.std.specs.Prelude.{◌≡◌, slice_get, slice_set};
+ghost use Rattle.std.specs.Prelude.{◌≡◌, IfSome, replicate, slice_get, slice_set};
 ghost use Rattle.std.specs.List.{list_all};
 ghost use Rattle.card_core.specs.inner.Ports.{is_free_port, is_idle, came_in, found_in};
 
 use crate::naming::Named;
 use line_record::Seating;
+use std::alloc::Global;
 use upc_cell::{Cell, Vc};
 
 /// A cell that entered a port.
@@ -74,4 +75,17 @@ pub(crate) fn move_port(ports: &mut Vec<Port>, port: u8, next: Port)
     if let Some(here) = ports.get_mut(usize::from(port)) {
         *here = next;
     }
+}
+
+/// So many ports without a cell; none where the memory is refused.
+pub(crate) fn outside_ports(alloc: Global, many: usize) -> Option<Vec<Port>>
+    ensures { IfSome result (λ ports. ports.items ≡ replicate many Port.Outside) }
+{
+    let Ok(mut ports) = Vec::with_capacity(alloc, many) else {
+        return None;
+    };
+    for _ in 0..many {
+        ports.push_reserved(Port::Outside);
+    }
+    Some(ports)
 }

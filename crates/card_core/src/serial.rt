@@ -3,15 +3,19 @@ ghost use Rattle.std.specs.Prelude.{◌≡◌, ℕ};
 use crate::answer::Answer;
 use crate::ask::Ask;
 use crate::desk;
-use crate::fault::DeskFault;
+use crate::fault::{CardFault, DeskFault};
 use crate::judging::judge_at;
 use crate::naming::{Store, name, pick};
-use crate::port::{Came, Found, Port, are_outside, entered_at, is_idle_at, move_port, picked_at};
+use crate::port::{
+    Came, Found, Port, are_outside, entered_at, is_idle_at, move_port, outside_ports, picked_at,
+};
 use crate::reply::Reply;
-use crate::shape::Shape;
+use crate::shape::{Shape, refusal};
+use crate::step::Step;
 use bpf_verify::Program;
-use gen_arena::Id;
+use gen_arena::{Arena, Id};
 use line_record::{Directory, Line, Owner, Piece, Seating};
+use std::alloc::Global;
 use std::marker::Model;
 use upc_cell::{Cell, Side, Vc};
 
@@ -43,8 +47,99 @@ impl Model for Core {
 }
 
 impl Core {
+    ghost use Rattle.std.specs.Prelude.{◌≡◌, ◌≢◌, ◌⊎◌, ℕ, length, None, Some, IfOk, IfErr, OnErr, MatchResult};
+    ghost use Rattle.card_core.specs.World.{opening_world};
+    ghost use Rattle.card_core.specs.Shapes.{shape_fault};
     ghost use Rattle.card_core.specs.declared.step.Step.TheVariants.{Enter, Pick, Judge, Load, Retire, Setup, Reload, Release, Cut};
-    ghost use Rattle.card_core.specs.Agreement.{Follows};
+    ghost use Rattle.card_core.specs.Agreement.{Agrees, Follows, FollowsAll};
+    ghost use Rattle.card_core.specs.Stale.{IsNeverStale};
+
+    /// A card of this shape: without programs and connections, and with every port outside.
+    ///
+    /// # Errors
+    ///
+    /// `Programs`, `Lines`, `Ports`, `Journal`: the first number of the shape that is out of its
+    /// limits. Then `NoMemory`, where memory is refused.
+    pub fn new(alloc: Global, shape: Shape) -> Result<Self, CardFault>
+        ensures agrees { IfOk result (λ core. Agrees core (opening_world shape)) }
+        ensures refused { MatchResult result
+            (λ _. shape_fault shape ≡ None)
+            (λ fault. (shape_fault shape ≡ Some fault)
+            ⊎ ((shape_fault shape ≡ None) × (fault ≡ CardFault.NoMemory))) }
+    {
+        if let Some(fault) = refusal(&shape) {
+            return Err(fault);
+        }
+        let Ok(store) = Arena::new(alloc, shape.programs as u16) else {
+            return Err(CardFault::NoMemory);
+        };
+        let Ok(directory) = Directory::new(alloc, shape.lines as u16, 1) else {
+            return Err(CardFault::NoMemory);
+        };
+        let Some(lines) = free_lines(alloc, shape.lines as usize, shape.journal as u32) else {
+            return Err(CardFault::NoMemory);
+        };
+        let Some(ports) = outside_ports(alloc, shape.ports as usize) else {
+            return Err(CardFault::NoMemory);
+        };
+        Ok(Core {
+            shape,
+            store,
+            directory,
+            lines,
+            ports,
+        })
+    }
+
+    /// Takes one step.
+    pub fn step(&mut self, step: Step) -> Reply
+        ensures follows { Follows self.old step result self.new }
+
+        // No cell takes memory; and what was found stays what it was found to be.
+        ensures judged { (port : ℕ) → step ≡ Judge port → result ≢ Reply.Answered Answer.NoMemory }
+        ensures fresh { IsNeverStale self.old result }
+    {
+        self.take(step)
+    }
+
+    // Takes one step.
+    fn take(&mut self, step: Step) -> Reply
+        ensures follows { Follows self.old step result self.new }
+        ensures judged { (port : ℕ) → step ≡ Judge port → result ≢ Reply.Answered Answer.NoMemory }
+    {
+        match step {
+            Step::Enter { port, cell, moment } => self.enter(port, cell, moment),
+            Step::Pick { port } => self.pick(port),
+            Step::Judge { port } => self.judge(port),
+            Step::Load(program) => self.load(program),
+            Step::Retire(id) => self.retire(id),
+            Step::Setup(ask) => self.setup(ask),
+            Step::Reload { vc, program } => self.reload(vc, program),
+            Step::Release(vc) => self.release(vc),
+            Step::Cut(vc) => self.cut(vc),
+        }
+    }
+
+    /// Takes the steps in their order. The room for the replies is taken first.
+    ///
+    /// # Errors
+    ///
+    /// The steps, with nothing done, where that room is refused.
+    pub fn run(&mut self, alloc: Global, steps: Vec<Step>) -> Result<Vec<Reply>, Vec<Step>>
+        ensures follows { IfOk result (λ replies.
+            FollowsAll self.old steps.items replies.items self.new) }
+        ensures one_each { IfOk result (λ replies. length replies.items ≡ length steps.items) }
+        ensures returned { IfErr result (λ returned. returned.items ≡ steps.items) }
+        ensures unchanged { OnErr result (self.new ≡ self.old) }
+    {
+        let Ok(mut replies) = Vec::with_capacity(alloc, steps.len()) else {
+            return Err(steps);
+        };
+        for step in steps {
+            replies.push_reserved(self.step(step));
+        }
+        Ok(replies)
+    }
 
     // A cell comes to a port.
     fn enter(&mut self, port: u8, cell: Cell, moment: u64) -> Reply
@@ -78,7 +173,8 @@ impl Core {
 
     // The cell is judged by the contract that was named.
     fn judge(&mut self, port: u8) -> Reply
-        ensures { Follows self.old (Judge port) result self.new }
+        ensures follows { Follows self.old (Judge port) result self.new }
+        ensures memory { result ≢ Reply.Answered Answer.NoMemory }
     {
         let Some(found) = picked_at(&self.ports, port) else {
             return Reply::NotNow;
@@ -165,10 +261,30 @@ impl Core {
     }
 }
 
-ghost use Rattle.std.specs.Prelude.{◌<◌, ◌^◌, length, None, Some, IfOk, MatchResult};
+ghost use Rattle.std.specs.Prelude.{◌<◌, ◌≤◌, ◌≢◌, ◌^◌, false, length, replicate, None, Some, IfSome, IfOk, MatchResult};
+ghost use Rattle.line_record.specs.Tally.{nothing};
+ghost use Rattle.line_record.specs.Line.{free_line};
 ghost use Rattle.line_record.specs.Directory.{seat_of, IsOpenLine};
 ghost use Rattle.upc_cell.specs.Connection.{vc_of};
 ghost use Rattle.card_core.specs.inner.Parts.{IsFound, IsMissed, ChangesLine, JudgesOrRefuses, SetsUpOrRefuses, ReleasesOrRefuses, CutsOrRefuses};
+
+// So many free lines, with journals of so many entries.
+fn free_lines(alloc: Global, many: usize, journal: u32) -> Option<Vec<Line>>
+    requires some { 1 ≤ journal }
+    requires most { journal ≤ 65536 }
+    ensures { IfSome result (λ lines. lines.items ≡ replicate many (free_line journal nothing false)) }
+{
+    let Ok(mut lines) = Vec::with_capacity(alloc, many) else {
+        return None;
+    };
+    for _ in 0..many {
+        let Ok(line) = Line::new(alloc, journal) else {
+            return None;
+        };
+        lines.push_reserved(line);
+    }
+    Some(lines)
+}
 
 // Where the cell's connection is, and the contract that its program names for it.
 fn find_and_name(
@@ -200,8 +316,9 @@ fn find_and_name(
 // Judges a picked cell on its line, which is one of these.
 fn judge_line(lines: &mut Vec<Line>, found: &Found) -> Answer
     requires { found.now.seating.line < length lines.old.items }
-    ensures { ChangesLine lines.old.items found.now.seating.line
+    ensures line { ChangesLine lines.old.items found.now.seating.line
         (JudgesOrRefuses found.now result) lines.new.items }
+    ensures memory { result ≢ Answer.NoMemory }
 {
     let line = &mut lines[usize::from(found.seating.line)];
     judge_at(line, found.vc, &found.seating, &found.named, found.moment)

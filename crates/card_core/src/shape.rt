@@ -1,4 +1,20 @@
+ghost use Rattle.std.specs.Prelude.{◌≡◌, IfNone};
+ghost use Rattle.card_core.specs.Shapes.{is_beyond, shape_fault, IsShape};
+
+use crate::fault::CardFault;
 use upc_cell::Side;
+
+/// How many programs a card holds at most.
+pub const MOST_PROGRAMS: u64 = 1024;
+
+/// How many lines a card has at most.
+pub const MOST_LINES: u64 = 4096;
+
+/// How many ports a card has at most.
+pub const MOST_PORTS: u64 = 16;
+
+/// How many entries a journal holds at most.
+pub const MOST_JOURNAL: u64 = 65536;
 
 /// How large a card is.
 #[derive(Clone, Copy, Debug, PartialEq, Eq)]
@@ -13,4 +29,29 @@ pub struct Shape {
     pub journal: u64,
     /// Which header its cells have.
     pub side: Side,
+}
+
+/// The first number of the shape that is out of its limits.
+pub(crate) fn refusal(shape: &Shape) -> Option<CardFault>
+    ensures fault { result ≡ shape_fault shape.now }
+    ensures fits { IfNone result (IsShape shape.now) }
+{
+    if is_beyond(shape.programs, MOST_PROGRAMS) {
+        Some(CardFault::Programs)
+    } else if is_beyond(shape.lines, MOST_LINES) {
+        Some(CardFault::Lines)
+    } else if is_beyond(shape.ports, MOST_PORTS) {
+        Some(CardFault::Ports)
+    } else if is_beyond(shape.journal, MOST_JOURNAL) {
+        Some(CardFault::Journal)
+    } else {
+        None
+    }
+}
+
+// Whether the number isn't 1 to this one.
+fn is_beyond(number: u64, most: u64) -> bool
+    ensures { result ≡ is_beyond number most }
+{
+    number == 0 || number > most
 }

@@ -3,8 +3,8 @@ use Rattle.std.specs.Prelude.{slice_get, slice_set}
 use Rattle.std.proofs.lemmas.Option.{slice_get_read}
 use Rattle.card_core.proofs.serial.judge_line.Goals as goal
 
-pub returns : goal.returns
-returns c =
+pub returns-clause-line : goal.returns-clause-line
+returns-clause-line c =
     let lines = c.args.lines.now.items in
     let line = c.index_mut-line.result.now in
     let within : c.from.result < length lines = omega (arith, c.requires, c.from.ensures) in

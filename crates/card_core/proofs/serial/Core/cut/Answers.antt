@@ -41,10 +41,10 @@ returns c =
     elim c.match-cut_line.branch [
       | in-Ok w ↦ subst (λ (reply : Reply). Goal reply c.args.self.now) (sym w.result-is)
           (subst (Goal (CutOff w.in-Ok.piece)) c.self.view_is
-              (cut-goes l.shape l.store l.directory l.lines.items l.ports.items c.args.vc c.in-Some.seating c.cut_line.result after
-                  there c.cut_line.ensures w.in-Ok.piece w.in-Ok.is))
+          (cut-goes l.shape l.store l.directory l.lines.items l.ports.items c.args.vc c.in-Some.seating c.cut_line.result after
+          there c.cut_line.ensures w.in-Ok.piece w.in-Ok.is))
       | in-Err w ↦ subst (λ (reply : Reply). Goal reply c.args.self.now) (sym w.result-is)
           (subst (Goal (Refused w.in-Err.fault)) c.self.view_is
-              (cut-refused l.shape l.store l.directory l.lines.items l.ports.items c.args.vc c.in-Some.seating c.cut_line.result after
-                  there c.cut_line.ensures w.in-Err.fault w.in-Err.is))
+          (cut-refused l.shape l.store l.directory l.lines.items l.ports.items c.args.vc c.in-Some.seating c.cut_line.result after
+          there c.cut_line.ensures w.in-Err.fault w.in-Err.is))
     ]

@@ -18,8 +18,8 @@ judge_line-answer-requires c =
     let test = c.picked_at.ensures in let same = c.deref.ensures.value in let is = c.in-Some.is in cc in
     c.self.invariant.within c.args.port c.in-Some.found there
 
-pub returns-in_default : goal.returns-in_default
-returns-in_default c =
+pub returns-in_default-clause-follows : goal.returns-in_default-clause-follows
+returns-in_default-clause-follows c =
     let l = c.self.inside in
     let none : found_in (slice_get l.ports.items c.args.port) ≡ None =
     let test = c.picked_at.ensures in let same = c.deref.ensures.value in let is = c.in_default.is in cc in
@@ -29,19 +29,19 @@ returns-in_default c =
 pub invariant_of-self : goal.invariant_of-self
 invariant_of-self c =
     let l = c.self.inside in
-    let changes = c.judge_line-answer.ensures in
+    let changes = c.judge_line-answer.ensures.line in
     IsCore-left l.directory l.directory l.lines.items c.judge_line-answer.new.lines.items l.ports.items c.move_port.new.ports.items c.args.port
     c.self.invariant refl (ap length changes.after ∙ length-set l.lines.items c.in-Some.found.seating.line changes.next) c.move_port.ensures
 
-pub returns : goal.returns
-returns c =
+pub returns-clause-follows : goal.returns-clause-follows
+returns-clause-follows c =
     let l = c.self.inside in
     let there : found_in (slice_get l.ports.items c.args.port) ≡ Some c.in-Some.found =
     let test = c.picked_at.ensures in let same = c.deref.ensures.value in let is = c.in-Some.is in cc in
     let answer = c.judge_line-answer.result in
     let after = c.judge_line-answer.new.lines.items in
     let goes = judge-goes l.shape l.store l.directory l.lines.items l.ports.items c.args.port c.in-Some.found there
-    answer after c.judge_line-answer.ensures in
+    answer after c.judge_line-answer.ensures.line in
     let Old : CoreView = core_of l.shape l.store l.directory l.lines.items l.ports.items in
     let New : List Port → CoreView = λ ports. core_of l.shape l.store l.directory after ports in
     subst (λ (core : CoreView). Follows core (Judge c.args.port) (Answered answer) (New c.move_port.new.ports.items)) c.self.view_is

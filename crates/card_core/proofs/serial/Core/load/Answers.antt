@@ -33,8 +33,8 @@ returns c =
     elim c.match-load.branch [
       | in-Ok w ↦ subst (λ (reply : Reply). Goal reply c.args.self.now) (sym w.result-is)
           (subst (Goal (Loaded w.in-Ok.id)) c.self.view_is
-              (load-goes l.shape l.store l.directory l.lines.items l.ports.items code c.load.new.store w.in-Ok.id free
-                  c.load.ensures.accepted w.in-Ok.ensures.loaded))
+          (load-goes l.shape l.store l.directory l.lines.items l.ports.items code c.load.new.store w.in-Ok.id free
+          c.load.ensures.accepted w.in-Ok.ensures.loaded))
       | in-Err w ↦
           let fault = w.in-Err.ensures.fault in
           let returned = w.in-Err.ensures.returned in
@@ -42,7 +42,7 @@ returns c =
           ap (λ (f : DeskFault). NotLoaded f code) (sym fault) ∙ ap (NotLoaded w.in-Err.fault) (sym returned) ∙ sym w.result-is in
           subst (λ (reply : Reply). Goal reply c.args.self.now) reply
           (subst (Goal (NotLoaded ProgramsFull code)) c.self.view_is
-              (subst (λ (store : List (Slot (List Instr))). Follows (With l.store) (Load code) (NotLoaded ProgramsFull code) (With store))
-                  (sym w.in-Err.ensures.unchanged)
-                  (load-full l.shape l.store l.directory l.lines.items l.ports.items code free w.in-Err.ensures.none_is_free)))
+          (subst (λ (store : List (Slot (List Instr))). Follows (With l.store) (Load code) (NotLoaded ProgramsFull code) (With store))
+          (sym w.in-Err.ensures.unchanged)
+          (load-full l.shape l.store l.directory l.lines.items l.ports.items code free w.in-Err.ensures.none_is_free)))
     ]

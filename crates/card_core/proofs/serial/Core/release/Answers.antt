@@ -41,10 +41,10 @@ returns c =
     elim c.match-release_line.branch [
       | in-Ok w ↦ subst (λ (reply : Reply). Goal reply c.args.self.now) (sym w.result-is)
           (subst (Goal (Released w.in-Ok.piece)) c.self.view_is
-              (release-goes l.shape l.store l.directory l.lines.items l.ports.items c.args.vc c.in-Some.seating c.release_line.new.directory c.release_line.result after
-                  there c.release_line.ensures.line w.in-Ok.piece w.in-Ok.is))
+          (release-goes l.shape l.store l.directory l.lines.items l.ports.items c.args.vc c.in-Some.seating c.release_line.new.directory c.release_line.result after
+          there c.release_line.ensures.line w.in-Ok.piece w.in-Ok.is))
       | in-Err w ↦ subst (λ (reply : Reply). Goal reply c.args.self.now) (sym w.result-is)
           (subst (Goal (Refused w.in-Err.fault)) c.self.view_is
-              (release-never l.shape l.store l.directory l.lines.items l.ports.items c.args.vc c.in-Some.seating c.release_line.new.directory c.release_line.result after
-                  there c.release_line.ensures.line w.in-Err.fault w.in-Err.is))
+          (release-never l.shape l.store l.directory l.lines.items l.ports.items c.args.vc c.in-Some.seating c.release_line.new.directory c.release_line.result after
+          there c.release_line.ensures.line w.in-Err.fault w.in-Err.is))
     ]

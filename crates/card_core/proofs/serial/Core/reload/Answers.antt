@@ -26,12 +26,12 @@ returns c =
           let did = w.in-Ok.ensures.reloaded seat.0 seat.1 in
           subst (λ (reply : Reply). Goal reply c.args.self.now) (sym w.result-is)
           (subst (Goal (Reloaded w.in-Ok.before)) c.self.view_is
-              (reload-goes l.shape l.store l.directory l.lines.items l.ports.items vc program new seat.0 w.in-Ok.before seat.1
-                  both.0 did.0 did.1 w.in-Ok.ensures.used))
+          (reload-goes l.shape l.store l.directory l.lines.items l.ports.items vc program new seat.0 w.in-Ok.before seat.1
+          both.0 did.0 did.1 w.in-Ok.ensures.used))
       | in-Err w ↦ subst (λ (reply : Reply). Goal reply c.args.self.now) (sym w.result-is)
           (subst (Goal (Refused w.in-Err.fault)) c.self.view_is
-              (subst (λ (directory : DirectoryView). Follows (With l.directory) (Reload vc program) (Refused w.in-Err.fault) (With directory))
-                  (sym w.in-Err.ensures.unchanged)
-                  (reload-refused l.shape l.store l.directory l.lines.items l.ports.items vc program w.in-Err.fault
-                      w.in-Err.ensures.no_program w.in-Err.ensures.no_connection (λ both. let is = w.in-Err.ensures.ok.1 both in cc))))
+          (subst (λ (directory : DirectoryView). Follows (With l.directory) (Reload vc program) (Refused w.in-Err.fault) (With directory))
+          (sym w.in-Err.ensures.unchanged)
+          (reload-refused l.shape l.store l.directory l.lines.items l.ports.items vc program w.in-Err.fault
+          w.in-Err.ensures.no_program w.in-Err.ensures.no_connection (λ both. let is = w.in-Err.ensures.ok.1 both in cc))))
     ]

@@ -33,12 +33,12 @@ returns c =
     elim c.match-retire.branch [
       | in-Ok w ↦ subst (λ (reply : Reply). Goal reply c.args.self.now) (sym w.result-is)
           (subst (Goal (Retired w.in-Ok.program)) c.self.view_is
-              (retire-goes l.shape l.store l.directory l.lines.items l.ports.items id c.retire.new.store w.in-Ok.program free
-                  w.in-Ok.ensures.retired (w.in-Ok.ensures.ok.0 refl).1))
+          (retire-goes l.shape l.store l.directory l.lines.items l.ports.items id c.retire.new.store w.in-Ok.program free
+          w.in-Ok.ensures.retired (w.in-Ok.ensures.ok.0 refl).1))
       | in-Err w ↦ subst (λ (reply : Reply). Goal reply c.args.self.now) (sym w.result-is)
           (subst (Goal (Refused w.in-Err.fault)) c.self.view_is
-              (subst (λ (store : List (Slot (List Instr))). Follows (With l.store) (Retire id) (Refused w.in-Err.fault) (With store))
-                  (sym w.in-Err.ensures.unchanged)
-                  (retire-refused l.shape l.store l.directory l.lines.items l.ports.items id w.in-Err.fault free
-                      w.in-Err.ensures.no_program w.in-Err.ensures.in_use (λ both. let is = w.in-Err.ensures.ok.1 both in cc))))
+          (subst (λ (store : List (Slot (List Instr))). Follows (With l.store) (Retire id) (Refused w.in-Err.fault) (With store))
+          (sym w.in-Err.ensures.unchanged)
+          (retire-refused l.shape l.store l.directory l.lines.items l.ports.items id w.in-Err.fault free
+          w.in-Err.ensures.no_program w.in-Err.ensures.in_use (λ both. let is = w.in-Err.ensures.ok.1 both in cc))))
     ]

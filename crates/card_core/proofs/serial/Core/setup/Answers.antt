@@ -32,10 +32,10 @@ returns c =
     elim c.match-setup_line.branch [
       | in-Ok-setup_line w ↦ subst (λ (reply : Reply). Goal reply c.args.self.now) (sym w.result-is)
           (subst (Goal (SetUp w.in-Ok-setup_line.owner)) c.self.view_is
-              (setup-goes l.shape l.store l.directory l.lines.items l.ports.items ask c.in-Ok.number c.in-Ok.ensures new c.setup_line.result after
-                  c.setup_line.ensures.line w.in-Ok-setup_line.owner w.in-Ok-setup_line.is))
+          (setup-goes l.shape l.store l.directory l.lines.items l.ports.items ask c.in-Ok.number c.in-Ok.ensures new c.setup_line.result after
+          c.setup_line.ensures.line w.in-Ok-setup_line.owner w.in-Ok-setup_line.is))
       | in-Err-setup_line w ↦ subst (λ (reply : Reply). Goal reply c.args.self.now) (sym w.result-is)
           (subst (Goal (NotSetUp w.in-Err-setup_line.fault w.in-Err-setup_line.ask)) c.self.view_is
-              (setup-refused l.shape l.store l.directory l.lines.items l.ports.items ask c.in-Ok.number c.in-Ok.ensures new c.setup_line.result after
-                  c.setup_line.ensures.line w.in-Err-setup_line.fault w.in-Err-setup_line.ask w.in-Err-setup_line.is))
+          (setup-refused l.shape l.store l.directory l.lines.items l.ports.items ask c.in-Ok.number c.in-Ok.ensures new c.setup_line.result after
+          c.setup_line.ensures.line w.in-Err-setup_line.fault w.in-Err-setup_line.ask w.in-Err-setup_line.is))
     ]

@@ -1,0 +1,30 @@
+-- A core that took some steps takes one more.
+use Rattle.std.proofs.Common.{◌≡◌, ℕ, suc, List, [], ◌∷◌, ◌++◌, length, refl, sym, ap, subst, ◌∙◌, arith, append_assoc}
+use Rattle.card_core.specs.declared.reply.Reply.{Reply}
+use Rattle.card_core.specs.declared.step.Step.{Step}
+use Rattle.card_core.specs.World.{World}
+use Rattle.card_core.specs.Log.{Event, Leads}
+use Rattle.card_core.specs.Agreement.{CoreView, Agrees, Follows, FollowsAll, events_of}
+
+pub events_of-next : (steps : List Step) (replies : List Reply) (step : Step) (reply : Reply) → length replies ≡ length steps
+    → events_of (steps ++ step ∷ []) (replies ++ reply ∷ []) ≡ events_of steps replies ++ record { step = step; reply = reply } ∷ []
+events_of-next [] [] step reply e = refl
+events_of-next [] (other ∷ replies) step reply e = absurd (omega (arith, e))
+events_of-next (first ∷ steps) [] step reply e = absurd (omega (arith, e))
+events_of-next (first ∷ steps) (other ∷ replies) step reply e =
+    ap (λ (later : List Event). record { step = first; reply = other } ∷ later)
+    (events_of-next steps replies step reply (omega (arith, e)))
+
+pub follows-next : (old middle new : CoreView) (steps : List Step) (replies : List Reply) (step : Step) (reply : Reply)
+    → length replies ≡ length steps → FollowsAll old steps replies middle → Follows middle step reply new
+    → FollowsAll old (steps ++ step ∷ []) (replies ++ reply ∷ []) new
+follows-next old middle new steps replies step reply e so_far next shape log before leads agrees =
+    let here = so_far shape log before leads agrees in
+    let on = next shape (log ++ events_of steps replies) here.0 here.1 here.2 in
+    let last : List Event = record { step = step; reply = reply } ∷ [] in (
+      on.0,
+      subst (λ (events : List Event). Leads shape events on.0)
+          (append_assoc log (events_of steps replies) last ∙ ap (λ (events : List Event). log ++ events) (sym (events_of-next steps replies step reply e)))
+          on.1,
+      on.2,
+    )
