@@ -3,3 +3,6 @@ pub mod CellWord
 pub mod Digits
 pub mod Finding
 pub mod EvalLaws
+pub mod CardSteps
+pub mod PortZero
+pub mod RunLaws
