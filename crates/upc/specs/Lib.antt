@@ -5,7 +5,7 @@ pub mod Program
 pub mod Eval
 pub mod Check
 pub mod ScriptWords
-pub mod Commands
+pub mod ScriptCommands
 pub mod CardLine
 pub mod Rates
 pub mod Replies

@@ -1,8 +1,6 @@
 -- What is printed of the card's replies.
-use Rattle.std.specs.Prelude.{ℕ, ◌+◌, zero, suc, if◌then◌else◌, List, [], ◌∷◌, ◌++◌, length, map, take, codes, decimal, Option, Some, None, slice_get}
+use Rattle.std.specs.Prelude.{ℕ, zero, suc, if◌then◌else◌, List, [], ◌∷◌, ◌++◌, length, map, take, codes, decimal, Option, Some, None, slice_get}
 use Rattle.hex.specs.Hex.{encode_lower}
-use Rattle.upc_cell.specs.Connection.{vc_of}
-use Rattle.upc_cell.specs.declared.side.Side.{Side}
 use Rattle.upc_cell.specs.declared.vc.Vc.{Vc}
 use Rattle.gen_arena.specs.SameId.{is_same_id}
 use Rattle.gen_arena.specs.declared.id.Id.{Id}
@@ -10,13 +8,12 @@ use Rattle.leaky.specs.declared.verdict.Verdict.{Verdict}
 use Rattle.leaky.specs.declared.verdict.Verdict.TheVariants.{Pass, Tag, Discard, Refuse}
 use Rattle.line_record.specs.Piece.{PieceView}
 use Rattle.line_record.specs.Tally.{tally_of}
-use Rattle.line_record.specs.declared.entry.Entry.{Entry}
 use Rattle.line_record.specs.declared.tally.Tally.{Tally}
 use Rattle.card_core.specs.declared.answer.Answer.{Answer}
 use Rattle.card_core.specs.declared.answer.Answer.TheVariants as answer
 use Rattle.card_core.specs.declared.reply.Reply.{Reply}
 use Rattle.card_core.specs.declared.reply.Reply.TheVariants as reply
-use Rattle.upc.specs.Commands.{Command, load, retire, setup, reload, release, cut, cell}
+use Rattle.upc.specs.ScriptCommands.{Command, load, retire, setup, reload, release, cut}
 use Rattle.upc.specs.FaultLines.{line, arrive_fault, desk_fault}
 
 -- A program's name is its number behind `p`.

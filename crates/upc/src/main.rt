@@ -4,6 +4,7 @@
 
 mod answer;
 mod check;
+mod commands;
 mod choose;
 mod eval;
 mod exit;

@@ -1,26 +1,25 @@
 -- What the card's steps lead to, as far as `run` has to know it: each reply that says nothing of memory has
 -- a line, and port 0 is free again after each command.
-use Rattle.std.proofs.Common.{◌≡◌, ◌⊎◌, ℕ, inl, inr, Bool, true, false, if◌then◌else◌, List, [], ◌∷◌, ◌++◌, Option, Some, None, slice_get, codes, decimal, option_map, refl, sym, ap, ◌∙◌, subst}
-use Rattle.std.specs.Prelude.{is_none, slice_set, suc}
+use Rattle.std.proofs.Common.{◌≡◌, ◌⊎◌, ℕ, inl, inr, true, false, List, ◌++◌, Option, Some, None, codes, decimal, option_map, refl, sym, ap, ◌∙◌, subst}
+use Rattle.std.specs.Prelude.{suc}
 use Rattle.std.specs.Option.{MatchOption}
-use Rattle.upc_cell.specs.Connection.{vc_of}
 use Rattle.upc_cell.specs.declared.vc.Vc.{Vc}
 use Rattle.bpf_code.specs.declared.instr.Instr.{Instr}
 use Rattle.gen_arena.specs.declared.id.Id.{Id}
 use Rattle.card_core.specs.Laws.{is_of_memory}
-use Rattle.card_core.specs.Refusals.{enter_refusal, judge_refusal, load_fault, missing_fault, pick_refusal, picking_refusal, reload_fault, retire_fault, setup_fault}
-use Rattle.card_core.specs.Steps.{Enters, FindsNoMemory, IsRefused, Judges, Picks, Succeeds, WorldStep}
-use Rattle.card_core.specs.World.{Picking, PortState, World, connection_in, entered, outside, picked, with_port}
+use Rattle.card_core.specs.Refusals.{load_fault, missing_fault, reload_fault, retire_fault, setup_fault}
+use Rattle.card_core.specs.Steps.{FindsNoMemory, IsRefused, Succeeds, WorldStep}
+use Rattle.card_core.specs.World.{World}
 use Rattle.card_core.specs.declared.answer.Answer.{Answer}
 use Rattle.card_core.specs.declared.answer.Answer.TheVariants as answer
 use Rattle.card_core.specs.declared.ask.Ask.{Ask}
 use Rattle.card_core.specs.declared.fault.DeskFault.{DeskFault}
 use Rattle.card_core.specs.declared.fault.DeskFault.TheVariants as desk
 use Rattle.card_core.specs.declared.reply.Reply.{Reply}
-use Rattle.card_core.specs.declared.reply.Reply.TheVariants.{Entered, Picked, Answered, NotLoaded, NotSetUp, Refused}
+use Rattle.card_core.specs.declared.reply.Reply.TheVariants.{Answered, NotLoaded, NotSetUp, Refused}
 use Rattle.card_core.specs.declared.step.Step.{Step}
-use Rattle.card_core.specs.declared.step.Step.TheVariants.{Enter, Pick, Judge, Load, Retire, Setup, Reload, Release, Cut}
-use Rattle.upc.specs.Commands.{Command, load, retire, setup, reload, release, cut}
+use Rattle.card_core.specs.declared.step.Step.TheVariants.{Load, Retire, Setup, Reload, Release, Cut}
+use Rattle.upc.specs.ScriptCommands.{Command, load, retire, setup, reload, release, cut}
 use Rattle.upc.specs.FaultLines.{arrive_fault, desk_fault, line}
 use Rattle.upc.specs.Replies.{answer_text, connection_name, judging_text, number_of_program, piece_text, program_name, reply_text, verdict_text}
 use Rattle.upc.specs.declared.script_words.Wanted.{Wanted}

@@ -1,7 +1,7 @@
 -- The laws of `run`: every line has an answer in every world that a run reaches, and leads to such a world.
 -- They stand beside the definitions because the machine of `run` cites them as its laws.
 use Rattle.std.proofs.Common.{◌≡◌, ℕ, zero, suc, ◌^◌, ◌<◌, ◌==◌, ◌||◌, inl, inr, Bool, true, false, if◌then◌else◌, List, [], ◌∷◌, ◌++◌, Option, Some, None, length, codes, slice_get, nat_lt, refl, sym, ap, ◌∙◌, subst, arith}
-use Rattle.std.specs.Prelude.{flat_map, replicate}
+use Rattle.std.specs.Prelude.{replicate}
 use Rattle.std.proofs.lemmas.Bool.Decides.{nat_tests}
 use Rattle.std.specs.Bool.{MatchBool}
 use Rattle.std.specs.Option.{MatchOption}
@@ -21,7 +21,7 @@ use Rattle.card_core.proofs.Public.{log-goes_on, step-replied}
 use Rattle.card_core.specs.Laws.{LoadsAccepted}
 use Rattle.card_core.specs.Log.{Event, Leads}
 use Rattle.card_core.specs.Steps.{WorldStep}
-use Rattle.card_core.specs.World.{World, entered, opening_world, outside, picked}
+use Rattle.card_core.specs.World.{World, entered, opening_world, outside}
 use Rattle.card_core.specs.declared.answer.Answer.{Answer}
 use Rattle.card_core.specs.declared.ask.Ask.{Ask}
 use Rattle.card_core.specs.declared.fault.CardFault.{CardFault}
@@ -35,7 +35,7 @@ use Rattle.dialogue.specs.Words.{is_silent, words_of}
 use Rattle.dialogue.specs.declared.outcome.Done.{Done}
 use Rattle.dialogue.specs.declared.outcome.Done.TheVariants.{Whole, Ended}
 use Rattle.upc.specs.CardLine.{card_of, shape_fault}
-use Rattle.upc.specs.Commands.{Command, load, retire, setup, reload, release, cut, cell, command_of}
+use Rattle.upc.specs.ScriptCommands.{Command, load, retire, setup, reload, release, cut, cell, command_of}
 use Rattle.upc.specs.FaultLines.{bad_hex, bad_line, gcra_fault, no_card, no_such_program, shape_fault_line, wrong_length}
 use Rattle.upc.specs.Hexadecimal.{octets_of, cell_of}
 use Rattle.upc.specs.Program.{Reading, is_program, is_refused, ReadsAs}

@@ -1,5 +1,5 @@
 -- Digits go on to the number, or stop short of it.
-use Rattle.std.proofs.Common.{◌≡◌, ◌<◌, ◌≤◌, Some, None, length, get_or, sym, ◌∙◌, arith}
+use Rattle.std.proofs.Common.{◌≡◌, ◌<◌, Some, None, length, get_or, sym, ◌∙◌, arith}
 use Rattle.std.proofs.lemmas.Grind.{common_steps}
 use Rattle.upc.specs.inner.Digits.{with_digit}
 use Rattle.upc.proofs.NumberLemmas.{number_begins, number_ends, number_goes_on, number_stops, shifted-within}

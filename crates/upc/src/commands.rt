@@ -1,0 +1,81 @@
+//! The commands of a script, read from the words of a line.
+ghost use Rattle.std.specs.Prelude.{◌≡◌, option_map};
+ghost use Rattle.upc.specs.ScriptCommands.{cell_of_words, load_of, retire_of};
+ghost use Rattle.upc.specs.inner.CommandSeen.{command_seen, only_of};
+ghost use Rattle.dialogue.specs.Words.{words_of};
+
+use crate::script_words::{Wanted, number, program};
+use arrayvec::ArrayVec;
+use dialogue::first_word;
+use upc_cell::Vc;
+
+/// What a line asks of the card. Programs are named by number, from 1. The octets of a program and of a
+/// cell are still a word, whose faults come after those of all other words.
+pub enum Command<'a> {
+    /// A program is put in.
+    Load(&'a [u8]),
+    /// A program is taken out.
+    Retire(u64),
+    /// A connection is set up, under one to four contracts.
+    Setup(Vc, u64, ArrayVec<Wanted, 4>),
+    /// A connection gets another program.
+    Reload(Vc, u64),
+    /// A connection ends.
+    Release(Vc),
+    /// A connection's journal is handed out.
+    Cut(Vc),
+    /// A cell comes at a moment.
+    Cell(u64, &'a [u8]),
+}
+
+/// The word of a line that has no other.
+fn only_word(line: &[u8]) -> Option<&[u8]>
+    ensures { option_map (λ word. word.now) result ≡ only_of (words_of line.now) }
+{
+    let Some((word, rest)) = first_word(line) else {
+        return None;
+    };
+    if first_word(rest).is_some() {
+        return None;
+    }
+    Some(word)
+}
+
+/// `retire pN`, behind its first word.
+fn retire(line: &[u8]) -> Option<Command<'_>>
+    ensures { option_map command_seen result ≡ retire_of (words_of line.now) }
+{
+    let Some(word) = only_word(line) else {
+        return None;
+    };
+    match program(word) {
+        Some(number) => Some(Command::Retire(number)),
+        None => None,
+    }
+}
+
+/// `load HEX`, behind its first word.
+fn load(line: &[u8]) -> Option<Command<'_>>
+    ensures { option_map command_seen result ≡ load_of (words_of line.now) }
+{
+    match only_word(line) {
+        Some(digits) => Some(Command::Load(digits)),
+        None => None,
+    }
+}
+
+/// `cell MOMENT HEX`, behind its first word.
+fn cell(line: &[u8]) -> Option<Command<'_>>
+    ensures { option_map command_seen result ≡ cell_of_words (words_of line.now) }
+{
+    let Some((moment, rest)) = first_word(line) else {
+        return None;
+    };
+    let Some(digits) = only_word(rest) else {
+        return None;
+    };
+    match number(moment) {
+        Some(ticks) => Some(Command::Cell(ticks, digits)),
+        None => None,
+    }
+}
