@@ -53,15 +53,18 @@ reload_of side (path ∷ channel ∷ program ∷ []) =
     option_map reload_with (seat_of side path channel program)
 reload_of side _ = None
 
+-- A connection that two words name, and nothing behind them.
+abbrev pub only_vc : Side → List (List ℕ) → Option Vc
+only_vc side (path ∷ channel ∷ []) = vc_named side path channel
+only_vc side _ = None
+
 -- `release VPI VCI`
 abbrev pub release_of : Side → List (List ℕ) → Option Command
-release_of side (path ∷ channel ∷ []) = option_map (λ vc. release vc) (vc_named side path channel)
-release_of side _ = None
+release_of side words = option_map (λ vc. release vc) (only_vc side words)
 
 -- `cut VPI VCI`
 abbrev pub cut_of : Side → List (List ℕ) → Option Command
-cut_of side (path ∷ channel ∷ []) = option_map (λ vc. cut vc) (vc_named side path channel)
-cut_of side _ = None
+cut_of side words = option_map (λ vc. cut vc) (only_vc side words)
 
 -- `cell MOMENT HEX`
 abbrev pub cell_of_words : List (List ℕ) → Option Command

@@ -1,13 +1,13 @@
 //! The commands of a script, read from the words of a line.
 ghost use Rattle.std.specs.Prelude.{◌≡◌, option_map};
-ghost use Rattle.upc.specs.ScriptCommands.{cell_of_words, load_of, retire_of};
+ghost use Rattle.upc.specs.ScriptCommands.{cell_of_words, cut_of, load_of, only_vc, release_of, reload_of, retire_of};
 ghost use Rattle.upc.specs.inner.CommandSeen.{command_seen, only_of};
 ghost use Rattle.dialogue.specs.Words.{words_of};
 
-use crate::script_words::{Wanted, number, program};
+use crate::script_words::{Wanted, connection, number, program};
 use arrayvec::ArrayVec;
 use dialogue::first_word;
-use upc_cell::Vc;
+use upc_cell::{Side, Vc};
 
 /// What a line asks of the card. Programs are named by number, from 1. The octets of a program and of a
 /// cell are still a word, whose faults come after those of all other words.
@@ -76,6 +76,61 @@ fn cell(line: &[u8]) -> Option<Command<'_>>
     };
     match number(moment) {
         Some(ticks) => Some(Command::Cell(ticks, digits)),
+        None => None,
+    }
+}
+
+/// `reload VPI VCI pN`, behind its first word.
+fn reload(side: Side, line: &[u8]) -> Option<Command<'_>>
+    ensures { option_map command_seen result ≡ reload_of side (words_of line.now) }
+{
+    let Some((path, rest)) = first_word(line) else {
+        return None;
+    };
+    let Some((channel, rest)) = first_word(rest) else {
+        return None;
+    };
+    let Some(name) = only_word(rest) else {
+        return None;
+    };
+    let Some(vc) = connection(side, path, channel) else {
+        return None;
+    };
+    match program(name) {
+        Some(number) => Some(Command::Reload(vc, number)),
+        None => None,
+    }
+}
+
+/// The two words of a connection that stand alone.
+fn only_connection(side: Side, line: &[u8]) -> Option<Vc>
+    ensures { result ≡ only_vc side (words_of line.now) }
+{
+    let Some((path, rest)) = first_word(line) else {
+        return None;
+    };
+    let Some(channel) = only_word(rest) else {
+        return None;
+    };
+    connection(side, path, channel)
+}
+
+/// `release VPI VCI`, behind its first word.
+fn release(side: Side, line: &[u8]) -> Option<Command<'_>>
+    ensures { option_map command_seen result ≡ release_of side (words_of line.now) }
+{
+    match only_connection(side, line) {
+        Some(vc) => Some(Command::Release(vc)),
+        None => None,
+    }
+}
+
+/// `cut VPI VCI`, behind its first word.
+fn cut(side: Side, line: &[u8]) -> Option<Command<'_>>
+    ensures { option_map command_seen result ≡ cut_of side (words_of line.now) }
+{
+    match only_connection(side, line) {
+        Some(vc) => Some(Command::Cut(vc)),
         None => None,
     }
 }
