@@ -1,10 +1,10 @@
 //! The commands of a script, read from the words of a line.
 ghost use Rattle.std.specs.Prelude.{◌≡◌, option_map};
-ghost use Rattle.upc.specs.ScriptCommands.{cell_of_words, cut_of, load_of, only_vc, release_of, reload_of, retire_of};
+ghost use Rattle.upc.specs.ScriptCommands.{cell_of_words, contracts_of, cut_of, load_of, only_vc, release_of, reload_of, retire_of, setup_of};
 ghost use Rattle.upc.specs.inner.CommandSeen.{command_seen, only_of};
 ghost use Rattle.dialogue.specs.Words.{words_of};
 
-use crate::script_words::{Wanted, connection, number, program};
+use crate::script_words::{Wanted, connection, contract, number, program};
 use arrayvec::ArrayVec;
 use dialogue::first_word;
 use upc_cell::{Side, Vc};
@@ -131,6 +131,53 @@ fn cut(side: Side, line: &[u8]) -> Option<Command<'_>>
 {
     match only_connection(side, line) {
         Some(vc) => Some(Command::Cut(vc)),
+        None => None,
+    }
+}
+
+/// One to four contracts, a word each.
+fn contracts(line: &[u8]) -> Option<ArrayVec<Wanted, 4>>
+    ensures { option_map (λ wanted. wanted.items) result ≡ contracts_of (words_of line.now) }
+{
+    let mut wanted = ArrayVec::new();
+    let mut rest = line;
+    while let Some((word, behind)) = first_word(rest) {
+        let Some(next) = contract(word) else {
+            return None;
+        };
+        if wanted.len() >= 4 {
+            return None;
+        }
+        wanted.push(next);
+        rest = behind;
+    }
+    if wanted.is_empty() {
+        return None;
+    }
+    Some(wanted)
+}
+
+/// `setup VPI VCI pN CONTRACT ..`, behind its first word.
+fn setup(side: Side, line: &[u8]) -> Option<Command<'_>>
+    ensures { option_map command_seen result ≡ setup_of side (words_of line.now) }
+{
+    let Some((path, rest)) = first_word(line) else {
+        return None;
+    };
+    let Some((channel, rest)) = first_word(rest) else {
+        return None;
+    };
+    let Some((name, rest)) = first_word(rest) else {
+        return None;
+    };
+    let Some(vc) = connection(side, path, channel) else {
+        return None;
+    };
+    let Some(number) = program(name) else {
+        return None;
+    };
+    match contracts(rest) {
+        Some(wanted) => Some(Command::Setup(vc, number, wanted)),
         None => None,
     }
 }

@@ -27,6 +27,20 @@ pub enum Wanted {
     Vbr3(Rate, Rate),
 }
 
+/// Both numbers 0: what no rate may be, in a place that no contract has taken yet.
+impl Default for Wanted {
+    ghost use Rattle.upc.specs.inner.Digits.{IsBlankContract};
+
+    ghost is_default = { IsBlankContract };
+
+    fn default() -> Wanted {
+        Wanted::Cbr1(Rate {
+            increment: 0,
+            limit: 0,
+        })
+    }
+}
+
 /// The value with one more digit behind it; none where the octet is no digit, or the value is above
 /// 2^64 - 1.
 fn shifted(value: u64, octet: u8) -> Option<u64>
