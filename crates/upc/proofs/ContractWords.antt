@@ -34,12 +34,12 @@ pub reads_next : (words : List (List ℕ)) (read : List Wanted) (rest behind : L
     → ReadsOn words read rest → length read < 4 → rest ≡ word ∷ behind → wanted_of word ≡ Some first → ReadsOn words (read ++ first ∷ []) behind
 reads_next words read rest behind word first so_far room cut is = record {
   many =
-    let longer : length (read ++ first ∷ []) ≡ length read + 1 = length-append read (first ∷ []) in
-    let cut_length : length rest ≡ length behind + 1 = ap length cut ∙ omega arith in
-    omega (arith, longer, cut_length, so_far.many);
+      let longer : length (read ++ first ∷ []) ≡ length read + 1 = length-append read (first ∷ []) in
+      let cut_length : length rest ≡ length behind + 1 = ap length cut ∙ omega arith in
+      omega (arith, longer, cut_length, so_far.many);
   reads = next-read read first (wanted_of_each behind)
-    ∙ sym (ap (λ o. option_map (λ (xs : List Wanted). read ++ xs) (option_and_then (λ (w : Wanted). option_map (λ (xs : List Wanted). w ∷ xs) (wanted_of_each behind)) o)) is)
-    ∙ sym (ap (read_behind read) cut) ∙ so_far.reads;
+      ∙ sym (ap (λ o. option_map (λ (xs : List Wanted). read ++ xs) (option_and_then (λ (w : Wanted). option_map (λ (xs : List Wanted). w ∷ xs) (wanted_of_each behind)) o)) is)
+      ∙ sym (ap (read_behind read) cut) ∙ so_far.reads;
   few = let longer : length (read ++ first ∷ []) ≡ length read + 1 = length-append read (first ∷ []) in omega (arith, longer, room);
 }
 

@@ -1,6 +1,6 @@
 //! The commands of a script, read from the words of a line.
 ghost use Rattle.std.specs.Prelude.{◌≡◌, option_map};
-ghost use Rattle.upc.specs.ScriptCommands.{cell_of_words, contracts_of, cut_of, load_of, only_vc, release_of, reload_of, retire_of, setup_of};
+ghost use Rattle.upc.specs.ScriptCommands.{cell_of_words, command_of, contracts_of, cut_of, load_of, only_vc, release_of, reload_of, retire_of, setup_of};
 ghost use Rattle.upc.specs.inner.CommandSeen.{command_seen, only_of};
 ghost use Rattle.dialogue.specs.Words.{words_of};
 
@@ -179,5 +179,31 @@ fn setup(side: Side, line: &[u8]) -> Option<Command<'_>>
     match contracts(rest) {
         Some(wanted) => Some(Command::Setup(vc, number, wanted)),
         None => None,
+    }
+}
+
+/// The command that a line's words spell on a card of this side; none where they have no lawful form.
+pub fn read_command(side: Side, line: &[u8]) -> Option<Command<'_>>
+    ensures { option_map command_seen result ≡ command_of side (words_of line.now) }
+{
+    let Some((name, rest)) = first_word(line) else {
+        return None;
+    };
+    if name == b"cell".as_slice() {
+        cell(rest)
+    } else if name == b"load".as_slice() {
+        load(rest)
+    } else if name == b"retire".as_slice() {
+        retire(rest)
+    } else if name == b"setup".as_slice() {
+        setup(side, rest)
+    } else if name == b"reload".as_slice() {
+        reload(side, rest)
+    } else if name == b"release".as_slice() {
+        release(side, rest)
+    } else if name == b"cut".as_slice() {
+        cut(side, rest)
+    } else {
+        None
     }
 }

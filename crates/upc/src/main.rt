@@ -4,8 +4,8 @@
 
 mod answer;
 mod check;
-mod commands;
 mod choose;
+mod commands;
 mod eval;
 mod exit;
 mod hexadecimal;
