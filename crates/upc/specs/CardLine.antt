@@ -1,11 +1,9 @@
 -- The line that opens a card: how large it is, and which side its cells come from.
-use Rattle.std.specs.Prelude.{ℕ, nat_le, ◌&&◌, Bool, not, if◌then◌else◌, List, [], ◌∷◌, codes, Option, Some, None}
+use Rattle.std.specs.Prelude.{ℕ, if◌then◌else◌, List, [], ◌∷◌, codes, Option, Some, None}
 use Rattle.std.specs.Option.{option_and_then}
 use Rattle.std.specs.Str.{bytes_eq}
 use Rattle.upc_cell.specs.declared.side.Side.{Side}
 use Rattle.upc_cell.specs.declared.side.Side.TheVariants.{Uni, Nni}
-use Rattle.card_core.specs.declared.fault.CardFault.{CardFault}
-use Rattle.card_core.specs.declared.fault.CardFault.TheVariants as card
 use Rattle.card_core.specs.declared.shape.Shape.{Shape}
 use Rattle.upc.specs.ScriptWords.{with_both, number_of}
 
@@ -46,16 +44,3 @@ shape_of _ = None
 abbrev pub card_of : List (List ℕ) → Option Shape
 card_of [] = None
 card_of (name ∷ words) = if bytes_eq name (codes "card") then shape_of words else None
-
--- The number is from 1 to this.
-abbrev pub is_from_one_to : ℕ → ℕ → Bool
-is_from_one_to most number = nat_le 1 number && nat_le number most
-
--- The first of its numbers that is out of its limits.
-abbrev pub shape_fault : Shape → Option CardFault
-shape_fault shape =
-    if not (is_from_one_to 1024 shape.programs) then Some card.Programs
-    else if not (is_from_one_to 4096 shape.lines) then Some card.Lines
-    else if not (is_from_one_to 16 shape.ports) then Some card.Ports
-    else if not (is_from_one_to 65536 shape.journal) then Some card.Journal
-    else None

@@ -20,7 +20,8 @@ use Rattle.dialogue.specs.Printing.{Rules, Prints}
 use Rattle.dialogue.specs.Words.{words_of, is_silent}
 use Rattle.dialogue.specs.declared.outcome.Done.{Done}
 use Rattle.dialogue.specs.declared.outcome.Done.TheVariants.{Whole, Ended}
-use Rattle.upc.specs.CardLine.{card_of, shape_fault}
+use Rattle.card_core.specs.Shapes.{shape_fault}
+use Rattle.upc.specs.CardLine.{card_of}
 use Rattle.upc.specs.ScriptCommands.{Command, load, retire, setup, reload, release, cut, cell, command_of}
 use Rattle.upc.specs.Rates.{AreContracts, first_wanted_fault}
 use Rattle.upc.specs.FaultLines.{bad_hex, bad_line, gcra_fault, no_card, no_such_program, shape_fault_line, too_long, wrong_length}

@@ -34,7 +34,8 @@ use Rattle.dialogue.specs.Printing.{IsTotal}
 use Rattle.dialogue.specs.Words.{is_silent, words_of}
 use Rattle.dialogue.specs.declared.outcome.Done.{Done}
 use Rattle.dialogue.specs.declared.outcome.Done.TheVariants.{Whole, Ended}
-use Rattle.upc.specs.CardLine.{card_of, shape_fault}
+use Rattle.card_core.specs.Shapes.{shape_fault}
+use Rattle.upc.specs.CardLine.{card_of}
 use Rattle.upc.specs.ScriptCommands.{Command, load, retire, setup, reload, release, cut, cell, command_of}
 use Rattle.upc.specs.FaultLines.{bad_hex, bad_line, gcra_fault, no_card, no_such_program, shape_fault_line, wrong_length}
 use Rattle.upc.specs.Hexadecimal.{octets_of, cell_of}
