@@ -3,6 +3,7 @@
 #![tactic(auto)]
 
 mod answer;
+mod card_line;
 mod check;
 mod choose;
 mod commands;
