@@ -19,6 +19,7 @@ pub mod PickSteps
 pub mod PortLemmas
 pub mod PortSteps
 pub mod Promise
+pub mod Public
 pub mod Replies
 pub mod RunLemmas
 pub mod SetupSteps

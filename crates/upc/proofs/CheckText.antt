@@ -3,7 +3,7 @@ use Rattle.std.proofs.Common.{◌≡◌, ℕ, ◌+◌, ◌≤◌, inl, inr, List
 use Rattle.bpf_asm.proofs.Public.{meaning-or_fault, never_both, fault_once, meaning_once}
 use Rattle.bpf_code.specs.declared.instr.Instr.{Instr}
 use Rattle.upc.specs.Check.{IsCheckText, Tells, TellsCode, TellsReading, TellsSource, accepted_text, most_source}
-use Rattle.upc.specs.Program.{Reading, is_program, is_refused, ChecksAs}
+use Rattle.upc.specs.Program.{Reading, is_program, is_refused}
 use Rattle.upc.specs.inner.EvalLaws.{checks-as}
 use Rattle.upc.proofs.OneText.{checks-once}
 use Rattle.upc.specs.FaultLines.{asm_fault, too_long}

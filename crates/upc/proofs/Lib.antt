@@ -1,5 +1,9 @@
 pub mod HexadecimalLemmas
+pub mod MarkLemmas
+pub mod NumberLemmas
 pub mod Choosing
+pub mod ConnectionWords
+pub mod ContractWords
 pub mod PlainWords
 pub mod OneText
 pub mod CheckText

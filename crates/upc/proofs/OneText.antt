@@ -1,8 +1,7 @@
 -- An input has one text of `eval`.
-use Rattle.std.proofs.Common.{◌≡◌, ◌≢◌, ℕ, ◌+◌, ◌==◌, inl, inr, Bool, true, false, List, [], ◌∷◌, ◌++◌, Option, Some, None, length, codes, decimal, refl, ap, sym, ◌∙◌, subst, arith}
+use Rattle.std.proofs.Common.{◌≡◌, ℕ, ◌==◌, inl, inr, Bool, true, false, List, [], ◌∷◌, ◌++◌, Option, Some, None, length, codes, decimal, ap, sym, ◌∙◌, subst}
 use Rattle.std.specs.Bool.{MatchBool}
 use Rattle.std.specs.Option.{MatchOption}
-use Rattle.std.proofs.lemmas.Bool.{cases_order}
 use Rattle.bpf_code.specs.declared.instr.Instr.{Instr}
 use Rattle.bpf_code.proofs.Public.{SpellsCode-unique, code-no_fault, one-decode_fault}
 use Rattle.bpf_verify.proofs.Public.{one_comes_first, refused-from_fault}
@@ -17,7 +16,6 @@ use Rattle.upc.specs.FaultLines.{line, bad_line, bad_hex, verify_fault, decode_f
 use Rattle.upc.specs.Hexadecimal.{octets_of, cell_of}
 use Rattle.dialogue.specs.Words.{words_of, is_silent}
 use Rattle.dialogue.specs.declared.outcome.Done.{Done}
-use Rattle.dialogue.specs.declared.outcome.Done.TheVariants.{Ended}
 
 -- one text, and one world after it
 abbrev Same : List ℕ → List ℕ → Option World → Option World → Type 0

@@ -1,5 +1,5 @@
 -- What the program does with the choice that its words came to, and with which exit status it ends.
-use Rattle.std.specs.Prelude.{◌≡◌, ◌⊎◌, ℕ, List, [], ◌++◌, codes, Result, Ok, Err}
+use Rattle.std.specs.Prelude.{◌≡◌, ◌⊎◌, ℕ, List, ◌++◌, codes, Result, Ok, Err}
 use Rattle.std.specs.String.{string_bytes}
 use Rattle.dialogue.specs.Devices.{Adds, IsPart, TakesEnough, one_more}
 use Rattle.dialogue.specs.Limits.{most_ahead}

@@ -4,6 +4,12 @@ pub mod FaultLines
 pub mod Program
 pub mod Eval
 pub mod Check
+pub mod ScriptWords
+pub mod ScriptCommands
+pub mod CardLine
+pub mod Rates
+pub mod Replies
+pub mod Run
 pub mod Choice
 pub mod Subcommand
 pub mod Outcome

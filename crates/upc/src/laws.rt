@@ -1,6 +1,7 @@
 //! Laws of the definitions: functions that do nothing, each for the sake of its contract.
 ghost use Rattle.std.specs.Prelude.{◌≡◌, ℕ, List};
 ghost use Rattle.dialogue.specs.declared.outcome.Done.{Done as TheDone};
+ghost use Rattle.upc.specs.Run.{IsRunText};
 ghost use Rattle.upc.specs.Subcommand.{IsTextOf};
 ghost use Rattle.upc.specs.declared.choose.Choice.{Choice as TheChoice};
 
@@ -15,4 +16,9 @@ pub fn an_input_has_one_text()
     ensures { (choice : TheChoice) (octets : List ℕ) (one other : List ℕ) (ends other_ends : TheDone)
         → IsTextOf choice octets one ends → IsTextOf choice octets other other_ends
         → (one ≡ other) × (ends ≡ other_ends) }
+{}
+
+/// A script has a text.
+pub fn a_script_has_a_text()
+    ensures { (octets : List ℕ) → (text : List ℕ) × (done : TheDone) × IsRunText octets text done }
 {}

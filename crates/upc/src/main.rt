@@ -3,14 +3,17 @@
 #![tactic(auto)]
 
 mod answer;
+mod card_line;
 mod check;
 mod choose;
+mod commands;
 mod eval;
 mod exit;
 mod hexadecimal;
 mod invocation;
 mod laws;
 mod program;
+mod script_words;
 mod subcommand;
 #[cfg(test)]
 mod tests;

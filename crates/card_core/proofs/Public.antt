@@ -1,0 +1,20 @@
+-- What the crates above may use in their proofs.
+use Rattle.std.proofs.Common.{◌≡◌, List, [], ◌∷◌, ◌++◌}
+use Rattle.card_core.specs.declared.reply.Reply.{Reply}
+use Rattle.card_core.specs.declared.step.Step.{Step}
+use Rattle.card_core.specs.World.{World}
+use Rattle.card_core.specs.Steps.{WorldStep}
+use Rattle.card_core.specs.Log.{Event, Run}
+use Rattle.card_core.specs.Laws.{StepsHaveReplies}
+use Rattle.card_core.proofs.Follow as follow
+use Rattle.card_core.proofs.Replies as replies
+
+-- In every world that a log leads to each step has a reply that says nothing of memory.
+pub step-replied : StepsHaveReplies
+step-replied = replies.steps-replied
+
+-- A log goes on by one event.
+pub log-goes_on : (start before after : World) (log : List Event) (step : Step) (reply : Reply)
+    → Run start log before → WorldStep before step reply after
+    → Run start (log ++ record { step = step; reply = reply } ∷ []) after
+log-goes_on = follow.Run-next
