@@ -33,7 +33,7 @@ fn a_load_behind_the_cell_ends_with_0(rt: HostRuntime) -> Result<(), Fail> {
 
 #[test]
 fn a_program_line_with_a_fault_ends_the_run(rt: HostRuntime) -> Result<(), Fail> {
-    let rows: [(&[u8], &[u8]); 14] = [
+    let rows: [(&[u8], &[u8]); 15] = [
         (
             b"000000000000000000000000\n00100640\n",
             b"fault decode 1 Ragged\n",
@@ -43,8 +43,12 @@ fn a_program_line_with_a_fault_ends_the_run(rt: HostRuntime) -> Result<(), Fail>
             b"fault decode 2 UnknownCode 0 000e\n",
         ),
         (
-            b"0094000000000007\n",
-            b"fault decode 2 UnknownCode 0 0094\n",
+            b"00b4000000000007\n",
+            b"fault decode 2 UnknownCode 0 00b4\n",
+        ),
+        (
+            b"00940000000000000006000000000001\n",
+            b"fault verify 4 ZeroDivisor 0\n",
         ),
         (b"0005000000000000\n", b"fault verify 6 JumpOutside 0\n"),
         (
@@ -159,6 +163,26 @@ fn a_value_for_each_kind_of_instruction(rt: HostRuntime) -> Result<(), Fail> {
         (
             "000600000000000000600000000000030016000000000000",
             "accepted 3\nvalue 0 steps 1\n",
+        ),
+        // ld [0]; mod #7; ret a
+        (
+            "002000000000000000940000000000070016000000000000",
+            "accepted 3\nvalue 1 steps 3\n",
+        ),
+        // ld [0]; xor #0xffffffff; ret a
+        (
+            "002000000000000000a40000ffffffff0016000000000000",
+            "accepted 3\nvalue 4293917119 steps 3\n",
+        ),
+        // ldx #0; mod x; ret #1
+        (
+            "0001000000000000009c0000000000000006000000000001",
+            "accepted 3\nvalue 0 steps 2\n",
+        ),
+        // ld [0]; tax; xor x; ret a
+        (
+            "0020000000000000000700000000000000ac0000000000000016000000000000",
+            "accepted 4\nvalue 0 steps 4\n",
         ),
     ];
     for (program, text) in rows {
