@@ -1,15 +1,11 @@
--- Where instructions lead: forward, and in a sound code that ends in a return, to its places alone.
-use Rattle.std.proofs.Common.{◌≡◌, ℕ, ◌+◌, ◌-◌, ◌<◌, ◌⊎◌, inl, inr, List, length, refl, subst, arith}
-use Rattle.std.proofs.lemmas.Bool.{cases_lt, cases_order}
-use Rattle.std.proofs.lemmas.Option.{slice_get_within}
+-- Where instructions lead: forward.
+use Rattle.std.proofs.Common.{◌≡◌, ℕ, ◌+◌, ◌<◌, ◌⊎◌, inl, inr, List, refl, arith}
+use Rattle.std.proofs.lemmas.Bool.{cases_order}
 use Rattle.bpf_code.specs.declared.instr.By.{By}
 use Rattle.bpf_code.specs.declared.instr.Instr.{Instr}
 use Rattle.bpf_code.specs.declared.instr.Instr.TheVariants.{Branch, Jump, RetA, RetK}
 use Rattle.bpf_code.specs.declared.instr.Test.{Test}
-use Rattle.bpf_code.specs.Flow.{IsReturn, IsSuccessor, LeadsTo, StandsAt}
-use Rattle.bpf_verify.specs.Accepted.{EndsInReturn}
-use Rattle.bpf_verify.specs.Faults.{IsSoundBelow}
-use Rattle.bpf_verify.proofs.Places.{one_stands}
+use Rattle.bpf_code.specs.Flow.{IsSuccessor, LeadsTo}
 
 -- what neither jumps nor returns leads to the place behind it, and to no other
 pub falls_through : (place : ℕ) (i : Instr)
@@ -54,28 +50,3 @@ decide_leads place (Branch test by jt jf) next =
       ]
     ]
 decide_leads place _ next = decide_same next (place + 1)
-
--- what is no return isn't the last instruction
-behind : (code : List Instr) (place : ℕ) (i : Instr) → StandsAt code place i → EndsInReturn code → (IsReturn i → ⊥)
-    → (next : ℕ) → next ≡ place + 1 → next < length code
-behind code place i stands ends goes_on next e =
-    let within : place < length code = slice_get_within code place i stands in
-    elim (cases_lt (place + 1) (length code)) [
-      | inl lt ↦ omega (arith, e, lt)
-      | inr le ↦
-          let last : length code - 1 ≡ place = omega arith in
-          let there : StandsAt code place ends.0 = subst (λ n. StandsAt code n ends.0) last ends.1 in
-          absurd (goes_on (subst IsReturn (one_stands code place ends.0 i there stands) ends.2))
-    ]
-
--- in a sound code that ends in a return each successor is a place of the code
-pub leads_within : (code : List Instr) (place : ℕ) (i : Instr) → IsSoundBelow code (length code) → EndsInReturn code
-    → StandsAt code place i → (next : ℕ) → LeadsTo place i next → next < length code
-leads_within code place (Jump k) sound ends stands next leads =
-    (sound place (Jump k) (slice_get_within code place (Jump k) stands) stands).targets next leads
-leads_within code place (Branch test by jt jf) sound ends stands next leads =
-    (sound place (Branch test by jt jf) (slice_get_within code place (Branch test by jt jf) stands) stands).targets next leads
-leads_within code place (RetK k) sound ends stands next leads = absurd leads
-leads_within code place RetA sound ends stands next leads = absurd leads
-leads_within code place i sound ends stands next leads =
-    behind code place i stands ends (λ returns. returns) next leads

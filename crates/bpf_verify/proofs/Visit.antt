@@ -1,33 +1,47 @@
 -- What is known of the instruction that stands at a place, as an element of the code's list.
-use Rattle.std.proofs.Common.{◌≡◌, ℕ, ◌+◌, ◌<◌, inl, inr, List, length, get_or, subst, arith}
+use Rattle.std.proofs.Common.{◌≡◌, ℕ, ◌+◌, ◌-◌, ◌<◌, ◌≤◌, inl, inr, List, length, get_or, subst, sym, arith}
 use Rattle.std.proofs.lemmas.Bool.{cases_lt}
 use Rattle.std.proofs.lemmas.Option.{slice_get-get_or, slice_get_within}
 use Rattle.bpf_code.specs.declared.instr.Instr.{Instr}
-use Rattle.bpf_code.specs.Flow.{LeadsTo, StandsAt}
-use Rattle.bpf_code.specs.Scratch.{ReadsWord, StoresWord}
+use Rattle.bpf_code.specs.declared.instr.Instr.TheVariants.{Branch, Jump, RetA, RetK}
+use Rattle.bpf_code.specs.Flow.{IsReturn, LeadsTo, StandsAt}
 use Rattle.bpf_verify.specs.Accepted.{EndsInReturn, IsSized, IsSound}
-use Rattle.bpf_verify.specs.Faults.{IsSoundBelow}
+use Rattle.bpf_verify.specs.Faults.{IsSoundBelow, LacksReturn}
 use Rattle.bpf_verify.specs.Paths.{IsWrittenAt}
-use Rattle.bpf_verify.proofs.Onward.{leads_within}
+use Rattle.bpf_verify.proofs.Places.{one_stands}
 
 module _ (code : List Instr) (at : ℕ) (default : Instr) (within : at < length code) where
   pub stands_there : StandsAt code at (get_or code at default)
   stands_there = slice_get-get_or code at default within
 
-  sound_there : IsSoundBelow code (length code) → IsSound (length code) at (get_or code at default)
-  sound_there sound = sound at (get_or code at default) within stands_there
+  -- one more place is sound
+  pub one_sound : IsSoundBelow code at → IsSound (length code) at (get_or code at default) → IsSoundBelow code (at + 1)
+  one_sound before here place i lt stands =
+      elim (cases_lt place at) [
+        | inl earlier ↦ before place i earlier stands
+        | inr le ↦
+            let e : at ≡ place = omega arith in
+            let there : StandsAt code at i = subst (λ n. StandsAt code n i) (sym e) stands in
+            let same = one_stands code at (get_or code at default) i stands_there there in
+            subst (λ n. IsSound (length code) n i) e (subst (λ j. IsSound (length code) at j) same here)
+      ]
 
-  pub read_within : IsSoundBelow code (length code) → (word : ℕ) → ReadsWord (get_or code at default) word → word < 16
-  read_within sound word reads = (sound_there sound).scratch word (inl reads)
+-- what stands last decides whether the code ends in a return
+pub ends_there : (code : List Instr) (i : Instr) → StandsAt code (length code - 1) i → IsReturn i → EndsInReturn code
+ends_there code i stands returns = (i, stands, returns)
 
-  pub stored_within : IsSoundBelow code (length code) → (word : ℕ) → StoresWord (get_or code at default) word → word < 16
-  stored_within sound word stores = (sound_there sound).scratch word (inr stores)
+pub lacks_there : (code : List Instr) (i : Instr) → StandsAt code (length code - 1) i → (IsReturn i → ⊥) → LacksReturn code
+lacks_there code i stands goes_on j there returns =
+    goes_on (subst IsReturn (one_stands code (length code - 1) j i there stands) returns)
 
-  pub next_within : IsSized code → IsSoundBelow code (length code) → EndsInReturn code
-      → (next : ℕ) → LeadsTo at (get_or code at default) next → next < 4096
-  next_within sized sound ends next leads =
-      let inside : next < length code = leads_within code at (get_or code at default) sound ends stands_there next leads in
-      omega (arith, inside, sized.most)
+-- where a sound instruction leads is no further than behind the last place
+pub next_within : (code : List Instr) (at : ℕ) (i : Instr) → IsSized code → at < length code → IsSound (length code) at i
+    → (next : ℕ) → LeadsTo at i next → next ≤ 4096
+next_within code at (Jump k) sized within sound next leads = omega (arith, sound.targets next leads, sized.most)
+next_within code at (Branch test by jt jf) sized within sound next leads = omega (arith, sound.targets next leads, sized.most)
+next_within code at (RetK k) sized within sound next leads = absurd leads
+next_within code at RetA sized within sound next leads = absurd leads
+next_within code at _ sized within sound next leads = omega (arith, leads, sized.most)
 
 -- one more place is written
 pub one_more : (code : List Instr) (at : ℕ) → ((place : ℕ) → place < at → IsWrittenAt code place) → IsWrittenAt code at

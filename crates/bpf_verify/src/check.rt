@@ -1,18 +1,19 @@
-ghost use Rattle.std.specs.Prelude.{◌≡◌, ◌↔◌, IsOk, IsTrue, IfOk, IfErr, IfSome, IfNone};
+ghost use Rattle.std.specs.Prelude.{◌≡◌, ◌↔◌, ◌<◌, ℕ, IsOk, IsTrue, IfOk, IfErr, IfSome, IfNone};
 ghost use Rattle.bpf_code.specs.Flow.{IsReturn};
-ghost use Rattle.bpf_verify.specs.Accepted.{IsAccepted};
-ghost use Rattle.bpf_verify.specs.Faults.{FailsFirst};
+ghost use Rattle.bpf_verify.specs.Accepted.{IsAccepted, IsSized};
+ghost use Rattle.bpf_verify.specs.Faults.{FailsFirst, IsUnwrittenAt};
+ghost use Rattle.bpf_verify.specs.Paths.{IsWrittenAt};
 
 use crate::fault::{Fault, Refused};
 use crate::program::Program;
-use crate::scratch::first_unwritten;
-use crate::soundness::first_unsound;
+use crate::scratch::{PLACES, pass_on, unwritten_word, with_stored};
+use crate::soundness::{fault_of, first_unsound};
 use bpf_code::Instr;
 
 /// How many instructions a program has at most.
 pub const MAX_INSTRUCTIONS: usize = 4096;
 
-/// Checks a code, in one pass over each of its parts and without taking memory.
+/// Checks a code, in one pass over its instructions and without taking memory.
 ///
 /// # Errors
 ///
@@ -40,13 +41,51 @@ fn first_fault(code: &[Instr]) -> Option<Fault>
     if code.len() > MAX_INSTRUCTIONS {
         return Some(Fault::TooLong);
     }
+    first_in_order(code)
+}
+
+/// The fault that comes first of a code of a lawful size, if it has one. What an instruction breaks by itself
+/// and what it reads unwritten are looked for in one pass, so that a processor does one beside the other.
+fn first_in_order(code: &[Instr]) -> Option<Fault>
+    requires { IsSized code.now }
+    ensures none { IfNone result (IsAccepted code.now) }
+    ensures some { IfSome result (FailsFirst code.now) }
+{
+    let mut written = [u16::MAX; PLACES];
+    written[0] = 0;
+    let mut here = 0;
+    for (at, instr) in code.iter().enumerate() {
+        if let Some(fault) = fault_of(*instr, at, code.len()) {
+            return Some(fault);
+        }
+        if let Some(word) = unwritten_word(*instr, here) {
+            return Some(unwritten_or_earlier(code, at, word));
+        }
+        here = pass_on(&mut written, at, *instr, with_stored(*instr, here));
+    }
+    if is_return(code[code.len() - 1]) {
+        None
+    } else {
+        Some(Fault::NoReturn)
+    }
+}
+
+/// The fault that comes first of a code whose first unwritten read is known: that, unless an instruction
+/// breaks something by itself, or the last is no return.
+#[inline(never)]
+fn unwritten_or_earlier(code: &[Instr], at: usize, word: u32) -> Fault
+    requires sized { IsSized code.now }
+    requires before { (place : ℕ) → place < at → IsWrittenAt code.now place }
+    requires unwritten { IsUnwrittenAt code.now at word }
+    ensures { FailsFirst code.now result }
+{
     if let Some(fault) = first_unsound(code) {
-        return Some(fault);
+        return fault;
     }
     if !is_return(code[code.len() - 1]) {
-        return Some(Fault::NoReturn);
+        return Fault::NoReturn;
     }
-    first_unwritten(code)
+    Fault::Unwritten { at, word }
 }
 
 /// Whether an instruction ends the program.

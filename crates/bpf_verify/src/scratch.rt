@@ -1,46 +1,21 @@
-//! Which scratch words are written wherever they are read.
+//! Which scratch words are written on every path to a place.
+//!
+//! Each place has a mask of the words that every path to it stores, all of them as long as no path is
+//! known. Jumps go forward, so at the visit of a place its mask has met every path to it.
 
-ghost use Rattle.std.specs.Prelude.{◌≡◌, ◌≢◌, ℕ, ◌+◌, ◌<◌, ◌↔◌, length, min, slice_index, IfSome, IfNone, Some};
+ghost use Rattle.std.specs.Prelude.{◌≡◌, ◌≢◌, ℕ, ◌+◌, ◌<◌, ◌≤◌, ◌↔◌, length, min, slice_index, IfSome, IfNone, Some};
 ghost use Rattle.std.specs.Int.{bit_at};
 ghost use Rattle.bpf_code.specs.Flow.{LeadsTo};
 ghost use Rattle.bpf_code.specs.Scratch.{ReadsWord, StoresWord};
-ghost use Rattle.bpf_verify.specs.Accepted.{IsSized, EndsInReturn};
-ghost use Rattle.bpf_verify.specs.Faults.{FailsFirst, IsSoundBelow};
-ghost use Rattle.bpf_verify.specs.Paths.{IsWrittenAt};
 
 use crate::check::MAX_INSTRUCTIONS;
-use crate::fault::Fault;
 use bpf_code::Instr;
 
 /// One place more than a program has, so that behind each there is another.
-const PLACES: usize = MAX_INSTRUCTIONS + 1;
-
-/// The first place that some path reaches without a store of the word that it reads, if there is one.
-///
-/// Each place has a mask of the words that every path to it stores, all of them as long as no path is
-/// known. Jumps go forward, so at the visit of a place its mask has met every path to it. The mask of
-/// the next place is kept at hand, since to read what was only just written takes a processor long.
-pub(crate) fn first_unwritten(code: &[Instr]) -> Option<Fault>
-    requires sized { IsSized code.now }
-    requires sound { IsSoundBelow code.now (length code.now) }
-    requires ends { EndsInReturn code.now }
-    ensures none { IfNone result ((place : ℕ) → IsWrittenAt code.now place) }
-    ensures some { IfSome result (FailsFirst code.now) }
-{
-    let mut written = [u16::MAX; PLACES];
-    written[0] = 0;
-    let mut here = 0;
-    for (at, instr) in code.iter().enumerate() {
-        if let Some(word) = unwritten_word(*instr, here) {
-            return Some(Fault::Unwritten { at, word });
-        }
-        here = pass_on(&mut written, at, *instr, with_stored(*instr, here));
-    }
-    None
-}
+pub(crate) const PLACES: usize = MAX_INSTRUCTIONS + 1;
 
 /// The word that an instruction reads and a mask lacks.
-fn unwritten_word(instr: Instr, mask: u16) -> Option<u32>
+pub(crate) fn unwritten_word(instr: Instr, mask: u16) -> Option<u32>
     requires { (word : ℕ) → ReadsWord instr word → word < 16 }
     ensures none { IfNone result ((word : ℕ) → ReadsWord instr word → bit_at mask word ≡ 1) }
     ensures some { IfSome result (λ word. ReadsWord instr word × (bit_at mask word ≡ 0)) }
@@ -52,7 +27,7 @@ fn unwritten_word(instr: Instr, mask: u16) -> Option<u32>
 }
 
 /// A mask with the word that an instruction stores.
-fn with_stored(instr: Instr, mask: u16) -> u16
+pub(crate) fn with_stored(instr: Instr, mask: u16) -> u16
     requires { (word : ℕ) → StoresWord instr word → word < 16 }
     ensures stored { (word : ℕ) → StoresWord instr word → bit_at result word ≡ 1 }
     ensures others { (word : ℕ) → ¬ StoresWord instr word → bit_at result word ≡ bit_at mask word }
@@ -64,11 +39,11 @@ fn with_stored(instr: Instr, mask: u16) -> u16
 }
 
 /// Hands the mask behind an instruction on to its successors, of which a return has none, and answers the
-/// mask that the place behind it then has.
-fn pass_on(written: &mut [u16], at: usize, instr: Instr, mask: u16) -> u16
+/// mask that the place behind it then has, since to read what was only just written takes a processor long.
+pub(crate) fn pass_on(written: &mut [u16], at: usize, instr: Instr, mask: u16) -> u16
     requires size { length written.old ≡ PLACES }
     requires place { at < MAX_INSTRUCTIONS }
-    requires within { (next : ℕ) → LeadsTo at instr next → next < MAX_INSTRUCTIONS }
+    requires within { (next : ℕ) → LeadsTo at instr next → next ≤ MAX_INSTRUCTIONS }
     ensures successors { (next word : ℕ) → LeadsTo at instr next
         → bit_at (slice_index written.new next) word
         ≡ min (bit_at (slice_index written.old next) word) (bit_at mask word) }
@@ -99,7 +74,7 @@ fn pass_on(written: &mut [u16], at: usize, instr: Instr, mask: u16) -> u16
 /// and answers them.
 fn narrow(written: &mut [u16], at: usize, skipped: u32, mask: u16) -> u16
     requires size { length written.old ≡ PLACES }
-    requires within { at + 1 + skipped < MAX_INSTRUCTIONS }
+    requires within { at + 1 + skipped ≤ MAX_INSTRUCTIONS }
     ensures place { (place word : ℕ) → place ≡ at + 1 + skipped
         → bit_at (slice_index written.new place) word
         ≡ min (bit_at (slice_index written.old place) word) (bit_at mask word) }

@@ -25,7 +25,7 @@ pub(crate) fn first_unsound(code: &[Instr]) -> Option<Fault>
 }
 
 /// What an instruction breaks by itself, at a place of a code of so many instructions.
-fn fault_of(instr: Instr, at: usize, size: usize) -> Option<Fault>
+pub(crate) fn fault_of(instr: Instr, at: usize, size: usize) -> Option<Fault>
     requires { at < size }
     ensures none { IfNone result (IsSound size at instr) }
     ensures some { IfSome result (IsFaultOf size at instr) }

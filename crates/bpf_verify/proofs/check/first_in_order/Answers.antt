@@ -1,0 +1,83 @@
+use Rattle.std.proofs.Common.{◌≡◌, ℕ, ◌-◌, ◌<◌, true, false, inl, inr, length, get_or, set, replicate, refl, ap, sym, ◌∙◌, arith}
+use Rattle.std.specs.Int.{bit_at}
+use Rattle.std.proofs.lemmas.Grind.{common_steps}
+use Rattle.std.proofs.lemmas.Option.{slice_get_within}
+use Rattle.bpf_verify.proofs.Masks.{unwritten-from_mask, written-at_first, written-from_mask, written_next}
+use Rattle.bpf_verify.proofs.Visit.{all_written, ends_there, lacks_there, next_within, one_more, one_sound, stands_there}
+use Rattle.bpf_verify.proofs.check.first_in_order.Goals as goal
+
+-- each place but the first begins with every word
+begins_full : (size all place : ℕ) → 0 < place → place < size → get_or (set (replicate size all) 0 0) place 0 ≡ all
+begins_full size all place gt lt = grind (arith, common_steps)
+
+pub loop-at-init : goal.loop-at-init
+loop-at-init c = record {
+  size = refl;
+  here = refl;
+  sound = λ place i lt. absurd (omega (arith, lt));
+  marks = written-at_first c.args.code.now _ refl (λ place gt lt. begins_full 4097 65535 place gt lt);
+  before = λ place lt. absurd (omega (arith, lt));
+}
+
+pub unwritten_word-requires : goal.unwritten_word-requires
+unwritten_word-requires c word reads = c.in_default.ensures.none.scratch word (inl reads)
+
+pub unwritten_or_earlier-requires : goal.unwritten_or_earlier-requires
+unwritten_or_earlier-requires c =
+    let found = c.in-Some-unwritten_word.ensures.some in
+    let within : c.loop-at.at < length c.args.code.now = omega arith in
+    let word = c.in-Some-unwritten_word.word in
+    record {
+      sized = c.requires;
+      before = c.loop-at.invariant.before;
+      unwritten = unwritten-from_mask c.args.code.now c.loop-at.written c.loop-at.at word _ (stands_there c.args.code.now c.loop-at.at _ within) c.loop-at.invariant.marks (omega (arith, c.loop-at.invariant.size, c.requires.most)) (c.in_default.ensures.none.scratch word (inl found.0)) found.0 (ap (λ n. bit_at n word) (sym c.loop-at.invariant.here) ∙ found.1);
+    }
+
+pub with_stored-requires : goal.with_stored-requires
+with_stored-requires c word stores = c.in_default.ensures.none.scratch word (inr stores)
+
+pub pass_on-here-requires-clause-within : goal.pass_on-here-requires-clause-within
+pass_on-here-requires-clause-within c =
+    next_within c.args.code.now c.loop-at.at _ c.requires (omega arith) c.in_default.ensures.none
+
+pub loop-at-preserved : goal.loop-at-preserved
+loop-at-preserved c =
+    let within : c.loop-at.at < length c.args.code.now = omega arith in
+    let stands = stands_there c.args.code.now c.loop-at.at _ within in
+    let same_length : length c.pass_on-here.new.written ≡ length c.loop-at.written = c.pass_on-here.auto.written in
+    record {
+      size = same_length ∙ c.loop-at.invariant.size;
+      here = c.pass_on-here.ensures.behind;
+      sound = one_sound c.args.code.now c.loop-at.at _ within c.loop-at.invariant.sound c.in_default.ensures.none;
+      marks = written_next c.args.code.now c.loop-at.written c.pass_on-here.new.written c.loop-at.at c.with_stored.result _ stands
+          (omega (arith, c.loop-at.invariant.size, c.requires.most))
+          (record {
+            stored = c.with_stored.ensures.stored;
+            kept = λ word keeps. c.with_stored.ensures.others word keeps ∙ ap (λ n. bit_at n word) c.loop-at.invariant.here;
+            successors = c.pass_on-here.ensures.successors;
+            others = c.pass_on-here.ensures.others;
+            same_length = same_length;
+          })
+          c.loop-at.invariant.marks;
+      before = one_more c.args.code.now c.loop-at.at c.loop-at.invariant.before
+          (written-from_mask c.args.code.now c.loop-at.written c.loop-at.at _ stands c.loop-at.invariant.marks (λ word reads. ap (λ n. bit_at n word) (sym c.loop-at.invariant.here) ∙ c.in_default-unwritten_word.ensures.none word reads));
+    }
+
+pub returns-then-is_return-clause-none : goal.returns-then-is_return-clause-none
+returns-then-is_return-clause-none c =
+    let last : length c.args.code.now - 1 < length c.args.code.now = omega (arith, c.requires.least) in
+    record {
+      sized = c.requires;
+      sound = λ place i stands.
+          let inside = slice_get_within c.args.code.now place i stands in c.loop-at.invariant.sound place i (omega arith) stands;
+      ends = ends_there c.args.code.now _ (stands_there c.args.code.now (length c.args.code.now - 1) _ last) (c.is_return.ensures.0 c.if-is_return.true);
+      written = all_written c.args.code.now (λ place lt. c.loop-at.invariant.before place (omega arith));
+    }
+
+pub returns-else-is_return-clause-some : goal.returns-else-is_return-clause-some
+returns-else-is_return-clause-some c =
+    let last : length c.args.code.now - 1 < length c.args.code.now = omega (arith, c.requires.least) in (
+      c.requires,
+      λ place i lt stands. c.loop-at.invariant.sound place i (omega arith) stands,
+      lacks_there c.args.code.now _ (stands_there c.args.code.now (length c.args.code.now - 1) _ last) (λ returns. let both : true ≡ false = sym (c.is_return.ensures.1 returns) ∙ c.if-is_return.false in cc),
+    )
