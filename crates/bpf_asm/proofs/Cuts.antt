@@ -1,12 +1,11 @@
 -- What is cut from the front of tokens.
-use Rattle.std.proofs.Common.{◌≡◌, ◌≢◌, ℕ, ◌-◌, ◌%◌, ◌^◌, Bool, true, false, not, ◌&&◌, ◌==◌, if◌then◌else◌, List, [], ◌∷◌, Option, Some, None, refl, sym, ap, ◌∙◌, eq-eqb}
+use Rattle.std.proofs.Common.{◌≡◌, ◌≢◌, ℕ, ◌-◌, ◌%◌, ◌^◌, true, false, ◌&&◌, ◌==◌, if◌then◌else◌, List, [], ◌∷◌, Some, None, refl, ap, ◌∙◌, eq-eqb}
 use Rattle.std.proofs.lemmas.Bool.{ne_eqb}
 use Rattle.bpf_asm.specs.Reading.{cut_mark, cut_name, cut_number, is_ended}
 use Rattle.bpf_asm.specs.Seen.{token_seen}
 use Rattle.bpf_asm.specs.declared.token.Lexeme.{Lexeme}
 use Rattle.bpf_asm.specs.declared.token.Lexeme.TheVariants.{Name, Number, Faulty, Mark}
 use Rattle.std.specs.Borrow.{Bor}
-use Rattle.std.specs.Option.{MatchOption, is_some}
 use Rattle.bpf_asm.specs.Tokens.{Token, name, number, faulty, mark, signed, signed_behind, tokens_of, tokens_read}
 
 -- no token
@@ -136,15 +135,8 @@ some_mark found (mark minus ∷ mark other ∷ tokens) = refl
 some_mark found (mark minus ∷ number value ∷ tokens) =
     elim (found == 35 && minus == 45) as (λ t. is_ended (if t then mark found ∷ number ((2 ^ 32 - value) % 2 ^ 32) ∷ tokens else mark found ∷ mark minus ∷ number value ∷ tokens) ≡ false) [ true ↦ refl | false ↦ refl ]
 
-some_behind : (token : Token) (tokens : List Token) → is_ended (signed_behind token tokens) ≡ false
+pub some_behind : (token : Token) (tokens : List Token) → is_ended (signed_behind token tokens) ≡ false
 some_behind (name octets) tokens = refl
 some_behind (number value) tokens = refl
 some_behind faulty tokens = refl
 some_behind (mark found) tokens = some_mark found tokens
-
--- the end
-pub end_read : (text : List ℕ) (found : Option (Lexeme × Bor (List ℕ))) (t : Bool) → MatchOption found (tokens_of text ≡ []) (λ f. tokens_of text ≡ token_seen f.0 ∷ tokens_of f.1.now) → is_some found ≡ not t → t ≡ is_ended (tokens_read text)
-end_read text None true m s = rw (read_none text m) refl
-end_read text None false m s = cc
-end_read text (Some f) true m s = cc
-end_read text (Some f) false m s = sym (ap is_ended (read_cons text f.1.now (token_seen f.0) m) ∙ some_behind (token_seen f.0) (tokens_read f.1.now))

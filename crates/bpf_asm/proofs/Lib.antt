@@ -3,6 +3,7 @@ pub mod Rows
 pub mod Pieces
 pub mod Places
 pub mod Cuts
+pub mod Peeks
 pub mod Agreement
 pub mod Sources
 pub mod PendingSteps

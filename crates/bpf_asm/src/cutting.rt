@@ -4,7 +4,7 @@ ghost use Rattle.std.specs.Prelude.{◌≡◌, ◌≢◌, ◌-◌, ◌%◌, ◌^
 ghost use Rattle.bpf_asm.specs.Reading.{cut_constant, cut_length, cut_mark, cut_name, cut_number, cut_operand, cut_target, cut_value, cut_word, is_ended};
 ghost use Rattle.bpf_asm.specs.Tokens.{mark, signed_behind, tokens_read};
 
-use crate::token::{Lexeme, next_token};
+use crate::token::{Lexeme, is_spent, next_mark, next_token};
 use bpf_code::By;
 
 /// What is behind an octet other than `#`.
@@ -13,11 +13,8 @@ pub(crate) fn after_mark(text: &[u8], octet: u8) -> Option<&[u8]>
     ensures { MatchOption result (cut_mark octet (tokens_read text.now) ≡ None)
         (λ rest. cut_mark octet (tokens_read text.now) ≡ Some (tokens_read rest.now)) }
 {
-    let (token, rest) = next_token(text)?;
-    match token {
-        Lexeme::Mark(found) => { if found == octet { Some(rest) } else { None } }
-        _ => None,
-    }
+    let (found, rest) = next_mark(text)?;
+    if found == octet { Some(rest) } else { None }
 }
 
 /// A number, and what is behind it.
@@ -49,11 +46,8 @@ fn after_hash(text: &[u8]) -> Option<&[u8]>
     ensures { MatchOption result (cut_mark 35 (tokens_read text.now) ≡ None)
         (λ rest. tokens_read text.now ≡ signed_behind (mark 35) (tokens_read rest.now)) }
 {
-    let (token, rest) = next_token(text)?;
-    match token {
-        Lexeme::Mark(found) => { if found == 35 { Some(rest) } else { None } }
-        _ => None,
-    }
+    let (found, rest) = next_mark(text)?;
+    if found == 35 { Some(rest) } else { None }
 }
 
 /// `#k` or `#-n`, and what is behind it.
@@ -108,7 +102,7 @@ pub(crate) fn after_value(text: &[u8], value: u32) -> Option<&[u8]>
 pub(crate) fn at_end(text: &[u8]) -> bool
     ensures { result ≡ is_ended (tokens_read text.now) }
 {
-    next_token(text).is_none()
+    is_spent(text)
 }
 
 /// An operand of arithmetic or of a branch, and what is behind it.

@@ -1,9 +1,10 @@
 //! The tokens of a line.
 
-ghost use Rattle.std.specs.Prelude.{◌≡◌, ◌≤◌, ◌<◌, ℕ, List, [], ◌∷◌, true, false, length, take, drop, slice_index, IfSome, IsTrue, MatchOption};
+ghost use Rattle.std.specs.Prelude.{◌≡◌, ◌≤◌, ◌<◌, ℕ, List, [], ◌∷◌, true, false, length, take, drop, slice_index, IfSome, IsTrue, MatchOption, None};
+ghost use Rattle.bpf_asm.specs.Reading.{cut_mark, is_ended};
 ghost use Rattle.bpf_asm.specs.Numbers.{digit_of, is_hexadecimal, number_of, value_in, within_word};
 ghost use Rattle.bpf_asm.specs.Seen.{token_seen};
-ghost use Rattle.bpf_asm.specs.Tokens.{all_word, is_digit, is_run, is_word, tokens_of, word_token};
+ghost use Rattle.bpf_asm.specs.Tokens.{all_word, is_digit, is_run, is_word, mark, tokens_of, tokens_read, word_token};
 ghost use Rattle.dialogue.specs.Words.{is_blank};
 
 /// A token, with the octets of its name in the line.
@@ -136,6 +137,32 @@ fn skip_blanks(text: &[u8]) -> &[u8]
         }
     }
     &text[text.len()..]
+}
+
+/// The octet that a text begins with behind blanks, and what is behind it, where the octet is a token by
+/// itself. A word that stands there isn't read, since another cut will read it.
+#[inline(always)]
+pub(crate) fn next_mark(text: &[u8]) -> Option<(u8, &[u8])>
+    ensures { MatchOption result
+        ((octet : ℕ) → cut_mark octet (tokens_read text.now) ≡ None)
+        (λ found. tokens_of text.now ≡ mark found.0 ∷ tokens_of found.1.now) }
+{
+    let text = skip_blanks(text);
+    if text.is_empty() {
+        return None;
+    }
+    if word_octet(text[0]) {
+        return None;
+    }
+    Some((text[0], &text[1..]))
+}
+
+/// Whether a text has no tokens.
+#[inline(always)]
+pub(crate) fn is_spent(text: &[u8]) -> bool
+    ensures { result ≡ is_ended (tokens_read text.now) }
+{
+    skip_blanks(text).is_empty()
 }
 
 /// The first token of a text, and what is behind it.

@@ -4,4 +4,5 @@ pub mod LinesLemmas
 pub mod PrintingLemmas
 pub mod DriverLemmas
 pub mod WordsLemmas
+pub mod AlikeLemmas
 pub mod Public

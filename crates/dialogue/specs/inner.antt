@@ -1,3 +1,4 @@
 -- What only private functions and proofs need.
 pub mod Waiting
 pub mod Progress
+pub mod Alike

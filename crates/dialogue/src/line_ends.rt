@@ -1,10 +1,26 @@
 //! A line of the input, and where it ends.
-ghost use Rattle.std.specs.Prelude.{◌≡◌, ◌≢◌, ℕ, ◌<◌, ◌≤◌, length, slice_index, IfSome, IfNone};
+ghost use Rattle.std.specs.Prelude.{◌≡◌, ◌≢◌, ℕ, ◌<◌, ◌≤◌, false, length, slice_index, IfSome, IfNone};
 ghost use Rattle.dialogue.specs.Lines.{without_return};
 
 use memchr::memchr;
 
-/// The place of the first line feed, where there is one and the first octets are known to hold none.
+/// Whether a line feed stands among the first eight octets. All of them are looked at, so that the compiler
+/// does it in one step.
+#[inline(always)]
+fn has_early_feed(octets: &[u8]) -> bool
+    requires { 8 ≤ length octets.now }
+    ensures { result ≡ false → (k : ℕ) → k < 8 → slice_index octets.now k ≢ 10 }
+{
+    let mut found = false;
+    for at in 0..8 {
+        found = found | (octets[at] == b'\n');
+    }
+    found
+}
+
+/// The place of the first line feed, where there is one and the first octets are known to hold none. A line
+/// of eight octets, as the header of a cell is written, is found without a call.
+#[inline(always)]
 pub fn first_feed(octets: &[u8], looked: usize) -> Option<usize>
     requires within { looked ≤ length octets.now }
     requires no_feed { (k : ℕ) → k < looked → slice_index octets.now k ≢ 10 }
@@ -14,6 +30,9 @@ pub fn first_feed(octets: &[u8], looked: usize) -> Option<usize>
     ensures none { IfNone result ((k : ℕ) → k < length octets.now → slice_index octets.now k ≢ 10) }
 {
     let (_, rest) = octets.split_at(looked);
+    if rest.len() > 8 && rest[8] == b'\n' && !has_early_feed(rest) {
+        return Some(looked + 8);
+    }
     match memchr(b'\n', rest) {
         Some(more) => Some(looked + more),
         None => None,

@@ -1,14 +1,13 @@
-use Rattle.bpf_asm.proofs.Cuts.{hash_found, mark_default, mark_none, mark_other}
+use Rattle.std.proofs.Common.{refl}
+use Rattle.bpf_asm.proofs.Cuts.{hash_found, mark_other}
+use Rattle.bpf_asm.specs.declared.token.Lexeme.TheVariants.{Mark}
 use Rattle.bpf_asm.proofs.cutting.after_hash.Goals as goal
 
-pub returns-in_err-token : goal.returns-in_err-token
-returns-in_err-token c = rw c.from_residual.ensures (mark_none 35 c.args.text.now c.in_err-token.ensures.tokens)
+pub returns-in_err-found : goal.returns-in_err-found
+returns-in_err-found c = rw c.from_residual.ensures (c.in_err-found.ensures 35)
 
 pub returns-then-found-eq35 : goal.returns-then-found-eq35
-returns-then-found-eq35 c = hash_found c.in-Mark.found c.args.text.now c.in_ok-token.rest.now c.in_ok-token.token c.if-found-eq35.true c.in-Mark.is c.in_ok-token.ensures.tokens
+returns-then-found-eq35 c = hash_found c.in_ok-found.found c.args.text.now c.in_ok-found.rest.now (Mark c.in_ok-found.found) c.if-found-eq35.true refl c.in_ok-found.ensures
 
 pub returns-else-found-eq35 : goal.returns-else-found-eq35
-returns-else-found-eq35 c = mark_other 35 c.in-Mark.found c.args.text.now c.in_ok-token.rest.now c.in_ok-token.token c.if-found-eq35.false c.in-Mark.is c.in_ok-token.ensures.tokens
-
-pub returns-in_default : goal.returns-in_default
-returns-in_default c = mark_default 35 c.args.text.now c.in_ok-token.rest.now c.in_ok-token.token c.in_default.not-Mark c.in_ok-token.ensures.tokens
+returns-else-found-eq35 c = mark_other 35 c.in_ok-found.found c.args.text.now c.in_ok-found.rest.now (Mark c.in_ok-found.found) c.if-found-eq35.false refl c.in_ok-found.ensures
