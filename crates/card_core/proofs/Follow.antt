@@ -43,4 +43,4 @@ GoesOn old step reply new = (before : World) → IsSound before → Agrees old b
 pub follows : (old new : CoreView) (step : Step) (reply : Reply) → GoesOn old step reply new → Follows old step reply new
 follows old new step reply goes shape log before leads agrees =
     let on = goes before (reached-sound shape log before leads) agrees in
-    (on.0, Run-next _ before on.0 log step reply leads on.1, on.2)
+    record { after = on.0; stepped = on.1; leads = Run-next _ before on.0 log step reply leads on.1; agrees = on.2 }

@@ -6,12 +6,18 @@ use Rattle.card_core.specs.World.{World}
 use Rattle.card_core.specs.Steps.{WorldStep}
 use Rattle.card_core.specs.Log.{Event, Run}
 use Rattle.card_core.specs.Laws.{StepsHaveReplies}
+use Rattle.card_core.specs.inner.Sound.{ReachedWorldsAreSound}
 use Rattle.card_core.proofs.Follow as follow
 use Rattle.card_core.proofs.Replies as replies
+use Rattle.card_core.proofs.SoundSteps as sound
 
 -- In every world that a log leads to each step has a reply that says nothing of memory.
 pub step-replied : StepsHaveReplies
 step-replied = replies.steps-replied
+
+-- Every world that a log leads to is sound.
+pub worlds-sound : ReachedWorldsAreSound
+worlds-sound = sound.reached-sound
 
 -- A log goes on by one event.
 pub log-goes_on : (start before after : World) (log : List Event) (step : Step) (reply : Reply)

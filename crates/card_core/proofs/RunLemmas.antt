@@ -3,8 +3,9 @@ use Rattle.std.proofs.Common.{◌≡◌, ℕ, suc, List, [], ◌∷◌, ◌++◌
 use Rattle.card_core.specs.declared.reply.Reply.{Reply}
 use Rattle.card_core.specs.declared.step.Step.{Step}
 use Rattle.card_core.specs.World.{World}
-use Rattle.card_core.specs.Log.{Event, Leads}
+use Rattle.card_core.specs.Log.{Event, Run, Leads}
 use Rattle.card_core.specs.Agreement.{CoreView, Agrees, Follows, FollowsAll, events_of}
+use Rattle.card_core.proofs.Follow.{Run-next}
 
 pub events_of-next : (steps : List Step) (replies : List Reply) (step : Step) (reply : Reply) → length replies ≡ length steps
     → events_of (steps ++ step ∷ []) (replies ++ reply ∷ []) ≡ events_of steps replies ++ record { step = step; reply = reply } ∷ []
@@ -20,11 +21,14 @@ pub follows-next : (old middle new : CoreView) (steps : List Step) (replies : Li
     → FollowsAll old (steps ++ step ∷ []) (replies ++ reply ∷ []) new
 follows-next old middle new steps replies step reply e so_far next shape log before leads agrees =
     let here = so_far shape log before leads agrees in
-    let on = next shape (log ++ events_of steps replies) here.0 here.1 here.2 in
-    let last : List Event = record { step = step; reply = reply } ∷ [] in (
-      on.0,
-      subst (λ (events : List Event). Leads shape events on.0)
-          (append_assoc log (events_of steps replies) last ∙ ap (λ (events : List Event). log ++ events) (sym (events_of-next steps replies step reply e)))
-          on.1,
-      on.2,
-    )
+    let on = next shape (log ++ events_of steps replies) here.after here.leads here.agrees in
+    let last : List Event = record { step = step; reply = reply } ∷ [] in
+    let all = sym (events_of-next steps replies step reply e) in
+    record {
+      after = on.after;
+      stepped = subst (λ (events : List Event). Run before events on.after) all
+          (Run-next before here.after on.after (events_of steps replies) step reply here.stepped on.stepped);
+      leads = subst (λ (events : List Event). Leads shape events on.after)
+          (append_assoc log (events_of steps replies) last ∙ ap (λ (events : List Event). log ++ events) all) on.leads;
+      agrees = on.agrees;
+    }

@@ -18,7 +18,6 @@ use Rattle.card_core.specs.Refusals.{refusal, enter_refusal, pick_refusal, judge
 use Rattle.card_core.specs.Steps.{WorldStep, Succeeds, FindsNoMemory, IsRefused, without_memory}
 use Rattle.card_core.specs.Agreement.{CoreView, Follows}
 use Rattle.card_core.specs.Stale.{is_stale, IsNeverStale}
-use Rattle.card_core.proofs.Promise.{run-parts}
 
 abbrev stale_in : Option Reply → Bool
 stale_in None = false
@@ -156,5 +155,4 @@ step-fresh before step reply after goes =
 pub never-stale : (old new : CoreView) (step : Step) (reply : Reply) → Follows old step reply new → IsNeverStale old reply
 never-stale old new step reply goes shape log before leads agrees =
     let on = goes shape log before leads agrees in
-    let parts = run-parts _ log (record { step = step; reply = reply } ∷ []) on.0 on.1 in
-    step-fresh parts.0 step reply parts.2.0 parts.2.1
+    step-fresh before step reply on.after on.stepped

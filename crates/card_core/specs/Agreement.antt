@@ -17,7 +17,8 @@ use Rattle.card_core.specs.declared.shape.Shape.{Shape}
 use Rattle.line_record.specs.Tally.{tally_of}
 use Rattle.card_core.specs.declared.reply.Reply.{Reply}
 use Rattle.card_core.specs.declared.step.Step.{Step}
-use Rattle.card_core.specs.Log.{Event, Leads}
+use Rattle.card_core.specs.Log.{Event, Run, Leads}
+use Rattle.card_core.specs.Steps.{WorldStep}
 use Rattle.card_core.specs.World.{World, Loading, Connection, PortState, code_in, times_given, connection_in, handed_cells, kept_cells, verdicts_before}
 
 -- What contracts see of a core: its shape, the slots for programs, the directory, the lines, and the
@@ -93,12 +94,18 @@ pub record Agrees (core : CoreView) (world : World) : Type 0 where
   pub lines : LinesAgree world.shape core.lines world.connections world.judged
   pub ports : core.ports ≡ world.ports
 
--- The core goes on by this event: wherever a log has led to a world that the old core agrees with,
--- the log with this event leads to one that the new core agrees with.
+-- Where a core has gone by an event: the step leads, with its reply, from the world before to one that the
+-- new core agrees with, and so the log with this event leads there.
+pub record GoneOn (shape : Shape) (log : List Event) (before : World) (step : Step) (reply : Reply) (new : CoreView) : Type 0 where
+  pub after : World
+  pub stepped : WorldStep before step reply after
+  pub leads : Leads shape (log ++ record { step = step; reply = reply } ∷ []) after
+  pub agrees : Agrees new after
+
+-- The core goes on by this event, from whatever world it agrees with, if a log has led there.
 abbrev pub Follows : CoreView → Step → Reply → CoreView → Type 0
 Follows old step reply new = (shape : Shape) (log : List Event) (before : World)
-    → Leads shape log before → Agrees old before
-    → (after : World) × Leads shape (log ++ record { step = step; reply = reply } ∷ []) after × Agrees new after
+    → Leads shape log before → Agrees old before → GoneOn shape log before step reply new
 
 -- The steps with their replies, in order.
 abbrev pub events_of : List Step → List Reply → List Event
@@ -106,8 +113,15 @@ events_of [] replies = []
 events_of (step ∷ steps) [] = []
 events_of (step ∷ steps) (reply ∷ replies) = record { step = step; reply = reply } ∷ events_of steps replies
 
--- The core goes on by all these events.
+-- Where a core has gone by some events: they lead from the world before to one that the new core agrees
+-- with, and so the log with these events leads there.
+pub record GoneAll (shape : Shape) (log : List Event) (before : World) (events : List Event) (new : CoreView) : Type 0 where
+  pub after : World
+  pub stepped : Run before events after
+  pub leads : Leads shape (log ++ events) after
+  pub agrees : Agrees new after
+
+-- The core goes on by all these events, from whatever world it agrees with, if a log has led there.
 abbrev pub FollowsAll : CoreView → List Step → List Reply → CoreView → Type 0
 FollowsAll old steps replies new = (shape : Shape) (log : List Event) (before : World)
-    → Leads shape log before → Agrees old before
-    → (after : World) × Leads shape (log ++ events_of steps replies) after × Agrees new after
+    → Leads shape log before → Agrees old before → GoneAll shape log before (events_of steps replies) new

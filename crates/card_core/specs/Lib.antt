@@ -6,6 +6,7 @@ pub mod Refusals
 pub mod Steps
 pub mod Log
 pub mod Shapes
+pub mod PortReplies
 pub mod Agreement
 pub mod Stale
 pub mod Headline

@@ -21,7 +21,7 @@ pub use desk::{admit, cut, load, release, reload, retire, setup};
 pub use fault::{CardFault, DeskFault};
 pub use judging::judge_at;
 pub use naming::{Named, Store, name, pick};
-pub use reply::Reply;
+pub use reply::{PortReply, Reply};
 pub use serial::Core;
 pub use shape::Shape;
 pub use step::Step;

@@ -55,8 +55,10 @@ impl Named {
     }
 }
 
-ghost use Rattle.std.specs.Prelude.{◌≡◌, ◌↔◌, IsSome, IfSome};
-ghost use Rattle.gen_arena.specs.Live.{IsLive};
+ghost use Rattle.std.specs.Prelude.{◌≡◌, ◌↔◌, List, Some, IsSome, IfSome};
+ghost use Rattle.bpf_code.specs.declared.instr.Instr.{Instr};
+ghost use Rattle.bpf_verify.specs.Accepted.{IsAccepted};
+ghost use Rattle.gen_arena.specs.Live.{live_value, IsLive};
 ghost use Rattle.line_record.specs.Directory.{seat_of, IsDirectory};
 ghost use Rattle.card_core.specs.Sections.{IsNaming};
 
@@ -75,8 +77,11 @@ pub fn pick(directory: &Directory, vc: Vc) -> Option<Seating>
 pub fn name(store: &Store, program: Id, cell: &Cell) -> Option<Named>
     ensures live { IsSome result ↔ IsLive store.now program }
     ensures named { IfSome result (λ named. IsNaming store.now program cell.now named) }
+    ensures accepted { (code : List Instr) → live_value store.now program ≡ Some code → IsAccepted code }
 {
     let code = store.get(program)?;
+    // What the store holds is accepted.
+    let _ = code.code();
     let outcome = run(code, cell);
     Some(Named {
         program,

@@ -1,3 +1,6 @@
+ghost use Rattle.std.specs.Prelude.{◌≡◌};
+ghost use Rattle.card_core.specs.PortReplies.{reply_of};
+
 use crate::answer::Answer;
 use crate::ask::Ask;
 use crate::fault::DeskFault;
@@ -34,4 +37,30 @@ pub enum Reply {
     Cut(Piece),
     /// Nothing changed.
     Refused(DeskFault),
+}
+
+/// What the core answers to a step of a port, which is all that a cell asks for: it is small, where a reply
+/// may hold a program.
+#[derive(Clone, Copy, Debug)]
+pub enum PortReply {
+    /// The port has the cell.
+    Entered,
+    /// The cell's connection was found, and its program named a contract.
+    Picked,
+    /// The step doesn't fit the state of its port, or there is no such port.
+    NotNow,
+    /// What becomes of the port's cell.
+    Answered(Answer),
+}
+
+/// The reply that a port's reply is.
+pub(crate) fn whole(reply: PortReply) -> Reply
+    ensures { result ≡ reply_of reply }
+{
+    match reply {
+        PortReply::Entered => Reply::Entered,
+        PortReply::Picked => Reply::Picked,
+        PortReply::NotNow => Reply::NotNow,
+        PortReply::Answered(answer) => Reply::Answered(answer),
+    }
 }

@@ -9,7 +9,7 @@ use crate::naming::{Store, name, pick};
 use crate::port::{
     Came, Found, Port, are_outside, entered_at, is_idle_at, move_port, outside_ports, picked_at,
 };
-use crate::reply::Reply;
+use crate::reply::{PortReply, Reply, whole};
 use crate::shape::{Shape, refusal};
 use crate::step::Step;
 use bpf_verify::Program;
@@ -52,6 +52,7 @@ impl Core {
     ghost use Rattle.card_core.specs.Shapes.{shape_fault};
     ghost use Rattle.card_core.specs.declared.step.Step.TheVariants.{Enter, Pick, Judge, Load, Retire, Setup, Reload, Release, Cut};
     ghost use Rattle.card_core.specs.Agreement.{Agrees, Follows, FollowsAll};
+    ghost use Rattle.card_core.specs.PortReplies.{reply_of};
     ghost use Rattle.card_core.specs.Stale.{IsNeverStale};
 
     /// A card of this shape: without programs and connections, and with every port outside.
@@ -91,6 +92,13 @@ impl Core {
         })
     }
 
+    /// How large the card is, and which header its cells have.
+    pub fn shape(&self) -> Shape
+        ensures { result ≡ self.now.shape }
+    {
+        self.shape
+    }
+
     /// Takes one step.
     pub fn step(&mut self, step: Step) -> Reply
         ensures follows { Follows self.old step result self.new }
@@ -108,9 +116,9 @@ impl Core {
         ensures judged { (port : ℕ) → step ≡ Judge port → result ≢ Reply.Answered Answer.NoMemory }
     {
         match step {
-            Step::Enter { port, cell, moment } => self.enter(port, cell, moment),
-            Step::Pick { port } => self.pick(port),
-            Step::Judge { port } => self.judge(port),
+            Step::Enter { port, cell, moment } => whole(self.enter(port, cell, moment)),
+            Step::Pick { port } => whole(self.pick(port)),
+            Step::Judge { port } => whole(self.judge(port)),
             Step::Load(program) => self.load(program),
             Step::Retire(id) => self.retire(id),
             Step::Setup(ask) => self.setup(ask),
@@ -141,47 +149,47 @@ impl Core {
         Ok(replies)
     }
 
-    // A cell comes to a port.
-    fn enter(&mut self, port: u8, cell: Cell, moment: u64) -> Reply
-        ensures { Follows self.old (Enter port cell moment) result self.new }
+    /// A cell comes to a port: the step `Enter`.
+    pub fn enter(&mut self, port: u8, cell: Cell, moment: u64) -> PortReply
+        ensures { Follows self.old (Enter port cell moment) (reply_of result) self.new }
     {
         if !is_idle_at(&self.ports, port) {
-            return Reply::NotNow;
+            return PortReply::NotNow;
         }
         move_port(&mut self.ports, port, Port::Entered(Came { cell, moment }));
-        Reply::Entered
+        PortReply::Entered
     }
 
-    // The cell's connection is looked up, and its program names a contract.
-    fn pick(&mut self, port: u8) -> Reply
-        ensures { Follows self.old (Pick port) result self.new }
+    /// The cell's connection is looked up, and its program names a contract: the step `Pick`.
+    pub fn pick(&mut self, port: u8) -> PortReply
+        ensures { Follows self.old (Pick port) (reply_of result) self.new }
     {
         let Some(came) = entered_at(&self.ports, port) else {
-            return Reply::NotNow;
+            return PortReply::NotNow;
         };
         match find_and_name(&self.store, &self.directory, self.shape.side, &came) {
             Ok(found) => {
                 move_port(&mut self.ports, port, Port::Picked(found));
-                Reply::Picked
+                PortReply::Picked
             }
             Err(answer) => {
                 move_port(&mut self.ports, port, Port::Outside);
-                Reply::Answered(answer)
+                PortReply::Answered(answer)
             }
         }
     }
 
-    // The cell is judged by the contract that was named.
-    fn judge(&mut self, port: u8) -> Reply
-        ensures follows { Follows self.old (Judge port) result self.new }
-        ensures memory { result ≢ Reply.Answered Answer.NoMemory }
+    /// The cell is judged by the contract that was named: the step `Judge`.
+    pub fn judge(&mut self, port: u8) -> PortReply
+        ensures follows { Follows self.old (Judge port) (reply_of result) self.new }
+        ensures memory { reply_of result ≢ Reply.Answered Answer.NoMemory }
     {
         let Some(found) = picked_at(&self.ports, port) else {
-            return Reply::NotNow;
+            return PortReply::NotNow;
         };
         let answer = judge_line(&mut self.lines, &found);
         move_port(&mut self.ports, port, Port::Outside);
-        Reply::Answered(answer)
+        PortReply::Answered(answer)
     }
 
     // A program is put into the store.

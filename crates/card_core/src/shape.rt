@@ -31,6 +31,16 @@ pub struct Shape {
     pub side: Side,
 }
 
+impl Shape {
+    /// The first number that is out of its limits, if there is one.
+    pub fn fault(&self) -> Option<CardFault>
+        ensures fault { result ≡ shape_fault self.now }
+        ensures fits { IfNone result (IsShape self.now) }
+    {
+        refusal(self)
+    }
+}
+
 /// The first number of the shape that is out of its limits.
 pub(crate) fn refusal(shape: &Shape) -> Option<CardFault>
     ensures fault { result ≡ shape_fault shape.now }

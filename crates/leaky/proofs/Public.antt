@@ -1,6 +1,8 @@
 -- Lemmas that other crates may use: the laws of this crate, each as a term under its name, and what
 -- goes with them.
-use Rattle.std.proofs.Common.{ℕ, ◌≤◌, List}
+use Rattle.std.proofs.Common.{◌≡◌, ℕ, ◌≤◌, List}
+use Rattle.leaky.specs.EqualityLaws.{gcra_same}
+use Rattle.leaky.specs.declared.gcra.Gcra.{Gcra}
 use Rattle.leaky.specs.Moments.{GoesOn}
 use Rattle.leaky.specs.Laws.{ContractsBoundBursts, ChargesAreFillings, FillingsShow, TaggedCellsCameUntagged, LevelsStandForBuckets, LevelsFollowBuckets, ChargesKeepUp}
 use Rattle.leaky.proofs.SchedulingLemmas.{GoesOn-earlier}
@@ -32,3 +34,7 @@ charges_keep_up = charges-keep_up
 pub goes_on_from_earlier : (earlier earliest : ℕ) (moments : List ℕ) → earlier ≤ earliest
     → GoesOn earliest moments → GoesOn earlier moments
 goes_on_from_earlier = GoesOn-earlier
+
+-- rates with equal numbers are equal
+pub equal_numbers_make_equal_rates : (one other : Gcra) → one.increment ≡ other.increment → one.limit ≡ other.limit → one ≡ other
+equal_numbers_make_equal_rates = gcra_same

@@ -113,6 +113,15 @@ impl Line {
         self.owner
     }
 
+    /// The contracts of the connection that the line serves, and none where it is free.
+    pub fn contracts(&self) -> &[Contract]
+        ensures contracts { result.now ≡ self.now.contracts }
+        ensures few { length self.now.contracts ≤ 4 }
+        ensures line { IsLine self.now }
+    {
+        self.contracts.as_slice()
+    }
+
     /// The verdicts on all cells that were ever judged on the line.
     pub fn counts(&self) -> Tally
         ensures counts { result ≡ self.now.state.counts }
