@@ -65,17 +65,28 @@ verdict_text Tag judging leaving = line (codes "tag " ++ judging ++ header_text 
 verdict_text Discard judging leaving = line (codes "discard " ++ judging)
 verdict_text Refuse judging leaving = line (codes "refuse " ++ judging)
 
--- What is printed of a cell that came on this connection; want of memory has no line.
+-- What is printed of a cell that came on this connection, where the program that named its contract has a
+-- name of this number; want of memory has no line.
+abbrev pub numbered_answer_text : ℕ → Vc → Answer → Option (List ℕ)
+numbered_answer_text name vc (answer.Judged number count moment value program verdict leaving) =
+    Some (verdict_text verdict (judging_text vc name value) leaving)
+numbered_answer_text name vc answer.NoConnection = Some (arrive_fault (codes "1 NoConnection"))
+numbered_answer_text name vc answer.Released = Some (arrive_fault (codes "2 Released"))
+numbered_answer_text name vc answer.Stale = Some (arrive_fault (codes "3 Stale"))
+numbered_answer_text name vc (answer.MomentBack last) = Some (arrive_fault (codes "4 MomentBack " ++ decimal last))
+numbered_answer_text name vc answer.MomentTooLate = Some (arrive_fault (codes "5 MomentTooLate"))
+numbered_answer_text name vc answer.JournalFull = Some (arrive_fault (codes "6 JournalFull"))
+numbered_answer_text name vc answer.NoMemory = None
+
+-- The number of the name of the program that named a judged cell's contract; a cell that isn't judged has
+-- no such program.
+abbrev pub number_of_judging : List Id → Answer → ℕ
+number_of_judging names (answer.Judged number count moment value program verdict leaving) = number_of_program names program
+number_of_judging names _ = 0
+
+-- What is printed of a cell that came on this connection, where these are the ids of the programs.
 abbrev pub answer_text : List Id → Vc → Answer → Option (List ℕ)
-answer_text names vc (answer.Judged number count moment value program verdict leaving) =
-    Some (verdict_text verdict (judging_text vc (number_of_program names program) value) leaving)
-answer_text names vc answer.NoConnection = Some (arrive_fault (codes "1 NoConnection"))
-answer_text names vc answer.Released = Some (arrive_fault (codes "2 Released"))
-answer_text names vc answer.Stale = Some (arrive_fault (codes "3 Stale"))
-answer_text names vc (answer.MomentBack last) = Some (arrive_fault (codes "4 MomentBack " ++ decimal last))
-answer_text names vc answer.MomentTooLate = Some (arrive_fault (codes "5 MomentTooLate"))
-answer_text names vc answer.JournalFull = Some (arrive_fault (codes "6 JournalFull"))
-answer_text names vc answer.NoMemory = None
+answer_text names vc given = numbered_answer_text (number_of_judging names given) vc given
 
 -- What is printed of the reply to a command of the desk, where so many programs were put in before; none
 -- for want of memory, and for what is no reply to it.

@@ -18,6 +18,9 @@ pub enum Choice {
     Check,
     /// Run one BPF program on each cell that is read, and print its value and steps.
     Eval,
+    /// Obey a script that sets up a card and its connections and brings cells, and print what becomes of
+    /// each.
+    Run,
 }
 
 /// Why the words lead to no choice. A text is `clap`'s own, whole, with its last line feed.
@@ -75,11 +78,17 @@ fn own_command<'a>(alloc: Global) -> Result<Command<'a>, AllocError>
         "check",
         "Assemble and check a BPF program and print its octets",
     )?;
-    with_subcommand(
+    let command = with_subcommand(
         alloc,
         command,
         "eval",
         "Run a BPF program on each ATM cell and print its value and steps",
+    )?;
+    with_subcommand(
+        alloc,
+        command,
+        "run",
+        "Police the ATM cells of a script by its programs and contracts",
     )
 }
 
@@ -137,6 +146,7 @@ fn named(name: &str) -> Option<Choice>
     match name {
         "check" => Some(Choice::Check),
         "eval" => Some(Choice::Eval),
+        "run" => Some(Choice::Run),
         _ => None,
     }
 }
@@ -175,6 +185,7 @@ mod tests {
             ("", Choice::Eval),
             ("eval", Choice::Eval),
             ("check", Choice::Check),
+            ("run", Choice::Run),
         ] {
             let answer = chosen_by(rt.alloc(), line)?;
             assert_eq!(rt; answer.ok(), Some(choice), "{line}");
@@ -184,7 +195,14 @@ mod tests {
 
     #[test]
     fn other_and_further_words_are_refused(rt: HostRuntime) -> Result<(), Fail> {
-        for line in ["bogus", "eval extra", "check eval", "Check", "--version"] {
+        for line in [
+            "bogus",
+            "eval extra",
+            "check eval",
+            "run run",
+            "Check",
+            "--version",
+        ] {
             let answer = chosen_by(rt.alloc(), line)?;
             assert!(rt; matches!(&answer, Err(Stop::Words(_))), "{line}");
         }
@@ -200,6 +218,7 @@ mod tests {
             };
             assert!(rt; text.as_str().contains("\n  check "), "{line}");
             assert!(rt; text.as_str().contains("\n  eval "), "{line}");
+            assert!(rt; text.as_str().contains("\n  run "), "{line}");
         }
         Ok(())
     }

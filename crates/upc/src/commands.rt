@@ -11,6 +11,7 @@ use upc_cell::{Side, Vc};
 
 /// What a line asks of the card. Programs are named by number, from 1. The octets of a program and of a
 /// cell are still a word, whose faults come after those of all other words.
+#[derive(Drop)]
 pub enum Command<'a> {
     /// A program is put in.
     Load(&'a [u8]),

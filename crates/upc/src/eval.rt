@@ -1,18 +1,21 @@
 //! `upc eval`: one program, and its value on each cell.
-ghost use Rattle.std.specs.Prelude.{◌≡◌, ◌∷◌, ◌++◌, [], Some, IfOk, OnOk, OnErr, option_map, ℕ, List, Ok};
+ghost use Rattle.std.specs.Prelude.{◌≡◌, ◌∷◌, ◌++◌, [], Some, None, IfOk, OnOk, OnErr, option_map, ℕ, List, Ok};
 ghost use Rattle.dialogue.specs.Devices.{Adds, TakesEnough};
 ghost use Rattle.dialogue.specs.Limits.{most_ahead};
-ghost use Rattle.upc.specs.Eval.{CellLine, ProgramLine, IsEvalText};
+ghost use Rattle.dialogue.specs.Answering.{Answers};
+ghost use Rattle.upc.specs.Eval.{CellLine, ProgramLine, TellsValue, EvalSteps, IsEvalText, eval_rules};
 ghost use Rattle.dialogue.specs.Outcome.{read_failures, write_failures};
 ghost use Rattle.dialogue.specs.Printing.{IsFront};
 
 use crate::answer::{add_accepted, add_too_long, add_value, add_wrong_length};
+use crate::digits::cell_of_digits;
 use crate::hexadecimal::{self, CellWord};
 use crate::program::read_program;
 use bpf_interp::run;
 use bpf_verify::Program;
 use dialogue::{Done, Input, LineWords, Machine, Output, RunFault, Turn, answer_lines, line_words};
 use std::alloc::{AllocError, Global};
+use upc_cell::Cell;
 
 /// The answer to a line of no lawful form.
 const BAD_LINE: &[u8; 23] = b"fault script 1 BadLine\n";
@@ -20,17 +23,17 @@ const BAD_LINE: &[u8; 23] = b"fault script 1 BadLine\n";
 /// The answer to a word that isn't hexadecimal.
 const BAD_HEX: &[u8; 22] = b"fault script 3 BadHex\n";
 
-/// Answers a line by its fault, after which the run goes on or ends.
-fn add_fault(answers: &mut Vec<u8>, fault: &[u8], turn: Turn) -> Result<Turn, AllocError>
-    ensures turn { IfOk result (λ then. then ≡ turn) }
-    ensures text { OnOk result (answers.new.items ≡ answers.old.items ++ fault.now) }
+/// Answers a cell by the value of the program.
+#[inline(always)]
+fn answer_cell(program: &Program, cell: &Cell, answers: &mut Vec<u8>) -> Result<(), AllocError>
+    ensures { OnOk result (Adds (TellsValue program.now cell.now) answers.old.items answers.new.items) }
 {
-    answers.extend_from_slice(fault)?;
-    Ok(turn)
+    let outcome = run(program, cell);
+    add_value(answers, outcome.value, outcome.steps)
 }
 
 /// Answers a cell line of one word.
-fn answer_cell(
+fn answer_word(
     alloc: Global,
     program: &Program,
     word: &[u8],
@@ -39,15 +42,50 @@ fn answer_cell(
     ensures { OnOk result (Adds (CellLine program.now (word.now ∷ [])) answers.old.items answers.new.items) }
 {
     match hexadecimal::cell(alloc, word)? {
-        CellWord::OfCell(cell) => {
-            let outcome = run(program, &cell);
-            add_value(answers, outcome.value, outcome.steps)
-        }
+        CellWord::OfCell(cell) => answer_cell(program, &cell, answers),
         CellWord::OfOthers(count) => add_wrong_length(answers, count),
         CellWord::NoDigits => {
             answers.extend_from_slice(BAD_HEX)?;
             Ok(())
         }
+    }
+}
+
+/// Answers a line behind the program line by its words.
+#[inline(never)]
+fn answer_words(
+    alloc: Global,
+    program: &Program,
+    line: &[u8],
+    answers: &mut Vec<u8>,
+) -> Result<(), AllocError>
+    ensures { OnOk result (Adds (λ here. EvalSteps (Some program.now) line.now here (Some (Some program.now)))
+        answers.old.items answers.new.items) }
+{
+    match line_words(line) {
+        LineWords::Silent => Ok(()),
+        LineWords::One(word) => answer_word(alloc, program, word, answers),
+        LineWords::Several => {
+            answers.extend_from_slice(BAD_LINE)?;
+            Ok(())
+        }
+    }
+}
+
+/// Answers a line behind the program line. A line of digits alone is one word, which need not be looked for.
+#[inline(always)]
+fn answer_line(
+    alloc: Global,
+    program: &Program,
+    line: &[u8],
+    answers: &mut Vec<u8>,
+) -> Result<(), AllocError>
+    ensures { OnOk result (Adds (λ here. EvalSteps (Some program.now) line.now here (Some (Some program.now)))
+        answers.old.items answers.new.items) }
+{
+    match cell_of_digits(line) {
+        Some(cell) => answer_cell(program, &cell, answers),
+        None => answer_words(alloc, program, line, answers),
     }
 }
 
@@ -78,6 +116,32 @@ struct Evaluation {
     program: Option<Program>,
 }
 
+impl Evaluation {
+    /// Answers a line before there is a program. It stands apart from the lines behind it, since what
+    /// a program takes while it is made would be made room for at each of them.
+    #[inline(never)]
+    fn take_program(&mut self, line: &[u8], answers: &mut Vec<u8>) -> Result<Turn, AllocError>
+        requires { self.old.program ≡ None }
+        ensures { IfOk result (λ turn. Answers eval_rules (λ world. world ≡ self.old.program) line.now turn
+            (λ world. world ≡ self.new.program) answers.old.items answers.new.items) }
+    {
+        match line_words(line) {
+            LineWords::Silent => Ok(Turn::GoesOn),
+            LineWords::Several => {
+                answers.extend_from_slice(BAD_LINE)?;
+                Ok(Turn::Ends)
+            }
+            LineWords::One(word) => {
+                self.program = read_program_line(self.alloc, word, answers)?;
+                match self.program {
+                    Some(_) => Ok(Turn::GoesOn),
+                    None => Ok(Turn::Ends),
+                }
+            }
+        }
+    }
+}
+
 impl Machine for Evaluation {
     ghost use Rattle.upc.specs.Eval.{World as EvalWorld, eval_rules};
     ghost use Rattle.upc.specs.inner.EvalLaws.{eval-total};
@@ -88,22 +152,14 @@ impl Machine for Evaluation {
 
     ghost rules = { eval_rules };
 
+    #[inline(always)]
     fn answer(&mut self, line: &[u8], answers: &mut Vec<u8>) -> Result<Turn, AllocError> {
-        match (&self.program, line_words(line)) {
-            (_, LineWords::Silent) => Ok(Turn::GoesOn),
-            (Some(program), LineWords::One(word)) => {
-                answer_cell(self.alloc, program, word, answers)?;
+        match &self.program {
+            Some(program) => {
+                answer_line(self.alloc, program, line, answers)?;
                 Ok(Turn::GoesOn)
             }
-            (Some(_), LineWords::Several) => add_fault(answers, BAD_LINE, Turn::GoesOn),
-            (None, LineWords::Several) => add_fault(answers, BAD_LINE, Turn::Ends),
-            (None, LineWords::One(word)) => {
-                self.program = read_program_line(self.alloc, word, answers)?;
-                match self.program {
-                    Some(_) => Ok(Turn::GoesOn),
-                    None => Ok(Turn::Ends),
-                }
-            }
+            None => self.take_program(line, answers),
         }
     }
 

@@ -4,6 +4,7 @@ ghost use Rattle.std.specs.Option.{option_map};
 ghost use Rattle.upc.specs.Hexadecimal.{octets_of};
 ghost use Rattle.upc.specs.inner.CellWord.{IsCellWord};
 
+use crate::digits::cell_of_digits;
 use hex::FromHexError;
 use std::alloc::{AllocError, Global};
 use upc_cell::Cell;
@@ -30,8 +31,18 @@ pub fn octets(alloc: Global, word: &[u8]) -> Result<Option<Vec<u8>>, AllocError>
 }
 
 /// The cell that a word stands for. Memory is taken for a word of a length that no cell has, and for
-/// no other.
+/// no other. The library has the last word on what isn't read at once.
 pub fn cell(alloc: Global, word: &[u8]) -> Result<CellWord, AllocError>
+    ensures { IfOk result (IsCellWord word.now) }
+{
+    match cell_of_digits(word) {
+        Some(cell) => Ok(CellWord::OfCell(cell)),
+        None => cell_by_library(alloc, word),
+    }
+}
+
+/// The cell that a word stands for, as the library reads it.
+fn cell_by_library(alloc: Global, word: &[u8]) -> Result<CellWord, AllocError>
     ensures { IfOk result (IsCellWord word.now) }
 {
     match word.len() {

@@ -18,7 +18,11 @@ pub fn an_input_has_one_text()
         → (one ≡ other) × (ends ≡ other_ends) }
 {}
 
-/// A script has a text.
-pub fn a_script_has_a_text()
-    ensures { (octets : List ℕ) → (text : List ℕ) × (done : TheDone) × IsRunText octets text done }
+/// A script has one text of `run`, although a card may choose to which slot a program comes, and to which line a
+/// connection. Neither is told; and within the lines that an input may have, no slot is given up for having
+/// been given too often, and no line is full, so that the choice can't show in a refusal either.
+pub fn a_script_has_one_text()
+    ensures { (octets : List ℕ) (one other : List ℕ) (ends other_ends : TheDone)
+        → IsRunText octets one ends → IsRunText octets other other_ends
+        → (one ≡ other) × (ends ≡ other_ends) }
 {}

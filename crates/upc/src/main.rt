@@ -7,16 +7,24 @@ mod card_line;
 mod check;
 mod choose;
 mod commands;
+mod digits;
 mod eval;
 mod exit;
+mod fault_lines;
 mod hexadecimal;
 mod invocation;
 mod laws;
+mod names;
 mod program;
+mod rates;
+mod replies;
+mod run;
+mod script_card;
 mod script_words;
 mod subcommand;
 #[cfg(test)]
 mod tests;
+mod text_from_end;
 
 use choose::{Choice, Stop, choose};
 use dialogue::{Giving, Taking};
@@ -60,5 +68,7 @@ fn awaited(choice: Choice) -> &'static str {
         Choice::Check => "upc check: reading the source of a program from the terminal, to its end",
         Choice::Eval =>
             "upc eval: reading a program and cells from the terminal, a line each, to the end",
+        Choice::Run =>
+            "upc run: reading a script of a card from the terminal, a line each, to the end",
     }
 }

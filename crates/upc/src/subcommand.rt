@@ -9,6 +9,7 @@ ghost use Rattle.upc.specs.Subcommand.{IsTextOf};
 use crate::check::check_source;
 use crate::choose::Choice;
 use crate::eval::eval_bytes;
+use crate::run::run_script;
 use dialogue::{Done, Input, Output, RunFault};
 use std::alloc::Global;
 
@@ -41,5 +42,6 @@ pub fn run_subcommand<I: Input, O: Output>(
     match choice {
         Choice::Check => check_source(alloc, input, output),
         Choice::Eval => eval_bytes(alloc, input, output),
+        Choice::Run => run_script(alloc, input, output),
     }
 }

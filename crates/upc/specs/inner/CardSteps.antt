@@ -1,7 +1,7 @@
 -- What the card's steps lead to, as far as `run` has to know it: each reply that says nothing of memory has
 -- a line, and port 0 is free again after each command.
 use Rattle.std.proofs.Common.{◌≡◌, ◌⊎◌, ℕ, inl, inr, true, false, List, ◌++◌, Option, Some, None, codes, decimal, option_map, refl, sym, ap, ◌∙◌, subst}
-use Rattle.std.specs.Prelude.{suc}
+use Rattle.std.specs.Option.{is_some}
 use Rattle.std.specs.Option.{MatchOption}
 use Rattle.upc_cell.specs.declared.vc.Vc.{Vc}
 use Rattle.bpf_code.specs.declared.instr.Instr.{Instr}
@@ -21,12 +21,17 @@ use Rattle.card_core.specs.declared.step.Step.{Step}
 use Rattle.card_core.specs.declared.step.Step.TheVariants.{Load, Retire, Setup, Reload, Release, Cut}
 use Rattle.upc.specs.ScriptCommands.{Command, load, retire, setup, reload, release, cut}
 use Rattle.upc.specs.FaultLines.{arrive_fault, desk_fault, line}
-use Rattle.upc.specs.Replies.{answer_text, connection_name, judging_text, number_of_program, piece_text, program_name, reply_text, verdict_text}
+use Rattle.upc.specs.Replies.{answer_text, reply_text}
 use Rattle.upc.specs.declared.script_words.Wanted.{Wanted}
 
 -- There is a text.
 abbrev pub Told : Option (List ℕ) → Type 0
 Told found = (text : List ℕ) × (found ≡ Some text)
+
+-- There is one where it can be computed to be there, whatever it is.
+text-there : (found : Option (List ℕ)) → is_some found ≡ true → Told found
+text-there None e = let no : false ≡ true = e in cc
+text-there (Some text) e = (text, refl)
 
 -- The reply says nothing of memory.
 abbrev pub Spares : Reply → Type 0
@@ -61,7 +66,7 @@ arrive-told name = (arrive_fault name, refl)
 
 pub answer-told : (names : List Id) (vc : Vc) (given : Answer) → Spares (Answered given) → Told (answer_text names vc given)
 answer-told names vc (answer.Judged number count moment value program verdict leaving) e =
-    (verdict_text verdict (judging_text vc (number_of_program names program) value) leaving, refl)
+    text-there (answer_text names vc (answer.Judged number count moment value program verdict leaving)) refl
 answer-told names vc answer.NoConnection e = arrive-told (codes "1 NoConnection")
 answer-told names vc answer.Released e = arrive-told (codes "2 Released")
 answer-told names vc answer.Stale e = arrive-told (codes "3 Stale")
@@ -91,7 +96,7 @@ pub load-told : (before after : World) (code : List Instr) (digits : List ℕ) (
     → WorldStep before (Load code) reply after → Spares reply → Told (reply_text (load digits) programs reply)
 load-told before after code digits programs reply =
     desk-cases (Tells (load digits) programs reply) (λ fault. NotLoaded fault code) (load_fault before) before after (Load code) reply
-    (λ s. tells (load digits) programs reply _ s.answer (λ e. (line (codes "loaded " ++ program_name (suc programs)), refl)))
+    (λ s. tells (load digits) programs reply _ s.answer (λ e. text-there _ refl))
     (λ l. let no = l.answer in cc)
     (λ fault r. tells (load digits) programs reply _ r.answer (λ e. desk-told fault (sym (not_loaded fault code) ∙ e)))
 
@@ -99,7 +104,7 @@ pub retire-told : (before after : World) (id : Id) (number programs : ℕ) (repl
     → WorldStep before (Retire id) reply after → Spares reply → Told (reply_text (retire number) programs reply)
 retire-told before after id number programs reply =
     desk-cases (Tells (retire number) programs reply) (λ fault. Refused fault) (retire_fault before id) before after (Retire id) reply
-    (λ s. tells (retire number) programs reply _ s.answer (λ e. (line (codes "retired " ++ program_name number), refl)))
+    (λ s. tells (retire number) programs reply _ s.answer (λ e. text-there _ refl))
     (λ l. let no = l.answer in cc)
     (λ fault r. tells (retire number) programs reply _ r.answer (desk-told fault))
 
@@ -107,7 +112,7 @@ pub setup-told : (before after : World) (ask : Ask) (vc : Vc) (number : ℕ) (wa
     → WorldStep before (Setup ask) reply after → Spares reply → Told (reply_text (setup vc number wanted) programs reply)
 setup-told before after ask vc number wanted programs reply =
     desk-cases (Tells (setup vc number wanted) programs reply) (λ fault. NotSetUp fault ask) (setup_fault before ask) before after (Setup ask) reply
-    (λ s. tells (setup vc number wanted) programs reply _ s.answer (λ e. (line (codes "set " ++ connection_name vc), refl)))
+    (λ s. tells (setup vc number wanted) programs reply _ s.answer (λ e. text-there _ refl))
     (λ l e. let same : NotSetUp desk.NoMemory ask ≡ reply = cc in let no : true ≡ false = ap is_of_memory same ∙ e in cc)
     (λ fault r. tells (setup vc number wanted) programs reply _ r.answer (λ e. desk-told fault (sym (not_set_up fault ask) ∙ e)))
 
@@ -115,7 +120,7 @@ pub reload-told : (before after : World) (vc : Vc) (id : Id) (number programs : 
     → WorldStep before (Reload vc id) reply after → Spares reply → Told (reply_text (reload vc number) programs reply)
 reload-told before after vc id number programs reply =
     desk-cases (Tells (reload vc number) programs reply) (λ fault. Refused fault) (reload_fault before vc id) before after (Reload vc id) reply
-    (λ s. tells (reload vc number) programs reply _ s.answer (λ e. (line (codes "reloaded " ++ connection_name vc ++ codes " " ++ program_name number), refl)))
+    (λ s. tells (reload vc number) programs reply _ s.answer (λ e. text-there _ refl))
     (λ l. let no = l.answer in cc)
     (λ fault r. tells (reload vc number) programs reply _ r.answer (desk-told fault))
 
@@ -123,7 +128,7 @@ pub release-told : (before after : World) (vc : Vc) (programs : ℕ) (reply : Re
     → WorldStep before (Release vc) reply after → Spares reply → Told (reply_text (release vc) programs reply)
 release-told before after vc programs reply =
     desk-cases (Tells (release vc) programs reply) (λ fault. Refused fault) (missing_fault before vc) before after (Release vc) reply
-    (λ s. tells (release vc) programs reply _ s.answer (λ e. (line (codes "released " ++ connection_name vc ++ piece_text s.piece), refl)))
+    (λ s. tells (release vc) programs reply _ s.answer (λ e. text-there _ refl))
     (λ l. let no = l.answer in cc)
     (λ fault r. tells (release vc) programs reply _ r.answer (desk-told fault))
 
@@ -131,6 +136,6 @@ pub cut-told : (before after : World) (vc : Vc) (programs : ℕ) (reply : Reply)
     → WorldStep before (Cut vc) reply after → Spares reply → Told (reply_text (cut vc) programs reply)
 cut-told before after vc programs reply =
     desk-cases (Tells (cut vc) programs reply) (λ fault. Refused fault) (missing_fault before vc) before after (Cut vc) reply
-    (λ s. tells (cut vc) programs reply _ s.answer (λ e. (line (codes "cut " ++ connection_name vc ++ piece_text s.piece), refl)))
+    (λ s. tells (cut vc) programs reply _ s.answer (λ e. text-there _ refl))
     (λ l e. let same : Refused desk.NoMemory ≡ reply = cc in let no : true ≡ false = ap is_of_memory same ∙ e in cc)
     (λ fault r. tells (cut vc) programs reply _ r.answer (desk-told fault))

@@ -95,7 +95,7 @@ impl Output for Catcher {
 }
 
 /// Runs a subcommand over such devices: how it ends, and what was written.
-fn run_over(
+pub fn run_over(
     alloc: Global,
     choice: Choice,
     octets: &[u8],

@@ -1,7 +1,7 @@
 -- A word of another length spells octets that are no cell.
 use Rattle.std.proofs.Common.{◌≡◌, ◌≢◌, length, sym, ◌∙◌, ap, arith}
 use Rattle.upc.proofs.HexadecimalLemmas.{spelled-length, cell-of_other}
-use Rattle.upc.proofs.hexadecimal.cell.Goals as goal
+use Rattle.upc.proofs.hexadecimal.cell_by_library.Goals as goal
 
 pub returns-in-Some : goal.returns-in-Some
 returns-in-Some c =
