@@ -1,0 +1,49 @@
+-- Tallies of seats.
+use Rattle.std.proofs.Common.{◌≡◌, ℕ, zero, suc, ◌+◌, ◌<◌, List, replicate, Some, refl, sym, ap, ◌∙◌, arith}
+use Rattle.std.specs.Prelude.{slice_get, slice_set}
+use Rattle.leaky.specs.declared.verdict.Verdict.{Verdict}
+use Rattle.leaky.specs.declared.verdict.Verdict.TheVariants.{Pass, Tag, Discard, Refuse}
+use Rattle.line_record.specs.declared.tally.Tally.{Tally}
+use Rattle.line_record.specs.Tally.{nothing, counted, number_of, plus, total, HasRoom, IsPart}
+use Rattle.line_record.proofs.Public.{parts_are_within}
+use Rattle.port_card.specs.Seats.{SeatView, tally_or_nothing, counted_on}
+
+-- No cell on each of several lines is no cell.
+pub total-unused : (lines : ℕ) → total (replicate lines nothing) ≡ nothing
+total-unused zero = refl
+total-unused (suc lines) = ap (plus nothing) (total-unused lines)
+
+-- What is a part of a tally below 2^62 can count one more.
+pub room_in-part : (part whole : Tally) (verdict : Verdict) → IsPart part whole → HasRoom whole
+    → number_of part verdict + 1 < 18446744073709551616
+room_in-part part whole Pass within room = omega (arith, within.passed, room.passed)
+room_in-part part whole Tag within room = omega (arith, within.tagged, room.tagged)
+room_in-part part whole Discard within room = omega (arith, within.discarded, room.discarded)
+room_in-part part whole Refuse within room = omega (arith, within.refused, room.refused)
+
+IsPart-trans : (part whole larger : Tally) → IsPart part whole → IsPart whole larger → IsPart part larger
+IsPart-trans part whole larger first second = record {
+  passed = omega (arith, first.passed, second.passed);
+  tagged = omega (arith, first.tagged, second.tagged);
+  discarded = omega (arith, first.discarded, second.discarded);
+  refused = omega (arith, first.refused, second.refused);
+}
+
+-- One of several tallies can count one more where all of them together are part of a tally that has room.
+pub room_on-line : (tallies : List Tally) (line : ℕ) (tally whole : Tally) (verdict : Verdict)
+    → slice_get tallies line ≡ Some tally → IsPart (total tallies) whole → HasRoom whole
+    → number_of tally verdict + 1 < 18446744073709551616
+room_on-line tallies line tally whole verdict at within room =
+    room_in-part tally whole verdict
+    (IsPart-trans tally (total tallies) whole (parts_are_within.total tallies line tally at) within) room
+
+-- The seat of these tallies, once one of them has counted one more cell.
+pub counted-seat : (port from line : ℕ) (tallies : List Tally) (here next : Tally) (verdict : Verdict)
+    → from ≡ line → slice_get tallies from ≡ Some here → next ≡ counted here verdict
+    → (let after : SeatView = record { port = port; tallies = slice_set tallies from next } in after)
+    ≡ counted_on (record { port = port; tallies = tallies }) line verdict
+counted-seat port from line tallies here next verdict same at is =
+    let Here : ℕ → Tally → SeatView = λ place tally. record { port = port; tallies = slice_set tallies place tally } in
+    let there : here ≡ tally_or_nothing (slice_get tallies line) = sym (ap tally_or_nothing at) ∙ ap (λ (n : ℕ). tally_or_nothing (slice_get tallies n)) same in
+    ap (Here from) (is ∙ ap (λ (t : Tally). counted t verdict) there)
+    ∙ ap (λ (n : ℕ). Here n (counted (tally_or_nothing (slice_get tallies line)) verdict)) same

@@ -1,0 +1,5 @@
+pub mod Columns
+pub mod Counting
+pub mod Judging
+pub mod Gathering
+pub mod Releasing

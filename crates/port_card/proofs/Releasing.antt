@@ -1,0 +1,31 @@
+-- What a release tells of the piece that it hands out, and why it is refused.
+use Rattle.std.proofs.Common.{◌≡◌, ◌≢◌, Some, Ok, Err, sym, ap, subst, ◌∙◌}
+use Rattle.std.specs.Prelude.{MatchResult, IfOk, IfErr}
+use Rattle.std.specs.declared.result.Result.{Result}
+use Rattle.std.proofs.lemmas.Option.{same_Some}
+use Rattle.upc_cell.specs.declared.vc.Vc.{Vc}
+use Rattle.line_record.specs.declared.directory.Seating.{Seating}
+use Rattle.line_record.specs.declared.owner.Owner.{Owner}
+use Rattle.line_record.specs.Line.{LineView}
+use Rattle.line_record.specs.Piece.{PieceView, IsJournalOf}
+use Rattle.card_core.specs.declared.fault.DeskFault.{DeskFault}
+use Rattle.card_core.specs.declared.fault.DeskFault.TheVariants.{Stale}
+use Rattle.card_core.specs.Sections.{holder}
+use Rattle.port_card.specs.Answers.{IsOfRelease}
+
+-- What the locked section says of its result.
+abbrev pub IsServed : Result PieceView DeskFault → LineView → Vc → Seating → Type 0
+IsServed result line vc seat = MatchResult result
+    (λ _. line.owner ≡ Some (holder vc seat))
+    (λ fault. (fault ≡ Stale) × (line.owner ≢ Some (holder vc seat)))
+
+pub served-piece : (result : Result PieceView DeskFault) (line : LineView) (vc : Vc) (seat : Seating)
+    → IsServed result line vc seat → IfOk result (IsJournalOf line) → IfOk result (λ piece. piece.owner.vc ≡ vc)
+served-piece (Ok piece) line vc seat served journal =
+    ap (λ (o : Owner). o.vc) (same_Some piece.owner (holder vc seat) (sym journal.owner ∙ served))
+served-piece (Err fault) line vc seat served journal = tt
+
+pub served-refused : (result : Result PieceView DeskFault) (line : LineView) (vc : Vc) (seat : Seating)
+    → IsServed result line vc seat → IfErr result IsOfRelease
+served-refused (Ok piece) line vc seat served = tt
+served-refused (Err fault) line vc seat served = subst IsOfRelease (sym served.0) tt

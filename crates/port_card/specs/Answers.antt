@@ -1,0 +1,71 @@
+-- What an answer of a running card tells.
+use Rattle.std.specs.Prelude.{◌≡◌, ◌<◌, ◌^◌, ◌≤◌, ℕ, ◌⊎◌, ⊤, List}
+use Rattle.bpf_code.specs.declared.instr.Instr.{Instr}
+use Rattle.bpf_verify.specs.Accepted.{IsAccepted}
+use Rattle.leaky.specs.declared.verdict.Verdict.TheVariants.{Refuse}
+use Rattle.card_core.specs.declared.answer.Answer.{Answer}
+use Rattle.card_core.specs.declared.answer.Answer.TheVariants.{MomentTooLate, MomentBack}
+use Rattle.card_core.specs.declared.fault.DeskFault.{DeskFault}
+use Rattle.card_core.specs.declared.fault.DeskFault.TheVariants.{NoProgram, NoConnection, Taken, BadContracts, NoLine, InUse, Exhausted, Stale, NoMemory}
+use Rattle.card_core.specs.Sections.{JudgedView}
+use Rattle.card_core.specs.Steps.{Gives, cell_after}
+
+-- No connection has a contract of this number: they are counted from 1 to 4 at most.
+abbrev pub IsNoNumber : ℕ → Type 0
+IsNoNumber value = (value ≡ 0) ⊎ (4 < value)
+
+-- One accepted code gives the value for the cell.
+pub record IsGiven (cell : List ℕ) (value : ℕ) : Type 0 where
+  pub code : List Instr
+  pub accepted : IsAccepted code
+  pub gives : Gives code cell value
+
+-- What is told of a cell that came at this moment and was judged.
+pub record IsTold (cell : List ℕ) (moment : ℕ) (judged : JudgedView) : Type 0 where
+  pub same_moment : judged.moment ≡ moment
+  pub in_time : moment ≤ 2 ^ 62
+  pub leaves : judged.cell ≡ cell_after judged.verdict cell
+  pub unnamed : IsNoNumber judged.value → judged.verdict ≡ Refuse
+  pub given : IsGiven cell judged.value
+
+-- Where a cell of this moment is refused for its moment, the moment is to blame.
+abbrev pub BlamesRightly : ℕ → Answer → Type 0
+BlamesRightly moment MomentTooLate = 2 ^ 62 < moment
+BlamesRightly moment (MomentBack last) = moment < last
+BlamesRightly moment _ = ⊤
+
+-- What a setup may be refused for.
+abbrev pub IsOfSetup : DeskFault → Type 0
+IsOfSetup NoProgram = ⊤
+IsOfSetup Taken = ⊤
+IsOfSetup BadContracts = ⊤
+IsOfSetup NoLine = ⊤
+IsOfSetup Exhausted = ⊤
+IsOfSetup Stale = ⊤
+IsOfSetup NoMemory = ⊤
+IsOfSetup _ = ⊥
+
+-- What a retirement may be refused for.
+abbrev pub IsOfRetirement : DeskFault → Type 0
+IsOfRetirement NoProgram = ⊤
+IsOfRetirement InUse = ⊤
+IsOfRetirement _ = ⊥
+
+-- What a reload may be refused for.
+abbrev pub IsOfReload : DeskFault → Type 0
+IsOfReload NoProgram = ⊤
+IsOfReload NoConnection = ⊤
+IsOfReload _ = ⊥
+
+-- What a release may be refused for.
+abbrev pub IsOfRelease : DeskFault → Type 0
+IsOfRelease NoConnection = ⊤
+IsOfRelease Stale = ⊤
+IsOfRelease _ = ⊥
+
+-- What a cut may be refused for.
+abbrev pub IsOfCut : DeskFault → Type 0
+IsOfCut NoConnection = ⊤
+IsOfCut Stale = ⊤
+IsOfCut NoMemory = ⊤
+IsOfCut _ = ⊥

@@ -1,0 +1,47 @@
+-- What the close of a card tells: the lines' own counts beside the seats' tallies.
+use Rattle.std.specs.Prelude.{◌≡◌, ◌≢◌, ℕ, ◌<◌, ◌≤◌, List, length, map, Option, Some, None, slice_get}
+use Rattle.line_record.specs.declared.tally.Tally.{Tally}
+use Rattle.line_record.specs.Line.{LineView}
+use Rattle.line_record.specs.Tally.{total}
+use Rattle.card_core.specs.declared.shape.Shape.{Shape}
+use Rattle.port_card.specs.Seats.{SeatView, tally_on, tally_of_seat}
+use Rattle.port_card.specs.declared.closing.CloseFault.{CloseFault}
+use Rattle.port_card.specs.declared.closing.CloseFault.TheVariants.{Missing, NoMemory}
+
+-- What the line counted, over its whole life.
+abbrev pub counts_of : LineView → Tally
+counts_of line = line.state.counts
+
+-- What all lines counted together.
+abbrev pub lines_total : List LineView → Tally
+lines_total lines = total (map counts_of lines)
+
+-- What all seats counted together, on all lines.
+abbrev pub seats_total : List SeatView → Tally
+seats_total seats = total (map tally_of_seat seats)
+
+-- What all seats counted together on this line.
+abbrev pub seats_on : List SeatView → ℕ → Tally
+seats_on seats line = total (map (tally_on line) seats)
+
+-- The line of this number, where there is one, counted what was counted on it otherwise.
+abbrev pub IsEven : List LineView → (ℕ → Tally) → ℕ → Type 0
+IsEven lines otherwise number = (line : LineView) → slice_get lines number ≡ Some line
+    → counts_of line ≡ otherwise number
+
+-- There is a line of this number, and some count of it isn't what was counted on it otherwise.
+pub record IsUneven (lines : List LineView) (otherwise : ℕ → Tally) (number : ℕ) : Type 0 where
+  pub line : LineView
+  pub there : slice_get lines number ≡ Some line
+  pub differs : counts_of line ≢ otherwise number
+
+-- The first line that is uneven; none exactly where each is even.
+abbrev pub IsFirstUneven : List LineView → (ℕ → Tally) → Option ℕ → Type 0
+IsFirstUneven lines otherwise None = (number : ℕ) → IsEven lines otherwise number
+IsFirstUneven lines otherwise (Some first) =
+    IsUneven lines otherwise first × ((number : ℕ) → number < first → IsEven lines otherwise number)
+
+-- Why a card isn't closed: there are fewer seats than ports; or else the memory was refused.
+abbrev pub IsUnclosed : Shape → List SeatView → CloseFault → Type 0
+IsUnclosed shape seats Missing = length seats < shape.ports
+IsUnclosed shape seats NoMemory = shape.ports ≤ length seats

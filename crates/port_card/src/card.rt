@@ -1,0 +1,197 @@
+use crate::books::{Blanks, Books};
+use crate::desk::Desk;
+use crate::gate::Gate;
+use crate::ledgers::Ledgers;
+use crate::marks::{LineMarks, SeatMarks};
+use crate::places::Places;
+use crate::seat::PortSeat;
+use crate::slot::Slot;
+use card_core::{Answer, CardFault, Shape, Store, name};
+use gen_arena::Arena;
+use line_record::{Line, Seating};
+use std::alloc::Global;
+use std::marker::Model;
+use std::sync::{Mutex, RwLock, Wait};
+use upc_cell::{Cell, Vc};
+
+/// A card that ports and a desk use at the same time, each from a thread of its own.
+///
+/// Locks are taken in the order of the fields: the programs are read, or written by loads and
+/// retirements; then the directory; then a line; then the books.
+#[derive(Drop)]
+pub struct Card<S: Ledgers> {
+    pub(crate) shape: Shape,
+    pub(crate) store: RwLock<Store>,
+    pub(crate) places: Mutex<Places<S>>,
+    pub(crate) slots: Vec<Mutex<Slot<S>>>,
+    pub(crate) books: Mutex<Books<S>>,
+}
+
+impl<S: Ledgers> Model for Card<S> {
+    ghost use Rattle.std.specs.Prelude.{◌≡◌, vec_len};
+    ghost use Rattle.card_core.specs.declared.shape.Shape.{Shape};
+    ghost use Rattle.card_core.specs.Shapes.{IsShape};
+    ghost use Rattle.port_card.specs.Names.{AreFor};
+
+    ghost Value = { Shape };
+
+    ghost view = { λ c. c.shape };
+
+    ghost invariant = { λ c. IsShape c.shape × AreFor c.shape S.names × (vec_len c.slots ≡ S.names.lines) };
+}
+
+impl<S: Ledgers> Card<S> {
+    ghost use Rattle.std.specs.Prelude.{◌≡◌, ◌≢◌, ◌<◌, ◌≤◌, ◌⊎◌, length, None, Some, IfOk, IfSome, MatchResult};
+    ghost use Rattle.card_core.specs.Shapes.{shape_fault};
+    ghost use Rattle.card_core.specs.Sections.{told};
+    ghost use Rattle.port_card.specs.Names.{AreFor};
+    ghost use Rattle.port_card.specs.Seats.{AreNewSeats, seat_after};
+    ghost use Rattle.port_card.specs.Answers.{IsTold, BlamesRightly};
+
+    /// A card of this shape, without programs and connections, with a seat for each port, in the
+    /// order of the ports, and its one desk.
+    ///
+    /// # Errors
+    ///
+    /// `Programs`, `Lines`, `Ports` or `Journal` for the first number of the shape that is out of its
+    /// limits. Then `NoMemory`, where memory is refused.
+    pub fn new(
+        alloc: Global,
+        shape: Shape,
+        blanks: Blanks,
+    ) -> Result<(Card<S>, Vec<PortSeat<S>>, Desk<S>), CardFault>
+        requires names { blanks ≡ S.names }
+        requires for_shape { AreFor shape S.names }
+        ensures shape { IfOk result (λ made. made.0 ≡ shape) }
+        ensures seats { IfOk result (λ made. AreNewSeats made.1.items shape.ports shape.lines) }
+        ensures refused { MatchResult result
+            (λ _. shape_fault shape ≡ None)
+            (λ fault. (shape_fault shape ≡ Some fault)
+            ⊎ ((shape_fault shape ≡ None) × (fault ≡ CardFault.NoMemory))) }
+    {
+        if let Some(fault) = shape.fault() {
+            return Err(fault);
+        }
+        let (books, on_lines, at_seats) = Books::open(blanks);
+        let Ok(store) = Arena::new(alloc, shape.programs as u16) else {
+            return Err(CardFault::NoMemory);
+        };
+        let Some(places) = Places::new(alloc, shape.lines as u16) else {
+            return Err(CardFault::NoMemory);
+        };
+        let Some(slots) = free_slots(alloc, shape.lines as usize, shape.journal as u32, on_lines)
+        else {
+            return Err(CardFault::NoMemory);
+        };
+        let Some(seats) = new_seats(alloc, shape.ports as u8, shape.lines as usize, at_seats) else {
+            return Err(CardFault::NoMemory);
+        };
+        let card = Card {
+            shape,
+            store: RwLock::new(store),
+            places: Mutex::new(places),
+            slots,
+            books: Mutex::new(books),
+        };
+        Ok((card, seats, Desk::new()))
+    }
+
+    /// Lets a cell arrive at the port of this seat, at this moment in ticks. Takes no memory.
+    ///
+    /// The programs are read from the look-up to the end. The directory's lock is held for the look-up
+    /// alone, the line's lock and the books' for the judgement. The gate's `between` is called in
+    /// between, without these three.
+    ///
+    /// `NoConnection` where the cell belongs to none, `Stale` where the connection's program isn't
+    /// live; then what `judge_at` of `card_core` answers, or `JournalFull` where one of the card's
+    /// sums is 2^62.
+    pub fn arrive<G: Gate, R: Wait>(
+        &self,
+        rt: &R,
+        seat: &mut PortSeat<S>,
+        cell: &Cell,
+        moment: u64,
+        gate: &G,
+    ) -> Answer
+        // The seat counts the cell on its line and by its verdict exactly where it was judged.
+        ensures tallied { seat.new ≡ seat_after seat.old (told result) }
+        ensures there { IfSome (told result) (λ judged. judged.line < self.now.lines) }
+
+        ensures told { IfSome (told result) (IsTold cell.now moment) }
+        ensures blames { BlamesRightly moment result }
+        ensures memory { result ≢ Answer.NoMemory }
+    {
+        let store = self.store.read(rt);
+        let vc = cell.vc_at(self.shape.side);
+        let Some(seating) = self.find(rt, vc) else {
+            return Answer::NoConnection;
+        };
+        let Some(named) = name(&store, seating.program, cell) else {
+            return Answer::Stale;
+        };
+        gate.between(seat.port());
+        let mut slot = self.slots[usize::from(seating.line)].lock(rt);
+        let mut books = self.books.lock(rt);
+        slot.judge(&mut books, seat, vc, &seating, &named, moment)
+    }
+
+    // Where the connection is, if there is one.
+    fn find<R: Wait>(&self, rt: &R, vc: Vc) -> Option<Seating>
+        ensures { IfSome result (λ seat. seat.line < self.now.lines) }
+    {
+        self.places.lock(rt).find(vc)
+    }
+}
+
+ghost use Rattle.std.specs.Prelude.{◌≡◌, ◌≤◌, IfSome, vec_len};
+ghost use Rattle.port_card.specs.Seats.{AreNewSeats};
+ghost use Rattle.port_card.specs.inner.Marks.{unused_marks};
+
+// So many free lines with their marks, behind a lock each; none where the memory is refused.
+fn free_slots<S: Ledgers>(
+    alloc: Global,
+    lines: usize,
+    journal: u32,
+    all: LineMarks<S>,
+) -> Option<Vec<Mutex<Slot<S>>>>
+    requires some { 1 ≤ journal }
+    requires most { journal ≤ 65536 }
+    requires marks { all ≡ unused_marks lines }
+    ensures { IfSome result (λ slots. vec_len slots ≡ lines) }
+{
+    let mut rest = all;
+    let Ok(mut slots) = Vec::with_capacity(alloc, lines) else {
+        return None;
+    };
+    for _ in 0..lines {
+        let Ok(line) = Line::new(alloc, journal) else {
+            return None;
+        };
+        slots.push_reserved(Mutex::new(Slot::new(line, rest.split_off())));
+    }
+    Some(slots)
+}
+
+// The seats of so many ports; none where the memory is refused.
+fn new_seats<S: Ledgers>(
+    alloc: Global,
+    ports: u8,
+    lines: usize,
+    all: SeatMarks<S>,
+) -> Option<Vec<PortSeat<S>>>
+    requires lines { lines ≡ S.names.lines }
+    requires marks { all ≡ unused_marks ports }
+    ensures { IfSome result (λ seats. AreNewSeats seats.items ports lines) }
+{
+    let mut rest = all;
+    let Ok(mut seats) = Vec::with_capacity(alloc, usize::from(ports)) else {
+        return None;
+    };
+    for port in 0..ports {
+        let Some(seat) = PortSeat::new(alloc, port, lines, rest.split_off()) else {
+            return None;
+        };
+        seats.push_reserved(seat);
+    }
+    Some(seats)
+}

@@ -1,0 +1,182 @@
+use crate::card::Card;
+use crate::ledgers::Ledgers;
+use crate::marks::{LineMarks, SeatMarks};
+use crate::seat::{Column, PortSeat};
+use crate::slot::Slot;
+use line_record::{Line, Tally};
+use std::alloc::Global;
+use std::sync::Mutex;
+use thiserror::Error;
+
+/// A card that was closed.
+#[derive(Debug, Drop)]
+pub struct Closing {
+    /// The lines, in the order of their numbers, with all that they counted.
+    pub lines: Vec<Line>,
+    /// The number of the first line, from 0, of which some count isn't the sum of the seats' tallies
+    /// of it; none where there is no such line.
+    pub uneven: Option<u16>,
+}
+
+/// Why a card can't be closed. It is printed as its number and its name.
+#[derive(Clone, Copy, Debug, PartialEq, Eq, Error)]
+pub enum CloseFault {
+    /// There are fewer seats than ports.
+    #[error("1 Missing")]
+    Missing,
+    /// The memory was refused.
+    #[error("2 NoMemory")]
+    NoMemory,
+}
+
+impl<S: Ledgers> Card<S> {
+    ghost use Rattle.std.specs.Prelude.{◌≡◌, ◌≤◌, length, IfOk, IfErr, MatchResult};
+    ghost use Rattle.port_card.specs.Closing.{lines_total, seats_total, seats_on, IsFirstUneven, IsUnclosed};
+
+    /// Takes the card apart, with the seats of its ports: its lines, and the first of them that
+    /// counted otherwise than the seats did. No lock is taken, since no one else has the card.
+    ///
+    /// # Errors
+    ///
+    /// `Missing` where there are fewer seats than ports, then `NoMemory` where memory is refused; both
+    /// with the card and the seats.
+    pub fn close(
+        self,
+        alloc: Global,
+        seats: Vec<PortSeat<S>>,
+    ) -> Result<Closing, (CloseFault, Card<S>, Vec<PortSeat<S>>)>
+        ensures lines { IfOk result (λ closing. length closing.lines.items ≡ self.lines) }
+
+        // What all lines counted is what all seats counted, verdict by verdict.
+        ensures sums { IfOk result (λ closing. lines_total closing.lines.items ≡ seats_total seats.items) }
+
+        ensures uneven { IfOk result (λ closing.
+            IsFirstUneven closing.lines.items (seats_on seats.items) closing.uneven) }
+
+        ensures refused { MatchResult result
+            (λ _. self.ports ≤ length seats.items)
+            (λ refused. IsUnclosed self seats.items refused.0) }
+        ensures card_returned { IfErr result (λ refused. refused.1 ≡ self) }
+        ensures seats_returned { IfErr result (λ refused. refused.2.items ≡ seats.items) }
+    {
+        if seats.len() < self.shape.ports as usize {
+            return Err((CloseFault::Missing, self, seats));
+        }
+        let Ok(lines) = Vec::with_capacity(alloc, self.slots.len()) else {
+            return Err((CloseFault::NoMemory, self, seats));
+        };
+        let Ok(columns) = Vec::with_capacity(alloc, seats.len()) else {
+            return Err((CloseFault::NoMemory, self, seats));
+        };
+        let Card {
+            shape: _,
+            store: _,
+            places: _,
+            slots,
+            books,
+        } = self;
+        let mut slots = slots;
+        let mut seats = seats;
+        let no_lines = marks_of_no_line(&mut slots);
+        let no_seats = seats[0].no_marks();
+        let (lines, mut on_lines) = gathered_lines(slots, lines, no_lines);
+        let (columns, mut at_seats) = gathered_columns(seats, columns, no_seats);
+        books.into_inner().audit(&mut on_lines, &mut at_seats);
+        let uneven = first_uneven(&lines, &columns);
+        Ok(Closing { lines, uneven })
+    }
+}
+
+ghost use Rattle.std.specs.Prelude.{◌≡◌, ◌<◌, ◌≤◌, ◌↔◌, IsTrue, [], length, map, vec_len, vec_capacity};
+ghost use Rattle.line_record.specs.Tally.{FitsWords};
+ghost use Rattle.port_card.specs.Closing.{lines_total, IsFirstUneven};
+ghost use Rattle.port_card.specs.inner.Columns.{columns_total, columns_on};
+ghost use Rattle.port_card.specs.inner.Marks.{unused_marks};
+
+// Marks of no part, of the lines' ledgers.
+fn marks_of_no_line<S: Ledgers>(slots: &mut [Mutex<Slot<S>>]) -> LineMarks<S>
+    requires { 0 < length slots.old }
+    ensures { result ≡ unused_marks 0 }
+{
+    slots[0].get_mut().no_marks()
+}
+
+// The lines out of their locks, into a list that has room for them, and all their marks.
+fn gathered_lines<S: Ledgers>(
+    slots: Vec<Mutex<Slot<S>>>,
+    lines: Vec<Line>,
+    none: LineMarks<S>,
+) -> (Vec<Line>, LineMarks<S>)
+    requires empty { lines.items ≡ [] }
+    requires room { vec_len slots ≤ vec_capacity lines }
+    requires none { none ≡ unused_marks 0 }
+    ensures sized { length result.0.items ≡ vec_len slots }
+    ensures parts { result.1.parts ≡ vec_len slots }
+    ensures tally { result.1.tally ≡ lines_total result.0.items }
+{
+    let mut lines = lines;
+    let mut marks = none;
+    for slot in slots {
+        let Slot { line, marks: own } = slot.into_inner();
+        marks.merge(own);
+        lines.push_reserved(line);
+    }
+    (lines, marks)
+}
+
+// The seats' tallies, into a list that has room for them, and all their marks.
+fn gathered_columns<S: Ledgers>(
+    seats: Vec<PortSeat<S>>,
+    columns: Vec<Column>,
+    none: SeatMarks<S>,
+) -> (Vec<Column>, SeatMarks<S>)
+    requires empty { columns.items ≡ [] }
+    requires room { length seats.items ≤ vec_capacity columns }
+    requires none { none ≡ unused_marks 0 }
+    ensures columns { result.0.items ≡ map (λ seat. seat.tallies) seats.items }
+    ensures parts { result.1.parts ≡ length seats.items }
+    ensures most { result.1.parts ≤ S.names.ports }
+    ensures tally { result.1.tally ≡ columns_total result.0.items }
+{
+    let mut columns = columns;
+    let mut marks = none;
+    for seat in seats {
+        let (column, own) = seat.into_column();
+        marks.merge(own);
+        columns.push_reserved(column);
+    }
+    (columns, marks)
+}
+
+// The number of the first line that counted otherwise than the seats did.
+fn first_uneven(lines: &[Line], columns: &[Column]) -> Option<u16>
+    requires few { length lines.now ≤ 4096 }
+    requires fit { FitsWords (columns_total columns.now) }
+    ensures { IsFirstUneven lines.now (columns_on columns.now) result }
+{
+    for number in 0..lines.len() {
+        if !is_same(lines[number].counts(), sum_on(columns, number)) {
+            return Some(number as u16);
+        }
+    }
+    None
+}
+
+// Whether both have the same counts.
+fn is_same(one: Tally, other: Tally) -> bool
+    ensures { IsTrue result ↔ (one ≡ other) }
+{
+    one == other
+}
+
+// What the seats counted on this line together.
+fn sum_on(columns: &[Column], line: usize) -> Tally
+    requires { FitsWords (columns_total columns.now) }
+    ensures { result ≡ columns_on columns.now line }
+{
+    let mut sum = Tally::new();
+    for column in columns {
+        sum = sum.plus(column.on(line));
+    }
+    sum
+}

@@ -1,0 +1,150 @@
+use crate::card::Card;
+use crate::ledgers::Ledgers;
+use bpf_verify::Program;
+use card_core::{Ask, DeskFault, load};
+use gen_arena::Id;
+use line_record::{Owner, Piece};
+use std::marker::PhantomData;
+use std::sync::Wait;
+use upc_cell::Vc;
+
+/// The desk of a card. Whoever has it may load and retire programs, and set up, reload, release and
+/// cut connections. It can't be copied.
+#[derive(Drop)]
+pub struct Desk<S: Ledgers> {
+    of: PhantomData<S>,
+}
+
+impl<S: Ledgers> Desk<S> {
+    ghost use Rattle.std.specs.Prelude.{◌≡◌, IfOk, IfErr};
+    ghost use Rattle.bpf_verify.specs.Accepted.{IsAccepted};
+    ghost use Rattle.line_record.specs.Piece.{IsPiece};
+    ghost use Rattle.port_card.specs.Answers.{IsOfSetup, IsOfRetirement, IsOfReload, IsOfRelease, IsOfCut};
+
+    // The desk of a card that is made.
+    pub(crate) fn new() -> Self {
+        Desk { of: PhantomData }
+    }
+
+    /// Puts a program into a free slot, under an id that was never given before. It waits until no
+    /// cell is between its look-up and its judgement. Takes no memory.
+    ///
+    /// # Errors
+    ///
+    /// `ProgramsFull` with the program, where no slot is free.
+    pub fn load<R: Wait>(
+        &mut self,
+        rt: &R,
+        card: &Card<S>,
+        program: Program,
+    ) -> Result<Id, (DeskFault, Program)>
+        ensures accepted { IsAccepted program }
+        ensures refused { IfErr result (λ refused. refused.0 ≡ DeskFault.ProgramsFull) }
+        ensures returned { IfErr result (λ refused. refused.1 ≡ program) }
+    {
+        load(&mut card.store.write(rt), program)
+    }
+
+    /// Takes a program out that no connection names. It waits until no cell is between its look-up
+    /// and its judgement. Takes no memory.
+    ///
+    /// # Errors
+    ///
+    /// `NoProgram` where the id isn't live, then `InUse` where some connection names it.
+    pub fn retire<R: Wait>(&mut self, rt: &R, card: &Card<S>, id: Id) -> Result<Program, DeskFault>
+        ensures accepted { IfOk result (λ program. IsAccepted program) }
+        ensures refused { IfErr result IsOfRetirement }
+    {
+        let mut store = card.store.write(rt);
+        card.places.lock(rt).retire(&mut store, id)
+    }
+
+    /// Sets a connection up on a free line; which one is open.
+    ///
+    /// # Errors
+    ///
+    /// With what was asked: `NoProgram` where the program isn't live, `Taken` where the virtual
+    /// connection has a connection, `BadContracts` where there is no contract, `NoLine` where each
+    /// line is some connection's, `Exhausted` where the last incarnation was given: the first that
+    /// holds. Then `Stale` where the line isn't free, and `NoMemory` where memory is refused.
+    pub fn setup<R: Wait>(
+        &mut self,
+        rt: &R,
+        card: &Card<S>,
+        ask: Ask,
+    ) -> Result<Owner, (DeskFault, Ask)>
+        ensures owner { IfOk result (λ owner. owner.vc ≡ ask.vc) }
+        ensures refused { IfErr result (λ refused. IsOfSetup refused.0) }
+        ensures returned { IfErr result (λ refused. refused.1 ≡ ask) }
+    {
+        let store = card.store.read(rt);
+        let mut guard = card.places.lock(rt);
+        let places = &mut *guard;
+        let number = match places.admit(&store, &ask) {
+            Ok(number) => number,
+            Err(fault) => return Err((fault, ask)),
+        };
+        let mut slot = card.slots[usize::from(number)].lock(rt);
+        slot.setup(places, number, ask)
+    }
+
+    /// Gives a connection another program, and answers the one that it had. Its buckets and its
+    /// journal stay. Takes no memory.
+    ///
+    /// # Errors
+    ///
+    /// `NoProgram` where the program isn't live, then `NoConnection` where there is no connection.
+    pub fn reload<R: Wait>(
+        &mut self,
+        rt: &R,
+        card: &Card<S>,
+        vc: Vc,
+        program: Id,
+    ) -> Result<Id, DeskFault>
+        ensures { IfErr result IsOfReload }
+    {
+        let store = card.store.read(rt);
+        card.places.lock(rt).reload(&store, vc, program)
+    }
+
+    /// Ends a connection, and answers its journal. Takes no memory.
+    ///
+    /// # Errors
+    ///
+    /// `NoConnection` where there is none, then `Stale` where its line doesn't serve it; nothing
+    /// changes.
+    pub fn release<R: Wait>(&mut self, rt: &R, card: &Card<S>, vc: Vc) -> Result<Piece, DeskFault>
+        ensures piece { IfOk result (λ piece. piece.owner.vc ≡ vc) }
+        ensures run { IfOk result (λ piece. IsPiece piece) }
+        ensures refused { IfErr result IsOfRelease }
+    {
+        let mut guard = card.places.lock(rt);
+        let places = &mut *guard;
+        let Some(seating) = places.find(vc) else {
+            return Err(DeskFault::NoConnection);
+        };
+        let mut slot = card.slots[usize::from(seating.line)].lock(rt);
+        slot.release(places, vc, &seating)
+    }
+
+    /// Hands out a connection's journal, and begins a new one. The room for the new one is taken
+    /// first.
+    ///
+    /// # Errors
+    ///
+    /// `NoConnection` where there is no connection, `Stale` where its line doesn't serve it, then
+    /// `NoMemory` where memory is refused; nothing changes.
+    pub fn cut<R: Wait>(&mut self, rt: &R, card: &Card<S>, vc: Vc) -> Result<Piece, DeskFault>
+        ensures piece { IfOk result (λ piece. piece.owner.vc ≡ vc) }
+        ensures run { IfOk result (λ piece. IsPiece piece) }
+        ensures refused { IfErr result IsOfCut }
+    {
+        let places = card.places.lock(rt);
+        let Some(seating) = places.find(vc) else {
+            return Err(DeskFault::NoConnection);
+        };
+        card.slots[usize::from(seating.line)]
+            .lock(rt)
+            .cut(vc, &seating)
+    }
+}

@@ -1,0 +1,86 @@
+ghost use Rattle.port_card.specs.Names.{Names, no_names};
+
+use std::marker::{Brand, PhantomData};
+use std::sync::ledger::Ledger;
+
+/// The ledgers of one card, as a type that the card, its seats and its desk have in common. A
+/// function that is generic over it is called at [`Brand`], and its caller's proof picks the names.
+pub trait Ledgers {
+    ghost names: { Names };
+}
+
+impl Ledgers for Brand {
+    ghost names = { no_names };
+}
+
+/// Counts the cells that lines passed.
+pub(crate) struct PassedOnLines<S>(PhantomData<S>);
+
+impl<S: Ledgers> Ledger for PassedOnLines<S> {
+    ghost name = { S.names.passed_on_lines };
+
+    ghost parts = { S.names.lines };
+}
+
+/// Counts the cells that were answered at seats as passed.
+pub(crate) struct PassedAtSeats<S>(PhantomData<S>);
+
+impl<S: Ledgers> Ledger for PassedAtSeats<S> {
+    ghost name = { S.names.passed_at_seats };
+
+    ghost parts = { S.names.ports };
+}
+
+/// Counts the cells that lines tagged.
+pub(crate) struct TaggedOnLines<S>(PhantomData<S>);
+
+impl<S: Ledgers> Ledger for TaggedOnLines<S> {
+    ghost name = { S.names.tagged_on_lines };
+
+    ghost parts = { S.names.lines };
+}
+
+/// Counts the cells that were answered at seats as tagged.
+pub(crate) struct TaggedAtSeats<S>(PhantomData<S>);
+
+impl<S: Ledgers> Ledger for TaggedAtSeats<S> {
+    ghost name = { S.names.tagged_at_seats };
+
+    ghost parts = { S.names.ports };
+}
+
+/// Counts the cells that lines discarded.
+pub(crate) struct DiscardedOnLines<S>(PhantomData<S>);
+
+impl<S: Ledgers> Ledger for DiscardedOnLines<S> {
+    ghost name = { S.names.discarded_on_lines };
+
+    ghost parts = { S.names.lines };
+}
+
+/// Counts the cells that were answered at seats as discarded.
+pub(crate) struct DiscardedAtSeats<S>(PhantomData<S>);
+
+impl<S: Ledgers> Ledger for DiscardedAtSeats<S> {
+    ghost name = { S.names.discarded_at_seats };
+
+    ghost parts = { S.names.ports };
+}
+
+/// Counts the cells that lines refused.
+pub(crate) struct RefusedOnLines<S>(PhantomData<S>);
+
+impl<S: Ledgers> Ledger for RefusedOnLines<S> {
+    ghost name = { S.names.refused_on_lines };
+
+    ghost parts = { S.names.lines };
+}
+
+/// Counts the cells that were answered at seats as refused.
+pub(crate) struct RefusedAtSeats<S>(PhantomData<S>);
+
+impl<S: Ledgers> Ledger for RefusedAtSeats<S> {
+    ghost name = { S.names.refused_at_seats };
+
+    ghost parts = { S.names.ports };
+}

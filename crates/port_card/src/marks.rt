@@ -1,0 +1,102 @@
+use crate::ledgers::{
+    DiscardedAtSeats, DiscardedOnLines, PassedAtSeats, PassedOnLines, RefusedAtSeats,
+    RefusedOnLines, TaggedAtSeats, TaggedOnLines,
+};
+use std::marker::Model;
+use std::sync::ledger::{Ledger, Share};
+
+/// Shares of four ledgers, one a verdict, that have as many parts each. They take no bytes.
+#[derive(Drop)]
+pub(crate) struct Marks<P: Ledger, T: Ledger, D: Ledger, R: Ledger> {
+    pub(crate) passed: Share<P>,
+    pub(crate) tagged: Share<T>,
+    pub(crate) discarded: Share<D>,
+    pub(crate) refused: Share<R>,
+}
+
+/// What a line has counted.
+pub(crate) type LineMarks<S> = Marks<
+    PassedOnLines<S>,
+    TaggedOnLines<S>,
+    DiscardedOnLines<S>,
+    RefusedOnLines<S>,
+>;
+
+/// What a seat has counted.
+pub(crate) type SeatMarks<S> = Marks<
+    PassedAtSeats<S>,
+    TaggedAtSeats<S>,
+    DiscardedAtSeats<S>,
+    RefusedAtSeats<S>,
+>;
+
+impl<P: Ledger, T: Ledger, D: Ledger, R: Ledger> Model for Marks<P, T, D, R> {
+    ghost use Rattle.std.specs.Prelude.{◌≡◌};
+    ghost use Rattle.port_card.specs.inner.Marks.{MarksView};
+
+    ghost Value = { MarksView };
+
+    ghost view = { λ m. record {
+      parts = m.passed.parts;
+      tally = record {
+        passed = m.passed.amount;
+        tagged = m.tagged.amount;
+        discarded = m.discarded.amount;
+        refused = m.refused.amount;
+      };
+    } };
+
+    ghost invariant = { λ m. (m.tagged.parts ≡ m.passed.parts) × (m.discarded.parts ≡ m.passed.parts) × (m.refused.parts ≡ m.passed.parts) };
+}
+
+impl<P: Ledger, T: Ledger, D: Ledger, R: Ledger> Marks<P, T, D, R> {
+    ghost use Rattle.std.specs.Prelude.{◌≡◌, ◌+◌, ◌≤◌};
+    ghost use Rattle.line_record.specs.Tally.{nothing};
+    ghost use Rattle.port_card.specs.inner.Marks.{unused_marks, both_marks};
+
+    // Marks of no part.
+    pub(crate) fn none(&mut self) -> Self
+        ensures none { result ≡ unused_marks 0 }
+        ensures same { self.new ≡ self.old }
+    {
+        Marks {
+            passed: self.passed.empty(),
+            tagged: self.tagged.empty(),
+            discarded: self.discarded.empty(),
+            refused: self.refused.empty(),
+        }
+    }
+
+    // One part of marks that have counted nothing.
+    pub(crate) fn split_off(&mut self) -> Self
+        requires some { 1 ≤ self.old.parts }
+        requires unused { self.old.tally ≡ nothing }
+        ensures one { result ≡ unused_marks 1 }
+        ensures rest { self.new.parts + 1 ≡ self.old.parts }
+        ensures unused { self.new.tally ≡ nothing }
+    {
+        Marks {
+            passed: self.passed.split_off(1, 0),
+            tagged: self.tagged.split_off(1, 0),
+            discarded: self.discarded.split_off(1, 0),
+            refused: self.refused.split_off(1, 0),
+        }
+    }
+
+    // Takes in other marks. There are no more parts than the ledger has.
+    pub(crate) fn merge(&mut self, other: Self)
+        ensures both { self.new ≡ both_marks self.old other }
+        ensures all { self.new.parts ≤ P.parts }
+    {
+        let Marks {
+            passed,
+            tagged,
+            discarded,
+            refused,
+        } = other;
+        self.passed.merge(passed);
+        self.tagged.merge(tagged);
+        self.discarded.merge(discarded);
+        self.refused.merge(refused);
+    }
+}

@@ -1,0 +1,81 @@
+ghost use Rattle.std.specs.Prelude.{◌≡◌};
+
+use crate::ledgers::Ledgers;
+use bpf_verify::Program;
+use card_core::{Ask, DeskFault, Store, admit, pick, reload, retire};
+use gen_arena::Id;
+use line_record::{Directory, Seating};
+use std::alloc::Global;
+use std::marker::PhantomData;
+use upc_cell::Vc;
+
+/// What stands behind the directory's lock: the directory of the card's lines.
+#[derive(Drop)]
+pub(crate) struct Places<S: Ledgers> {
+    pub(crate) directory: Directory,
+    of: PhantomData<S>,
+    ghost all_lines: { directory.lines ≡ S.names.lines },
+}
+
+impl<S: Ledgers> Places<S> {
+    ghost use Rattle.std.specs.Prelude.{◌≡◌, ◌<◌, ◌≤◌, MatchResult, IfSome, IfOk, IfErr};
+    ghost use Rattle.bpf_verify.specs.Accepted.{IsAccepted};
+    ghost use Rattle.line_record.specs.Directory.{seat_of, IsDirectory};
+    ghost use Rattle.card_core.specs.Sections.{Admits, IsUnfit};
+    ghost use Rattle.port_card.specs.Answers.{IsOfSetup, IsOfRetirement, IsOfReload};
+
+    // The directory of a card without connections; none where the memory is refused.
+    pub(crate) fn new(alloc: Global, lines: u16) -> Option<Self>
+        requires lines { lines ≡ S.names.lines }
+        requires some { 0 < lines }
+    {
+        match Directory::new(alloc, lines, 1) {
+            Ok(directory) => Some(Places {
+                directory,
+                of: PhantomData,
+            }),
+            Err(_) => None,
+        }
+    }
+
+    // Where the connection is, if there is one.
+    #[inline]
+    pub(crate) fn find(&self, vc: Vc) -> Option<Seating>
+        ensures seat { result ≡ seat_of self.now.directory vc }
+        ensures within { IfSome result (λ seat. seat.line < S.names.lines) }
+        ensures directory { IsDirectory self.now.directory }
+    {
+        pick(&self.directory, vc)
+    }
+
+    // Takes out a program that no connection names.
+    pub(crate) fn retire(&self, store: &mut Store, id: Id) -> Result<Program, DeskFault>
+        ensures accepted { IfOk result (λ program. IsAccepted program) }
+        ensures refused { IfErr result IsOfRetirement }
+    {
+        let retired = retire(store, &self.directory, id);
+        if let Ok(program) = &retired {
+            // What the store held is accepted.
+            let _ = program.code();
+        }
+        retired
+    }
+
+    // A line on which what is asked may be set up.
+    pub(crate) fn admit(&self, store: &Store, ask: &Ask) -> Result<u16, DeskFault>
+        ensures admitted { MatchResult result
+            (λ line. Admits store.now self.now.directory ask.now line)
+            (λ fault. IsUnfit store.now self.now.directory ask.now fault) }
+        ensures within { IfOk result (λ line. line < S.names.lines) }
+        ensures refused { IfErr result IsOfSetup }
+    {
+        admit(store, &self.directory, ask)
+    }
+
+    // Gives a connection another program.
+    pub(crate) fn reload(&mut self, store: &Store, vc: Vc, program: Id) -> Result<Id, DeskFault>
+        ensures refused { IfErr result IsOfReload }
+    {
+        reload(store, &mut self.directory, vc, program)
+    }
+}

@@ -1,0 +1,160 @@
+ghost use Rattle.std.specs.Prelude.{◌≡◌, IfSome, replicate};
+ghost use Rattle.line_record.specs.Tally.{nothing};
+
+use crate::books::Books;
+use crate::ledgers::Ledgers;
+use crate::marks::{LineMarks, SeatMarks};
+use leaky::Verdict;
+use line_record::Tally;
+use std::alloc::Global;
+use std::marker::Model;
+
+/// The seat of one port: whoever has it may let cells arrive at the port. It can't be copied, and it
+/// counts the cells that were judged.
+#[derive(Drop)]
+pub struct PortSeat<S: Ledgers> {
+    port: u8,
+    // By line, from 0.
+    tallies: Vec<Tally>,
+    marks: SeatMarks<S>,
+}
+
+impl<S: Ledgers> Model for PortSeat<S> {
+    ghost use Rattle.std.specs.Prelude.{◌≡◌, length};
+    ghost use Rattle.line_record.specs.Tally.{total};
+    ghost use Rattle.port_card.specs.Seats.{SeatView};
+
+    ghost Value = { SeatView };
+
+    ghost view = { λ s. record { port = s.port; tallies = s.tallies.items } };
+
+    ghost invariant = { λ s. (s.marks.parts ≡ 1)
+        × (s.marks.tally ≡ total s.tallies.items)
+        × (length s.tallies.items ≡ S.names.lines) };
+}
+
+impl<S: Ledgers> PortSeat<S> {
+    ghost use Rattle.std.specs.Prelude.{◌≡◌, ◌<◌, length, slice_get, IfSome};
+    ghost use Rattle.line_record.specs.Tally.{counted, total, HasRoom};
+    ghost use Rattle.port_card.specs.Seats.{new_seat, counted_on};
+    ghost use Rattle.port_card.specs.inner.Marks.{unused_marks, counted_mark};
+
+    // The seat of a port without cells; none where the memory is refused.
+    pub(crate) fn new(alloc: Global, port: u8, lines: usize, marks: SeatMarks<S>) -> Option<Self>
+        requires lines { lines ≡ S.names.lines }
+        requires marks { marks ≡ unused_marks 1 }
+        ensures { IfSome result (λ seat. seat ≡ new_seat port lines) }
+    {
+        let Some(tallies) = no_tallies(alloc, lines) else {
+            return None;
+        };
+        Some(PortSeat {
+            port,
+            tallies,
+            marks,
+        })
+    }
+
+    /// The number of the port, from 0.
+    #[inline]
+    pub fn port(&self) -> u8
+        ensures port { result ≡ self.now.port }
+        ensures lines { length self.now.tallies ≡ S.names.lines }
+    {
+        self.port
+    }
+
+    /// What the port's cells got that were judged on the line of this number; none exactly where the
+    /// card has no such line.
+    pub fn tally(&self, line: u16) -> Option<Tally>
+        ensures { result ≡ slice_get self.now.tallies line }
+    {
+        self.tallies.get(usize::from(line)).copied()
+    }
+
+    // Marks of no part, of the seats' ledgers.
+    pub(crate) fn no_marks(&mut self) -> SeatMarks<S>
+        ensures none { result ≡ unused_marks 0 }
+        ensures same { self.new ≡ self.old }
+    {
+        self.marks.none()
+    }
+
+    // The tallies, and the marks that have counted what they have together.
+    pub(crate) fn into_column(self) -> (Column, SeatMarks<S>)
+        ensures column { result.0 ≡ self.tallies }
+        ensures parts { result.1.parts ≡ 1 }
+        ensures tally { result.1.tally ≡ total self.tallies }
+    {
+        let PortSeat {
+            port: _,
+            tallies,
+            marks,
+        } = self;
+        (Column { tallies }, marks)
+    }
+
+    // Counts a cell that the line of this number judged, here, on the line and in the books.
+    #[inline]
+    pub(crate) fn count(
+        &mut self,
+        books: &mut Books<S>,
+        on_line: &mut LineMarks<S>,
+        line: u16,
+        verdict: Verdict,
+    )
+        requires there { line < length self.old.tallies }
+        requires room { HasRoom books.old }
+        requires line_part { 0 < on_line.old.parts }
+        ensures seat { self.new ≡ counted_on self.old line verdict }
+        ensures books { books.new ≡ counted books.old verdict }
+        ensures line { on_line.new ≡ counted_mark on_line.old verdict }
+    {
+        books.bound(&mut self.marks);
+        self.tallies[usize::from(line)].count(verdict);
+        books.count(on_line, &mut self.marks, verdict);
+    }
+}
+
+/// The tallies of a seat whose card is closed, by line.
+#[derive(Drop)]
+pub(crate) struct Column {
+    tallies: Vec<Tally>,
+}
+
+impl Model for Column {
+    ghost use Rattle.std.specs.Prelude.{List};
+    ghost use Rattle.line_record.specs.declared.tally.Tally.{Tally};
+
+    ghost Value = { List Tally };
+
+    ghost view = { λ c. c.tallies.items };
+}
+
+impl Column {
+    ghost use Rattle.std.specs.Prelude.{◌≡◌};
+    ghost use Rattle.port_card.specs.inner.Columns.{column_on};
+
+    // The tally of this line.
+    pub(crate) fn on(&self, line: usize) -> Tally
+        ensures { result ≡ column_on line self.now }
+    {
+        match self.tallies.get(line) {
+            Some(tally) => *tally,
+            None => Tally::new(),
+        }
+    }
+}
+
+// The tally of no cell, for so many lines; none where the memory is refused.
+fn no_tallies(alloc: Global, lines: usize) -> Option<Vec<Tally>>
+    ensures { IfSome result (λ tallies. tallies.items ≡ replicate lines nothing) }
+{
+    let Ok(mut tallies) = Vec::with_capacity(alloc, lines) else {
+        return None;
+    };
+    for _ in 0..lines {
+        tallies.push_reserved(Tally::new());
+    }
+    Some(tallies)
+}
