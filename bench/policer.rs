@@ -1,0 +1,268 @@
+//! What `upc run` answers to lawful scripts, by a plain program that nothing is proved of: the cells' path is
+//! written for speed, and the desk's commands as they come. A fault is told where a cell may have it.
+
+use std::collections::HashMap;
+use std::hash::{BuildHasherDefault, Hasher};
+use std::process::exit;
+
+use crate::{Answers, Step, decode, each_line, run};
+
+/// Spreads the one number that a connection's path and channel are.
+#[derive(Default)]
+struct Spread(u64);
+
+impl Hasher for Spread {
+    fn finish(&self) -> u64 {
+        self.0
+    }
+
+    fn write(&mut self, _: &[u8]) {
+        unreachable!()
+    }
+
+    fn write_u32(&mut self, number: u32) {
+        self.0 = u64::from(number).wrapping_mul(0x9e37_79b9_7f4a_7c15).rotate_left(20);
+    }
+}
+
+struct Bucket {
+    increment: u64,
+    limit: u64,
+    due: u64,
+}
+
+impl Bucket {
+    fn read(word: &[u8]) -> Bucket {
+        let slash = word.iter().position(|&octet| octet == b'/').unwrap_or_else(|| exit(1));
+        Bucket { increment: number(&word[..slash]), limit: number(&word[slash + 1..]), due: 0 }
+    }
+
+    fn conforms(&self, moment: u64) -> bool {
+        self.due <= moment + self.limit
+    }
+
+    fn charge(&mut self, moment: u64) {
+        self.due = self.due.max(moment) + self.increment;
+    }
+}
+
+#[derive(Clone, Copy, PartialEq)]
+enum Verdict {
+    Pass,
+    Tag,
+    Discard,
+    Refuse,
+}
+
+struct Contract {
+    kind: u8,
+    peak: Bucket,
+    sustained: Bucket,
+}
+
+impl Contract {
+    fn read(word: &[u8]) -> Contract {
+        let mut parts = word.split(|&octet| octet == b':');
+        let kind = match parts.next() {
+            Some(b"cbr1") => 0,
+            Some(b"vbr1") => 1,
+            Some(b"vbr2") => 2,
+            Some(b"vbr3") => 3,
+            _ => exit(1),
+        };
+        let peak = Bucket::read(parts.next().unwrap_or_else(|| exit(1)));
+        let sustained = parts.next().map_or(Bucket { increment: 1, limit: 0, due: 0 }, Bucket::read);
+        Contract { kind, peak, sustained }
+    }
+
+    fn judge(&mut self, moment: u64, low: bool) -> Verdict {
+        if !self.peak.conforms(moment) {
+            return Verdict::Discard;
+        }
+        if self.kind == 1 || (self.kind > 1 && !low) {
+            if self.sustained.conforms(moment) {
+                self.sustained.charge(moment);
+            } else if self.kind == 3 {
+                self.peak.charge(moment);
+                return Verdict::Tag;
+            } else {
+                return Verdict::Discard;
+            }
+        }
+        self.peak.charge(moment);
+        Verdict::Pass
+    }
+}
+
+/// What a journal keeps of a cell.
+#[allow(dead_code)]
+struct Entry {
+    moment: u64,
+    program: u32,
+    value: u32,
+    low: bool,
+    verdict: Verdict,
+}
+
+struct Connection {
+    program: u32,
+    contracts: Vec<Contract>,
+    last: u64,
+    journal: Vec<Entry>,
+}
+
+#[derive(Default)]
+struct Card {
+    most: usize,
+    programs: Vec<Vec<Step>>,
+    connections: HashMap<u32, Connection, BuildHasherDefault<Spread>>,
+}
+
+fn number(word: &[u8]) -> u64 {
+    let mut number = 0u64;
+    for &octet in word {
+        let digit = octet.wrapping_sub(b'0');
+        if digit > 9 {
+            exit(1);
+        }
+        number = number.wrapping_mul(10).wrapping_add(u64::from(digit));
+    }
+    number
+}
+
+/// The word that a line begins with, and the line behind the blank that ends it.
+fn first(line: &[u8]) -> (&[u8], &[u8]) {
+    match line.iter().position(|&octet| octet == b' ') {
+        Some(end) => (&line[..end], &line[end + 1..]),
+        None => (line, &[]),
+    }
+}
+
+fn name(answers: &mut Answers, key: u32) {
+    answers.number(key >> 16);
+    answers.text(b"/");
+    answers.number(key & 0xffff);
+}
+
+impl Card {
+    fn connection(&mut self, key: u32) -> &mut Connection {
+        self.connections.get_mut(&key).unwrap_or_else(|| exit(1))
+    }
+
+    fn cell(&mut self, line: &[u8], answers: &mut Answers) {
+        let (moment, word) = first(line);
+        let moment = number(moment);
+        let mut cell = [0; 52];
+        let is_cell = match word.len() {
+            8 => decode(word, &mut cell[..4]),
+            104 => decode(word, &mut cell),
+            _ => exit(1),
+        };
+        if !is_cell {
+            return answers.text(b"fault script 3 BadHex\n");
+        }
+        let header = u32::from_be_bytes([cell[0], cell[1], cell[2], cell[3]]);
+        let key = header >> 4 & 0x00ff_ffff;
+        let Some(connection) = self.connections.get_mut(&key) else {
+            return answers.text(b"fault arrive 1 NoConnection\n");
+        };
+        let (value, _) = run(&self.programs[connection.program as usize], &cell);
+        if moment < connection.last || connection.journal.len() >= self.most {
+            exit(1);
+        }
+        let low = header & 1 == 1;
+        let verdict = match connection.contracts.get_mut((value as usize).wrapping_sub(1)) {
+            Some(contract) => contract.judge(moment, low),
+            None => Verdict::Refuse,
+        };
+        connection.last = moment;
+        connection.journal.push(Entry { moment, program: connection.program, value, low, verdict });
+        answers.text(match verdict {
+            Verdict::Pass => b"pass ",
+            Verdict::Tag => b"tag ",
+            Verdict::Discard => b"discard ",
+            Verdict::Refuse => b"refuse ",
+        });
+        name(answers, key);
+        answers.text(b" p");
+        answers.number(connection.program + 1);
+        answers.text(b" ");
+        answers.number(value);
+        if matches!(verdict, Verdict::Pass | Verdict::Tag) {
+            let leaving = if verdict == Verdict::Tag { header | 1 } else { header };
+            let mut digits = *b" 00000000\n";
+            for (place, digit) in digits[1..9].iter_mut().enumerate() {
+                *digit = b"0123456789abcdef"[(leaving >> (28 - 4 * place) & 15) as usize];
+            }
+            answers.text(&digits);
+        } else {
+            answers.text(b"\n");
+        }
+    }
+
+    fn desk(&mut self, command: &[u8], line: &[u8], answers: &mut Answers) {
+        let words: Vec<&[u8]> = line.split(|&octet| octet == b' ').collect();
+        let key = |words: &[&[u8]]| (number(words[0]) << 16 | number(words[1])) as u32;
+        match command {
+            b"card" => {
+                self.most = number(words[3]) as usize;
+                answers.text(b"ready\n");
+            }
+            b"load" => {
+                let steps = words[0].as_chunks::<16>().0.iter().map(|digits| {
+                    let mut eight = [0; 8];
+                    if !decode(digits, &mut eight) {
+                        exit(1);
+                    }
+                    Step::read(&eight)
+                });
+                self.programs.push(steps.collect());
+                answers.text(b"loaded p");
+                answers.number(self.programs.len() as u32);
+                answers.text(b"\n");
+            }
+            b"setup" => {
+                let connection = Connection {
+                    program: number(&words[2][1..]) as u32 - 1,
+                    contracts: words[3..].iter().map(|word| Contract::read(word)).collect(),
+                    last: 0,
+                    journal: Vec::with_capacity(self.most),
+                };
+                self.connections.insert(key(&words), connection);
+                answers.text(b"set ");
+                name(answers, key(&words));
+                answers.text(b"\n");
+            }
+            b"reload" => {
+                self.connection(key(&words)).program = number(&words[2][1..]) as u32 - 1;
+                answers.text(b"reloaded ");
+                name(answers, key(&words));
+                answers.text(b" ");
+                answers.text(words[2]);
+                answers.text(b"\n");
+            }
+            b"cut" => {
+                let journal = std::mem::take(&mut self.connection(key(&words)).journal);
+                answers.text(b"cut ");
+                name(answers, key(&words));
+                answers.text(b" ");
+                answers.number(journal.len() as u32);
+                for verdict in [Verdict::Pass, Verdict::Tag, Verdict::Discard, Verdict::Refuse] {
+                    answers.text(b" ");
+                    answers.number(journal.iter().filter(|entry| entry.verdict == verdict).count() as u32);
+                }
+                answers.text(b"\n");
+            }
+            _ => exit(1),
+        }
+    }
+}
+
+pub fn police() {
+    let mut card = Card::default();
+    each_line(|line, answers| match first(line) {
+        (b"cell", behind) => card.cell(behind, answers),
+        ([] | [b'#', ..], _) => {}
+        (command, behind) => card.desk(command, behind, answers),
+    });
+}
