@@ -8,8 +8,8 @@ ghost use Rattle.dialogue.specs.Words.{words_of};
 ghost use Rattle.card_dialogue.specs.Run.{IsRunText};
 ghost use Rattle.card_dialogue.specs.inner.Policing.{OpensAs};
 
-use crate::card_line::read_card;
 use crate::card_faults::{add_no_card, add_shape_fault};
+use crate::card_line::read_card;
 use crate::replies::add_ready;
 use crate::script_card::ScriptCard;
 use dialogue::{Done, Input, LineWords, Machine, Output, RunFault, Turn, answer_lines, line_words};

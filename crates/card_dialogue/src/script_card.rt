@@ -11,7 +11,8 @@ use arrayvec::ArrayVec;
 use bpf_verify::Program;
 use card_core::{Answer, Ask, CardFault, Core, PortReply, Reply, Shape, Step};
 use program_dialogue::{
-    CellWord, add_bad_hex, add_bad_line, add_wrong_length, cell_of_word, octets_of_word, read_program,
+    CellWord, add_bad_hex, add_bad_line, add_wrong_length, cell_of_word, octets_of_word,
+    read_program,
 };
 use std::alloc::{AllocError, Global};
 use std::marker::Model;

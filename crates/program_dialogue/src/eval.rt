@@ -8,7 +8,8 @@ ghost use Rattle.dialogue.specs.Outcome.{read_failures, write_failures};
 ghost use Rattle.dialogue.specs.Printing.{IsFront};
 
 use crate::answer::{
-    add_accepted, add_bad_hex, add_bad_line, add_no_program, add_too_long, add_value, add_wrong_length,
+    add_accepted, add_bad_hex, add_bad_line, add_no_program, add_too_long, add_value,
+    add_wrong_length,
 };
 use crate::digits::cell_of_digits;
 use crate::hexadecimal::{CellWord, cell_of_word, octets_of_word};
