@@ -1,7 +1,7 @@
 //! What is cut from the front of a line: octets that are tokens, numbers, names, operands.
 
 ghost use Rattle.std.specs.Prelude.{◌≡◌, ◌≢◌, ◌-◌, ◌%◌, ◌^◌, ℕ, MatchOption};
-ghost use Rattle.bpf_asm.specs.Reading.{cut_constant, cut_length, cut_mark, cut_name, cut_number, cut_operand, cut_target, cut_value, cut_word, is_ended};
+ghost use Rattle.bpf_asm.specs.inner.Reading.{cut_constant, cut_length, cut_mark, cut_name, cut_number, cut_operand, cut_target, cut_value, cut_word, is_ended};
 ghost use Rattle.bpf_asm.specs.Tokens.{mark, signed_behind, tokens_read};
 
 use crate::token::{Lexeme, is_spent, next_mark, next_token};

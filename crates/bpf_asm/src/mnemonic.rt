@@ -1,8 +1,8 @@
 //! Mnemonics, and what may stand behind each.
 
 ghost use Rattle.std.specs.Prelude.{◌≡◌, MatchOption};
-ghost use Rattle.bpf_asm.specs.Reading.{ended, inverse_of, moved_in, named_in, op_of, other_in, statement_in, test_of};
-ghost use Rattle.bpf_asm.specs.Seen.{statement_seen};
+ghost use Rattle.bpf_asm.specs.inner.Reading.{ended, inverse_of, moved_in, named_in, op_of, other_in, statement_in, test_of};
+ghost use Rattle.bpf_asm.specs.inner.Seen.{statement_seen};
 ghost use Rattle.bpf_asm.specs.Spelling.{plain};
 ghost use Rattle.bpf_asm.specs.Tokens.{tokens_read};
 

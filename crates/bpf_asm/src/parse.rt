@@ -1,8 +1,8 @@
 //! Statements, read from the tokens of a line.
 
 ghost use Rattle.std.specs.Prelude.{◌≡◌, true, MatchBool, MatchOption};
-ghost use Rattle.bpf_asm.specs.Reading.{absolute_in, arithmetic_in, bracket_in, branch_in, constant_in, header_in, indexed_in, inverse_in, jump_in, length_in, load_index, load_word, packet, return_in, scratch_in};
-ghost use Rattle.bpf_asm.specs.Seen.{statement_seen};
+ghost use Rattle.bpf_asm.specs.inner.Reading.{absolute_in, arithmetic_in, bracket_in, branch_in, constant_in, header_in, indexed_in, inverse_in, jump_in, length_in, load_index, load_word, packet, return_in, scratch_in};
+ghost use Rattle.bpf_asm.specs.inner.Seen.{statement_seen};
 ghost use Rattle.bpf_asm.specs.Spelling.{plain};
 ghost use Rattle.bpf_asm.specs.Tokens.{tokens_read};
 

@@ -4,8 +4,8 @@ ghost use Rattle.std.specs.Prelude.{◌≡◌, List, Some, IfErr, IfOk, MatchOpt
 ghost use Rattle.bpf_asm.specs.Faults.{IsLineFault};
 ghost use Rattle.bpf_asm.specs.Grammar.{IsLine, Line};
 ghost use Rattle.bpf_asm.specs.Lines.{without_comment};
-ghost use Rattle.bpf_asm.specs.Reading.{body_in, line_in};
-ghost use Rattle.bpf_asm.specs.Seen.{line_seen};
+ghost use Rattle.bpf_asm.specs.inner.Reading.{body_in, line_in};
+ghost use Rattle.bpf_asm.specs.inner.Seen.{line_seen};
 ghost use Rattle.bpf_asm.specs.Tokens.{HasBadNumber, has_faulty, tokens_of, tokens_read};
 
 use crate::cutting::{after_mark, after_name, at_end};

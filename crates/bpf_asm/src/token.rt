@@ -1,10 +1,11 @@
 //! The tokens of a line.
 
 ghost use Rattle.std.specs.Prelude.{◌≡◌, ◌≤◌, ◌<◌, ℕ, List, [], ◌∷◌, true, false, length, take, drop, slice_index, IfSome, IsTrue, MatchOption, None};
-ghost use Rattle.bpf_asm.specs.Reading.{cut_mark, is_ended};
+ghost use Rattle.bpf_asm.specs.inner.Reading.{cut_mark, is_ended};
 ghost use Rattle.bpf_asm.specs.Numbers.{digit_of, is_hexadecimal, number_of, value_in, within_word};
-ghost use Rattle.bpf_asm.specs.Seen.{token_seen};
-ghost use Rattle.bpf_asm.specs.Tokens.{all_word, is_digit, is_run, is_word, mark, tokens_of, tokens_read, word_token};
+ghost use Rattle.bpf_asm.specs.inner.Seen.{token_seen};
+ghost use Rattle.bpf_asm.specs.Tokens.{is_digit, is_run, is_word, mark, tokens_of, tokens_read, word_token};
+ghost use Rattle.bpf_asm.specs.inner.Words.{all_word};
 ghost use Rattle.dialogue.specs.Words.{is_blank};
 
 /// A token, with the octets of its name in the line.
