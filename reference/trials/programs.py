@@ -58,7 +58,7 @@ def length(rng):
 
 
 def accepted(rng, count=None):
-    """A program that the check accepts. With it goes what each place is sure to find stored."""
+    """A program that the check accepts."""
     count = count or length(rng)
     stored = [None] * count
     stored[0] = frozenset()
@@ -214,10 +214,9 @@ def diamonds(rng, _):
     return program + [Instruction(CODES["ret", "a"])]
 
 
-def too_long(rng, _):
-    return accepted(rng, 5)[:-1] * 1024 + [Instruction(CODES["ret", "a"])] if rng.random() < 0.05 else [
-        Instruction(CODES["tax", ""])
-    ] * rng.choice((4095, 4096)) + [Instruction(CODES["ret", "a"])]
+def about_longest(rng):
+    """A program with as many instructions as there may be, or one more."""
+    return [Instruction(CODES["tax", ""])] * rng.choice((4095, 4096, 4096)) + [Instruction(CODES["ret", "a"])]
 
 
 BREAKS = [
@@ -247,7 +246,7 @@ def any_program(rng):
         return accepted(rng)
     if way < 0.985:
         return broken(rng)
-    return too_long(rng, None)
+    return about_longest(rng)
 
 
 def octets_of(rng, program):

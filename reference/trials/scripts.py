@@ -117,7 +117,8 @@ class Script:
     def load(self, odd):
         rng = self.rng
         if rng.random() < odd:
-            octets = programs.octets_of(rng, programs.any_program(rng))
+            program = programs.broken(rng) if rng.random() < 0.5 else programs.any_program(rng)
+            octets = programs.octets_of(rng, program)
             return b"load " + (cells.digits(rng, octets) if rng.random() < 0.8 else cells.wrong(rng))
         if rng.random() < 0.2:
             return b"load " + cells.digits(rng, encoded(programs.accepted(rng, rng.randrange(2, 12))))
@@ -163,9 +164,13 @@ class Script:
 
     def contract(self, odd):
         kind = self.rng.choice(KINDS)
-        return ":".join([kind] + [self.rate(odd) for _ in range(1 if kind == "cbr1" else 2)])
+        rates = [self.rate(odd, (1, 2, 3, 5, 9))]
+        if kind != "cbr1":
+            rates.append(self.rate(odd, (1, 4, 5, 9, 12)))
+        return ":".join([kind] + rates)
 
-    def rate(self, odd):
+    def rate(self, odd, increments):
+        """A bucket: as a rule with one of these increments and a small limit."""
         rng = self.rng
         if rng.random() < odd / 8:
             return "%d/%d" % (rng.choice((0, 1, MOST_RATE + 1, MOST_NUMBER)), rng.choice((0, MOST_RATE + 1, MOST_NUMBER)))
@@ -174,7 +179,7 @@ class Script:
                 rng.choice((MOST_RATE, MOST_RATE - 1, 1, rng.getrandbits(48) or 1)),
                 rng.choice((MOST_RATE, MOST_RATE - 1, 0, rng.getrandbits(48))),
             )
-        return "%d/%d" % (rng.choice((1, 2, 3, 5, 9)), rng.choice((0, 1, 2, 5, 12)))
+        return "%d/%d" % (rng.choice(increments), rng.choice((0, 1, 2, 5, 12)))
 
     # Cells.
 

@@ -37,6 +37,7 @@ class Speller:
         self.rng = rng
         self.blanks = rng.choice(("", "", " ", "\t", " \t "))
         self.names = self.names_of(program)
+        self.is_astray = rng.random() < 0.1
 
     def names_of(self, program):
         """A name for each place."""
@@ -47,6 +48,12 @@ class Speller:
                 if name not in names:
                     names[place] = name
         return names
+
+    def target(self, place):
+        """The name of a place, or here and there another one."""
+        if self.is_astray and self.rng.random() < 0.3:
+            return self.rng.choice(self.names + ["nowhere"])
+        return self.names[place]
 
     def blank(self, least=""):
         if self.rng.random() < 0.15:
@@ -80,7 +87,7 @@ class Speller:
         if one.mnemonic in BRANCHES:
             return self.branch(one, place)
         if form == "L":
-            return self.rng.choice(("ja", "jmp")) + self.blank(" ") + self.names[place + 1 + one.k]
+            return self.rng.choice(("ja", "jmp")) + self.blank(" ") + self.target(place + 1 + one.k)
         if form == "4*([k]&0xf)":
             return self.rng.choice(("ldx", "ldxb")) + self.blank(" ") + self.header(one.k)
         if form == "[k]":
@@ -103,8 +110,8 @@ class Speller:
     def branch(self, one, place):
         """A branch with both labels, with one, or by its opposite."""
         operand = "x" if one.form == "x" else self.constant(one.k)
-        on_true = self.names[place + 1 + one.jt]
-        on_false = self.names[place + 1 + one.jf]
+        on_true = self.target(place + 1 + one.jt)
+        on_false = self.target(place + 1 + one.jf)
         comma = self.blank() + "," + self.blank(" ")
         if one.jt == 0 and one.mnemonic in INVERSES and self.rng.random() < 0.6:
             return self.rng.choice(INVERSES[one.mnemonic]) + self.blank(" ") + operand + comma + on_false
