@@ -32,16 +32,16 @@ def differs(program, subcommand, text):
     return of_program(program, subcommand, text) != of_reference(subcommand, text)
 
 
-def shortened(text, is_found):
-    """A shorter text of the same kind: lines, then octets are left out as long as `is_found` holds."""
-    for parts_of in (lambda text: text.splitlines(keepends=True), lambda text: [text[i : i + 1] for i in range(len(text))]):
-        parts = parts_of(text)
-        size = max(1, len(parts) // 2)
-        tries = 0
-        while size and tries < 2000:
+def shortened(text, is_found, tries=1000):
+    """A shorter text for which `is_found` holds too: lines are left out, and then octets, as long as it does."""
+    for parts in (text.splitlines(keepends=True), None):
+        if parts is None:
+            parts = [text[at : at + 1] for at in range(len(text))]
+        size, left = len(parts) // 2 or 1, tries
+        while size and left > 0:
             at = 0
-            while at < len(parts) and tries < 2000:
-                tries += 1
+            while at < len(parts) and left > 0:
+                left -= 1
                 fewer = parts[:at] + parts[at + size :]
                 if is_found(b"".join(fewer)):
                     parts = fewer
@@ -61,7 +61,8 @@ def first_difference(ours, theirs):
 
 
 def lines_of(answer):
-    return answer[0].splitlines(keepends=True) + [b""] * 1
+    """The lines of the text, and an empty one behind the last."""
+    return answer[0].splitlines(keepends=True) + [b""]
 
 
 def shown(octets):
