@@ -8,11 +8,11 @@ import tempfile
 from collections import Counter
 from multiprocessing import Pool
 
-from .comparing import MAKERS, differs, first_difference, input_of, of_program, of_reference, shortened
+from .comparing import MAKERS, differs, edges_of, first_difference, input_of, of_program, of_reference, shortened
 from .coverage import Coverage, table
 
 # How many inputs a worker takes at a time.
-BATCH = 50
+BATCH = 20
 
 COVERAGE = Coverage()
 
@@ -20,8 +20,9 @@ COVERAGE = Coverage()
 def arguments():
     parser = argparse.ArgumentParser(
         prog="bin/compare",
-        description="Compares N random and mutated inputs of each subcommand between the program as built and the "
-        "reference in Python. The last line is 'N passed, M failed', one for each subcommand.",
+        description="Compares N random and mutated inputs of each subcommand, and fixed ones at the limits, between "
+        "the program as built and the reference in Python. The last line is 'N passed, M failed', one for each "
+        "subcommand.",
     )
     parser.add_argument("count", metavar="N", type=int, help="how many inputs of each subcommand")
     parser.add_argument("seed", metavar="SEED", nargs="?", help="repeats the run that printed this seed")
@@ -51,7 +52,7 @@ def tried(task):
 
 def compared(pool, program, subcommand, seed, count):
     """The number of the first input that makes a difference, or None, and what was reached."""
-    batches = [range(begin, min(begin + BATCH, count)) for begin in range(0, count, BATCH)]
+    batches = [range(begin, min(begin + BATCH, count)) for begin in range(-len(edges_of(subcommand)), count, BATCH)]
     tasks = [(program, subcommand, seed, numbers) for numbers in batches]
     reached = Counter()
     for found, counts in pool.imap(tried, tasks):
@@ -94,7 +95,8 @@ def main():
         reached += counts
         if found is None:
             passed += 1
-            print("upc %s: %d inputs, no difference" % (subcommand, asked.count), flush=True)
+            told = (subcommand, asked.count, len(edges_of(subcommand)))
+            print("upc %s: %d random inputs and %d at the limits, no difference" % told, flush=True)
         else:
             tell_difference(program, subcommand, seed, found)
     if asked.coverage:
