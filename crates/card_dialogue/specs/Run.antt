@@ -70,6 +70,7 @@ abbrev pub TakesReading : Card → List ℕ → Reading → List ℕ → Card �
 TakesReading before digits (is_program code) text after = Takes before (load digits) (Load code) text after
 TakesReading before digits (is_refused fault) text after = Refuses fault before text after
 
+-- Octets are read as a program, and that is put in or refused.
 abbrev pub LoadsOctets : Card → List ℕ → List ℕ → List ℕ → Card → Type 0
 LoadsOctets before digits octets text after =
     (reading : Reading) × ReadsAs octets reading × TakesReading before digits reading text after

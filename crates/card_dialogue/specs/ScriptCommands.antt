@@ -35,6 +35,7 @@ contracts_of words = if nat_le 1 (length words) && nat_le (length words) 4 then 
 abbrev pub seat_of : Side → List ℕ → List ℕ → List ℕ → Option (Vc × ℕ)
 seat_of side path channel program = with_both (λ vc number. (vc, number)) (vc_named side path channel) (program_of program)
 
+-- The connection and the program that are named, and the contracts behind them.
 abbrev pub setup_with : Vc × ℕ → List Wanted → Command
 setup_with seat wanted = setup seat.0 seat.1 wanted
 
@@ -44,6 +45,7 @@ setup_of side (path ∷ channel ∷ program ∷ contracts) =
     with_both setup_with (seat_of side path channel program) (contracts_of contracts)
 setup_of side _ = None
 
+-- The connection and the program that are named.
 abbrev pub reload_with : Vc × ℕ → Command
 reload_with seat = reload seat.0 seat.1
 

@@ -1,6 +1,6 @@
 -- The words of a script: numbers, names of programs and of connections, rates and contracts. Words are
 -- read to the letter.
-use Rattle.std.specs.Prelude.{ℕ, ◌+◌, ◌-◌, ◌*◌, ◌%◌, ◌==◌, ◌&&◌, Bool, nat_le, if◌then◌else◌, List, [], ◌∷◌, codes, Option, Some, None, option_map}
+use Rattle.std.specs.Prelude.{◌≡◌, ℕ, ◌+◌, ◌-◌, ◌*◌, ◌%◌, ◌==◌, ◌&&◌, Bool, nat_le, if◌then◌else◌, List, [], ◌∷◌, codes, Option, Some, None, option_map}
 use Rattle.std.proofs.Math.Nat.{mod-lt, zero-lt-suc, le_of_suc-le-suc}
 use Rattle.std.specs.Option.{option_and_then}
 use Rattle.std.specs.Str.{bytes_eq}
@@ -68,6 +68,7 @@ cut_at mark (octet ∷ octets) =
     if octet == mark then Some ([], octets)
     else option_map (λ (cut : List ℕ × List ℕ). (octet ∷ cut.0, cut.1)) (cut_at mark octets)
 
+-- Two numbers as a rate: the increment, then the limit.
 abbrev pub rate_with : ℕ → ℕ → Rate
 rate_with ticks tolerance = record { increment = ticks; limit = tolerance }
 
@@ -98,3 +99,7 @@ wanted_of word = option_and_then (λ (cut : List ℕ × List ℕ). wanted_with c
 abbrev pub wanted_of_each : List (List ℕ) → Option (List Wanted)
 wanted_of_each [] = Some []
 wanted_of_each (word ∷ words) = with_both (λ first later. first ∷ later) (wanted_of word) (wanted_of_each words)
+
+-- A place that no contract has taken yet.
+abbrev pub IsBlankContract : Wanted → Type 0
+IsBlankContract wanted = wanted ≡ Cbr1 (rate_with 0 0)

@@ -16,3 +16,4 @@ mod script_words;
 mod tests;
 
 pub use run::run_script;
+pub use script_words::{Rate, Wanted};

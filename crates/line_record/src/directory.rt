@@ -1,7 +1,8 @@
 ghost use Rattle.std.specs.Prelude.{◌≡◌, ◌==◌, Some, IfSome, IfNone, option_map};
 ghost use Rattle.std.specs.List.{list_any};
 ghost use Rattle.std.specs.HashMap.{values};
-ghost use Rattle.line_record.specs.Seats.{seat_in, ChangesAt, HasEntries};
+ghost use Rattle.line_record.specs.Seats.{seat_in};
+ghost use Rattle.line_record.specs.inner.SeatChanges.{ChangesAt, HasEntries};
 ghost use Rattle.gen_arena.specs.SameId.{is_same_id};
 
 use crate::fault::DirFault;
@@ -189,7 +190,7 @@ impl Directory {
     }
 }
 
-// Writes another program into the place of the connection.
+/// Writes another program into the place of the connection.
 fn reprogram(seats: &mut HashMap<Vc, Seating>, vc: Vc, program: Id) -> Option<Id>
     ensures before { result ≡ option_map (λ seat. seat.program) (seat_in seats.old.entries vc) }
     ensures moved { IfSome (seat_in seats.old.entries vc) (λ seat.
@@ -200,7 +201,7 @@ fn reprogram(seats: &mut HashMap<Vc, Seating>, vc: Vc, program: Id) -> Option<Id
     Some(mem::replace(&mut seat.program, program))
 }
 
-// Whether some connection names the program.
+/// Whether some connection names the program.
 fn any_names(seats: &HashMap<Vc, Seating>, program: Id) -> bool
     ensures any { result ≡ list_any (λ seat. is_same_id seat.program program) (values seats.now) }
     ensures apart { HasEntries seats.now.entries }

@@ -14,6 +14,7 @@ use Rattle.dialogue.specs.Printing.{Rules, Prints}
 use Rattle.dialogue.specs.declared.outcome.Done.{Done}
 use Rattle.dialogue.specs.declared.outcome.Done.TheVariants.{Whole, Ended}
 
+-- No program yet, or the code of the program.
 abbrev pub World : Type 0
 World = Option (List Instr)
 
@@ -41,6 +42,7 @@ abbrev pub TellsValue : List Instr → List ℕ → List ℕ → Type 0
 TellsValue code octets text =
     (value : ℕ) × (steps : ℕ) × Value code octets value steps × (text ≡ line (codes "value " ++ decimal value ++ codes " steps " ++ decimal steps))
 
+-- Octets that are a cell are answered by the value on it, and others by their number.
 abbrev pub RunsOn : List Instr → List ℕ → List ℕ → Type 0
 RunsOn code octets text = MatchBool (length octets == 52) (TellsValue code octets text) (text ≡ wrong_length (length octets))
 

@@ -13,12 +13,15 @@ use Rattle.program_dialogue.specs.Hexadecimal.{four_digits}
 abbrev pub line : List ℕ → List ℕ
 line text = text ++ codes "\n"
 
+-- The answer to a line of no lawful form.
 abbrev pub bad_line : List ℕ
 bad_line = codes "fault script 1 BadLine\n"
 
+-- The answer to a word that is to be hexadecimal and isn't.
 abbrev pub bad_hex : List ℕ
 bad_hex = codes "fault script 3 BadHex\n"
 
+-- The answer to an input without a program.
 abbrev pub no_program : List ℕ
 no_program = codes "fault script 4 NoProgram\n"
 

@@ -3,3 +3,4 @@ pub mod Choice
 pub mod Subcommand
 pub mod Outcome
 pub mod Invocation
+pub mod inner
