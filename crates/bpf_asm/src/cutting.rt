@@ -47,7 +47,7 @@ fn after_hash(text: &[u8]) -> Option<&[u8]>
         (λ rest. tokens_read text.now ≡ signed_behind (mark 35) (tokens_read rest.now)) }
 {
     let (found, rest) = next_mark(text)?;
-    if found == 35 { Some(rest) } else { None }
+    if found == b'#' { Some(rest) } else { None }
 }
 
 /// `#k` or `#-n`, and what is behind it.
@@ -56,7 +56,7 @@ pub(crate) fn after_constant(text: &[u8]) -> Option<(u32, &[u8])>
         (λ found. cut_constant (tokens_read text.now) ≡ Some (found.0, tokens_read found.1.now)) }
 {
     let text = after_hash(text)?;
-    match after_mark(text, 45) {
+    match after_mark(text, b'-') {
         Some(text) => {
             let (value, rest) = after_number(text)?;
             Some((negated(value), rest))
@@ -124,5 +124,5 @@ pub(crate) fn after_target(text: &[u8]) -> Option<(&[u8], &[u8])>
     ensures { MatchOption result (cut_target (tokens_read text.now) ≡ None)
         (λ found. cut_target (tokens_read text.now) ≡ Some (found.0.now, tokens_read found.1.now)) }
 {
-    after_name(after_mark(text, 44)?)
+    after_name(after_mark(text, b',')?)
 }

@@ -67,7 +67,7 @@ fn behind_label<'a>(label: &'a [u8], text: &'a [u8]) -> Option<Said<'a>>
 }
 
 /// The line of a text without comments. Its first name is a label or a mnemonic.
-#[tactic(auto, unfolding(crate::specs::Reading::line_in, crate::specs::Reading::statement_in))]
+#[tactic(auto, unfolding(crate::specs::inner::Reading::line_in, crate::specs::inner::Reading::statement_in))]
 fn line_of(text: &[u8]) -> Option<Said<'_>>
     ensures { MatchOption result (line_in (tokens_read text.now) ≡ None)
         (λ said. line_in (tokens_read text.now) ≡ Some (line_seen said)) }
@@ -82,7 +82,7 @@ fn line_of(text: &[u8]) -> Option<Said<'_>>
             None
         };
     };
-    if let Some(rest) = after_mark(rest, 58) {
+    if let Some(rest) = after_mark(rest, b':') {
         return behind_label(name, rest);
     }
     let command = named(name, rest)?;

@@ -1,0 +1,1 @@
+"""Pictures of what each kind of contract does to the cells of a script."""

@@ -1,0 +1,94 @@
+"""`upc run`: the first line with words opens a card, each later one is a command or a cell."""
+
+from .card import Card
+from .cell import HEADER_OCTETS, PATH_BITS
+from .eval_dialogue import program_of as program_in
+from .faults import Fault
+from .hexadecimal import cell_of
+from .script_words import bad_line, connection_of, contracts_of, number_of, program_of
+
+
+def card_of(words):
+    """`card PROGRAMS LINES PORTS JOURNAL`, and perhaps the side behind it."""
+    side = words[5].decode("latin-1") if len(words) == 6 else "uni"
+    if words[0] != b"card" or len(words) not in (5, 6) or side not in PATH_BITS:
+        raise Fault("script", "NoCard")
+    try:
+        numbers = [number_of(word) for word in words[1:5]]
+    except Fault:
+        raise Fault("script", "NoCard") from None
+    return Card(*numbers, side)
+
+
+class RunDialogue:
+    def __init__(self):
+        self.card = None
+
+    @property
+    def is_open(self):
+        return self.card is not None
+
+    def answer(self, words):
+        if not self.is_open:
+            self.card = card_of(words)
+            return "ready"
+        command, *behind = words
+        if command == b"setup":
+            return self.setup(behind)
+        if (command, len(behind)) not in COMMANDS:
+            raise bad_line()
+        return COMMANDS[command, len(behind)](self, *behind)
+
+    def refuse_end(self):
+        raise Fault("script", "NoCard")
+
+    def vc(self, path, channel):
+        return connection_of(path, channel, self.card.side)
+
+    def load(self, word):
+        return "loaded p%d" % self.card.load(program_in(word))
+
+    def retire(self, word):
+        number = program_of(word)
+        self.card.retire(number)
+        return "retired p%d" % number
+
+    def setup(self, words):
+        if len(words) < 3:
+            raise bad_line()
+        vc = self.vc(*words[:2])
+        self.card.setup(vc, program_of(words[2]), contracts_of(words[3:]))
+        return "set %d/%d" % vc
+
+    def reload(self, path, channel, name):
+        vc = self.vc(path, channel)
+        number = program_of(name)
+        self.card.reload(vc, number)
+        return "reloaded %d/%d p%d" % (*vc, number)
+
+    def cut(self, path, channel):
+        vc = self.vc(path, channel)
+        return "cut %d/%d %d %d %d %d %d" % (*vc, *self.card.cut(vc))
+
+    def release(self, path, channel):
+        vc = self.vc(path, channel)
+        return "released %d/%d %d %d %d %d %d" % (*vc, *self.card.release(vc))
+
+    def cell(self, moment, word):
+        number = number_of(moment)
+        vc, program, value, verdict, leaving = self.card.arrive(number, cell_of(word))
+        answer = "%s %d/%d p%d %d" % (verdict, *vc, program, value)
+        if verdict in ("pass", "tag"):
+            answer += " " + leaving[:HEADER_OCTETS].hex()
+        return answer
+
+
+# Each command but `setup`, with the number of the words behind it.
+COMMANDS = {
+    (b"load", 1): RunDialogue.load,
+    (b"retire", 1): RunDialogue.retire,
+    (b"reload", 3): RunDialogue.reload,
+    (b"cut", 2): RunDialogue.cut,
+    (b"release", 2): RunDialogue.release,
+    (b"cell", 2): RunDialogue.cell,
+}

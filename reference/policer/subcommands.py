@@ -1,0 +1,12 @@
+"""Each subcommand: from the octets of an input to the text of its answers and the exit status."""
+
+from .check_source import checked
+from .dialogue import answered
+from .eval_dialogue import EvalDialogue
+from .run_dialogue import RunDialogue
+
+SUBCOMMANDS = {
+    "check": checked,
+    "eval": lambda text: answered(text, EvalDialogue()),
+    "run": lambda text: answered(text, RunDialogue()),
+}
