@@ -25,6 +25,11 @@ ODD_LINES = [
 ]
 
 
+# Jumps to `far`, and jumps that have no offset or nearly none.
+FAR_JUMPS = ["jeq #%d, far, near", "jset x, near, far", "jne #%d, far", "ja far", "jgt #%d, far", "jle x, far"]
+ODD_JUMPS = ["ja up", "jeq #1, down, up", "jeq #1, up, lost", "jlt x, up", "here: ja here", "jeq x, down, lost"]
+
+
 def stays_inside(program):
     """All targets of jumps are places of the program."""
     return all(target < len(program) for place, one in enumerate(program) for target in targets(one, place))
@@ -144,7 +149,8 @@ def instruction_lines(rng, speller, one, place, is_labelled):
     if rng.random() < 0.04:
         lines.append(rng.choice(("", " ", "; a remark", "\t;;", "extra%d:" % place)))
     remark = rng.choice(("", "", "", "", " ; why", ";", "\t; 9x @ \x80"))
-    lines.append(speller.blank() + label + speller.blank(" " if label else "") + speller.instruction(one, place) + remark)
+    head = speller.blank() + label + speller.blank(" " if label else "")
+    lines.append(head + speller.instruction(one, place) + remark)
     return lines
 
 
@@ -180,12 +186,11 @@ def far(rng):
     way = rng.random()
     if way < 0.45:
         between = rng.choice((254, 255, 256, 257, 300))
-        jump = rng.choice(("jeq #%d, far, near", "jset x, near, far", "jne #%d, far", "ja far", "jgt #%d, far", "jle x, far"))
+        jump = rng.choice(FAR_JUMPS)
         first = jump % word(rng) if "%" in jump else jump
         lines = ["ld [0]", first, "near: neg"] + ["tax"] * (between - 1) + ["far: ret a"]
     elif way < 0.75:
-        back = rng.choice(("ja up", "jeq #1, down, up", "jeq #1, up, lost", "jlt x, up", "here: ja here", "jeq x, down, lost"))
-        lines = ["up: ld #1", back, "down: ret a"]
+        lines = ["up: ld #1", rng.choice(ODD_JUMPS), "down: ret a"]
     elif way < 0.9:
         lines = ["ld #1", "jmp end", "ret a", "end:"] + rng.choice(([], ["; end"], ["more:"], ["ret #0"]))
     else:
