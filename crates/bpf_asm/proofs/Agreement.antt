@@ -5,7 +5,8 @@ use Rattle.std.specs.Option.{is_none}
 use Rattle.std.proofs.lemmas.List.Elements.{filter_map-append}
 use Rattle.std.proofs.lemmas.Slice.Eq.{bytes_eq-Decides}
 use Rattle.bpf_asm.specs.Grammar.{AreLines, IsLine, Line}
-use Rattle.bpf_asm.specs.Labels.{EachLabelOnce, HasLabel, StandsFor, statement_count, statements_of}
+use Rattle.bpf_asm.specs.Labels.{EachLabelOnce, HasLabel, StandsFor, statements_of}
+use Rattle.bpf_asm.specs.inner.Counts.{statement_count}
 use Rattle.bpf_asm.specs.Spelling.{Statement}
 use Rattle.bpf_asm.specs.inner.Drafts.{AgreesWith, IsReadTo, IsTwice}
 

@@ -7,7 +7,8 @@ use Rattle.bpf_asm.specs.inner.Feeds.{no_feed}
 use Rattle.dialogue.specs.Lines.{without_return}
 use Rattle.bpf_asm.proofs.LineCuts.{line_ended}
 use Rattle.bpf_asm.specs.Spelling.{Part, text, num, label, part_octets, part_tokens, spelling_octets, spelling_tokens}
-use Rattle.bpf_asm.specs.Tokens.{all_word, Token, name, number, faulty, mark, is_run, is_word, signed, signed_behind, pieces_of, tokens_of}
+use Rattle.bpf_asm.specs.Tokens.{Token, name, number, faulty, mark, is_run, is_word, signed, signed_behind, pieces_of, tokens_of}
+use Rattle.bpf_asm.specs.inner.Words.{all_word}
 use Rattle.bpf_asm.proofs.Decimals.{tokens_of-decimal, decimal_word}
 use Rattle.bpf_asm.proofs.Pieces.{ends_word, tokens_of-append}
 

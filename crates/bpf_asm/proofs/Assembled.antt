@@ -5,7 +5,7 @@ use Rattle.bpf_asm.specs.Grammar.{AreLines, Line}
 use Rattle.bpf_asm.specs.Labels.{EachLabelOnce, statements_of}
 use Rattle.bpf_asm.specs.Lines.{source_lines}
 use Rattle.bpf_asm.specs.Meaning.{IsMeaning, MeanFrom}
-use Rattle.bpf_asm.specs.Pending.{IsPending}
+use Rattle.bpf_asm.specs.inner.Pending.{IsPending}
 use Rattle.bpf_asm.specs.declared.fault.AsmFault.{AsmFault}
 use Rattle.bpf_asm.specs.declared.fault.AsmKind.TheVariants.{DanglingLabel}
 use Rattle.bpf_code.specs.declared.instr.Instr.{Instr}

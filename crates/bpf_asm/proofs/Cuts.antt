@@ -1,8 +1,8 @@
 -- What is cut from the front of tokens.
 use Rattle.std.proofs.Common.{◌≡◌, ◌≢◌, ℕ, ◌-◌, ◌%◌, ◌^◌, true, false, ◌&&◌, ◌==◌, if◌then◌else◌, List, [], ◌∷◌, Some, None, refl, ap, ◌∙◌, eq-eqb}
 use Rattle.std.proofs.lemmas.Bool.{ne_eqb}
-use Rattle.bpf_asm.specs.Reading.{cut_mark, cut_name, cut_number, is_ended}
-use Rattle.bpf_asm.specs.Seen.{token_seen}
+use Rattle.bpf_asm.specs.inner.Reading.{cut_mark, cut_name, cut_number, is_ended}
+use Rattle.bpf_asm.specs.inner.Seen.{token_seen}
 use Rattle.bpf_asm.specs.declared.token.Lexeme.{Lexeme}
 use Rattle.bpf_asm.specs.declared.token.Lexeme.TheVariants.{Name, Number, Faulty, Mark}
 use Rattle.std.specs.Borrow.{Bor}

@@ -2,7 +2,7 @@
 use Rattle.std.proofs.Common.{◌≡◌, ◌⊎◌, ℕ, zero, suc, ◌<◌, List, [], ◌∷◌, Option, Some, None, refl, sym, ap, ◌∙◌, inl, inr, arith}
 use Rattle.bpf_asm.specs.Grammar.{Line}
 use Rattle.bpf_asm.specs.Labels.{IsDangling, statements_of}
-use Rattle.bpf_asm.specs.Pending.{IsPending}
+use Rattle.bpf_asm.specs.inner.Pending.{IsPending}
 use Rattle.bpf_asm.specs.Spelling.{Statement}
 use Rattle.bpf_asm.proofs.Agreement.{no_name, some_line}
 

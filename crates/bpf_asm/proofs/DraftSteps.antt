@@ -5,7 +5,7 @@ use Rattle.std.proofs.lemmas.List.Elements.{filter-append}
 use Rattle.std.specs.Option.{option_to_list}
 use Rattle.bpf_asm.specs.Grammar.{Line}
 use Rattle.bpf_asm.specs.Labels.{statements_of}
-use Rattle.bpf_asm.specs.Seen.{statement_seen}
+use Rattle.bpf_asm.specs.inner.Seen.{statement_seen}
 use Rattle.bpf_asm.specs.Spelling.{Statement}
 use Rattle.bpf_asm.specs.declared.draft.Unresolved.{Unresolved}
 use Rattle.bpf_asm.specs.declared.parse.Command.{Command}

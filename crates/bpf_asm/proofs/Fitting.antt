@@ -12,7 +12,8 @@ use Rattle.bpf_asm.specs.Tokens.{Token, faulty, is_digit, is_word, mark, name, n
 use Rattle.bpf_code.specs.Encoding.{code_octets}
 use Rattle.bpf_code.specs.Flow.{StandsAt}
 use Rattle.bpf_code.specs.Spelling.{SpellsPlainly}
-use Rattle.bpf_code.specs.Widths.{FitsFields, OperandFits}
+use Rattle.bpf_code.specs.Widths.{FitsFields}
+use Rattle.bpf_asm.specs.inner.Operands.{OperandFits}
 use Rattle.bpf_code.specs.declared.instr.By.{By}
 use Rattle.bpf_code.specs.declared.instr.By.TheVariants.{Imm, X}
 use Rattle.bpf_code.specs.declared.instr.Instr.{Instr}

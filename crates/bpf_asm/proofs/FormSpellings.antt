@@ -2,7 +2,7 @@
 use Rattle.std.proofs.Common.{◌≡◌, ℕ, List, [], ◌∷◌, ◌++◌, Option, Some, None, codes, refl, sym, ap, ◌∙◌, inl, inr, append-nil}
 use Rattle.bpf_asm.specs.Grammar.{IsOneOf}
 use Rattle.bpf_asm.specs.Numbers.{number_of, value_behind}
-use Rattle.bpf_asm.specs.Reading.{◌>>=◌, absolute_in, arithmetic_in, branch_in, constant_in, cut_name, cut_operand, cut_target, cut_word, ended, header, header_in, indexed_in, inverse_in, jump_in, length_in, load_index, load_word, or_else, packet, return_in, scratch_in, second_in}
+use Rattle.bpf_asm.specs.inner.Reading.{◌>>=◌, absolute_in, arithmetic_in, branch_in, constant_in, cut_name, cut_operand, cut_target, cut_word, ended, header, header_in, indexed_in, inverse_in, jump_in, length_in, load_index, load_word, or_else, packet, return_in, scratch_in, second_in}
 use Rattle.bpf_asm.specs.Spelling.{Statement, plain, jump, branch, spellings}
 use Rattle.bpf_asm.specs.Tokens.{Token, name, number, mark, pieces_of, tokens_of, word_token}
 use Rattle.bpf_code.specs.declared.instr.By.{By}

@@ -1,6 +1,6 @@
 -- The tokens of each form of operands that was read.
 use Rattle.std.proofs.Common.{◌≡◌, ℕ, Bool, true, List, [], ◌∷◌, Some, codes, ap, ◌∙◌}
-use Rattle.bpf_asm.specs.Reading.{◌>>=◌, absolute_in, bracket_in, constant_in, cut_constant, cut_length, cut_mark, cut_number, cut_value, cut_word, ended, header_in, indexed_in, length_in, scratch_in}
+use Rattle.bpf_asm.specs.inner.Reading.{◌>>=◌, absolute_in, bracket_in, constant_in, cut_constant, cut_length, cut_mark, cut_number, cut_value, cut_word, ended, header_in, indexed_in, length_in, scratch_in}
 use Rattle.bpf_asm.specs.Tokens.{Token, name, number, mark}
 use Rattle.bpf_asm.proofs.TokenCuts.{next_some, end_is, mark_is, number_is, word_is, value_is, constant_cut}
 

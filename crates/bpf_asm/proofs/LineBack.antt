@@ -1,7 +1,7 @@
 -- Tokens are a line exactly where they are read as it.
 use Rattle.std.proofs.Common.{◌≡◌, ◌⊎◌, ℕ, Bool, true, false, if◌then◌else◌, List, [], ◌∷◌, ◌++◌, Option, Some, None, refl, ap, ◌∙◌, subst, inl, inr}
 use Rattle.bpf_asm.specs.Grammar.{IsLineOf, IsOneOf, Line, label_tokens}
-use Rattle.bpf_asm.specs.Reading.{◌>>=◌, body_in, cut_label, cut_mark, cut_name, is_ended, line_in, statement_in}
+use Rattle.bpf_asm.specs.inner.Reading.{◌>>=◌, body_in, cut_label, cut_mark, cut_name, is_ended, line_in, statement_in}
 use Rattle.bpf_asm.specs.Spelling.{Statement, spellings}
 use Rattle.bpf_asm.specs.Tokens.{Token, name, mark}
 use Rattle.bpf_asm.proofs.NoLabel.{no_label}

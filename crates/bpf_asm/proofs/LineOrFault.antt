@@ -3,7 +3,7 @@ use Rattle.std.proofs.Common.{◌≡◌, ◌⊎◌, ℕ, Bool, true, false, List
 use Rattle.bpf_asm.specs.Faults.{IsLineFault}
 use Rattle.bpf_asm.specs.Grammar.{IsLine, Line}
 use Rattle.bpf_asm.specs.Lines.{without_comment}
-use Rattle.bpf_asm.specs.Reading.{line_in}
+use Rattle.bpf_asm.specs.inner.Reading.{line_in}
 use Rattle.bpf_asm.specs.Tokens.{HasBadNumber, has_faulty, tokens_in, tokens_of}
 use Rattle.bpf_asm.specs.declared.fault.AsmKind.{AsmKind}
 use Rattle.bpf_asm.specs.declared.fault.AsmKind.TheVariants.{BadLine, BadNumber}

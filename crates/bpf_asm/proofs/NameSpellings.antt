@@ -3,7 +3,7 @@ use Rattle.std.proofs.Common.{◌≡◌, ◌⊎◌, ℕ, Bool, true, false, if�
 use Rattle.std.specs.Str.{bytes_eq}
 use Rattle.std.proofs.lemmas.Slice.Eq.{bytes_eq-Decides}
 use Rattle.bpf_asm.specs.Numbers.{number_of, value_behind}
-use Rattle.bpf_asm.specs.Reading.{arithmetic_in, branch_in, entry_of, header_in, inverse_in, inverse_of, moved_forms, moved_in, op_of, op_rows, test_rows, inverse_rows, other_forms, other_in, scratch_in, test_of}
+use Rattle.bpf_asm.specs.inner.Reading.{arithmetic_in, branch_in, entry_of, header_in, inverse_in, inverse_of, moved_forms, moved_in, op_of, op_rows, test_rows, inverse_rows, other_forms, other_in, scratch_in, test_of}
 use Rattle.bpf_asm.specs.Spelling.{Statement, plain, branch, spellings}
 use Rattle.bpf_asm.specs.Tokens.{Token, name, number, mark, pieces_of, tokens_of, word_token}
 use Rattle.bpf_code.specs.declared.instr.Instr.TheVariants.{LdxMsh, Store, StoreX, Alu, Neg, Tax, Txa}

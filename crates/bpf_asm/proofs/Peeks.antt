@@ -3,7 +3,7 @@ use Rattle.std.proofs.Common.{◌≡◌, ◌≢◌, ℕ, ◌<◌, Bool, true, fa
 use Rattle.std.proofs.lemmas.Bool.{ne_eqb}
 use Rattle.std.specs.List.{cons_option, filter_map}
 use Rattle.dialogue.specs.Words.{is_blank}
-use Rattle.bpf_asm.specs.Reading.{cut_mark, is_ended}
+use Rattle.bpf_asm.specs.inner.Reading.{cut_mark, is_ended}
 use Rattle.bpf_asm.specs.Numbers.{number_of}
 use Rattle.bpf_asm.specs.Tokens.{Token, name, mark, is_digit, is_run, is_word, joined, number_token, pieces_of, signed, signed_behind, token_of, tokens_of, tokens_read, word_token}
 use Rattle.bpf_asm.proofs.Cuts.{read_none, some_behind}

@@ -3,7 +3,7 @@ use Rattle.std.proofs.Common.{◌≡◌, ◌⊎◌, ℕ, zero, suc, ◌<◌, ◌
 use Rattle.std.proofs.lemmas.List.{drop_all, drop-append-le}
 use Rattle.bpf_asm.specs.Grammar.{Line}
 use Rattle.bpf_asm.specs.Labels.{HasLabel, IsDangling, statements_of}
-use Rattle.bpf_asm.specs.Pending.{IsPending}
+use Rattle.bpf_asm.specs.inner.Pending.{IsPending}
 use Rattle.bpf_asm.specs.Spelling.{Statement}
 use Rattle.bpf_asm.proofs.Agreement.{statements_one, label_kept, label_split, statements_of-append}
 

@@ -3,7 +3,8 @@ use Rattle.std.proofs.Common.{◌≡◌, ℕ, Bool, true, false, ◌&&◌, if◌
 use Rattle.std.specs.List.{filter_map}
 use Rattle.std.proofs.lemmas.List.Elements.{filter_map-append}
 use Rattle.std.proofs.lemmas.Bool.{and_left, and_parts, and_right, eqb-true, or_cases}
-use Rattle.bpf_asm.specs.Tokens.{Token, all_word, is_run, is_word, joined, pieces_of, token_of, tokens_of, word_token, mark}
+use Rattle.bpf_asm.specs.Tokens.{Token, is_run, is_word, joined, pieces_of, token_of, tokens_of, word_token, mark}
+use Rattle.bpf_asm.specs.inner.Words.{all_word}
 use Rattle.dialogue.specs.Words.{is_blank}
 
 -- the text ends in an octet of a word

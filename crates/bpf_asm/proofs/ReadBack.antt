@@ -2,7 +2,7 @@
 use Rattle.std.proofs.Common.{◌≡◌, List, Some, None, refl, inl, inr}
 use Rattle.bpf_asm.specs.Grammar.{IsOneOf}
 use Rattle.bpf_asm.specs.Numbers.{number_of, value_behind}
-use Rattle.bpf_asm.specs.Reading.{inverse_of, moved_in, named_in, op_of, other_in, statement_in, test_of}
+use Rattle.bpf_asm.specs.inner.Reading.{inverse_of, moved_in, named_in, op_of, other_in, statement_in, test_of}
 use Rattle.bpf_asm.specs.Spelling.{Statement, plain, jump, branch, spellings}
 use Rattle.bpf_asm.specs.Tokens.{Token, pieces_of, tokens_of, word_token}
 use Rattle.bpf_code.specs.declared.instr.By.TheVariants.{Imm, X}

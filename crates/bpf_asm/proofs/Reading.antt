@@ -3,7 +3,8 @@ use Rattle.std.proofs.Common.{◌≡◌, ℕ, ◌+◌, ◌*◌, ◌<◌, ◌≤�
 use Rattle.std.proofs.lemmas.Bool.{and_from, and_parts, le-ltb, lt-ltb}
 use Rattle.std.proofs.lemmas.List.{at_drop_all, at_drop_more, drop_more, take_more}
 use Rattle.bpf_asm.specs.Numbers.{digit_of, is_hexadecimal, number_of, value_behind, value_in, within_word}
-use Rattle.bpf_asm.specs.Tokens.{all_word, is_digit, is_run, is_word, mark, name, number, faulty, number_token, pieces_of, tokens_of, word_token}
+use Rattle.bpf_asm.specs.Tokens.{is_digit, is_run, is_word, mark, name, number, faulty, number_token, pieces_of, tokens_of, word_token}
+use Rattle.bpf_asm.specs.inner.Words.{all_word}
 use Rattle.dialogue.specs.Words.{is_blank}
 use Rattle.bpf_asm.proofs.Pieces.{tokens_of-blank, tokens_of-mark, tokens_of-words}
 

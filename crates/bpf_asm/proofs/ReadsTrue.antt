@@ -1,7 +1,7 @@
 -- What is read as a statement is one of its spellings.
 use Rattle.std.proofs.Common.{◌≡◌, ℕ, List, ◌∷◌, Some, refl, inl, inr}
 use Rattle.bpf_asm.specs.Grammar.{IsOneOf}
-use Rattle.bpf_asm.specs.Reading.{arithmetic_in, branch_in, branch_or, cut_name, form_of, inverse_in, inverse_of, inverse_or, moved_in, named_in, op_of, other_in, statement_in, test_of}
+use Rattle.bpf_asm.specs.inner.Reading.{arithmetic_in, branch_in, branch_or, cut_name, form_of, inverse_in, inverse_of, inverse_or, moved_in, named_in, op_of, other_in, statement_in, test_of}
 use Rattle.bpf_asm.specs.Spelling.{Statement, spellings}
 use Rattle.bpf_asm.specs.Tokens.{Token, name}
 use Rattle.bpf_asm.proofs.TokenCuts.{next_some, else_some, map_some, name_is}

@@ -5,7 +5,7 @@ use Rattle.bpf_asm.specs.Faults.{IsFirstOperandFault, IsStatementFault}
 use Rattle.bpf_asm.specs.Grammar.{Line}
 use Rattle.bpf_asm.specs.Labels.{statements_of}
 use Rattle.bpf_asm.specs.Meaning.{MeanFrom, Means}
-use Rattle.bpf_asm.specs.Seen.{statement_seen}
+use Rattle.bpf_asm.specs.inner.Seen.{statement_seen}
 use Rattle.bpf_asm.specs.Spelling.{Statement}
 use Rattle.bpf_asm.specs.declared.draft.Unresolved.{Unresolved}
 use Rattle.bpf_asm.specs.declared.fault.AsmFault.{AsmFault}

@@ -4,7 +4,7 @@ use Rattle.std.specs.Option.{option_map_or}
 use Rattle.std.specs.Str.{bytes_eq}
 use Rattle.std.proofs.lemmas.Bool.{eqb-true}
 use Rattle.std.proofs.lemmas.Slice.Eq.{bytes_eq-Decides}
-use Rattle.bpf_asm.specs.Reading.{◌>>=◌, cut_constant, cut_mark, cut_name, cut_number, cut_operand, cut_target, cut_value, cut_word, ended, or_else}
+use Rattle.bpf_asm.specs.inner.Reading.{◌>>=◌, cut_constant, cut_mark, cut_name, cut_number, cut_operand, cut_target, cut_value, cut_word, ended, or_else}
 use Rattle.bpf_asm.specs.Tokens.{Token, name, number, faulty, mark}
 use Rattle.bpf_code.specs.declared.instr.By.{By}
 use Rattle.bpf_code.specs.declared.instr.By.TheVariants.{Imm, X}

@@ -8,11 +8,6 @@ use Rattle.bpf_asm.specs.Spelling.{Statement, plain, jump, branch}
 unfoldable pub statements_of : List Line → List Statement
 statements_of lines = filter_map (λ line. line.statement) lines
 
--- How many statements a line has.
-abbrev pub statement_count : Option Statement → ℕ
-statement_count None = 0
-statement_count (Some s) = 1
-
 -- The line, which counts from 0, has the label.
 abbrev pub HasLabel : List Line → ℕ → List ℕ → Type 0
 HasLabel lines at label = (line : Line) × (slice_get lines at ≡ Some line) × (line.label ≡ Some label)

@@ -5,10 +5,6 @@ pub mod Lines
 pub mod Listing
 pub mod Meaning
 pub mod Numbers
-pub mod Pending
-pub mod Places
-pub mod Reading
-pub mod Seen
 pub mod Spelling
 pub mod Tokens
 pub mod inner

@@ -47,10 +47,6 @@ StaysWithin count place i = (target : ℕ) → JumpsTo place i target → target
 abbrev pub Leaves : ℕ → ℕ → Instr → Type 0
 Leaves count place i = (target : ℕ) × JumpsTo place i target × (count ≤ target)
 
--- No instruction leaves the code.
-abbrev pub NoneLeaves : List Instr → Type 0
-NoneLeaves code = (place : ℕ) (i : Instr) → StandsAt code place i → StaysWithin (length code) place i
-
 -- At the place is the first instruction that leaves the code.
 pub record IsFirstLeaving (code : List Instr) (place : ℕ) : Type 0 where
   pub leaves : (i : Instr) × StandsAt code place i × Leaves (length code) place i

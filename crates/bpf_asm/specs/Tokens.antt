@@ -21,11 +21,6 @@ is_digit octet = nat_le 48 octet && nat_le octet 57
 abbrev pub is_word : ℕ → Bool
 is_word octet = is_digit octet || (nat_le 65 octet && nat_le octet 90) || (nat_le 97 octet && nat_le octet 122) || octet == 95
 
--- Every octet is one of a word.
-abbrev pub all_word : List ℕ → Bool
-all_word [] = true
-all_word (octet ∷ rest) = is_word octet && all_word rest
-
 -- The piece is a run of octets of words.
 abbrev pub is_run : List ℕ → Bool
 is_run [] = false

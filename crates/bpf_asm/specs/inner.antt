@@ -1,3 +1,11 @@
 -- What only private functions and proofs speak of.
 pub mod Drafts
 pub mod Feeds
+pub mod Pending
+pub mod Places
+pub mod Reading
+pub mod Seen
+pub mod Counts
+pub mod Staying
+pub mod Words
+pub mod Operands

@@ -1,7 +1,7 @@
 //! What is cut from the front of a line: octets that are tokens, numbers, names, operands.
 
 ghost use Rattle.std.specs.Prelude.{◌≡◌, ◌≢◌, ◌-◌, ◌%◌, ◌^◌, ℕ, MatchOption};
-ghost use Rattle.bpf_asm.specs.Reading.{cut_constant, cut_length, cut_mark, cut_name, cut_number, cut_operand, cut_target, cut_value, cut_word, is_ended};
+ghost use Rattle.bpf_asm.specs.inner.Reading.{cut_constant, cut_length, cut_mark, cut_name, cut_number, cut_operand, cut_target, cut_value, cut_word, is_ended};
 ghost use Rattle.bpf_asm.specs.Tokens.{mark, signed_behind, tokens_read};
 
 use crate::token::{Lexeme, is_spent, next_mark, next_token};
@@ -47,7 +47,7 @@ fn after_hash(text: &[u8]) -> Option<&[u8]>
         (λ rest. tokens_read text.now ≡ signed_behind (mark 35) (tokens_read rest.now)) }
 {
     let (found, rest) = next_mark(text)?;
-    if found == 35 { Some(rest) } else { None }
+    if found == b'#' { Some(rest) } else { None }
 }
 
 /// `#k` or `#-n`, and what is behind it.
@@ -56,7 +56,7 @@ pub(crate) fn after_constant(text: &[u8]) -> Option<(u32, &[u8])>
         (λ found. cut_constant (tokens_read text.now) ≡ Some (found.0, tokens_read found.1.now)) }
 {
     let text = after_hash(text)?;
-    match after_mark(text, 45) {
+    match after_mark(text, b'-') {
         Some(text) => {
             let (value, rest) = after_number(text)?;
             Some((negated(value), rest))
@@ -124,5 +124,5 @@ pub(crate) fn after_target(text: &[u8]) -> Option<(&[u8], &[u8])>
     ensures { MatchOption result (cut_target (tokens_read text.now) ≡ None)
         (λ found. cut_target (tokens_read text.now) ≡ Some (found.0.now, tokens_read found.1.now)) }
 {
-    after_name(after_mark(text, 44)?)
+    after_name(after_mark(text, b',')?)
 }

@@ -2,8 +2,8 @@
 
 ghost use Rattle.std.specs.Prelude.{◌≡◌, ◌++◌, List, [], ◌∷◌, length};
 ghost use Rattle.bpf_asm.specs.Grammar.{Line};
-ghost use Rattle.bpf_asm.specs.Pending.{IsPending};
-ghost use Rattle.bpf_asm.specs.Seen.{line_seen};
+ghost use Rattle.bpf_asm.specs.inner.Pending.{IsPending};
+ghost use Rattle.bpf_asm.specs.inner.Seen.{line_seen};
 ghost use Rattle.bpf_asm.specs.inner.Drafts.{drafted};
 
 use crate::fault::AsmKind;
@@ -74,9 +74,9 @@ fn pending_after(pending: Option<usize>, at: usize, said: &Said<'_>) -> Option<u
 impl<'a> Draft<'a> {
     ghost use Rattle.std.specs.Prelude.{◌≡◌, ◌++◌, ◌+◌, ◌-◌, ◌^◌, ◌<◌, ℕ, List, [], ◌∷◌, false, length, IfErr, IfOk, IsTrue, OnOk};
     ghost use Rattle.bpf_asm.specs.Grammar.{Line};
-    ghost use Rattle.bpf_asm.specs.Labels.{statement_count};
-    ghost use Rattle.bpf_asm.specs.Places.{place_of};
-    ghost use Rattle.bpf_asm.specs.Seen.{line_seen};
+    ghost use Rattle.bpf_asm.specs.inner.Counts.{statement_count};
+    ghost use Rattle.bpf_asm.specs.inner.Places.{place_of};
+    ghost use Rattle.bpf_asm.specs.inner.Seen.{line_seen};
     ghost use Rattle.bpf_asm.specs.inner.Drafts.{AgreesWith, Drafts, IsAddFault, IsTakeFault, IsTwice, Takes, drafted, unresolved_of};
 
     /// The draft of no lines.

@@ -2,8 +2,10 @@
 
 ghost use Rattle.std.specs.Prelude.{◌≡◌, ◌+◌, ◌<◌, ◌^◌, ◌++◌, ℕ, decimal, IfErr, IfNone, IfOk, IfSome, MatchBool, OnOk};
 ghost use Rattle.bpf_code.specs.declared.instr.Instr.{Instr};
-ghost use Rattle.bpf_asm.specs.Listing.{IsFirstLeaving, IsListFault, Leaves, NoneLeaves, StaysWithin, instruction_text, label_at, line_text, listing_of};
-ghost use Rattle.bpf_code.specs.Widths.{FitsFields, OperandFits};
+ghost use Rattle.bpf_asm.specs.Listing.{IsFirstLeaving, IsListFault, Leaves, StaysWithin, instruction_text, label_at, line_text, listing_of};
+ghost use Rattle.bpf_asm.specs.inner.Staying.{NoneLeaves};
+ghost use Rattle.bpf_code.specs.Widths.{FitsFields};
+ghost use Rattle.bpf_asm.specs.inner.Operands.{OperandFits};
 ghost use Rattle.bpf_asm.specs.Meaning.{IsMeaning};
 ghost use Rattle.bpf_asm.specs.Spelling.{load_name, op_name, operand, spelling_octets, test_name};
 

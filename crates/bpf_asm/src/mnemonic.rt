@@ -1,8 +1,8 @@
 //! Mnemonics, and what may stand behind each.
 
 ghost use Rattle.std.specs.Prelude.{◌≡◌, MatchOption};
-ghost use Rattle.bpf_asm.specs.Reading.{ended, inverse_of, moved_in, named_in, op_of, other_in, statement_in, test_of};
-ghost use Rattle.bpf_asm.specs.Seen.{statement_seen};
+ghost use Rattle.bpf_asm.specs.inner.Reading.{ended, inverse_of, moved_in, named_in, op_of, other_in, statement_in, test_of};
+ghost use Rattle.bpf_asm.specs.inner.Seen.{statement_seen};
 ghost use Rattle.bpf_asm.specs.Spelling.{plain};
 ghost use Rattle.bpf_asm.specs.Tokens.{tokens_read};
 
@@ -14,7 +14,7 @@ use crate::parse::{
 use bpf_code::{Instr, Op, Size, Test};
 
 /// The arithmetic of a mnemonic.
-#[tactic(auto, unfolding(crate::specs::Reading::op_of))]
+#[tactic(auto, unfolding(crate::specs::inner::Reading::op_of))]
 fn op_named(name: &[u8]) -> Option<Op>
     ensures { result ≡ op_of name.now }
 {
@@ -52,7 +52,7 @@ fn op_named(name: &[u8]) -> Option<Op>
 }
 
 /// The branch of a mnemonic.
-#[tactic(auto, unfolding(crate::specs::Reading::test_of))]
+#[tactic(auto, unfolding(crate::specs::inner::Reading::test_of))]
 fn test_named(name: &[u8]) -> Option<Test>
     ensures { result ≡ test_of name.now }
 {
@@ -72,7 +72,7 @@ fn test_named(name: &[u8]) -> Option<Test>
 }
 
 /// The test that a mnemonic is the opposite of.
-#[tactic(auto, unfolding(crate::specs::Reading::inverse_of))]
+#[tactic(auto, unfolding(crate::specs::inner::Reading::inverse_of))]
 fn inverse_named(name: &[u8]) -> Option<Test>
     ensures { result ≡ inverse_of name.now }
 {
@@ -92,7 +92,7 @@ fn inverse_named(name: &[u8]) -> Option<Test>
 }
 
 /// The loads and stores of a mnemonic.
-#[tactic(auto, unfolding(crate::specs::Reading::moved_in))]
+#[tactic(auto, unfolding(crate::specs::inner::Reading::moved_in))]
 fn moved(name: &[u8], text: &[u8]) -> Option<Instr>
     ensures { MatchOption result (moved_in name.now (tokens_read text.now) ≡ None)
         (λ i. moved_in name.now (tokens_read text.now) ≡ Some (plain i)) }
@@ -137,7 +137,7 @@ fn alone(instr: Instr, text: &[u8]) -> Option<Command<'_>>
 }
 
 /// The other instructions of a mnemonic.
-#[tactic(auto, unfolding(crate::specs::Reading::other_in))]
+#[tactic(auto, unfolding(crate::specs::inner::Reading::other_in))]
 fn other<'a>(name: &[u8], text: &'a [u8]) -> Option<Command<'a>>
     ensures { MatchOption result (other_in name.now (tokens_read text.entry.now) ≡ None)
         (λ c. other_in name.now (tokens_read text.entry.now) ≡ Some (statement_seen c)) }
@@ -165,7 +165,7 @@ fn other<'a>(name: &[u8], text: &'a [u8]) -> Option<Command<'a>>
 }
 
 /// The statement of a mnemonic and what is behind it.
-#[tactic(auto, unfolding(crate::specs::Reading::named_in))]
+#[tactic(auto, unfolding(crate::specs::inner::Reading::named_in))]
 pub(crate) fn named<'a>(name: &[u8], text: &'a [u8]) -> Option<Command<'a>>
     ensures { MatchOption result (named_in name.now (tokens_read text.entry.now) ≡ None)
         (λ c. named_in name.now (tokens_read text.entry.now) ≡ Some (statement_seen c)) }
@@ -187,7 +187,7 @@ pub(crate) fn named<'a>(name: &[u8], text: &'a [u8]) -> Option<Command<'a>>
 }
 
 /// The statement of a text's tokens.
-#[tactic(auto, unfolding(crate::specs::Reading::statement_in))]
+#[tactic(auto, unfolding(crate::specs::inner::Reading::statement_in))]
 pub(crate) fn statement(text: &[u8]) -> Option<Command<'_>>
     ensures { MatchOption result (statement_in (tokens_read text.now) ≡ None)
         (λ c. statement_in (tokens_read text.now) ≡ Some (statement_seen c)) }

@@ -1,8 +1,8 @@
 //! Statements, read from the tokens of a line.
 
 ghost use Rattle.std.specs.Prelude.{◌≡◌, true, MatchBool, MatchOption};
-ghost use Rattle.bpf_asm.specs.Reading.{absolute_in, arithmetic_in, bracket_in, branch_in, constant_in, header_in, indexed_in, inverse_in, jump_in, length_in, load_index, load_word, packet, return_in, scratch_in};
-ghost use Rattle.bpf_asm.specs.Seen.{statement_seen};
+ghost use Rattle.bpf_asm.specs.inner.Reading.{absolute_in, arithmetic_in, bracket_in, branch_in, constant_in, header_in, indexed_in, inverse_in, jump_in, length_in, load_index, load_word, packet, return_in, scratch_in};
+ghost use Rattle.bpf_asm.specs.inner.Seen.{statement_seen};
 ghost use Rattle.bpf_asm.specs.Spelling.{plain};
 ghost use Rattle.bpf_asm.specs.Tokens.{tokens_read};
 
@@ -33,7 +33,7 @@ fn bracket(text: &[u8]) -> Option<u32>
     ensures { result ≡ bracket_in (tokens_read text.now) }
 {
     let (k, rest) = after_number(text)?;
-    let rest = after_mark(rest, 93)?;
+    let rest = after_mark(rest, b']')?;
     if at_end(rest) { Some(k) } else { None }
 }
 
@@ -41,16 +41,16 @@ fn bracket(text: &[u8]) -> Option<u32>
 fn absolute(text: &[u8]) -> Option<u32>
     ensures { result ≡ absolute_in (tokens_read text.now) }
 {
-    bracket(after_mark(text, 91)?)
+    bracket(after_mark(text, b'[')?)
 }
 
 /// `[x+k]` and no more.
 fn indexed(text: &[u8]) -> Option<u32>
     ensures { result ≡ indexed_in (tokens_read text.now) }
 {
-    let rest = after_mark(text, 91)?;
+    let rest = after_mark(text, b'[')?;
     let rest = after_word(rest, b"x")?;
-    bracket(after_mark(rest, 43)?)
+    bracket(after_mark(rest, b'+')?)
 }
 
 /// `#k` and no more.
@@ -73,14 +73,14 @@ pub(crate) fn header(text: &[u8]) -> Option<u32>
     ensures { result ≡ header_in (tokens_read text.now) }
 {
     let rest = after_value(text, 4)?;
-    let rest = after_mark(rest, 42)?;
-    let rest = after_mark(rest, 40)?;
-    let rest = after_mark(rest, 91)?;
+    let rest = after_mark(rest, b'*')?;
+    let rest = after_mark(rest, b'(')?;
+    let rest = after_mark(rest, b'[')?;
     let (k, rest) = after_number(rest)?;
-    let rest = after_mark(rest, 93)?;
-    let rest = after_mark(rest, 38)?;
+    let rest = after_mark(rest, b']')?;
+    let rest = after_mark(rest, b'&')?;
     let rest = after_value(rest, 15)?;
-    let rest = after_mark(rest, 41)?;
+    let rest = after_mark(rest, b')')?;
     if at_end(rest) { Some(k) } else { None }
 }
 

@@ -4,8 +4,8 @@ ghost use Rattle.std.specs.Prelude.{◌≡◌, List, Some, IfErr, IfOk, MatchOpt
 ghost use Rattle.bpf_asm.specs.Faults.{IsLineFault};
 ghost use Rattle.bpf_asm.specs.Grammar.{IsLine, Line};
 ghost use Rattle.bpf_asm.specs.Lines.{without_comment};
-ghost use Rattle.bpf_asm.specs.Reading.{body_in, line_in};
-ghost use Rattle.bpf_asm.specs.Seen.{line_seen};
+ghost use Rattle.bpf_asm.specs.inner.Reading.{body_in, line_in};
+ghost use Rattle.bpf_asm.specs.inner.Seen.{line_seen};
 ghost use Rattle.bpf_asm.specs.Tokens.{HasBadNumber, has_faulty, tokens_of, tokens_read};
 
 use crate::cutting::{after_mark, after_name, at_end};
@@ -67,7 +67,7 @@ fn behind_label<'a>(label: &'a [u8], text: &'a [u8]) -> Option<Said<'a>>
 }
 
 /// The line of a text without comments. Its first name is a label or a mnemonic.
-#[tactic(auto, unfolding(crate::specs::Reading::line_in, crate::specs::Reading::statement_in))]
+#[tactic(auto, unfolding(crate::specs::inner::Reading::line_in, crate::specs::inner::Reading::statement_in))]
 fn line_of(text: &[u8]) -> Option<Said<'_>>
     ensures { MatchOption result (line_in (tokens_read text.now) ≡ None)
         (λ said. line_in (tokens_read text.now) ≡ Some (line_seen said)) }
@@ -82,7 +82,7 @@ fn line_of(text: &[u8]) -> Option<Said<'_>>
             None
         };
     };
-    if let Some(rest) = after_mark(rest, 58) {
+    if let Some(rest) = after_mark(rest, b':') {
         return behind_label(name, rest);
     }
     let command = named(name, rest)?;

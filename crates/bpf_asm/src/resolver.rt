@@ -5,8 +5,8 @@ ghost use Rattle.bpf_asm.specs.Faults.{IsFirstOperandFault, IsOperandFault, IsSt
 ghost use Rattle.bpf_asm.specs.Grammar.{Line};
 ghost use Rattle.bpf_asm.specs.Labels.{IsOffset, statements_of};
 ghost use Rattle.bpf_asm.specs.Meaning.{IsSide, MeanFrom, Means};
-ghost use Rattle.bpf_asm.specs.Places.{place_of};
-ghost use Rattle.bpf_asm.specs.Seen.{statement_seen};
+ghost use Rattle.bpf_asm.specs.inner.Places.{place_of};
+ghost use Rattle.bpf_asm.specs.inner.Seen.{statement_seen};
 ghost use Rattle.bpf_asm.specs.inner.Drafts.{AgreesWith, Drafts, IsSideFault};
 
 use crate::draft::Draft;

@@ -1,10 +1,11 @@
 //! The tokens of a line.
 
 ghost use Rattle.std.specs.Prelude.{◌≡◌, ◌≤◌, ◌<◌, ℕ, List, [], ◌∷◌, true, false, length, take, drop, slice_index, IfSome, IsTrue, MatchOption, None};
-ghost use Rattle.bpf_asm.specs.Reading.{cut_mark, is_ended};
+ghost use Rattle.bpf_asm.specs.inner.Reading.{cut_mark, is_ended};
 ghost use Rattle.bpf_asm.specs.Numbers.{digit_of, is_hexadecimal, number_of, value_in, within_word};
-ghost use Rattle.bpf_asm.specs.Seen.{token_seen};
-ghost use Rattle.bpf_asm.specs.Tokens.{all_word, is_digit, is_run, is_word, mark, tokens_of, tokens_read, word_token};
+ghost use Rattle.bpf_asm.specs.inner.Seen.{token_seen};
+ghost use Rattle.bpf_asm.specs.Tokens.{is_digit, is_run, is_word, mark, tokens_of, tokens_read, word_token};
+ghost use Rattle.bpf_asm.specs.inner.Words.{all_word};
 ghost use Rattle.dialogue.specs.Words.{is_blank};
 
 /// A token, with the octets of its name in the line.
@@ -24,21 +25,24 @@ pub(crate) enum Lexeme<'a> {
 fn digit(octet: u8) -> bool
     ensures { result ≡ is_digit octet }
 {
-    48 <= octet && octet <= 57
+    b'0' <= octet && octet <= b'9'
 }
 
 /// Whether the octet is one of a word.
 fn word_octet(octet: u8) -> bool
     ensures { result ≡ is_word octet }
 {
-    digit(octet) || (65 <= octet && octet <= 90) || (97 <= octet && octet <= 122) || octet == 95
+    digit(octet)
+        || (b'A' <= octet && octet <= b'Z')
+        || (b'a' <= octet && octet <= b'z')
+        || octet == b'_'
 }
 
 /// Whether the octet is a space or a tab.
 fn blank(octet: u8) -> bool
     ensures { result ≡ is_blank octet }
 {
-    octet == 32 || octet == 9
+    octet == b' ' || octet == b'\t'
 }
 
 /// The value of a digit of base 16, or 16.
@@ -46,9 +50,9 @@ fn digit_value(octet: u8) -> u8
     ensures { result ≡ digit_of octet }
 {
     match octet {
-        48..=57 => octet - 48,
-        97..=102 => octet - 87,
-        65..=70 => octet - 55,
+        b'0'..=b'9' => octet - b'0',
+        b'a'..=b'f' => octet - b'a' + 10,
+        b'A'..=b'F' => octet - b'A' + 10,
         _ => 16,
     }
 }
@@ -81,7 +85,7 @@ fn hexadecimal(word: &[u8]) -> bool
     ensures long { IsTrue result → 2 ≤ length word.now }
     ensures value { result ≡ is_hexadecimal word.now }
 {
-    word.len() >= 2 && word[0] == 48 && (word[1] == 120 || word[1] == 88)
+    word.len() >= 2 && word[0] == b'0' && (word[1] == b'x' || word[1] == b'X')
 }
 
 /// The number that a word spells.

@@ -1,12 +1,7 @@
 -- The widths of an instruction's fields (net/bpf.h, struct sock_filter).
 use Rattle.std.specs.Prelude.{◌<◌, ◌^◌, IfSome}
-use Rattle.bpf_code.specs.Table.{constant_of, jt_of, jf_of, k_of}
-use Rattle.bpf_code.specs.declared.instr.By.{By}
+use Rattle.bpf_code.specs.Table.{jt_of, jf_of, k_of}
 use Rattle.bpf_code.specs.declared.instr.Instr.{Instr}
-
--- The number of a constant operand has at most 32 bits.
-abbrev pub OperandFits : By → Type 0
-OperandFits by = IfSome (constant_of by) (λ k. k < 2 ^ 32)
 
 -- The fields that an instruction uses have room for what it holds: 32 bits for the operand, 8 for each
 -- offset of a branch.

@@ -2,10 +2,9 @@ pub mod Arithmetic
 pub mod Memory
 pub mod Operand
 pub mod Packet
-pub mod Registers
 pub mod Runs
 pub mod State
 pub mod Step
 pub mod Tests
-pub mod Turns
 pub mod Value
+pub mod inner

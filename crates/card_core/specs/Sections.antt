@@ -98,10 +98,6 @@ told (Judged line number moment value program verdict cell) = Some (record {
 })
 told _ = None
 
--- The directory has no connection that names the program.
-abbrev pub IsUnnamed : DirectoryView → Id → Type 0
-IsUnnamed directory program = (vc : Vc) (seat : Seating) → seat_of directory vc ≡ Some seat → seat.program ≢ program
-
 -- What is asked may be set up on this line.
 pub record Admits (store : List (Slot (List Instr))) (directory : DirectoryView) (ask : Ask) (line : ℕ) : Type 0 where
   pub live : IsLive store ask.program

@@ -5,7 +5,8 @@ use Rattle.std.proofs.lemmas.List.{take-append-drop, drop_more, length-take, get
 use Rattle.std.proofs.lemmas.Bool.Decides.{nat_tests}
 use Rattle.dialogue.specs.Lines.{Line, lines_of}
 use Rattle.dialogue.specs.Limits.{is_over, most_lines, most_octets}
-use Rattle.dialogue.specs.Devices.{Adds, IsPart, Moves, TakesEnough}
+use Rattle.dialogue.specs.Devices.{Adds, IsPart, TakesEnough}
+use Rattle.dialogue.specs.inner.Moving.{Moves}
 use Rattle.dialogue.specs.Printing.{Rules, IsTotal, Prints, IsFront}
 use Rattle.dialogue.specs.Answering.{OfEach}
 use Rattle.dialogue.specs.inner.Progress.{Leads, Passes, Progress, Reaches}

@@ -10,10 +10,6 @@ one_more count = (count + 1) % 2 ^ 64
 abbrev pub IsPart : List ℕ → List ℕ → List ℕ → Type 0
 IsPart before after octets = (given : List ℕ) × (left : List ℕ) × (octets ≡ given ++ left) × (after ≡ before ++ given)
 
--- Octets that waited were given from their front, and these are left.
-abbrev pub Moves : List ℕ → List ℕ → List ℕ → List ℕ → Type 0
-Moves before after waiting left = (given : List ℕ) × (waiting ≡ given ++ left) × (after ≡ before ++ given)
-
 -- Octets were added that are such a text.
 abbrev pub Adds : (List ℕ → Type 0) → List ℕ → List ℕ → Type 0
 Adds IsText before after = (text : List ℕ) × (after ≡ before ++ text) × IsText text

@@ -15,6 +15,7 @@ abbrev pub parts_of : List ℕ → List (List ℕ)
 parts_of [] = [] ∷ []
 parts_of (octet ∷ octets) = if is_blank octet then [] ∷ parts_of octets else part_begun_with octet (parts_of octets)
 
+-- A part that has octets.
 abbrev pub is_filled : List ℕ → Bool
 is_filled [] = false
 is_filled (octet ∷ octets) = true

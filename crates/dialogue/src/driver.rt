@@ -1,7 +1,8 @@
 //! The run of a machine over the lines of an input.
 ghost use Rattle.std.specs.Prelude.{◌≡◌, ◌≢◌, ℕ, ◌+◌, ◌<◌, ◌≤◌, ◌++◌, ◌||◌, List, [], true, Ok, Err, length, slice_index, nat_le, nat_lt, IfOk, OnOk, OnErr};
 ghost use Rattle.dialogue.specs.Answering.{OfEach};
-ghost use Rattle.dialogue.specs.Devices.{Adds, IsPart, Moves, TakesEnough, one_more};
+ghost use Rattle.dialogue.specs.Devices.{Adds, IsPart, TakesEnough, one_more};
+ghost use Rattle.dialogue.specs.inner.Moving.{Moves};
 ghost use Rattle.dialogue.specs.Limits.{most_ahead, most_lines, most_octets};
 ghost use Rattle.dialogue.specs.Lines.{lines_of};
 ghost use Rattle.dialogue.specs.Printing.{Prints, IsFront};

@@ -1,7 +1,7 @@
 -- Lemmas that other crates may use: the laws of this crate, each as a term under its name, and what
 -- goes with them.
 use Rattle.std.proofs.Common.{◌≡◌, ℕ, ◌≤◌, List}
-use Rattle.leaky.specs.EqualityLaws.{gcra_same}
+use Rattle.leaky.specs.inner.EqualityLaws.{gcra_same}
 use Rattle.leaky.specs.declared.gcra.Gcra.{Gcra}
 use Rattle.leaky.specs.Moments.{GoesOn}
 use Rattle.leaky.specs.Laws.{ContractsBoundBursts, ChargesAreFillings, FillingsShow, TaggedCellsCameUntagged, LevelsStandForBuckets, LevelsFollowBuckets, ChargesKeepUp}

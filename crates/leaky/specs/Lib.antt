@@ -8,6 +8,6 @@ pub mod Arrivals
 pub mod Agreement
 pub mod Tolerance
 pub mod Equality
-pub mod EqualityLaws
 pub mod Faults
 pub mod Laws
+pub mod inner

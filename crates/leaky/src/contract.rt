@@ -32,7 +32,7 @@ impl Default for Contract {
 impl PartialEq for Contract {
     ghost use Rattle.std.specs.Cmp.{decided, partial_equiv_from_equiv};
     ghost use Rattle.leaky.specs.Equality.{contract_eq};
-    ghost use Rattle.leaky.specs.EqualityLaws.{contract_eq_decides};
+    ghost use Rattle.leaky.specs.inner.EqualityLaws.{contract_eq_decides};
 
     ghost eq = { contract_eq };
 
@@ -54,7 +54,7 @@ impl PartialEq for Contract {
 impl Eq for Contract {
     ghost use Rattle.std.specs.Cmp.{decided};
     ghost use Rattle.leaky.specs.Equality.{contract_eq};
-    ghost use Rattle.leaky.specs.EqualityLaws.{contract_eq_decides};
+    ghost use Rattle.leaky.specs.inner.EqualityLaws.{contract_eq_decides};
 
     ghost laws = { decided contract_eq contract_eq_decides };
 }

@@ -107,7 +107,7 @@ impl Default for Gcra {
 impl PartialEq for Gcra {
     ghost use Rattle.std.specs.Cmp.{decided, partial_equiv_from_equiv};
     ghost use Rattle.leaky.specs.Equality.{gcra_eq};
-    ghost use Rattle.leaky.specs.EqualityLaws.{gcra_eq_decides};
+    ghost use Rattle.leaky.specs.inner.EqualityLaws.{gcra_eq_decides};
 
     ghost eq = { gcra_eq };
 
@@ -121,7 +121,7 @@ impl PartialEq for Gcra {
 impl Eq for Gcra {
     ghost use Rattle.std.specs.Cmp.{decided};
     ghost use Rattle.leaky.specs.Equality.{gcra_eq};
-    ghost use Rattle.leaky.specs.EqualityLaws.{gcra_eq_decides};
+    ghost use Rattle.leaky.specs.inner.EqualityLaws.{gcra_eq_decides};
 
     ghost laws = { decided gcra_eq gcra_eq_decides };
 }

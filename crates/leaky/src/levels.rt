@@ -42,7 +42,7 @@ impl Default for Levels {
 impl PartialEq for Levels {
     ghost use Rattle.std.specs.Cmp.{decided, partial_equiv_from_equiv};
     ghost use Rattle.leaky.specs.Equality.{levels_eq};
-    ghost use Rattle.leaky.specs.EqualityLaws.{levels_eq_decides};
+    ghost use Rattle.leaky.specs.inner.EqualityLaws.{levels_eq_decides};
 
     ghost eq = { levels_eq };
 
@@ -56,7 +56,7 @@ impl PartialEq for Levels {
 impl Eq for Levels {
     ghost use Rattle.std.specs.Cmp.{decided};
     ghost use Rattle.leaky.specs.Equality.{levels_eq};
-    ghost use Rattle.leaky.specs.EqualityLaws.{levels_eq_decides};
+    ghost use Rattle.leaky.specs.inner.EqualityLaws.{levels_eq_decides};
 
     ghost laws = { decided levels_eq levels_eq_decides };
 }

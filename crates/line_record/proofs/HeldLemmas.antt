@@ -7,7 +7,8 @@ use Rattle.std.proofs.lemmas.Option.{same_Some}
 use Rattle.gen_arena.specs.declared.id.Id.{Id}
 use Rattle.upc_cell.specs.declared.vc.Vc.{Vc}
 use Rattle.line_record.specs.declared.directory.Seating.{Seating}
-use Rattle.line_record.specs.Seats.{seat_in, ChangesAt}
+use Rattle.line_record.specs.Seats.{seat_in}
+use Rattle.line_record.specs.inner.SeatChanges.{ChangesAt}
 use Rattle.line_record.specs.Directory.{DirectoryView, seat_of, IsOpenLine, IsTakenLine, IsSoundDirectory}
 use Rattle.line_record.proofs.NumberLemmas.{slice_get-set_same, slice_get-set_other}
 use Rattle.upc_cell.proofs.Public.{vc_cases}

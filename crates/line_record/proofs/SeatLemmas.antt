@@ -12,7 +12,8 @@ use Rattle.upc_cell.specs.contracts.vc.VcPartialEq.TheImpl.{eq-value}
 use Rattle.upc_cell.specs.Connection.{is_same_vc}
 use Rattle.upc_cell.proofs.Public.{vc_same, vc_differs, vc_cases, vc_equivalence, eq-vc}
 use Rattle.line_record.specs.declared.directory.Seating.{Seating}
-use Rattle.line_record.specs.Seats.{seat_in, ChangesAt, HasEntries}
+use Rattle.line_record.specs.Seats.{seat_in}
+use Rattle.line_record.specs.inner.SeatChanges.{ChangesAt, HasEntries}
 use Rattle.line_record.specs.Directory.{DirectoryView, seat_of, IsOpenLine, IsDirectory}
 
 -- Look-ups.

@@ -10,3 +10,4 @@ pub mod Seats
 pub mod Directory
 pub mod Bursts
 pub mod Laws
+pub mod inner

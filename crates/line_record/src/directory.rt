@@ -1,7 +1,8 @@
 ghost use Rattle.std.specs.Prelude.{◌≡◌, ◌==◌, Some, IfSome, IfNone, option_map};
 ghost use Rattle.std.specs.List.{list_any};
 ghost use Rattle.std.specs.HashMap.{values};
-ghost use Rattle.line_record.specs.Seats.{seat_in, ChangesAt, HasEntries};
+ghost use Rattle.line_record.specs.Seats.{seat_in};
+ghost use Rattle.line_record.specs.inner.SeatChanges.{ChangesAt, HasEntries};
 ghost use Rattle.gen_arena.specs.SameId.{is_same_id};
 
 use crate::fault::DirFault;

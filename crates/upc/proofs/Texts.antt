@@ -4,9 +4,8 @@ use Rattle.dialogue.specs.declared.outcome.Done.{Done}
 use Rattle.upc.specs.Subcommand.{IsTextOf}
 use Rattle.upc.specs.declared.choose.Choice.{Choice}
 use Rattle.upc.specs.declared.choose.Choice.TheVariants.{Check, Eval, Run}
-use Rattle.upc.proofs.CheckText.{some-check_text, one-check_text}
-use Rattle.upc.proofs.OneText.{some-eval_text, one-eval_text}
-use Rattle.upc.proofs.one_script.OneScript.{some-run_text, one-run_text}
+use Rattle.program_dialogue.proofs.Public.{some-check_text, one-check_text, some-eval_text, one-eval_text}
+use Rattle.card_dialogue.proofs.Public.{some-run_text, one-run_text}
 
 pub some-text_of : (choice : Choice) (octets : List ℕ) → (text : List ℕ) × (done : Done) × IsTextOf choice octets text done
 some-text_of Check octets = some-check_text octets

@@ -73,9 +73,3 @@ abbrev pub StopsAt : List Text → Stop → Type 0
 StopsAt words (Help text) = AsksHelp words
 StopsAt words (Words text) = IsFaulty words
 StopsAt words NoMemory = ⊤
-
--- which stop an error of this kind may come to
-abbrev pub IsStopFor : ErrorKind → Stop → Type 0
-IsStopFor kind (Help text) = kind ≡ DisplayHelp
-IsStopFor kind (Words text) = (kind ≢ DisplayHelp) × (kind ≢ OutOfMemory)
-IsStopFor kind NoMemory = ⊤

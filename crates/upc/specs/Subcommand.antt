@@ -1,8 +1,8 @@
 -- What each subcommand prints.
 use Rattle.std.specs.Prelude.{ℕ, List}
-use Rattle.upc.specs.Check.{IsCheckText}
-use Rattle.upc.specs.Eval.{IsEvalText}
-use Rattle.upc.specs.Run.{IsRunText}
+use Rattle.program_dialogue.specs.Check.{IsCheckText}
+use Rattle.program_dialogue.specs.Eval.{IsEvalText}
+use Rattle.card_dialogue.specs.Run.{IsRunText}
 use Rattle.upc.specs.declared.choose.Choice.{Choice}
 use Rattle.upc.specs.declared.choose.Choice.TheVariants.{Check, Eval, Run}
 use Rattle.dialogue.specs.declared.outcome.Done.{Done}

@@ -4,7 +4,8 @@ ghost use Rattle.std.specs.String.{string_bytes};
 ghost use Rattle.clap.specs.Values.{kind_of};
 ghost use Rattle.clap.specs.Simple.{app_of, new_app};
 ghost use Rattle.clap.specs.Kinds.{FailsBy};
-ghost use Rattle.upc.specs.Choice.{Asks, IsChoiceOf, IsChosen, IsStopFor, StopsAt, behind_name, choice_named, faults_in};
+ghost use Rattle.upc.specs.Choice.{Asks, IsChoiceOf, IsChosen, StopsAt, behind_name, choice_named, faults_in};
+ghost use Rattle.upc.specs.inner.Stopping.{IsStopFor};
 ghost use Rattle.upc.specs.Choice.{subcommand_in, upc_app, with_name};
 
 use clap::error::ErrorKind;

@@ -2,29 +2,13 @@
 //! standard output.
 #![tactic(auto)]
 
-mod answer;
-mod card_line;
-mod check;
 mod choose;
-mod commands;
-mod digits;
-mod eval;
 mod exit;
-mod fault_lines;
-mod hexadecimal;
 mod invocation;
 mod laws;
-mod names;
-mod program;
-mod rates;
-mod replies;
-mod run;
-mod script_card;
-mod script_words;
 mod subcommand;
 #[cfg(test)]
 mod tests;
-mod text_from_end;
 
 use choose::{Choice, Stop, choose};
 use dialogue::{Giving, Taking};

@@ -6,11 +6,10 @@ ghost use Rattle.dialogue.specs.Outcome.{read_failures, write_failures};
 ghost use Rattle.dialogue.specs.Printing.{IsFront};
 ghost use Rattle.upc.specs.Subcommand.{IsTextOf};
 
-use crate::check::check_source;
 use crate::choose::Choice;
-use crate::eval::eval_bytes;
-use crate::run::run_script;
+use card_dialogue::run_script;
 use dialogue::{Done, Input, Output, RunFault};
+use program_dialogue::{check_source, eval_bytes};
 use std::alloc::Global;
 
 /// Runs the subcommand over the whole input.

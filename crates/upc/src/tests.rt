@@ -1,10 +1,6 @@
 //! What the subcommands print, over whole inputs and over devices that give little or fail.
 mod devices;
-mod digits;
-mod fault_lines;
 mod limits;
-mod rates;
-mod replies;
 mod rows;
 mod scripts;
 mod sources;

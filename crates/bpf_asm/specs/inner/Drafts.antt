@@ -5,9 +5,9 @@ use Rattle.bpf_asm.specs.Labels.{EachLabelOnce, HasLabel, StandsFor, statements_
 use Rattle.bpf_asm.specs.Lines.{source_lines}
 use Rattle.bpf_asm.specs.Faults.{IsLineFault, IsOperandFault, IsOutOfMemory}
 use Rattle.bpf_asm.specs.Meaning.{MeanFrom}
-use Rattle.bpf_asm.specs.Pending.{IsPending}
-use Rattle.bpf_asm.specs.Places.{place_of}
-use Rattle.bpf_asm.specs.Seen.{statement_seen}
+use Rattle.bpf_asm.specs.inner.Pending.{IsPending}
+use Rattle.bpf_asm.specs.inner.Places.{place_of}
+use Rattle.bpf_asm.specs.inner.Seen.{statement_seen}
 use Rattle.bpf_asm.specs.Spelling.{Statement}
 use Rattle.bpf_asm.specs.declared.draft.Draft.{Draft}
 use Rattle.bpf_asm.specs.declared.draft.Unresolved.{Unresolved}

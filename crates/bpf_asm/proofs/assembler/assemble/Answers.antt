@@ -2,7 +2,7 @@ use Rattle.std.proofs.Common.{rules, ◌⊎◌, ℕ, Option, inl, subst}
 use Rattle.bpf_asm.specs.Faults.{IsFault, IsFirstOperandFault, IsOutOfMemory}
 use Rattle.bpf_asm.specs.Labels.{statements_of}
 use Rattle.bpf_asm.specs.Meaning.{IsMeaning, MeanFrom}
-use Rattle.bpf_asm.specs.Pending.{IsPending}
+use Rattle.bpf_asm.specs.inner.Pending.{IsPending}
 use Rattle.bpf_asm.specs.declared.fault.AsmFault.{AsmFault}
 use Rattle.bpf_asm.proofs.Agreement.{if_ok}
 use Rattle.bpf_asm.proofs.Assembled.{dangling_source, if_err, means_source, operand_source}

@@ -1,6 +1,6 @@
 use Rattle.std.proofs.Common.{sym, ap}
 use Rattle.std.specs.Option.{option_copied, option_map}
-use Rattle.bpf_asm.specs.Seen.{line_seen, statement_seen}
+use Rattle.bpf_asm.specs.inner.Seen.{line_seen, statement_seen}
 use Rattle.bpf_asm.proofs.PendingSteps.{pending_at, pending_kept, pending_new, pending_none, pending_plain}
 use Rattle.bpf_asm.proofs.draft.pending_after.Goals as goal
 

@@ -1,5 +1,5 @@
 use Rattle.std.proofs.Common.{sym, ◌∙◌}
-use Rattle.bpf_asm.specs.Seen.{line_seen}
+use Rattle.bpf_asm.specs.inner.Seen.{line_seen}
 use Rattle.bpf_asm.proofs.LineRead.{bad_line_is, bad_number_is, said_line}
 use Rattle.bpf_asm.proofs.reader.read_line.Goals as goal
 

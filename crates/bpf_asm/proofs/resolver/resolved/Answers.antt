@@ -1,6 +1,6 @@
 use Rattle.std.proofs.Common.{refl, ap}
 use Rattle.std.specs.Option.{option_copied}
-use Rattle.bpf_asm.specs.Seen.{statement_seen}
+use Rattle.bpf_asm.specs.inner.Seen.{statement_seen}
 use Rattle.bpf_asm.proofs.Resolving.{first_side, jump_fault, second_side}
 use Rattle.bpf_asm.proofs.resolver.resolved.Goals as goal
 

@@ -1,6 +1,6 @@
 use Rattle.std.proofs.Common.{sym, ◌∙◌, ap}
 use Rattle.std.proofs.lemmas.List.{take_rest}
-use Rattle.bpf_asm.specs.Reading.{cut_mark}
+use Rattle.bpf_asm.specs.inner.Reading.{cut_mark}
 use Rattle.bpf_asm.proofs.Cuts.{mark_none}
 use Rattle.bpf_asm.proofs.OctetTests.{is_zero, not_zero}
 use Rattle.bpf_asm.proofs.Peeks.{no_mark, read-same}

@@ -2,7 +2,8 @@ use Rattle.std.proofs.Common.{◌≡◌, Option, Some, None, IsSome, refl, ap, s
 use Rattle.std.specs.Prelude.{option_map}
 use Rattle.gen_arena.specs.declared.id.Id.{Id}
 use Rattle.line_record.specs.declared.directory.Seating.{Seating}
-use Rattle.line_record.specs.Seats.{ChangesAt, seat_in}
+use Rattle.line_record.specs.Seats.{seat_in}
+use Rattle.line_record.specs.inner.SeatChanges.{ChangesAt}
 use Rattle.line_record.proofs.SeatLemmas.{ChangesAt-updates, lookup-seat}
 use Rattle.line_record.proofs.directory.reprogram.Goals as goal
 

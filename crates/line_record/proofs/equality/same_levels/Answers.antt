@@ -1,5 +1,5 @@
 use Rattle.std.proofs.lemmas.Slice.Eq.{slice_eq-Decides}
-use Rattle.leaky.specs.EqualityLaws.{levels_eq_decides}
+use Rattle.leaky.specs.inner.EqualityLaws.{levels_eq_decides}
 use Rattle.line_record.proofs.equality.same_levels.Goals as goal
 
 pub returns : goal.returns

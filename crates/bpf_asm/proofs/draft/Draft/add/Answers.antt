@@ -1,9 +1,9 @@
 use Rattle.std.proofs.Common.{◌≡◌, ℕ, ◌+◌, [], ◌∷◌, ◌++◌, length, Option, None, Result, Ok, Err, OnOk, is_ok, sym, ap, ◌∙◌, subst, arith, length-append}
 use Rattle.std.specs.Option.{option_map}
-use Rattle.bpf_asm.specs.Labels.{statement_count}
-use Rattle.bpf_asm.specs.Pending.{IsPending}
-use Rattle.bpf_asm.specs.Places.{place_of}
-use Rattle.bpf_asm.specs.Seen.{line_seen, statement_seen}
+use Rattle.bpf_asm.specs.inner.Counts.{statement_count}
+use Rattle.bpf_asm.specs.inner.Pending.{IsPending}
+use Rattle.bpf_asm.specs.inner.Places.{place_of}
+use Rattle.bpf_asm.specs.inner.Seen.{line_seen, statement_seen}
 use Rattle.bpf_asm.specs.inner.Drafts.{AgreesWith, drafted}
 use Rattle.bpf_asm.proofs.DraftSteps.{draft_add, draft_skip}
 use Rattle.bpf_asm.proofs.draft.Draft.add.Goals as goal

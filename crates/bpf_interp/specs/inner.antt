@@ -1,0 +1,3 @@
+-- What only private functions and proofs need.
+pub mod Registers
+pub mod Turns

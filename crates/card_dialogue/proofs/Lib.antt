@@ -1,0 +1,13 @@
+pub mod MarkLemmas
+pub mod ArrivalLemmas
+pub mod DeskReplies
+pub mod MovesLemmas
+pub mod NamingLemmas
+pub mod NumberLemmas
+pub mod PolicingLemmas
+pub mod ConnectionWords
+pub mod ContractWords
+pub mod PieceLemmas
+pub mod RateLemmas
+pub mod one_script
+pub mod Public

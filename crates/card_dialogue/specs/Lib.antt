@@ -1,0 +1,9 @@
+-- The dialogue with a card. In the order of reading:
+pub mod ScriptWords
+pub mod ScriptCommands
+pub mod CardLine
+pub mod Rates
+pub mod CardFaults
+pub mod Replies
+pub mod Run
+pub mod inner

@@ -1,0 +1,9 @@
+-- What only private functions and proofs need.
+pub mod AddsSome
+pub mod CommandSeen
+pub mod Digits
+pub mod Naming
+pub mod CardSteps
+pub mod PortZero
+pub mod Policing
+pub mod RunLaws

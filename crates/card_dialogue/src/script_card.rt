@@ -1,0 +1,305 @@
+//! The card that a script has opened, and the commands that it obeys.
+use crate::card_faults::{add_desk_fault, add_gcra_fault, add_no_such_program};
+use crate::commands::{Command, read_command};
+use crate::names::Names;
+use crate::rates::contracts_of;
+use crate::replies::{
+    add_answer, add_cut, add_loaded, add_released, add_reloaded, add_retired, add_set,
+};
+use crate::script_words::Wanted;
+use arrayvec::ArrayVec;
+use bpf_verify::Program;
+use card_core::{Answer, Ask, CardFault, Core, PortReply, Reply, Shape, Step};
+use program_dialogue::{
+    CellWord, add_bad_hex, add_bad_line, add_wrong_length, cell_of_word, octets_of_word,
+    read_program,
+};
+use std::alloc::{AllocError, Global};
+use std::marker::Model;
+use upc_cell::{Cell, Side, Vc};
+
+/// The port that every cell of a script comes to.
+const PORT: u8 = 0;
+
+/// A card, and the names of the programs that were put in.
+#[derive(Drop)]
+pub struct ScriptCard {
+    core: Core,
+    names: Names,
+}
+
+impl Model for ScriptCard {
+    ghost use Rattle.card_dialogue.specs.inner.Policing.{Held};
+
+    ghost Value = { Held };
+
+    ghost view = { λ card. record { core = card.core; names = card.names } };
+}
+
+// A command of the desk has replies of its own kind alone, so that other arms are never come to: no card
+// that is shown leads there. Steps and replies of the desk may hold a program; the functions that have some
+// are kept out of the path of a cell, which would pay for their room.
+impl ScriptCard {
+    ghost use Rattle.std.specs.Prelude.{◌≡◌, ◌⊎◌, [], IfOk, IfErr, OnOk, MatchResult, None, Some};
+    ghost use Rattle.card_core.specs.Shapes.{shape_fault};
+    ghost use Rattle.card_dialogue.specs.CardLine.{card_of};
+    ghost use Rattle.card_dialogue.specs.ScriptCommands.{load, retire, setup, reload, release, cut, cell};
+    ghost use Rattle.card_core.specs.declared.step.Step.TheVariants.{Load};
+    ghost use Rattle.card_dialogue.specs.Replies.{number_of_judging};
+    ghost use Rattle.card_dialogue.specs.Run.{Asks, CommandLine, LoadsOctets, Obeys, Polices, Takes, TakesNamed, new_card};
+    ghost use Rattle.card_dialogue.specs.inner.CommandSeen.{command_seen};
+    ghost use Rattle.card_dialogue.specs.inner.Policing.{AnswersCell, JudgesPort, Moves, ShowsCard};
+    ghost use Rattle.dialogue.specs.Words.{words_of};
+
+    /// A card of this shape, to which nothing has come.
+    ///
+    /// # Errors
+    ///
+    /// `Programs`, `Lines`, `Ports`, `Journal`: the first number of the shape that is out of its
+    /// limits. Then `NoMemory`, where memory is refused.
+    pub fn new(alloc: Global, shape: Shape) -> Result<Self, CardFault>
+        ensures shows { IfOk result (λ card. ShowsCard card (new_card shape)) }
+        ensures refused { MatchResult result
+            (λ _. shape_fault shape ≡ None)
+            (λ fault. (shape_fault shape ≡ Some fault) ⊎ (fault ≡ CardFault.NoMemory)) }
+    {
+        let core = match Core::new(alloc, shape) {
+            Ok(core) => core,
+            Err(fault) => return Err(fault),
+        };
+        match Names::new(alloc, shape.programs as usize) {
+            Ok(names) => Ok(ScriptCard { core, names }),
+            Err(_) => Err(CardFault::NoMemory),
+        }
+    }
+
+    /// Puts a program in.
+    #[inline(never)]
+    fn put(
+        &mut self,
+        digits: &[u8],
+        program: Program,
+        answers: &mut Vec<u8>,
+    ) -> Result<(), AllocError>
+        ensures { OnOk result (Moves (λ before. Takes before (load digits.now) (Load program))
+            self.old self.new answers.old.items answers.new.items) }
+    {
+        match self.core.step(Step::Load(program)) {
+            Reply::Loaded(id) => {
+                self.names.push(id)?;
+                add_loaded(answers, self.names.count() as u64)
+            }
+            Reply::NotLoaded(fault, _) => add_desk_fault(answers, fault),
+            _ => Ok(()),
+        }
+    }
+
+    /// Puts in the program of these octets, if they are one.
+    #[inline(never)]
+    fn load(
+        &mut self,
+        alloc: Global,
+        digits: &[u8],
+        answers: &mut Vec<u8>,
+    ) -> Result<(), AllocError>
+        ensures { OnOk result (Moves (λ before. Obeys before (load digits.now))
+            self.old self.new answers.old.items answers.new.items) }
+    {
+        let Some(octets) = octets_of_word(alloc, digits)? else {
+            return add_bad_hex(answers);
+        };
+        match read_program(alloc, &octets, answers)? {
+            Some(program) => self.put(digits, program, answers),
+            None => Ok(()),
+        }
+    }
+
+    /// Takes a program out.
+    #[inline(never)]
+    fn retire(&mut self, number: u64, answers: &mut Vec<u8>) -> Result<(), AllocError>
+        ensures { OnOk result (Moves (λ before. Obeys before (retire number))
+            self.old self.new answers.old.items answers.new.items) }
+    {
+        let Some(id) = self.names.named(number) else {
+            return add_no_such_program(answers);
+        };
+        match self.core.step(Step::Retire(id)) {
+            Reply::Retired(_) => add_retired(answers, number),
+            Reply::Refused(fault) => add_desk_fault(answers, fault),
+            _ => Ok(()),
+        }
+    }
+
+    /// Sets up a connection under contracts whose rates may be at fault.
+    #[inline(never)]
+    fn setup(
+        &mut self,
+        vc: Vc,
+        number: u64,
+        wanted: &ArrayVec<Wanted, 4>,
+        answers: &mut Vec<u8>,
+    ) -> Result<(), AllocError>
+        ensures { OnOk result (Moves (λ before. Obeys before (setup vc number wanted.now.items))
+            self.old self.new answers.old.items answers.new.items) }
+    {
+        let contracts = match contracts_of(wanted) {
+            Ok(contracts) => contracts,
+            Err(fault) => return add_gcra_fault(answers, fault),
+        };
+        let Some(program) = self.names.named(number) else {
+            return add_no_such_program(answers);
+        };
+        let ask = Ask {
+            vc,
+            program,
+            contracts,
+        };
+        match self.core.step(Step::Setup(ask)) {
+            Reply::SetUp(_) => add_set(answers, vc),
+            Reply::NotSetUp(fault, _) => add_desk_fault(answers, fault),
+            _ => Ok(()),
+        }
+    }
+
+    /// Gives a connection another program.
+    #[inline(never)]
+    fn reload(&mut self, vc: Vc, number: u64, answers: &mut Vec<u8>) -> Result<(), AllocError>
+        ensures { OnOk result (Moves (λ before. Obeys before (reload vc number))
+            self.old self.new answers.old.items answers.new.items) }
+    {
+        let Some(program) = self.names.named(number) else {
+            return add_no_such_program(answers);
+        };
+        match self.core.step(Step::Reload { vc, program }) {
+            Reply::Reloaded(_) => add_reloaded(answers, vc, number),
+            Reply::Refused(fault) => add_desk_fault(answers, fault),
+            _ => Ok(()),
+        }
+    }
+
+    /// Ends a connection.
+    #[inline(never)]
+    fn release(&mut self, vc: Vc, answers: &mut Vec<u8>) -> Result<(), AllocError>
+        ensures { OnOk result (Moves (λ before. Obeys before (release vc))
+            self.old self.new answers.old.items answers.new.items) }
+    {
+        match self.core.step(Step::Release(vc)) {
+            Reply::Released(piece) => add_released(answers, vc, &piece),
+            Reply::Refused(fault) => add_desk_fault(answers, fault),
+            _ => Ok(()),
+        }
+    }
+
+    /// Hands out a connection's journal.
+    #[inline(never)]
+    fn cut(&mut self, vc: Vc, answers: &mut Vec<u8>) -> Result<(), AllocError>
+        ensures { OnOk result (Moves (λ before. Obeys before (cut vc))
+            self.old self.new answers.old.items answers.new.items) }
+    {
+        match self.core.step(Step::Cut(vc)) {
+            Reply::Cut(piece) => add_cut(answers, vc, &piece),
+            Reply::Refused(fault) => add_desk_fault(answers, fault),
+            _ => Ok(()),
+        }
+    }
+
+    /// What becomes of a cell that was picked.
+    fn judge(&mut self) -> Option<Answer>
+        ensures follows { JudgesPort self.old.core result self.new.core }
+        ensures names { self.new.names ≡ self.old.names }
+    {
+        if let PortReply::Answered(answer) = self.core.judge(PORT) {
+            return Some(answer);
+        }
+        None
+    }
+
+    /// What becomes of a cell: it enters the port, and is picked; where it belongs to a connection, it is
+    /// judged.
+    fn arrive(&mut self, cell: Cell, moment: u64) -> Option<Answer>
+        ensures { AnswersCell self.old cell moment result self.new }
+    {
+        self.core.enter(PORT, cell, moment);
+        if let PortReply::Answered(answer) = self.core.pick(PORT) {
+            return Some(answer);
+        }
+        self.judge()
+    }
+
+    /// The number of the name of the program that named a judged cell's contract, and 0 for other answers.
+    fn number_judging(&self, answer: &Answer) -> u64
+        ensures { result ≡ number_of_judging self.now.names answer.now }
+    {
+        match answer {
+            Answer::Judged { program, .. } => self.names.number_of(*program) as u64,
+            _ => 0,
+        }
+    }
+
+    /// Polices a cell.
+    fn police(&mut self, moment: u64, cell: Cell, answers: &mut Vec<u8>) -> Result<(), AllocError>
+        ensures { OnOk result (Moves (λ before. Polices before moment cell)
+            self.old self.new answers.old.items answers.new.items) }
+    {
+        let vc = cell.vc_at(self.core.shape().side);
+        let Some(answer) = self.arrive(cell, moment) else {
+            return Ok(());
+        };
+        add_answer(answers, self.number_judging(&answer), vc, &answer)
+    }
+
+    /// Polices the cell that a word spells, if it spells one.
+    fn cell(
+        &mut self,
+        alloc: Global,
+        moment: u64,
+        word: &[u8],
+        answers: &mut Vec<u8>,
+    ) -> Result<(), AllocError>
+        ensures { OnOk result (Moves (λ before. Obeys before (cell moment word.now))
+            self.old self.new answers.old.items answers.new.items) }
+    {
+        match cell_of_word(alloc, word)? {
+            CellWord::OfCell(cell) => self.police(moment, cell, answers),
+            CellWord::OfOthers(count) => add_wrong_length(answers, count),
+            CellWord::NoDigits => add_bad_hex(answers),
+        }
+    }
+
+    /// Obeys a command.
+    fn obey(
+        &mut self,
+        alloc: Global,
+        command: &Command<'_>,
+        answers: &mut Vec<u8>,
+    ) -> Result<(), AllocError>
+        ensures { OnOk result (Moves (λ before. Obeys before (command_seen command.now))
+            self.old self.new answers.old.items answers.new.items) }
+    {
+        match command {
+            Command::Cell(moment, word) => self.cell(alloc, *moment, word, answers),
+            Command::Load(digits) => self.load(alloc, digits, answers),
+            Command::Retire(number) => self.retire(*number, answers),
+            Command::Setup(vc, number, wanted) => self.setup(*vc, *number, wanted, answers),
+            Command::Reload(vc, number) => self.reload(*vc, *number, answers),
+            Command::Release(vc) => self.release(*vc, answers),
+            Command::Cut(vc) => self.cut(*vc, answers),
+        }
+    }
+
+    /// Answers a line with words.
+    pub fn answer(
+        &mut self,
+        alloc: Global,
+        line: &[u8],
+        answers: &mut Vec<u8>,
+    ) -> Result<(), AllocError>
+        ensures { OnOk result (Moves (λ before. CommandLine before (words_of line.now))
+            self.old self.new answers.old.items answers.new.items) }
+    {
+        match read_command(self.core.shape().side, line) {
+            Some(command) => self.obey(alloc, &command, answers),
+            None => add_bad_line(answers),
+        }
+    }
+}

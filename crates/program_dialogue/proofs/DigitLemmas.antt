@@ -1,0 +1,160 @@
+-- How digits are read, and a line of digits alone is answered.
+use Rattle.std.proofs.Common.{◌≡◌, ◌≢◌, ℕ, zero, suc, ◌+◌, ◌-◌, ◌*◌, ◌%◌, ◌<◌, ◌≤◌, ◌==◌, nat_lt, if◌then◌else◌, ◌&&◌, T, eqb, eqb→eq, eq-zero-or-pos, inl, inr, Bool, true, false, List, [], ◌∷◌, ◌++◌, Option, Some, None, Result, Ok, Err, length, get_or, set, take, drop, ap, sym, subst, ◌∙◌, arith, below_more, get_or-set_other, get_or-set_same, bit_or, refl, eq-eqb}
+use Rattle.std.specs.Bool.{MatchBool}
+use Rattle.std.specs.Option.{MatchOption}
+use Rattle.std.specs.Result.{OnOk, result_ok}
+use Rattle.std.proofs.lemmas.List.Elements.{All-get_or}
+use Rattle.std.proofs.lemmas.Bool.{lt-ltb}
+use Rattle.std.proofs.lemmas.Nat.{le_or_l, le_or_r}
+use lib.Ieee.Fits.{and_l, and_r}
+use Rattle.hex.specs.Hex.{decode_of, hex_digit_value, is_hex_digit}
+use Rattle.hex.proofs.HexLemmas.{decode_of-ok}
+use Rattle.bpf_code.specs.declared.instr.Instr.{Instr}
+use Rattle.dialogue.specs.Devices.{Adds}
+use Rattle.dialogue.specs.Words.{is_blank, is_silent, words_of}
+use Rattle.dialogue.proofs.Public.{one-word}
+use Rattle.program_dialogue.specs.Eval.{Asks, CellLine, EvalSteps, RunsOn, TellsValue}
+use Rattle.program_dialogue.specs.FaultLines.{bad_hex, wrong_length}
+use Rattle.program_dialogue.specs.Hexadecimal.{cell_of, octets_of}
+use Rattle.program_dialogue.specs.CellWord.{IsCellWord}
+use Rattle.program_dialogue.specs.inner.DigitNumbers.{AreDigitsOf}
+use Rattle.program_dialogue.specs.declared.digits.TheConstants.{NUMBERS}
+use Rattle.program_dialogue.specs.declared.hexadecimal.CellWord.TheVariants.{OfCell}
+use Rattle.program_dialogue.proofs.HexadecimalLemmas.{spelled-length, spelled-digits}
+
+-- one more digit was read
+pub read-more : (word numbers : List ℕ) (at number seen : ℕ) → at < length numbers
+    → (number < 16 → hex_digit_value (get_or word at 0) ≡ Some number)
+    → (seen < 16 → (k : ℕ) → k < at → (hex_digit_value (get_or word k 0) ≡ Some (get_or numbers k 0)) × (get_or numbers k 0 < 16))
+    → bit_or seen number < 16
+    → (k : ℕ) → k < at + 1 → (hex_digit_value (get_or word k 0) ≡ Some (get_or (set numbers at number) k 0)) × (get_or (set numbers at number) k 0 < 16)
+read-more word numbers at number seen within one before small =
+    let low = le_or_l seen number in
+    let high = le_or_r seen number in
+    let digit : number < 16 = omega arith in
+    let earlier : seen < 16 = omega arith in
+    below_more _ at
+    (λ k below. let other : k ≢ at = omega arith in rw (get_or-set_other numbers at k number 0 other) (before earlier k below))
+    (rw (get_or-set_same numbers at number 0 within) (one digit, digit))
+
+hex-value-small : (c v : ℕ) → hex_digit_value c ≡ Some v → v < 16
+hex-value-small c v h = grind (arith)
+
+-- what stands in the table: the number of a digit, and 256 of any other octet
+abbrev number_or_none : Option ℕ → ℕ
+number_or_none (Some number) = number
+number_or_none None = 256
+
+abbrev are_numbers : ℕ → Bool
+are_numbers zero = true
+are_numbers (suc n) = eqb (get_or NUMBERS n 0) (number_or_none (hex_digit_value n)) && are_numbers n
+
+number-below : (n c : ℕ) → T (are_numbers n) → c < n → get_or NUMBERS c 0 ≡ number_or_none (hex_digit_value c)
+number-below zero c t below = absurd (omega arith)
+number-below (suc n) c t below =
+    elim (eq-zero-or-pos (n - c)) [
+      | inl last ↦ let e : c ≡ n = omega arith in rw e (eqb→eq _ _ (and_l _ (are_numbers n) t))
+      | inr more ↦ number-below n c (and_r _ (are_numbers n) t) (omega arith)
+    ]
+
+number-at : (c : ℕ) → c < 256 → get_or NUMBERS c 0 ≡ number_or_none (hex_digit_value c)
+number-at c below = number-below 256 c tt below
+
+number-of : (c number : ℕ) (found : Option ℕ) → number ≡ number_or_none found → number < 256 → found ≡ Some number
+number-of c number (Some value) same small = ap Some (sym same)
+number-of c number None same small = absurd (omega arith)
+
+pub digits-of : (first second : ℕ) → first < 256 → second < 256 → 16 * get_or NUMBERS first 0 + get_or NUMBERS second 0 < 256
+    → AreDigitsOf first second (16 * get_or NUMBERS first 0 + get_or NUMBERS second 0)
+digits-of first second below low small = (
+  get_or NUMBERS first 0,
+  get_or NUMBERS second 0,
+  number-of first (get_or NUMBERS first 0) (hex_digit_value first) (number-at first below) (omega arith),
+  number-of second (get_or NUMBERS second 0) (hex_digit_value second) (number-at second low) (omega arith),
+  refl,
+)
+
+number-small : (found : Option ℕ) (c : ℕ) → hex_digit_value c ≡ found → number_or_none found ≤ 256
+number-small (Some value) c e = omega (arith, hex-value-small c value e)
+number-small None c e = omega arith
+
+pub number-at_most : (c : ℕ) → c < 256 → get_or NUMBERS c 0 ≤ 256
+number-at_most c below = let h = number-small (hex_digit_value c) c refl in omega (arith, number-at c below)
+
+-- a figure by its place among the figures
+pub figure-read : (c : ℕ) → c < 256 → (c + 208) % 256 < 10 → hex_digit_value c ≡ Some ((c + 208) % 256)
+figure-read c below small =
+    let low : 48 ≤ c = omega arith in
+    let high : c ≤ 57 = omega arith in
+    let number : (c + 208) % 256 ≡ c - 48 = omega arith in
+    rw number (grind arith)
+
+-- a letter by its place among the small letters, for each octet that there is
+abbrev letter_at : ℕ → ℕ
+letter_at c = (bit_or c 32 + 159) % 256
+
+abbrev are_letters : ℕ → Bool
+are_letters zero = true
+are_letters (suc n) = (if nat_lt (letter_at n) 6 then eqb (number_or_none (hex_digit_value n)) (letter_at n + 10) else true) && are_letters n
+
+letter-below : (n c : ℕ) → T (are_letters n) → c < n → letter_at c < 6 → number_or_none (hex_digit_value c) ≡ letter_at c + 10
+letter-below zero c t below small = absurd (omega arith)
+letter-below (suc n) c t below small =
+    elim (eq-zero-or-pos (n - c)) [
+      | inl last ↦
+          let e : n ≡ c = omega arith in
+          let here : T (if nat_lt (letter_at c) 6 then eqb (number_or_none (hex_digit_value c)) (letter_at c + 10) else true) =
+          subst (λ (m : ℕ). T (if nat_lt (letter_at m) 6 then eqb (number_or_none (hex_digit_value m)) (letter_at m + 10) else true)) e (and_l _ (are_letters n) t) in
+          let P : Bool → Type 0 = λ b. T (if b then eqb (number_or_none (hex_digit_value c)) (letter_at c + 10) else true) in
+          eqb→eq _ _ (subst P (lt-ltb (letter_at c) 6 small) here)
+      | inr more ↦ letter-below n c (and_r _ (are_letters n) t) (omega arith) small
+    ]
+
+pub letter-read : (c : ℕ) → c < 256 → (bit_or c 32 + 159) % 256 < 6 → hex_digit_value c ≡ Some ((bit_or c 32 + 159) % 256 + 10)
+letter-read c below small = number-of c ((bit_or c 32 + 159) % 256 + 10) (hex_digit_value c) (sym (letter-below 256 c tt below small)) (omega arith)
+
+-- a digit is neither a blank nor the sign of a remark
+digit-visible : (c : ℕ) → is_hex_digit c ≡ true → (is_blank c ≡ false) × ((c == 35) ≡ false)
+digit-visible c digit = (grind arith, grind arith)
+
+digits-visible : (word octets : List ℕ) → octets_of word ≡ Some octets → (k : ℕ) → k < length word
+    → (is_blank (get_or word k 0) ≡ false) × ((get_or word k 0 == 35) ≡ false)
+digits-visible word octets spelled k below =
+    digit-visible (get_or word k 0) (All-get_or (λ c. is_hex_digit c ≡ true) word k 0 below (spelled-digits word octets spelled))
+
+filled : (octets cell : List ℕ) → cell_of octets ≡ cell → length cell ≡ 52 → 0 < length octets
+filled [] cell same sized = let none : 0 ≡ length cell = ap length same in absurd (omega arith)
+filled (octet ∷ octets) cell same sized = omega arith
+
+loud : (word : List ℕ) → 0 < length word → (get_or word 0 0 == 35) ≡ false → is_silent (word ∷ []) ≡ false
+loud [] some other = absurd (omega arith)
+loud (octet ∷ octets) some other = other
+
+-- a word that spells a cell is answered by the program's value on it
+runs-on_cell : (code : List Instr) (octets cell text : List ℕ) → cell_of octets ≡ cell → length cell ≡ 52 → TellsValue code cell text
+    → RunsOn code (cell_of octets) text
+runs-on_cell code octets cell text same sized told =
+    let P : List ℕ → Type 0 = λ whole. RunsOn code whole text in
+    let Q : Bool → Type 0 = λ b. MatchBool b (TellsValue code cell text) (text ≡ wrong_length (length cell)) in
+    subst P (sym same) (subst Q (sym (eq-eqb (length cell) 52 sized)) told)
+
+-- and so is a line of it alone
+pub digits-answered : (code : List Instr) (line cell text : List ℕ) → IsCellWord line (OfCell cell) → TellsValue code cell text
+    → EvalSteps (Some code) line text (Some (Some code))
+digits-answered code line cell text word told =
+    let octets = word.0 in
+    let sized = spelled-length line octets word.1 in
+    let some : 0 < length line = let h = filled octets cell word.2 word.3 in omega arith in
+    let alone : words_of line ≡ line ∷ [] = one-word line some (λ k below. (digits-visible line octets word.1 k below).0) in
+    let asks : is_silent (line ∷ []) ≡ false = loud line some (digits-visible line octets word.1 0 some).1 in
+    let Read : Option (List ℕ) → Type 0 = λ read. MatchOption read (text ≡ bad_hex) (λ found. RunsOn code (cell_of found) text) in
+    let here : CellLine code (line ∷ []) text = subst Read (sym word.1) (runs-on_cell code octets cell text word.2 word.3 told) in
+    let Silent : Bool → Type 0 = λ b. MatchBool b ((text ≡ []) × (Some (Some code) ≡ Some (Some code))) (Asks (Some code) (line ∷ []) text (Some (Some code))) in
+    let Words : List (List ℕ) → Type 0 = λ words. MatchBool (is_silent words) ((text ≡ []) × (Some (Some code) ≡ Some (Some code))) (Asks (Some code) words text (Some (Some code))) in
+    subst Words (sym alone) (subst Silent (sym asks) (here, refl))
+
+-- what was added is a text of another kind as well
+pub adds-onward : {E : Type 0} (r : Result (Unit {0}) E) (IsText IsOther : List ℕ → Type 0) (before after : List ℕ)
+    → ((text : List ℕ) → IsText text → IsOther text) → OnOk r (Adds IsText before after) → OnOk r (Adds IsOther before after)
+adds-onward (Ok x) IsText IsOther before after onward added = (added.0, added.1, onward added.0 added.2)
+adds-onward (Err e) IsText IsOther before after onward added = added

@@ -1,0 +1,224 @@
+//! The answer lines of the subcommands, each added at the end of the answers.
+ghost use Rattle.std.specs.Prelude.{◌≡◌, ◌≢◌, ◌+◌, ◌<◌, ◌≤◌, ◌++◌, ◌^◌, codes, decimal, drop, length, OnOk};
+ghost use Rattle.hex.specs.Hex.{encode_lower};
+ghost use Rattle.program_dialogue.specs.FaultLines.{asm_fault, asm_name, bad_hex, bad_line, decode_fault, line, no_program, too_long, verify_fault, wrong_length};
+ghost use Rattle.program_dialogue.specs.Hexadecimal.{four_digits};
+
+use bpf_asm::{AsmFault, AsmKind};
+use bpf_code::DecodeFault;
+use bpf_verify::Fault;
+use itoa::write_digits;
+use std::alloc::{AllocError, Global};
+
+/// Adds a number in decimal digits.
+pub fn add_number(answers: &mut Vec<u8>, number: u64) -> Result<(), AllocError>
+    ensures { OnOk result (answers.new.items ≡ answers.old.items ++ decimal number) }
+{
+    answers.extend_from_slice(itoa::Buffer::new().format(number).as_bytes())?;
+    Ok(())
+}
+
+/// Adds a text.
+pub fn add_text(answers: &mut Vec<u8>, text: &[u8]) -> Result<(), AllocError>
+    ensures { OnOk result (answers.new.items ≡ answers.old.items ++ text.now) }
+{
+    answers.extend_from_slice(text)?;
+    Ok(())
+}
+
+/// Adds a text, a number and the line's end.
+#[tactic(auto, using(std::proofs::lemmas::List::append_assoc))]
+fn add_numbered(answers: &mut Vec<u8>, text: &[u8], number: usize) -> Result<(), AllocError>
+    ensures { OnOk result (answers.new.items ≡ answers.old.items ++ line (text.now ++ decimal number)) }
+{
+    answers.extend_from_slice(text)?;
+    add_number(answers, number as u64)?;
+    answers.push(b'\n')?;
+    Ok(())
+}
+
+/// Adds the answer to an accepted program of so many instructions.
+pub fn add_accepted(answers: &mut Vec<u8>, instructions: usize) -> Result<(), AllocError>
+    ensures { OnOk result
+        (answers.new.items ≡ answers.old.items ++ line (codes "accepted " ++ decimal instructions)) }
+{
+    add_numbered(answers, b"accepted ", instructions)
+}
+
+/// Adds a line of octets, in lower case hexadecimal digits.
+#[tactic(auto, using(std::proofs::lemmas::List::append_assoc))]
+pub fn add_octets(alloc: Global, answers: &mut Vec<u8>, octets: &[u8]) -> Result<(), AllocError>
+    ensures { OnOk result (answers.new.items ≡ answers.old.items ++ line (encode_lower octets.now)) }
+{
+    let digits = hex::encode(alloc, octets)?;
+    answers.extend_from_slice(digits.as_bytes())?;
+    answers.push(b'\n')?;
+    Ok(())
+}
+
+/// Adds the answer to a line of no lawful form.
+pub fn add_bad_line(answers: &mut Vec<u8>) -> Result<(), AllocError>
+    ensures { OnOk result (answers.new.items ≡ answers.old.items ++ bad_line) }
+{
+    add_text(answers, b"fault script 1 BadLine\n")
+}
+
+/// Adds the answer to a word that isn't hexadecimal.
+pub fn add_bad_hex(answers: &mut Vec<u8>) -> Result<(), AllocError>
+    ensures { OnOk result (answers.new.items ≡ answers.old.items ++ bad_hex) }
+{
+    add_text(answers, b"fault script 3 BadHex\n")
+}
+
+/// Adds the answer to an input without a program.
+pub fn add_no_program(answers: &mut Vec<u8>) -> Result<(), AllocError>
+    ensures { OnOk result (answers.new.items ≡ answers.old.items ++ no_program) }
+{
+    add_text(answers, b"fault script 4 NoProgram\n")
+}
+
+/// Adds the answer to an input or a line over the limits.
+pub fn add_too_long(answers: &mut Vec<u8>) -> Result<(), AllocError>
+    ensures { OnOk result (answers.new.items ≡ answers.old.items ++ too_long) }
+{
+    add_text(answers, b"fault script 5 TooLong\n")
+}
+
+/// Room for the answer to a cell, which is written from its end: 13 octets of words, two numbers of at
+/// most ten digits, the line's end.
+const VALUE_ROOM: usize = 34;
+
+/// Writes a text into the room so that it ends at a place, and answers where it begins.
+#[inline(always)]
+fn write_before(room: &mut [u8], end: usize, text: &[u8]) -> usize
+    requires { (length text.now ≤ end) × (end ≤ length room.old) }
+    ensures start { result + length text.now ≡ end }
+    ensures written { drop result room.new ≡ text.now ++ drop end room.old }
+{
+    let start = end - text.len();
+    room[start..end].copy_from_slice(text);
+    start
+}
+
+/// Writes a number into the room in decimal digits, of which it has at most ten, so that it ends at a
+/// place, and answers where it begins.
+#[inline(always)]
+fn write_number_before(room: &mut [u8], end: usize, number: u32) -> usize
+    requires { (10 ≤ end) × (end ≤ length room.old) }
+    ensures start { result + length (decimal number) ≡ end }
+    ensures short { end ≤ result + 10 }
+    ensures written { drop result room.new ≡ decimal number ++ drop end room.old }
+{
+    write_digits(u64::from(number), room, end)
+}
+
+/// Adds the value that a program gave, and the number of instructions that it began.
+#[inline(always)]
+pub fn add_value(answers: &mut Vec<u8>, value: u32, steps: u32) -> Result<(), AllocError>
+    ensures { OnOk result (answers.new.items ≡ answers.old.items
+        ++ line (codes "value " ++ decimal value ++ codes " steps " ++ decimal steps)) }
+{
+    let mut room = [b'\n'; VALUE_ROOM];
+    let start = write_number_before(&mut room, VALUE_ROOM - 1, steps);
+    let start = write_before(&mut room, start, b" steps ");
+    let start = write_number_before(&mut room, start, value);
+    let start = write_before(&mut room, start, b"value ");
+    answers.extend_from_slice(&room[start..])
+}
+
+/// Adds the answer to octets that are no cell.
+pub fn add_wrong_length(answers: &mut Vec<u8>, octets: usize) -> Result<(), AllocError>
+    ensures { OnOk result (answers.new.items ≡ answers.old.items ++ wrong_length octets) }
+{
+    add_numbered(answers, b"fault cell 1 WrongLength ", octets)
+}
+
+/// Adds the answer to a code of eight octets that spell no instruction, which stand at this place.
+#[tactic(auto, using(std::proofs::lemmas::List::append_assoc))]
+fn add_unknown_code(answers: &mut Vec<u8>, at: usize, code: u16) -> Result<(), AllocError>
+    ensures { OnOk result
+        (answers.new.items ≡ answers.old.items ++ decode_fault (DecodeFault.UnknownCode at code)) }
+{
+    answers.extend_from_slice(b"fault decode 2 UnknownCode ")?;
+    add_number(answers, at as u64)?;
+    answers.push(b' ')?;
+    let [high, low] = code.to_be_bytes();
+    let mut digits = [0; 4];
+    if hex::encode_to_slice([high, low].as_slice(), &mut digits).is_err() {
+        unreachable!();
+    }
+    answers.extend_from_slice(&digits)?;
+    answers.push(b'\n')?;
+    Ok(())
+}
+
+/// Adds the answer to octets that are no code.
+pub fn add_decode_fault(answers: &mut Vec<u8>, fault: DecodeFault) -> Result<(), AllocError>
+    ensures { fault ≢ DecodeFault.NoMemory →
+        OnOk result (answers.new.items ≡ answers.old.items ++ decode_fault fault) }
+{
+    match fault {
+        DecodeFault::Ragged => add_text(answers, b"fault decode 1 Ragged\n"),
+        DecodeFault::UnknownCode { at, code } => add_unknown_code(answers, at, code),
+        DecodeFault::NoMemory => Err(AllocError),
+    }
+}
+
+/// Adds the answer to a read of a scratch word that some path to its place doesn't store.
+#[tactic(auto, using(std::proofs::lemmas::List::append_assoc))]
+fn add_unwritten(answers: &mut Vec<u8>, at: usize, word: u32) -> Result<(), AllocError>
+    ensures { OnOk result
+        (answers.new.items ≡ answers.old.items ++ verify_fault (Fault.Unwritten at word)) }
+{
+    answers.extend_from_slice(b"fault verify 8 Unwritten ")?;
+    add_number(answers, at as u64)?;
+    answers.push(b' ')?;
+    add_number(answers, u64::from(word))?;
+    answers.push(b'\n')?;
+    Ok(())
+}
+
+/// Adds the answer to a code that is no program.
+pub fn add_verify_fault(answers: &mut Vec<u8>, fault: Fault) -> Result<(), AllocError>
+    ensures { OnOk result (answers.new.items ≡ answers.old.items ++ verify_fault fault) }
+{
+    match fault {
+        Fault::Empty => add_text(answers, b"fault verify 1 Empty\n"),
+        Fault::TooLong => add_text(answers, b"fault verify 2 TooLong\n"),
+        Fault::BadScratch { at } => add_numbered(answers, b"fault verify 3 BadScratch ", at),
+        Fault::ZeroDivisor { at } => add_numbered(answers, b"fault verify 4 ZeroDivisor ", at),
+        Fault::BadShift { at } => add_numbered(answers, b"fault verify 5 BadShift ", at),
+        Fault::JumpOutside { at } => add_numbered(answers, b"fault verify 6 JumpOutside ", at),
+        Fault::NoReturn => add_text(answers, b"fault verify 7 NoReturn\n"),
+        Fault::Unwritten { at, word } => add_unwritten(answers, at, word),
+    }
+}
+
+/// The number and the name of what is wrong with a line of a source.
+fn name_of(kind: AsmKind) -> &'static [u8]
+    ensures { result.now ≡ asm_name kind }
+{
+    match kind {
+        AsmKind::BadLine => b"1 BadLine",
+        AsmKind::BadNumber => b"2 BadNumber",
+        AsmKind::LabelTwice => b"3 LabelTwice",
+        AsmKind::UnknownLabel => b"4 UnknownLabel",
+        AsmKind::Backward => b"5 Backward",
+        AsmKind::TooFar => b"6 TooFar",
+        AsmKind::DanglingLabel => b"7 DanglingLabel",
+        AsmKind::NoMemory => b"8 NoMemory",
+    }
+}
+
+/// Adds the answer to a source that means no code.
+#[tactic(auto, using(std::proofs::lemmas::List::append_assoc))]
+pub fn add_asm_fault(answers: &mut Vec<u8>, fault: AsmFault) -> Result<(), AllocError>
+    ensures { OnOk result (answers.new.items ≡ answers.old.items ++ asm_fault fault) }
+{
+    answers.extend_from_slice(b"fault asm ")?;
+    answers.extend_from_slice(name_of(fault.kind))?;
+    answers.push(b' ')?;
+    add_number(answers, fault.line as u64)?;
+    answers.push(b'\n')?;
+    Ok(())
+}

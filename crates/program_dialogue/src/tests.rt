@@ -1,0 +1,2 @@
+//! What no clause says of words of digits.
+mod digits;
