@@ -42,6 +42,8 @@ ODD_LINES = [
 
 
 class Script:
+    """A card line, programs, connections, and then cells and commands as they come."""
+
     def __init__(self, rng):
         self.rng = rng
         self.lines = []
@@ -58,6 +60,7 @@ class Script:
 
     @property
     def card(self):
+        """The card that has taken the lines so far."""
         return self.answers.card
 
     def say(self, line):
@@ -69,6 +72,7 @@ class Script:
             pass
 
     def open_card(self):
+        """A small card, or seldom the largest, of either side."""
         rng = self.rng
         numbers = ((1, 2, 3, 4), (1, 2, 3, 5), (1, 2, 16), (1, 3, 9, 30, 100, 65536))
         sizes = tuple(rng.choice(some) for some in numbers)
@@ -78,6 +82,7 @@ class Script:
         self.say(("card %d %d %d %d" % sizes + side).encode())
 
     def next_line(self):
+        """A cell as a rule, else a command, or seldom a line of another form. Full journals are often cut."""
         rng = self.rng
         if rng.random() < 0.05:
             return rng.choice(ODD_LINES)
@@ -92,6 +97,7 @@ class Script:
         return say(0.25)
 
     def is_full(self, connection):
+        """No further cell fits into the connection's journal."""
         return connection.tally()[0] == self.card.most_judged
 
     # What there is, and with the given likelihood what perhaps isn't there.

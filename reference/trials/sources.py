@@ -48,8 +48,8 @@ class Speller:
         """A name for each place."""
         names = ["L%d" % place for place in range(len(program))]
         if self.rng.random() < 0.4:
-            for place, name in zip(self.rng.sample(range(len(program)), min(len(program), 6)),
-                                   self.rng.sample(NAMES, 6)):
+            places = self.rng.sample(range(len(program)), min(len(program), 6))
+            for place, name in zip(places, self.rng.sample(NAMES, 6)):
                 if name not in names:
                     names[place] = name
         return names
@@ -61,11 +61,13 @@ class Speller:
         return self.names[place]
 
     def blank(self, least=""):
+        """Blanks between two tokens: as a rule the least, which is one where they would run together without."""
         if self.rng.random() < 0.15:
             return self.rng.choice((" ", "\t", "  ")) if least or self.rng.random() < 0.5 else self.blanks
         return least
 
     def number(self, value):
+        """A number in decimal or hexadecimal, seldom behind zeros."""
         way = self.rng.random()
         if way < 0.6:
             return str(value)
@@ -77,12 +79,14 @@ class Speller:
         return "0" * self.rng.choice((0, 1, 12)) + str(value)
 
     def constant(self, value):
+        """`#k`, or seldom `#-k`."""
         if self.rng.random() < 0.1:
             negative = 0 if value == 0 else 2**32 - value
             return "#" + self.blank() + "-" + self.blank() + self.number(negative)
         return "#" + self.blank() + self.number(value)
 
     def joined(self, *tokens):
+        """The tokens with perhaps a blank behind each."""
         return "".join(token + self.blank() for token in tokens)
 
     def instruction(self, one, place):
@@ -108,6 +112,7 @@ class Speller:
         return (head + form).rstrip() if form else one.mnemonic
 
     def header(self, k):
+        """`4*([k]&0xf)`, with both numbers in some spelling."""
         four = self.rng.choice(("4", "4", "0x4", "04"))
         fifteen = self.rng.choice(("0xf", "0xf", "15", "0XF", "0x0f"))
         return self.joined(four, "*", "(", "[", self.number(k), "]", "&", fifteen, ")")
