@@ -3,15 +3,15 @@ use Rattle.std.specs.Prelude.{◌≡◌, ℕ, ◌⊎◌, Bool, ◌&&◌, List, S
 use Rattle.gen_arena.specs.Slot.{Slot, greatest_generation}
 
 module _ {T : Type 0} where
-  -- the slot is empty, and has a generation left to use
+  -- The slot is empty, and has a generation left to use.
   abbrev pub is_free : Slot T → Bool
   is_free slot = is_none slot.value && nat_lt slot.generation greatest_generation
 
-  -- how many slots are free
+  -- How many slots are free.
   abbrev pub free_slots : List (Slot T) → ℕ
   free_slots slots = count_by is_free slots
 
-  -- each slot has a value or has used the greatest generation
+  -- Each slot has a value or has used the greatest generation.
   abbrev pub NoneIsFree : List (Slot T) → Type 0
   NoneIsFree slots =
       (k : ℕ) (slot : Slot T) → slice_get slots k ≡ Some slot

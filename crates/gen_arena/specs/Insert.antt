@@ -4,7 +4,7 @@ use Rattle.gen_arena.specs.Slot.{Slot, full_slot}
 use Rattle.gen_arena.specs.Free.{is_free}
 use Rattle.gen_arena.specs.declared.id.Id.{Id}
 
--- the id's slot was free, its generation has grown by one to the id's, and it has the value; all other slots are as before
+-- The id's slot was free, its generation has grown by one to the id's, and it has the value; all other slots are as before
 pub record Inserts {T : Type 0} (old new : List (Slot T)) (id : Id) (value : T) : Type 0 where
   pub taken : Slot T
   pub stood : slice_get old id.slot ≡ Some taken

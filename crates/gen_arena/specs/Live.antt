@@ -4,15 +4,15 @@ use Rattle.gen_arena.specs.Slot.{Slot}
 use Rattle.gen_arena.specs.declared.id.Id.{Id}
 
 module _ {T : Type 0} where
-  -- the value that this slot, if there is one, holds under this generation
+  -- The value that this slot, if there is one, holds under this generation.
   abbrev pub value_under : ℕ → Option (Slot T) → Option T
   value_under generation None = None
   value_under generation (Some slot) = if slot.generation == generation then slot.value else None
 
-  -- the value of an id: that of its slot, where the slot exists, has the id's generation and holds a value
+  -- The value of an id: that of its slot, where the slot exists, has the id's generation and holds a value.
   abbrev pub live_value : List (Slot T) → Id → Option T
   live_value slots id = value_under id.generation (slice_get slots id.slot)
 
-  -- the id has a value
+  -- The id has a value.
   abbrev pub IsLive : List (Slot T) → Id → Type 0
   IsLive slots id = IsSome (live_value slots id)

@@ -5,12 +5,12 @@ use Rattle.gen_arena.specs.Live.{live_value}
 use Rattle.gen_arena.specs.declared.id.Id.{Id}
 
 module _ {T : Type 0} where
-  -- the id is not live, and its generation is one that its slot has used
+  -- The id is not live, and its generation is one that its slot has used.
   pub record IsPast (slots : List (Slot T)) (id : Id) : Type 0 where
     pub not_live : live_value slots id ≡ None
     pub given : 1 ≤ id.generation
     pub used : id.generation ≤ generation_at slots id.slot
 
-  -- every id that is past in the old slots is past in the new ones too
+  -- Every id that is past in the old slots is past in the new ones too.
   abbrev pub KeepsPast : List (Slot T) → List (Slot T) → Type 0
   KeepsPast old new = (id : Id) → IsPast old id → IsPast new id

@@ -4,7 +4,7 @@ use Rattle.gen_arena.specs.Slot.{Slot, empty_slot}
 use Rattle.gen_arena.specs.Live.{live_value}
 use Rattle.gen_arena.specs.declared.id.Id.{Id}
 
--- the id had the value; its slot is empty now and keeps its generation, and all other slots are as before
+-- The id had the value; its slot is empty now and keeps its generation, and all other slots are as before.
 pub record Removes {T : Type 0} (old new : List (Slot T)) (id : Id) (value : T) : Type 0 where
   pub was : live_value old id ≡ Some value
   pub after : new ≡ slice_set old id.slot (empty_slot id.generation)

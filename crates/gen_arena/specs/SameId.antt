@@ -2,6 +2,6 @@
 use Rattle.std.specs.Prelude.{Bool, ◌&&◌, ◌==◌}
 use Rattle.gen_arena.specs.declared.id.Id.{Id}
 
--- both are the same slot and generation
+-- Both are the same slot and generation.
 abbrev pub is_same_id : Id → Id → Bool
 is_same_id one other = (one.slot == other.slot) && (one.generation == other.generation)

@@ -160,8 +160,8 @@ impl<T> Arena<T> {
     }
 }
 
-// The first free slot and the number of free ones, once the slot of the id was emptied: it comes
-// first, unless it has no generation left.
+/// The first free slot and the number of free ones, once the slot of the id was emptied: it comes
+/// first, unless it has no generation left.
 fn relisted(id: Id, first: u16, free: u16) -> (u16, u16)
     requires { id.generation < greatest_generation → free < 65535 }
     ensures first { id.generation < greatest_generation → (result.0 ≡ id.slot) × (result.1 ≡ free + 1) }

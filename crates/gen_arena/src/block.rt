@@ -73,7 +73,7 @@ unsafe impl<E, A: Allocator + Send> Send for Deed<E, A> {}
 
 unsafe impl<E, A: Allocator> Sync for Deed<E, A> {}
 
-// A block of `count` blank cells.
+/// A block of `count` blank cells.
 pub(crate) fn make<E, A: Allocator>(
     alloc: &A,
     count: usize,
@@ -92,7 +92,7 @@ pub(crate) fn make<E, A: Allocator>(
     }
 }
 
-// Gives a block back, once every cell is blank.
+/// Gives a block back, once every cell is blank.
 pub(crate) fn give_back<E, A: Allocator>(
     alloc: &A,
     start: Start<E>,
@@ -112,7 +112,7 @@ pub(crate) fn give_back<E, A: Allocator>(
 impl<E> Cells<E> {
     ghost use Rattle.gen_arena.specs.inner.CellLends.{lends_cell};
 
-    // Writes a value into a blank cell.
+    /// Writes a value into a blank cell.
     pub(crate) fn put(&mut self, start: Start<E>, k: usize, value: E)
         requires { (start.to ≡ self.old.start) × (k < length self.old.held) × (get_or self.old.held k None ≡ None) }
         ensures { (self.new.start ≡ self.old.start) × (self.new.held ≡ slice_set self.old.held k (Some value)) }
@@ -120,7 +120,7 @@ impl<E> Cells<E> {
         unsafe { start.to.add(k).write(value) }
     }
 
-    // Reads the value out of a cell, which is blank from then on.
+    /// Reads the value out of a cell, which is blank from then on.
     pub(crate) fn take(&mut self, start: Start<E>, k: usize) -> E
         requires { (start.to ≡ self.old.start) × Holds self.old.held k }
         ensures value { get_or self.old.held k None ≡ Some result }
@@ -129,7 +129,7 @@ impl<E> Cells<E> {
         unsafe { start.to.add(k).read() }
     }
 
-    // Lends the value in a cell.
+    /// Lends the value in a cell.
     pub(crate) fn lend(&self, start: Start<E>, k: usize) -> &E
         requires { (start.to ≡ self.now.start) × Holds self.now.held k }
         ensures { get_or self.now.held k None ≡ Some result.now }
@@ -137,7 +137,7 @@ impl<E> Cells<E> {
         unsafe { &*start.to.add(k) }
     }
 
-    // Lends the value in a cell to be changed.
+    /// Lends the value in a cell to be changed.
     pub(crate) fn lend_mut(&mut self, start: Start<E>, k: usize) -> &mut E
         requires { (start.to ≡ self.old.start) × Holds self.old.held k }
         ensures* writes_back { sem 𝓛 (lends_cell E.row self.entry k result) }

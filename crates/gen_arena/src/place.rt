@@ -19,7 +19,7 @@ pub struct Place<T> {
 }
 
 impl<T> Place<T> {
-    // Puts a value into an empty place under its next generation, and tells that generation.
+    /// Puts a value into an empty place under its next generation, and tells that generation.
     fn fill(&mut self, value: T) -> u32
         requires empty { self.old.value ≡ None }
         requires unworn { self.old.generation < greatest_generation }
@@ -57,8 +57,8 @@ impl<T> Model for Places<T> {
 }
 
 impl<T> Places<T> {
-    // A row of `count` empty places that have used generation `used`, each with the number of the
-    // one behind it.
+    /// A row of `count` empty places that have used generation `used`, each with the number of the
+    /// one behind it.
     pub(crate) fn new(alloc: Global, count: u16, used: u32) -> Result<Self, AllocError>
         ensures { IfOk result (λ places. AreFresh places count used) }
     {
@@ -77,7 +77,7 @@ impl<T> Places<T> {
         })
     }
 
-    // The place of this number, if there is one.
+    /// The place of this number, if there is one.
     pub(crate) fn get(&self, slot: u16) -> Option<&Place<T>>
         ensures { option_copied result ≡ slice_get self.now slot }
     {
@@ -87,8 +87,8 @@ impl<T> Places<T> {
         Some(self.cells.lend(self.start, usize::from(slot)))
     }
 
-    // Puts a value into an empty place under its next generation. Tells that generation, and the
-    // number of the place behind it in the list of free ones.
+    /// Puts a value into an empty place under its next generation. Tells that generation, and the
+    /// number of the place behind it in the list of free ones.
     pub(crate) fn fill(&mut self, slot: u16, value: T) -> (u32, u16)
         requires there { slot < length self.old }
         requires empty { (place_at self.old slot).value ≡ None }
@@ -102,7 +102,7 @@ impl<T> Places<T> {
         (place.fill(value), next)
     }
 
-    // Takes the value out of a place, and writes the number of the free place behind it.
+    /// Takes the value out of a place, and writes the number of the free place behind it.
     pub(crate) fn empty(&mut self, slot: u16, next: u16) -> Option<T>
         requires there { slot < length self.old }
         ensures value { result ≡ (place_at self.old slot).value }
@@ -128,7 +128,7 @@ impl<T: Drop> Drop for Places<T> {
     }
 }
 
-// Writes an empty place into each of the blank cells.
+/// Writes an empty place into each of the blank cells.
 fn lay_out<T>(cells: &mut Cells<Place<T>>, start: Start<Place<T>>, count: u16, used: u32)
     requires start { start.to ≡ cells.old.start }
     requires blank { cells.old.held ≡ replicate count None }
@@ -146,7 +146,7 @@ fn lay_out<T>(cells: &mut Cells<Place<T>>, start: Start<Place<T>>, count: u16, u
     }
 }
 
-// Takes the place out of each cell, and drops it.
+/// Takes the place out of each cell, and drops it.
 fn clear<T: Drop>(cells: &mut Cells<Place<T>>, start: Start<Place<T>>, count: u16)
     requires start { start.to ≡ cells.old.start }
     requires full { IsFull cells.old.held count }

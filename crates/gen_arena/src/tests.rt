@@ -16,12 +16,12 @@ fn is_sent<S: Send>() {}
 
 fn is_shared<S: Sync>() {}
 
-// An arena may be sent to another thread where its values may.
+/// An arena may be sent to another thread where its values may.
 fn arena_is_sent<T: Send>() {
     is_sent::<Arena<T>>();
 }
 
-// It may be shared by threads where its values may.
+/// It may be shared by threads where its values may.
 fn arena_is_shared<T: Sync>() {
     is_shared::<Arena<T>>();
 }
@@ -33,7 +33,7 @@ fn an_id_is_a_key_and_an_arena_crosses_threads() {
     arena_is_shared::<u32>();
 }
 
-// Ids go by their slot first, and within a slot by their generation.
+/// Ids go by their slot first, and within a slot by their generation.
 #[test]
 fn ids_are_ordered_by_slot_and_then_by_generation(rt: HostRuntime) {
     assert!(rt; id(1, 4294967295) < id(2, 1));
@@ -215,7 +215,7 @@ fn of_many_values_each_is_dropped_once(rt: HostRuntime) -> Result<(), Fail> {
     Ok(())
 }
 
-// The slot that was emptied last is taken first.
+/// The slot that was emptied last is taken first.
 #[test]
 fn freed_slots_come_again_from_the_last_on(rt: HostRuntime) -> Result<(), Fail> {
     let mut arena = Arena::new(rt.alloc(), 3)?;
@@ -229,7 +229,7 @@ fn freed_slots_come_again_from_the_last_on(rt: HostRuntime) -> Result<(), Fail> 
     Ok(())
 }
 
-// Values of 4 KiB, at the greatest alignment that the allocator gives.
+/// Values of 4 KiB, at the greatest alignment that the allocator gives.
 #[test]
 fn large_values_come_back_as_they_went_in(rt: HostRuntime) -> Result<(), Fail> {
     let mut arena = Arena::new(rt.alloc(), 3)?;
@@ -243,7 +243,7 @@ fn large_values_come_back_as_they_went_in(rt: HostRuntime) -> Result<(), Fail> {
     Ok(())
 }
 
-// The example of the README.
+/// The example of the README.
 #[test]
 fn a_session_is_looked_up_by_its_id(rt: HostRuntime) -> Result<(), Fail> {
     let mut sessions = Arena::new(rt.alloc(), 100)?;

@@ -3,12 +3,12 @@ use Rattle.std.specs.Prelude.{◌≡◌, ℕ, ◌+◌, ◌≤◌}
 use Rattle.leaky.specs.declared.levels.Levels.{Levels}
 use Rattle.leaky.specs.Contract.{Buckets}
 
--- each theoretical arrival time is X + LCT of its bucket
+-- Each theoretical arrival time is X + LCT of its bucket.
 pub record Agrees (levels : Levels) (buckets : Buckets) : Type 0 where
   pub first : levels.first ≡ buckets.first.level + buckets.first.charged
   pub second : levels.second ≡ buckets.second.level + buckets.second.charged
 
--- neither bucket was charged after the moment
+-- Neither bucket was charged after the moment.
 pub record IsChargedBy (buckets : Buckets) (moment : ℕ) : Type 0 where
   pub first : buckets.first.charged ≤ moment
   pub second : buckets.second.charged ≤ moment

@@ -5,36 +5,36 @@ use Rattle.leaky.specs.declared.verdict.Verdict.{Verdict}
 use Rattle.leaky.specs.declared.verdict.Verdict.TheVariants.{Pass, Tag, Discard, Refuse}
 use Rattle.leaky.specs.Contract.{Buckets, meets_second, verdict_of, buckets_after}
 
--- a cell as its contract sees it
+-- A cell as its contract sees it.
 pub record Arrival : Type 0 where
   pub moment : ℕ
   pub clp : Bool
 
--- the buckets that these cells leave
+-- The buckets that these cells leave.
 abbrev pub buckets_left : Contract → Buckets → List Arrival → Buckets
 buckets_left contract buckets [] = buckets
 buckets_left contract buckets (arrival ∷ later) =
     buckets_left contract (buckets_after contract buckets arrival.clp arrival.moment) later
 
--- a cell charges bucket 1 where it is passed or tagged
+-- A cell charges bucket 1 where it is passed or tagged.
 abbrev pub charges_first : Verdict → Bool
 charges_first Pass = true
 charges_first Tag = true
 charges_first Discard = false
 charges_first Refuse = false
 
--- the verdict is that the cell passes
+-- The verdict is that the cell passes.
 abbrev pub is_passed : Verdict → Bool
 is_passed Pass = true
 is_passed Tag = false
 is_passed Discard = false
 is_passed Refuse = false
 
--- a cell charges bucket 2 where it meets it and is passed
+-- A cell charges bucket 2 where it meets it and is passed.
 abbrev pub charges_second : Verdict → Contract → Bool → Bool
 charges_second verdict contract clp = meets_second contract clp && is_passed verdict
 
--- the moments of the cells that charge bucket 1
+-- The moments of the cells that charge bucket 1.
 abbrev pub first_charges : Contract → Buckets → List Arrival → List ℕ
 first_charges contract buckets [] = []
 first_charges contract buckets (arrival ∷ later) =
@@ -43,7 +43,7 @@ first_charges contract buckets (arrival ∷ later) =
     let rest = first_charges contract after later in
     if charges_first verdict then arrival.moment ∷ rest else rest
 
--- the moments of the cells that charge bucket 2
+-- The moments of the cells that charge bucket 2.
 abbrev pub second_charges : Contract → Buckets → List Arrival → List ℕ
 second_charges contract buckets [] = []
 second_charges contract buckets (arrival ∷ later) =

@@ -3,43 +3,43 @@
 use Rattle.std.specs.Prelude.{ℕ, ◌+◌, ◌-◌, nat_le, Bool, if◌then◌else◌, List, [], ◌∷◌}
 use Rattle.leaky.specs.declared.gcra.Gcra.{Gcra}
 
--- the level X that the bucket had when it was last charged, and the moment of that (LCT, the last
--- conformance time)
+-- The level X that the bucket had when it was last charged, and the moment of that (LCT, the last
+-- conformance time).
 pub record Bucket : Type 0 where
   pub level : ℕ
   pub charged : ℕ
 
--- a bucket opens empty, at the moment 0
+-- A bucket opens empty, at the moment 0.
 abbrev pub opening : Bucket
 opening = record { level = 0; charged = 0 }
 
--- X' = max(0, X - (ta - LCT)), what is left in the bucket at the moment ta
+-- X' = max(0, X - (ta - LCT)), what is left in the bucket at the moment ta.
 abbrev pub level_at : Bucket → ℕ → ℕ
 level_at bucket moment = bucket.level - (moment - bucket.charged)
 
--- a cell at the moment ta conforms exactly where X' is at most tau
+-- A cell at the moment ta conforms exactly where X' is at most tau.
 abbrev pub conforms : Gcra → Bucket → ℕ → Bool
 conforms gcra bucket moment = nat_le (level_at bucket moment) gcra.limit
 
--- a conforming cell leaves X' + T as the level, and ta as the last conformance time
+-- A conforming cell leaves X' + T as the level, and ta as the last conformance time.
 abbrev pub filled : Gcra → Bucket → ℕ → Bucket
 filled gcra bucket moment = record {
   level = level_at bucket moment + gcra.increment;
   charged = moment;
 }
 
--- a conforming cell fills the bucket, any other leaves it as it is
+-- A conforming cell fills the bucket, any other leaves it as it is.
 abbrev pub bucket_after : Gcra → Bucket → ℕ → Bucket
 bucket_after gcra bucket moment =
     if conforms gcra bucket moment then filled gcra bucket moment else bucket
 
--- for cells at these moments one after another, whether each conforms
+-- For cells at these moments one after another, whether each conforms.
 abbrev pub conformances : Gcra → Bucket → List ℕ → List Bool
 conformances gcra bucket [] = []
 conformances gcra bucket (moment ∷ moments) =
     conforms gcra bucket moment ∷ conformances gcra (bucket_after gcra bucket moment) moments
 
--- the moments of those cells that conform
+-- The moments of those cells that conform.
 abbrev pub conforming : Gcra → Bucket → List ℕ → List ℕ
 conforming gcra bucket [] = []
 conforming gcra bucket (moment ∷ moments) =

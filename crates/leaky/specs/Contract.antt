@@ -8,66 +8,66 @@ use Rattle.leaky.specs.declared.verdict.Verdict.{Verdict}
 use Rattle.leaky.specs.declared.verdict.Verdict.TheVariants.{Pass, Tag, Discard, Refuse}
 use Rattle.leaky.specs.Bucket.{Bucket, opening, conforms, filled}
 
--- the two buckets of one contract
+-- The two buckets of one contract.
 pub record Buckets : Type 0 where
   pub first : Bucket
   pub second : Bucket
 
--- both open empty
+-- Both open empty.
 abbrev pub opening_buckets : Buckets
 opening_buckets = record { first = opening; second = opening }
 
--- bucket 1 is the peak cell rate, and every cell (CLP=0+1) meets it
+-- Bucket 1 is the peak cell rate, and every cell (CLP=0+1) meets it.
 abbrev pub peak_of : Contract → Gcra
 peak_of (Cbr1 peak) = peak
 peak_of (Vbr1 peak sustained) = peak
 peak_of (Vbr2 peak sustained) = peak
 peak_of (Vbr3 peak sustained) = peak
 
--- bucket 2 is the sustainable cell rate, and CBR.1 has none
+-- Bucket 2 is the sustainable cell rate, and CBR.1 has none.
 abbrev pub second_of : Contract → Option Gcra
 second_of (Cbr1 peak) = None
 second_of (Vbr1 peak sustained) = Some sustained
 second_of (Vbr2 peak sustained) = Some sustained
 second_of (Vbr3 peak sustained) = Some sustained
 
--- bucket 2 is met by no cell, by CLP=0+1, by CLP=0, by CLP=0
+-- Bucket 2 is met by no cell, by CLP=0+1, by CLP=0, by CLP=0.
 abbrev pub meets_second : Contract → Bool → Bool
 meets_second (Cbr1 peak) clp = false
 meets_second (Vbr1 peak sustained) clp = true
 meets_second (Vbr2 peak sustained) clp = not clp
 meets_second (Vbr3 peak sustained) clp = not clp
 
--- the verdict on a cell to which bucket 1 conforms and bucket 2 does not
+-- The verdict on a cell to which bucket 1 conforms and bucket 2 does not.
 abbrev pub excess_of : Contract → Verdict
 excess_of (Cbr1 peak) = Discard
 excess_of (Vbr1 peak sustained) = Discard
 excess_of (Vbr2 peak sustained) = Discard
 excess_of (Vbr3 peak sustained) = Tag
 
--- the rate of bucket 2, where a cell of this CLP meets it
+-- The rate of bucket 2, where a cell of this CLP meets it.
 abbrev pub sustained_of : Contract → Bool → Option Gcra
 sustained_of contract clp = if meets_second contract clp then second_of contract else None
 
--- a bucket that the cell does not meet does not keep it from passing
+-- A bucket that the cell does not meet does not keep it from passing.
 abbrev pub conforms_if_met : Option Gcra → Bucket → ℕ → Bool
 conforms_if_met None bucket moment = true
 conforms_if_met (Some gcra) bucket moment = conforms gcra bucket moment
 
--- and is not filled by it
+-- And is not filled by it.
 abbrev pub filled_if_met : Option Gcra → Bucket → ℕ → Bucket
 filled_if_met None bucket moment = bucket
 filled_if_met (Some gcra) bucket moment = filled gcra bucket moment
 
--- a cell passes where it conforms to each bucket that it meets, has the excess verdict where it
--- conforms to bucket 1 alone, and is discarded otherwise
+-- A cell passes where it conforms to each bucket that it meets, has the excess verdict where it
+-- conforms to bucket 1 alone, and is discarded otherwise.
 abbrev pub verdict_under : Gcra → Option Gcra → Verdict → Buckets → ℕ → Verdict
 verdict_under peak sustained excess buckets moment =
     if conforms peak buckets.first moment then
     (if conforms_if_met sustained buckets.second moment then Pass else excess)
     else Discard
 
--- a passed cell charges each bucket that it met, a tagged one bucket 1 alone, any other none
+-- A passed cell charges each bucket that it met, a tagged one bucket 1 alone, any other none.
 abbrev pub charged_under : Verdict → Gcra → Option Gcra → Buckets → ℕ → Buckets
 charged_under Pass peak sustained buckets moment = record {
   first = filled peak buckets.first moment;
@@ -80,18 +80,18 @@ charged_under Tag peak sustained buckets moment = record {
 charged_under Discard peak sustained buckets moment = buckets
 charged_under Refuse peak sustained buckets moment = buckets
 
--- a contract's verdict on a cell of this CLP at this moment
+-- A contract's verdict on a cell of this CLP at this moment.
 abbrev pub verdict_of : Contract → Buckets → Bool → ℕ → Verdict
 verdict_of contract buckets clp moment =
     verdict_under (peak_of contract) (sustained_of contract clp) (excess_of contract) buckets moment
 
--- the contract's buckets after the cell
+-- The contract's buckets after the cell.
 abbrev pub buckets_after : Contract → Buckets → Bool → ℕ → Buckets
 buckets_after contract buckets clp moment =
     let verdict = verdict_of contract buckets clp moment in
     charged_under verdict (peak_of contract) (sustained_of contract clp) buckets moment
 
--- CBR.1 of one cell a tick without tolerance
+-- CBR.1 of one cell a tick without tolerance.
 abbrev pub IsDefault : Contract → Type 0
 IsDefault (Cbr1 peak) = (peak.increment ≡ 1) × (peak.limit ≡ 0)
 IsDefault (Vbr1 peak sustained) = ⊥

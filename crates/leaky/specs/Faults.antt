@@ -5,12 +5,12 @@ use Rattle.leaky.specs.declared.gcra.GcraFault.TheVariants as rate
 use Rattle.leaky.specs.declared.tolerance.BtFault.{BtFault}
 use Rattle.leaky.specs.declared.tolerance.BtFault.TheVariants as burst
 
--- why two numbers are no rate
+-- Why two numbers are no rate.
 abbrev pub gcra_fault_text : GcraFault → List ℕ
 gcra_fault_text rate.ZeroIncrement = codes "1 ZeroIncrement"
 gcra_fault_text rate.TooLarge = codes "2 TooLarge"
 
--- why there is no burst tolerance
+-- Why there is no burst tolerance.
 abbrev pub bt_fault_text : BtFault → List ℕ
 bt_fault_text burst.ZeroMbs = codes "1 ZeroMbs"
 bt_fault_text burst.PeakSlower = codes "2 PeakSlower"

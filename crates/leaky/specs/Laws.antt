@@ -13,23 +13,23 @@ use Rattle.leaky.specs.Contract.{Buckets, peak_of, second_of, verdict_of, bucket
 use Rattle.leaky.specs.Arrivals.{Arrival, buckets_left, charges_first, charges_second, first_charges, second_charges}
 use Rattle.leaky.specs.Agreement.{Agrees, IsChargedBy}
 
--- virtual scheduling begun at TAT = X + LCT gives the leaky bucket's verdicts on every list of
--- moments that begin at or after LCT and don't go back
+-- Virtual scheduling begun at TAT = X + LCT gives the leaky bucket's verdicts on every list of
+-- moments that begin at or after LCT and don't go back.
 abbrev pub SchedulingGivesTheBucketsVerdicts : Type 0
 SchedulingGivesTheBucketsVerdicts = (gcra : Gcra) (bucket : Bucket) (moments : List ℕ)
     → GoesOn bucket.charged moments
     → scheduled gcra (bucket.level + bucket.charged) moments ≡ conformances gcra bucket moments
 
--- of the conforming cells at most 1 + (d + tau) div T have moments within any span d, from any
--- bucket and for moments that don't go back
+-- Of the conforming cells at most 1 + (d + tau) div T have moments within any span d, from any
+-- bucket and for moments that don't go back.
 abbrev pub BurstsAreBounded : Type 0
 BurstsAreBounded = (gcra : Gcra) (bucket : Bucket) (earliest : ℕ) (moments : List ℕ)
     → GoesOn earliest moments
     → (first span : ℕ)
     → count_within first span (conforming gcra bucket moments) ≤ burst_bound gcra span
 
--- the same bound for any cells that fill one bucket, whatever it was that kept other conforming
--- cells from filling it
+-- The same bound for any cells that fill one bucket, whatever it was that kept other conforming
+-- cells from filling it.
 abbrev pub FillingsAreBounded : Type 0
 FillingsAreBounded = (gcra : Gcra) (bucket : Bucket) (earliest : ℕ) (moments : List ℕ)
     → GoesOn earliest moments
@@ -37,11 +37,11 @@ FillingsAreBounded = (gcra : Gcra) (bucket : Bucket) (earliest : ℕ) (moments :
     → (first span : ℕ)
     → count_within first span moments ≤ burst_bound gcra span
 
--- of these charges no more lie in the span than the rate allows
+-- Of these charges no more lie in the span than the rate allows.
 abbrev pub IsBounded : ℕ → ℕ → List ℕ → Gcra → Type 0
 IsBounded first span charges gcra = count_within first span charges ≤ burst_bound gcra span
 
--- the same bound for the cells that charge either bucket of a contract
+-- The same bound for the cells that charge either bucket of a contract.
 abbrev pub ContractsBoundBursts : Type 0
 ContractsBoundBursts = (contract : Contract) (buckets : Buckets)
     → (earliest : ℕ) (arrivals : List Arrival)
@@ -50,8 +50,8 @@ ContractsBoundBursts = (contract : Contract) (buckets : Buckets)
     → IsBounded first span (first_charges contract buckets arrivals) (peak_of contract)
     × IfSome (second_of contract) (IsBounded first span (second_charges contract buckets arrivals))
 
--- what a cell does to both buckets of a contract: the tables of which verdict charges which bucket
--- tell exactly which bucket the cell filled
+-- What a cell does to both buckets of a contract: the tables of which verdict charges which bucket
+-- tell exactly which bucket the cell filled.
 pub record ChargesAsTold (contract : Contract) (buckets : Buckets) (clp : Bool) (moment : ℕ) (after : Buckets) : Type 0 where
   pub first : Fills (peak_of contract) buckets.first after.first moment
       (charges_first (verdict_of contract buckets clp moment))
@@ -59,26 +59,26 @@ pub record ChargesAsTold (contract : Contract) (buckets : Buckets) (clp : Bool) 
       (charges_second (verdict_of contract buckets clp moment) contract clp))
   pub without : second_of contract ≡ None → after.second ≡ buckets.second
 
--- so it is with every cell
+-- So it is with every cell.
 abbrev pub ChargesAreFillings : Type 0
 ChargesAreFillings = (contract : Contract) (buckets : Buckets) (clp : Bool) (moment : ℕ)
     → ChargesAsTold contract buckets clp moment (buckets_after contract buckets clp moment)
 
--- and a filled bucket is never the bucket that it was
+-- And a filled bucket is never the bucket that it was.
 abbrev pub FillingsShow : Type 0
 FillingsShow = (gcra : Gcra) (bucket : Bucket) (moment : ℕ) → filled gcra bucket moment ≢ bucket
 
--- a cell is tagged only if it came with cell loss priority 0
+-- A cell is tagged only if it came with cell loss priority 0.
 abbrev pub TaggedCellsCameUntagged : Type 0
 TaggedCellsCameUntagged = (contract : Contract) (buckets : Buckets) (clp : Bool) (moment : ℕ)
     → verdict_of contract buckets clp moment ≡ Tag → clp ≡ false
 
--- any levels stand for some buckets that were charged at 0 at the latest
+-- Any levels stand for some buckets that were charged at 0 at the latest.
 abbrev pub LevelsStandForBuckets : Type 0
 LevelsStandForBuckets = (levels : Levels)
     → (buckets : Buckets) × Agrees levels buckets × IsChargedBy buckets 0
 
--- cells up to the last moment leave buckets that some levels stand for as such buckets
+-- Cells up to the last moment leave buckets that some levels stand for as such buckets.
 abbrev pub LevelsFollowBuckets : Type 0
 LevelsFollowBuckets = (contract : Contract) (levels : Levels) (buckets : Buckets)
     → (arrivals : List Arrival)
@@ -86,14 +86,14 @@ LevelsFollowBuckets = (contract : Contract) (levels : Levels) (buckets : Buckets
     → All (λ a. a.moment ≤ 2 ^ 62) arrivals
     → (after : Levels) × Agrees after (buckets_left contract buckets arrivals)
 
--- no cell leaves a bucket charged after the cell's own moment
+-- No cell leaves a bucket charged after the cell's own moment.
 abbrev pub ChargesKeepUp : Type 0
 ChargesKeepUp = (contract : Contract) (buckets : Buckets) (clp : Bool) (moment : ℕ)
     → IsChargedBy buckets moment
     → IsChargedBy (buckets_after contract buckets clp moment) moment
 
--- so many cells at the peak rate conform, from an empty bucket of the sustainable rate, exactly where
--- the burst tolerance for so many is at most the bucket's limit
+-- So many cells at the peak rate conform, from an empty bucket of the sustainable rate, exactly where
+-- the burst tolerance for so many is at most the bucket's limit.
 abbrev pub TolerancesAreExact : Type 0
 TolerancesAreExact = (gcra : Gcra) (mbs tp first : ℕ)
     → tp ≤ gcra.increment

@@ -3,22 +3,22 @@
 use Rattle.std.specs.Prelude.{ℕ, ◌+◌, nat_lt, Bool, true, false, if◌then◌else◌, List, [], ◌∷◌}
 use Rattle.leaky.specs.declared.gcra.Gcra.{Gcra}
 
--- where TAT < ta the cell conforms; otherwise, where TAT > ta + tau, it does not; otherwise it
--- conforms
+-- Where TAT < ta the cell conforms; otherwise, where TAT > ta + tau, it does not; otherwise it
+-- conforms.
 abbrev pub is_due : Gcra → ℕ → ℕ → Bool
 is_due gcra due moment =
     if nat_lt due moment then true
     else if nat_lt (moment + gcra.limit) due then false
     else true
 
--- in these three cases TAT becomes ta + T, stays, becomes TAT + T
+-- In these three cases TAT becomes ta + T, stays, becomes TAT + T.
 abbrev pub due_after : Gcra → ℕ → ℕ → ℕ
 due_after gcra due moment =
     if nat_lt due moment then moment + gcra.increment
     else if nat_lt (moment + gcra.limit) due then due
     else due + gcra.increment
 
--- for cells at these moments one after another, whether each conforms
+-- For cells at these moments one after another, whether each conforms.
 abbrev pub scheduled : Gcra → ℕ → List ℕ → List Bool
 scheduled gcra due [] = []
 scheduled gcra due (moment ∷ moments) =

@@ -1,11 +1,11 @@
 -- The burst tolerance of ITU-T I.371 and ATM Forum TM 4.1.
 use Rattle.std.specs.Prelude.{ℕ, zero, suc, ◌+◌, ◌-◌, ◌*◌, List, [], ◌∷◌}
 
--- BT = (MBS - 1)(T_SCR - T_PCR), for increments T
+-- BT = (MBS - 1)(T_SCR - T_PCR), for increments T.
 abbrev pub tolerance_of : ℕ → ℕ → ℕ → ℕ
 tolerance_of mbs ts tp = (mbs - 1) * (ts - tp)
 
--- so many moments from a first one on, a gap apart
+-- So many moments from a first one on, a gap apart.
 abbrev pub spaced : ℕ → ℕ → ℕ → List ℕ
 spaced zero gap first = []
 spaced (suc n) gap first = first ∷ spaced n gap (first + gap)

@@ -40,7 +40,7 @@ impl Error for GcraFault {}
 pub struct Gcra {
     /// T, in ticks.
     pub increment: u64,
-    /// tau, in ticks.
+    /// Tau, in ticks.
     pub limit: u64,
     pub ghost increment_above_zero: { 0 < increment },
     pub ghost increment_bounded: { increment ≤ 2 ^ 48 },
@@ -71,7 +71,7 @@ impl Gcra {
         Ok(Gcra { increment, limit })
     }
 
-    // Whether a cell at `moment` conforms, where the theoretical arrival time is `due`.
+    /// Whether a cell at `moment` conforms, where the theoretical arrival time is `due`.
     #[inline]
     pub(crate) fn admits(&self, due: u64, moment: u64) -> bool
         requires { moment ≤ 2 ^ 62 }
@@ -80,7 +80,7 @@ impl Gcra {
         due <= moment + self.limit
     }
 
-    // The theoretical arrival time after a cell at `moment` that conforms.
+    /// The theoretical arrival time after a cell at `moment` that conforms.
     #[inline]
     pub(crate) fn due_after(&self, due: u64, moment: u64) -> u64
         requires moment { moment ≤ 2 ^ 62 }

@@ -34,7 +34,7 @@ pub fn judge(contract: &Contract, levels: &mut Levels, clp: bool, moment: u64) -
     }
 }
 
-// Bucket 1 alone decides.
+/// Bucket 1 alone decides.
 #[inline]
 fn judge_by_peak(peak: &Gcra, levels: &mut Levels, moment: u64) -> Verdict
     requires { moment ≤ 2 ^ 62 }
@@ -52,7 +52,7 @@ fn judge_by_peak(peak: &Gcra, levels: &mut Levels, moment: u64) -> Verdict
     }
 }
 
-// Both buckets decide.
+/// Both buckets decide.
 #[inline]
 fn judge_by_both(peak: &Gcra, sustained: &Gcra, levels: &mut Levels, moment: u64) -> Verdict
     requires { moment ≤ 2 ^ 62 }
@@ -70,7 +70,7 @@ fn judge_by_both(peak: &Gcra, sustained: &Gcra, levels: &mut Levels, moment: u64
     Verdict::Pass
 }
 
-// Bucket 1 decides whether the cell goes on, bucket 2 whether it goes on untagged.
+/// Bucket 1 decides whether the cell goes on, bucket 2 whether it goes on untagged.
 #[inline]
 fn judge_or_tag(peak: &Gcra, sustained: &Gcra, levels: &mut Levels, moment: u64) -> Verdict
     requires { moment ≤ 2 ^ 62 }

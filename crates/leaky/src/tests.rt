@@ -2,7 +2,7 @@ use super::*;
 use std::process::Abort;
 use std::test::Fail;
 
-// The verdicts on cells of these CLPs and moments, from the opening state on.
+/// The verdicts on cells of these CLPs and moments, from the opening state on.
 fn assert_verdicts(rt: &impl Abort, contract: &Contract, cells: &[(bool, u32, Verdict)]) {
     let mut levels = Levels::new();
     for (clp, moment, verdict) in cells {
@@ -14,8 +14,8 @@ fn assert_verdicts(rt: &impl Abort, contract: &Contract, cells: &[(bool, u32, Ve
     }
 }
 
-// After a cell at 0 the next is due at 10. With a limit of 5 it conforms from 5 on, and the one
-// after is then due at 20.
+/// After a cell at 0 the next is due at 10. With a limit of 5 it conforms from 5 on, and the one
+/// after is then due at 20.
 #[test]
 fn equality_at_the_limit_conforms(rt: HostRuntime) -> Result<(), Fail> {
     assert_verdicts(
@@ -82,7 +82,7 @@ fn both_rates_for_every_cell(rt: HostRuntime) -> Result<(), Fail> {
     Ok(())
 }
 
-// The cell at 18 fails on bucket 2 alone; had it charged bucket 1, the last would be discarded.
+/// The cell at 18 fails on bucket 2 alone; had it charged bucket 1, the last would be discarded.
 #[test]
 fn a_discarded_cell_charges_no_bucket(rt: HostRuntime) -> Result<(), Fail> {
     let contract = Contract::Vbr2(Gcra::new(5, 0)?, Gcra::new(20, 20)?);
@@ -116,7 +116,7 @@ fn a_tagged_cell_charges_bucket_1_alone(rt: HostRuntime) -> Result<(), Fail> {
     Ok(())
 }
 
-// Had the first cell charged bucket 2, the third of the first table would be tagged.
+/// Had the first cell charged bucket 2, the third of the first table would be tagged.
 #[test]
 fn cells_of_clp_1_leave_bucket_2_alone(rt: HostRuntime) -> Result<(), Fail> {
     let contract = Contract::Vbr3(Gcra::new(5, 0)?, Gcra::new(20, 20)?);

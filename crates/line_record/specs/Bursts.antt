@@ -4,13 +4,13 @@ use Rattle.leaky.specs.declared.contract.Contract.{Contract}
 use Rattle.leaky.specs.Arrivals.{charges_first, charges_second}
 use Rattle.line_record.specs.declared.entry.Entry.{Entry}
 
--- the moments of the cells that the contract of this number passed or tagged, which charged its
--- bucket 1
+-- The moments of the cells that the contract of this number passed or tagged, which charged its
+-- bucket 1.
 abbrev pub peak_charges : ℕ → List Entry → List ℕ
 peak_charges number entries =
     map (λ entry. entry.moment) (filter (λ entry. (entry.value == number) && charges_first entry.verdict) entries)
 
--- the moments of the cells that met its bucket 2 and were passed, which charged that
+-- The moments of the cells that met its bucket 2 and were passed, which charged that.
 abbrev pub sustained_charges : ℕ → Contract → List Entry → List ℕ
 sustained_charges number contract entries =
     map (λ entry. entry.moment)

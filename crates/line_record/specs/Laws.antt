@@ -16,24 +16,24 @@ use Rattle.line_record.specs.Run.{tallied, StandsFor, IsRun}
 use Rattle.line_record.specs.StateAfter.{IsStateAfter}
 use Rattle.line_record.specs.Bursts.{peak_charges, sustained_charges}
 
--- every history up to the last moment has a state that agrees with it, with whatever counts
+-- Every history up to the last moment has a state that agrees with it, with whatever counts.
 abbrev pub HistoriesHaveStates : Type 0
 HistoriesHaveStates = (contracts : List Contract) (history : List NamedCell) (counts : Tally)
     → IsHistory history → All (λ cell. cell.moment ≤ 2 ^ 62) history
     → (state : State) × (state.counts ≡ counts) × IsStateAfter contracts history state
 
--- every state stands for some buckets, so what a run says of all such buckets is not empty
+-- Every state stands for some buckets, so what a run says of all such buckets is not empty.
 abbrev pub StatesStandForBuckets : Type 0
 StatesStandForBuckets = (state : State) → (buckets : ℕ → Buckets) × StandsFor state buckets
 
--- a run, and a run from its end, are one run
+-- A run, and a run from its end, are one run.
 abbrev pub RunsJoin : Type 0
 RunsJoin = (contracts : List Contract) (start middle end : State) (first second : List Entry)
     → IsRun contracts start first middle → IsRun contracts middle second end
     → IsRun contracts start (first ++ second) end
 
--- a run from a state after a history has the history's verdicts, and leads to a state after the
--- longer history
+-- A run from a state after a history has the history's verdicts, and leads to a state after the
+-- longer history.
 abbrev pub RunsFollowHistories : Type 0
 RunsFollowHistories = (contracts : List Contract) (history : List NamedCell)
     → (start end : State) (entries : List Entry)
@@ -41,30 +41,30 @@ RunsFollowHistories = (contracts : List Contract) (history : List NamedCell)
     → (entries ≡ judged contracts empty_buckets history (cells_of entries))
     × IsStateAfter contracts (history ++ cells_of entries) end
 
--- cells that come in two parts are judged as one list, the second part after the first
+-- Cells that come in two parts are judged as one list, the second part after the first.
 abbrev pub CellsAreJudgedInTurn : Type 0
 CellsAreJudgedInTurn = (contracts : List Contract) (opening : ℕ → Buckets)
     → (history first second : List NamedCell)
     → judged contracts opening history (first ++ second)
     ≡ judged contracts opening history first ++ judged contracts opening (history ++ first) second
 
--- each cell is judged once: the entries have as many verdicts as there are cells, and but for these
--- they are the cells
+-- Each cell is judged once: the entries have as many verdicts as there are cells, and but for these
+-- they are the cells.
 abbrev pub EachCellIsJudged : Type 0
 EachCellIsJudged = (contracts : List Contract) (opening : ℕ → Buckets)
     → (history cells : List NamedCell)
     → (length (judged contracts opening history cells) ≡ length cells)
     × (cells_of (judged contracts opening history cells) ≡ cells)
 
--- what one more cell does to the buckets of the contract of a number: the tests by which the bound
--- below counts tell exactly which bucket the cell filled
+-- What one more cell does to the buckets of the contract of a number: the tests by which the bound
+-- below counts tell exactly which bucket the cell filled.
 pub record FillsAsCounted (contract : Contract) (before after : Buckets) (number : ℕ) (cell : NamedCell) (verdict : Verdict) : Type 0 where
   pub first : Fills (peak_of contract) before.first after.first cell.moment
       ((cell.value == number) && charges_first verdict)
   pub second : IfSome (second_of contract) (λ sustained. Fills sustained before.second after.second cell.moment
       ((cell.value == number) && charges_second verdict contract cell.clp))
 
--- so it is with every next cell of every history
+-- So it is with every next cell of every history.
 abbrev pub CountedCellsFill : Type 0
 CountedCellsFill = (contracts : List Contract) (opening : ℕ → Buckets)
     → (history : List NamedCell) (cell : NamedCell)
@@ -84,24 +84,24 @@ HistoriesBoundBursts = (contracts : List Contract) (opening : ℕ → Buckets)
     → IsBounded first span (peak_charges number (judged contracts opening [] history)) (peak_of contract)
     × IfSome (second_of contract) (IsBounded first span (sustained_charges number contract (judged contracts opening [] history)))
 
--- one more cell in one of several tallies is one more in their total
+-- One more cell in one of several tallies is one more in their total.
 abbrev pub TotalsCount : Type 0
 TotalsCount = (tallies : List Tally) (place : ℕ) (tally : Tally) (verdict : Verdict)
     → slice_get tallies place ≡ Some tally
     → total (slice_set tallies place (counted tally verdict)) ≡ counted (total tallies) verdict
 
--- the total of two lists of tallies, one behind the other, is both totals together
+-- The total of two lists of tallies, one behind the other, is both totals together.
 abbrev pub TotalsJoin : Type 0
 TotalsJoin = (tallies others : List Tally)
     → total (tallies ++ others) ≡ plus (total tallies) (total others)
 
--- no tally has more cells of a verdict than one that it was added to, nor than a total that it is in
+-- No tally has more cells of a verdict than one that it was added to, nor than a total that it is in.
 pub record PartsAreWithin : Type 0 where
   pub plus : (one other : Tally) → IsPart one (plus one other) × IsPart other (plus one other)
   pub total : (tallies : List Tally) (place : ℕ) (tally : Tally)
       → slice_get tallies place ≡ Some tally → IsPart tally (total tallies)
 
--- verdicts that come in two parts are counted as both together, and one after others as one more
+-- Verdicts that come in two parts are counted as both together, and one after others as one more.
 pub record VerdictsCount : Type 0 where
   pub join : (verdicts others : List Verdict)
       → tally_of (verdicts ++ others) ≡ plus (tally_of verdicts) (tally_of others)
@@ -109,7 +109,7 @@ pub record VerdictsCount : Type 0 where
       → tally_of (verdicts ++ verdict ∷ []) ≡ counted (tally_of verdicts) verdict
   pub cells : (verdicts : List Verdict) → cells_in (tally_of verdicts) ≡ length verdicts
 
--- entries are counted as their verdicts are
+-- Entries are counted as their verdicts are.
 abbrev pub EntriesCount : Type 0
 EntriesCount = (counts : Tally) (entries : List Entry)
     → tallied counts entries ≡ plus counts (tally_of (map (λ entry. entry.verdict) entries))

@@ -10,9 +10,9 @@ use Rattle.line_record.specs.declared.fault.LineFault.TheVariants.{TooLate, Back
 use Rattle.line_record.specs.Tally.{cells_in}
 use Rattle.line_record.specs.Run.{IsRun}
 
--- the owner (none where the line is free) and its contracts, how many entries a journal may have,
+-- The owner (none where the line is free) and its contracts, how many entries a journal may have,
 -- the state at the journal's beginning, the journal's entries, the present state, and whether a free
--- line already has the room for a journal
+-- line already has the room for a journal.
 pub record LineView : Type 0 where
   pub owner : Option Owner
   pub contracts : List Contract
@@ -22,11 +22,11 @@ pub record LineView : Type 0 where
   pub state : State
   pub ready : Bool
 
--- the state of no contract
+-- The state of no contract.
 abbrev pub resting : Tally → State
 resting counts = record { levels = record { items = [] }; last = 0; counts = counts }
 
--- a line that serves no connection, and has judged so many cells
+-- A line that serves no connection, and has judged so many cells.
 abbrev pub free_line : ℕ → Tally → Bool → LineView
 free_line journal counts ready = record {
   owner = None;
@@ -38,11 +38,11 @@ free_line journal counts ready = record {
   ready = ready;
 }
 
--- a free line has room for a journal, which holds so many entries
+-- A free line has room for a journal, which holds so many entries.
 abbrev pub has_room : Option Owner → ℕ → ℕ → Bool
 has_room owner journal capacity = is_none owner && nat_le journal capacity
 
--- a line of these parts, whose journal has this capacity
+-- A line of these parts, whose journal has this capacity.
 abbrev pub view_of : Option Owner → List Contract → ℕ → State → List Entry → State → ℕ → LineView
 view_of owner contracts journal start entries state capacity = record {
   owner = owner;
@@ -54,8 +54,8 @@ view_of owner contracts journal start entries state capacity = record {
   ready = has_room owner journal capacity;
 }
 
--- why a cell of this moment is not judged: it is later than 2^62, or earlier than the last judged
--- cell, or the journal is full or the line has judged 2^62 cells
+-- Why a cell of this moment is not judged: it is later than 2^62, or earlier than the last judged
+-- cell, or the journal is full or the line has judged 2^62 cells.
 abbrev pub line_refusal : LineView → ℕ → Option LineFault
 line_refusal line moment =
     if nat_lt (2 ^ 62) moment then Some TooLate
@@ -64,23 +64,23 @@ line_refusal line moment =
     else if nat_le (2 ^ 62) (cells_in line.state.counts) then Some Full
     else None
 
--- the line serves a connection
+-- The line serves a connection.
 abbrev pub IsHeld : LineView → Type 0
 IsHeld line = IsSome line.owner
 
--- the line has judged one more cell, which its journal gained, and all else of it is as before
+-- The line has judged one more cell, which its journal gained, and all else of it is as before.
 pub record Gains (old : LineView) (entry : Entry) (new : LineView) : Type 0 where
   pub after : new ≡ record old { entries = old.entries ++ entry ∷ []; state = new.state }
   pub run : IsRun old.contracts old.state (entry ∷ []) new.state
 
--- the state of a connection without cells: all theoretical arrival times and the last moment are 0
+-- The state of a connection without cells: all theoretical arrival times and the last moment are 0.
 pub record IsOpening (contracts : List Contract) (before : Tally) (state : State) : Type 0 where
   pub one_each : length state.levels.items ≡ length contracts
   pub levels : All (λ levels. (levels.first ≡ 0) × (levels.second ≡ 0)) state.levels.items
   pub last : state.last ≡ 0
   pub counts : state.counts ≡ before
 
--- a free line has begun to serve a connection under these contracts, with an empty journal
+-- A free line has begun to serve a connection under these contracts, with an empty journal.
 pub record Opens (old : LineView) (holder : Owner) (under : List Contract) (new : LineView) : Type 0 where
   pub owner : new.owner ≡ Some holder
   pub contracts : new.contracts ≡ under
@@ -90,7 +90,7 @@ pub record Opens (old : LineView) (holder : Owner) (under : List Contract) (new 
   pub state : IsOpening under old.state.counts new.state
   pub ready : new.ready ≡ false
 
--- what every line keeps: its entries are a run from the start to the present state
+-- What every line keeps: its entries are a run from the start to the present state.
 pub record IsLine (line : LineView) : Type 0 where
   pub run : IsRun line.contracts line.start line.entries line.state
   pub some : 1 ≤ line.journal
@@ -101,7 +101,7 @@ pub record IsLine (line : LineView) : Type 0 where
   pub held : IsSome line.owner → 0 < length line.contracts
   pub free : line.owner ≡ None → line ≡ free_line line.journal line.state.counts line.ready
 
--- and a line that serves a connection has the room for its whole journal
+-- And a line that serves a connection has the room for its whole journal.
 pub record IsSound (line : LineView) (capacity : ℕ) : Type 0 where
   pub kept : IsLine line
   pub room : IsSome line.owner → line.journal ≤ capacity

@@ -7,8 +7,8 @@ use Rattle.line_record.specs.declared.owner.Owner.{Owner}
 use Rattle.line_record.specs.Run.{IsRun}
 use Rattle.line_record.specs.Line.{LineView}
 
--- whose journal it was and under which contracts, the state at its beginning, its entries, and the
--- state at its end
+-- Whose journal it was and under which contracts, the state at its beginning, its entries, and the
+-- state at its end.
 pub record PieceView : Type 0 where
   pub owner : Owner
   pub contracts : List Contract
@@ -16,11 +16,11 @@ pub record PieceView : Type 0 where
   pub entries : List Entry
   pub end : State
 
--- what every piece keeps: its entries are a run from its start to its end
+-- What every piece keeps: its entries are a run from its start to its end.
 abbrev pub IsPiece : PieceView → Type 0
 IsPiece piece = IsRun piece.contracts piece.start piece.entries piece.end
 
--- the line's owner and contracts, its journal and both states of it
+-- The line's owner and contracts, its journal and both states of it.
 pub record IsJournalOf (line : LineView) (piece : PieceView) : Type 0 where
   pub owner : line.owner ≡ Some piece.owner
   pub contracts : piece.contracts ≡ line.contracts
@@ -28,23 +28,23 @@ pub record IsJournalOf (line : LineView) (piece : PieceView) : Type 0 where
   pub entries : piece.entries ≡ line.entries
   pub end : piece.end ≡ line.state
 
--- the later piece has the owner and the contracts of the earlier one, and begins where that ends
+-- The later piece has the owner and the contracts of the earlier one, and begins where that ends.
 pub record GoesOnFrom (earlier later : PieceView) : Type 0 where
   pub owner : later.owner ≡ earlier.owner
   pub contracts : later.contracts ≡ earlier.contracts
   pub start : later.start ≡ earlier.end
 
--- the piece behind this place goes on from the piece there, where there are both
+-- The piece behind this place goes on from the piece there, where there are both.
 abbrev pub GoesOnAt : List PieceView → ℕ → Type 0
 GoesOnAt pieces place = (earlier later : PieceView)
     → slice_get pieces place ≡ Some earlier → slice_get pieces (suc place) ≡ Some later
     → GoesOnFrom earlier later
 
--- each piece but the first goes on from the one before it
+-- Each piece but the first goes on from the one before it.
 abbrev pub IsChain : List PieceView → Type 0
 IsChain pieces = (place : ℕ) → GoesOnAt pieces place
 
--- the piece at this place is the first that does not go on from the one before it
+-- The piece at this place is the first that does not go on from the one before it.
 pub record BreaksAt (pieces : List PieceView) (place : ℕ) : Type 0 where
   pub earlier : PieceView
   pub later : PieceView
@@ -54,17 +54,17 @@ pub record BreaksAt (pieces : List PieceView) (place : ℕ) : Type 0 where
   pub breaks : ¬ GoesOnFrom earlier later
   pub whole : (other : ℕ) → suc other < place → GoesOnAt pieces other
 
--- all entries of the pieces, in order
+-- All entries of the pieces, in order.
 abbrev pub entries_in : List PieceView → List Entry
 entries_in [] = []
 entries_in (piece ∷ later) = piece.entries ++ entries_in later
 
--- the state at the end of the last piece, or the earlier one where there is no piece
+-- The state at the end of the last piece, or the earlier one where there is no piece.
 abbrev pub end_of : State → List PieceView → State
 end_of earlier [] = earlier
 end_of earlier (piece ∷ later) = end_of piece.end later
 
--- all entries of the pieces are one run, from the first start to the last end
+-- All entries of the pieces are one run, from the first start to the last end.
 abbrev pub AreOneRun : List PieceView → Type 0
 AreOneRun [] = ⊤
 AreOneRun (piece ∷ later) =

@@ -11,13 +11,13 @@ use Rattle.line_record.specs.declared.tally.Tally.{Tally}
 use Rattle.line_record.specs.Tally.{counted}
 use Rattle.line_record.specs.History.{numbered, moments_of, last_moment, cells_of, buckets_after, judged}
 
--- the counts after these entries
+-- The counts after these entries.
 abbrev pub tallied : Tally → List Entry → Tally
 tallied counts [] = counts
 tallied counts (entry ∷ later) = tallied (counted counts entry.verdict) later
 
--- the levels of a state stand for these buckets of its contracts by number, and none of them was
--- charged after the state's last moment
+-- The levels of a state stand for these buckets of its contracts by number, and none of them was
+-- charged after the state's last moment.
 pub record StandsFor (state : State) (buckets : ℕ → Buckets) : Type 0 where
   pub agrees : (number : ℕ) (levels : Levels)
       → numbered state.levels.items number ≡ Some levels → Agrees levels (buckets number)

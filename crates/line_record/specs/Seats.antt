@@ -4,7 +4,7 @@ use Rattle.upc_cell.specs.declared.vc.Vc.{Vc}
 use Rattle.upc_cell.specs.Connection.{is_same_vc}
 use Rattle.line_record.specs.declared.directory.Seating.{Seating}
 
--- the seating that the list has for this connection
+-- The seating that the list has for this connection.
 abbrev pub seat_in : List (Vc × Seating) → Vc → Option Seating
 seat_in [] vc = None
 seat_in (seat ∷ later) vc = if is_same_vc vc seat.0 then Some seat.1 else seat_in later vc

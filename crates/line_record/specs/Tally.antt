@@ -4,41 +4,41 @@ use Rattle.leaky.specs.declared.verdict.Verdict.{Verdict}
 use Rattle.leaky.specs.declared.verdict.Verdict.TheVariants.{Pass, Tag, Discard, Refuse}
 use Rattle.line_record.specs.declared.tally.Tally.{Tally}
 
--- no cell was judged
+-- No cell was judged.
 abbrev pub nothing : Tally
 nothing = record { passed = 0; tagged = 0; discarded = 0; refused = 0 }
 
--- one more cell has this verdict
+-- One more cell has this verdict.
 abbrev pub counted : Tally → Verdict → Tally
 counted tally Pass = record tally { passed = tally.passed + 1 }
 counted tally Tag = record tally { tagged = tally.tagged + 1 }
 counted tally Discard = record tally { discarded = tally.discarded + 1 }
 counted tally Refuse = record tally { refused = tally.refused + 1 }
 
--- the counts of these verdicts
+-- The counts of these verdicts.
 abbrev pub tally_of : List Verdict → Tally
 tally_of [] = nothing
 tally_of (verdict ∷ later) = counted (tally_of later) verdict
 
--- the number of the cells with this verdict
+-- The number of the cells with this verdict.
 abbrev pub number_of : Tally → Verdict → ℕ
 number_of tally Pass = tally.passed
 number_of tally Tag = tally.tagged
 number_of tally Discard = tally.discarded
 number_of tally Refuse = tally.refused
 
--- the number of all cells
+-- The number of all cells.
 abbrev pub cells_in : Tally → ℕ
 cells_in tally = tally.passed + tally.tagged + tally.discarded + tally.refused
 
--- each number is below the most that is counted, 2^62
+-- Each number is below the most that is counted, 2^62.
 pub record HasRoom (tally : Tally) : Type 0 where
   pub passed : tally.passed < 2 ^ 62
   pub tagged : tally.tagged < 2 ^ 62
   pub discarded : tally.discarded < 2 ^ 62
   pub refused : tally.refused < 2 ^ 62
 
--- both tallies together
+-- Both tallies together.
 abbrev pub plus : Tally → Tally → Tally
 plus one other = record {
   passed = one.passed + other.passed;
@@ -47,19 +47,19 @@ plus one other = record {
   refused = one.refused + other.refused;
 }
 
--- all tallies of a list together
+-- All tallies of a list together.
 abbrev pub total : List Tally → Tally
 total [] = nothing
 total (tally ∷ later) = plus tally (total later)
 
--- each number is below 2^64, so that a program can hold it
+-- Each number is below 2^64, so that a program can hold it.
 pub record FitsWords (tally : Tally) : Type 0 where
   pub passed : tally.passed < 2 ^ 64
   pub tagged : tally.tagged < 2 ^ 64
   pub discarded : tally.discarded < 2 ^ 64
   pub refused : tally.refused < 2 ^ 64
 
--- of each verdict the part has at most as many cells as the whole
+-- Of each verdict the part has at most as many cells as the whole.
 pub record IsPart (part whole : Tally) : Type 0 where
   pub passed : part.passed ≤ whole.passed
   pub tagged : part.tagged ≤ whole.tagged

@@ -190,7 +190,7 @@ impl Directory {
     }
 }
 
-// Writes another program into the place of the connection.
+/// Writes another program into the place of the connection.
 fn reprogram(seats: &mut HashMap<Vc, Seating>, vc: Vc, program: Id) -> Option<Id>
     ensures before { result ≡ option_map (λ seat. seat.program) (seat_in seats.old.entries vc) }
     ensures moved { IfSome (seat_in seats.old.entries vc) (λ seat.
@@ -201,7 +201,7 @@ fn reprogram(seats: &mut HashMap<Vc, Seating>, vc: Vc, program: Id) -> Option<Id
     Some(mem::replace(&mut seat.program, program))
 }
 
-// Whether some connection names the program.
+/// Whether some connection names the program.
 fn any_names(seats: &HashMap<Vc, Seating>, program: Id) -> bool
     ensures any { result ≡ list_any (λ seat. is_same_id seat.program program) (values seats.now) }
     ensures apart { HasEntries seats.now.entries }

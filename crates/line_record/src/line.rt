@@ -73,7 +73,7 @@ impl Line {
         Ok(Line::free(alloc, journal, Tally::new()))
     }
 
-    // A free line with these counts.
+    /// A free line with these counts.
     fn free(alloc: Global, journal: u32, counts: Tally) -> Self
         requires some { 1 ≤ journal }
         requires most { journal ≤ 65536 }
@@ -203,7 +203,7 @@ impl Line {
         Ok(())
     }
 
-    // Why a cell of this moment is not judged.
+    /// Why a cell of this moment is not judged.
     #[inline]
     fn refusal(&self, moment: u64) -> Option<LineFault>
         ensures { result ≡ line_refusal self.now moment }
@@ -328,7 +328,7 @@ impl Line {
     }
 }
 
-// The same contracts once more.
+/// The same contracts once more.
 fn copied(contracts: &ArrayVec<Contract, 4>) -> ArrayVec<Contract, 4>
     ensures { result ≡ contracts.now }
 {

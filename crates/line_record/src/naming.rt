@@ -8,8 +8,8 @@ ghost use Rattle.leaky.specs.declared.levels.Levels.{Levels as SomeLevels};
 use arrayvec::ArrayVec;
 use leaky::{Contract, Levels, Verdict};
 
-// The verdict of the contract of this number, counted from 1, whose levels go on. Where there is no
-// such contract, the verdict is Refuse and nothing changes.
+/// The verdict of the contract of this number, counted from 1, whose levels go on. Where there is no
+/// such contract, the verdict is Refuse and nothing changes.
 #[inline]
 pub(crate) fn judge_named(
     contracts: &[Contract],

@@ -42,7 +42,7 @@ impl Piece {
     ghost use Rattle.line_record.specs.Run.{IsRun};
     ghost use Rattle.line_record.specs.Piece.{IsPiece, GoesOnFrom};
 
-    // The piece of these parts.
+    /// The piece of these parts.
     pub(crate) fn new(
         owner: Owner,
         contracts: ArrayVec<Contract, 4>,
@@ -104,7 +104,7 @@ impl Piece {
         &self.end
     }
 
-    // Whether the piece goes on from the earlier one.
+    /// Whether the piece goes on from the earlier one.
     fn goes_on_from(&self, earlier: &Piece) -> bool
         ensures { IsTrue result ↔ GoesOnFrom earlier.now self.now }
     {

@@ -24,7 +24,7 @@ impl State {
     ghost use Rattle.line_record.specs.Run.{IsRun};
     ghost use Rattle.line_record.specs.Line.{resting, IsOpening};
 
-    // The state of no contract.
+    /// The state of no contract.
     pub(crate) fn resting(counts: Tally) -> Self
         ensures { result ≡ resting counts }
     {
@@ -35,7 +35,7 @@ impl State {
         }
     }
 
-    // The state of a connection under these contracts that had no cell.
+    /// The state of a connection under these contracts that had no cell.
     pub(crate) fn opening(contracts: &[Contract], counts: Tally) -> Self
         requires { length contracts.now ≤ 4 }
         ensures { IsOpening contracts.now counts result }
@@ -49,7 +49,7 @@ impl State {
         }
     }
 
-    // The same state once more.
+    /// The same state once more.
     pub(crate) fn copied(&self) -> Self
         ensures { result ≡ self.now }
     {
@@ -74,7 +74,7 @@ impl State {
             && self.counts == other.counts
     }
 
-    // Judges a cell, and goes on to the state after it.
+    /// Judges a cell, and goes on to the state after it.
     #[inline]
     pub(crate) fn judge(
         &mut self,

@@ -16,7 +16,7 @@ fn program(slot: u16) -> Id {
     }
 }
 
-// A line that serves 1/100 under one contract: a cell in ten ticks, without tolerance.
+/// A line that serves 1/100 under one contract: a cell in ten ticks, without tolerance.
 fn policed_line(alloc: Global, journal: u32) -> Result<Line, Fail>
     requires some { 1 ≤ journal }
     requires most { journal ≤ 65536 }
@@ -35,7 +35,7 @@ fn policed_line(alloc: Global, journal: u32) -> Result<Line, Fail>
     }
 }
 
-// The verdict on a cell of cell loss priority 0.
+/// The verdict on a cell of cell loss priority 0.
 fn verdict(line: &mut Line, moment: u64, value: u32) -> Result<Verdict, LineFault>
     requires { IsHeld line.old }
     ensures { line.new.owner ≡ line.old.owner }
@@ -46,7 +46,7 @@ fn verdict(line: &mut Line, moment: u64, value: u32) -> Result<Verdict, LineFaul
 
 fn is_shared<T: Send + Sync>() {}
 
-// The same cells as one piece after another, and in the wrong order.
+/// The same cells as one piece after another, and in the wrong order.
 #[test]
 fn a_cut_keeps_the_buckets_and_pieces_chain(rt: HostRuntime) -> Result<(), Fail> {
     let mut line = policed_line(rt.alloc(), 2)?;
@@ -85,7 +85,7 @@ fn a_cut_keeps_the_buckets_and_pieces_chain(rt: HostRuntime) -> Result<(), Fail>
     Ok(())
 }
 
-// A value that names no contract leaves the buckets as they are, but later cells may not be earlier.
+/// A value that names no contract leaves the buckets as they are, but later cells may not be earlier.
 #[test]
 fn a_refused_cell_charges_no_bucket(rt: HostRuntime) -> Result<(), Fail> {
     let mut line = policed_line(rt.alloc(), 3)?;
@@ -204,7 +204,7 @@ fn faults_are_printed_by_number_and_name(rt: HostRuntime) -> Result<(), Fail> {
     Ok(())
 }
 
-// The largest journal, which is filled, handed out by a cut, and handed out again at the end.
+/// The largest journal, which is filled, handed out by a cut, and handed out again at the end.
 #[test]
 fn the_largest_journal_is_filled_cut_and_closed(rt: HostRuntime) -> Result<(), Fail> {
     let mut line = policed_line(rt.alloc(), MOST_ENTRIES)?;
@@ -247,7 +247,7 @@ fn tallies_are_added(rt: HostRuntime) {
     assert_eq!(rt; Tally::total(&[]), Tally::new());
 }
 
-// A path between nodes of the network has twelve bits.
+/// A path between nodes of the network has twelve bits.
 #[test]
 fn connections_between_nodes_are_found_by_their_whole_path(rt: HostRuntime) -> Result<(), Fail> {
     let mut directory = Directory::new(rt.alloc(), 2, 1)?;
@@ -292,7 +292,7 @@ fn connections_between_nodes_are_found_by_their_whole_path(rt: HostRuntime) -> R
     Ok(())
 }
 
-// A policer of one connection.
+/// A policer of one connection.
 #[test]
 fn a_connection_is_policed(rt: HostRuntime) -> Result<(), Fail> {
     let vc = Vc::new(1, 100)?;
@@ -314,7 +314,7 @@ fn a_connection_is_policed(rt: HostRuntime) -> Result<(), Fail> {
     Ok(())
 }
 
-// As many connections as a card has lines at most, each found on its own line.
+/// As many connections as a card has lines at most, each found on its own line.
 #[test]
 fn a_directory_of_4096_lines_is_filled(rt: HostRuntime) -> Result<(), Fail> {
     let mut directory = Directory::new(rt.alloc(), 4096, 1)?;

@@ -1,2 +1,3 @@
-//! What no clause says of words of digits.
+//! What no clause says of words of digits and of fault lines.
 mod digits;
+mod fault_lines;

@@ -69,3 +69,47 @@ fn each_fault_of_the_desk_has_its_line(rt: HostRuntime) -> Result<(), Fail> {
     assert_eq!(rt; answers.len(), 0);
     Ok(())
 }
+
+#[test]
+fn a_fault_is_printed_as_itself(rt: HostRuntime) -> Result<(), Fail> {
+    for fault in [GcraFault::ZeroIncrement, GcraFault::TooLarge] {
+        let mut answers = Vec::new(rt.alloc());
+        add_gcra_fault(&mut answers, fault)?;
+        let line = format!(in rt.alloc(); "fault gcra {fault}\n")?;
+        assert_eq!(rt; answers.as_slice(), line.as_bytes());
+    }
+    for fault in [
+        CardFault::Programs,
+        CardFault::Lines,
+        CardFault::Ports,
+        CardFault::Journal,
+    ] {
+        let mut answers = Vec::new(rt.alloc());
+        add_shape_fault(&mut answers, fault)?;
+        let line = format!(in rt.alloc(); "fault shape {fault}\n")?;
+        assert_eq!(rt; answers.as_slice(), line.as_bytes());
+    }
+    Ok(())
+}
+
+#[test]
+fn a_fault_of_the_desk_is_printed_as_itself(rt: HostRuntime) -> Result<(), Fail> {
+    for fault in [
+        DeskFault::NoProgram,
+        DeskFault::NoConnection,
+        DeskFault::Taken,
+        DeskFault::NoLine,
+        DeskFault::InUse,
+        DeskFault::ProgramsFull,
+        DeskFault::Exhausted,
+        DeskFault::BadContracts,
+        DeskFault::Busy,
+        DeskFault::Stale,
+    ] {
+        let mut answers = Vec::new(rt.alloc());
+        add_desk_fault(&mut answers, fault)?;
+        let line = format!(in rt.alloc(); "fault desk {fault}\n")?;
+        assert_eq!(rt; answers.as_slice(), line.as_bytes());
+    }
+    Ok(())
+}

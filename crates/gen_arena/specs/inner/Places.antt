@@ -3,7 +3,7 @@ use Rattle.std.specs.Prelude.{◌≡◌, ℕ, ◌+◌, ◌<◌, List, map, lengt
 use Rattle.gen_arena.specs.declared.place.Place.{Place}
 
 module _ {T : Type 0} where
-  -- what stands for a place where there is none
+  -- What stands for a place where there is none.
   abbrev pub no_place : Place T
   no_place = record { generation = 0; next = 0; value = None }
 
@@ -11,19 +11,19 @@ module _ {T : Type 0} where
   place_in None = no_place
   place_in (Some place) = place
 
-  -- the places that the cells hold
+  -- The places that the cells hold.
   abbrev pub places_in : List (Option (Place T)) → List (Place T)
   places_in cells = map place_in cells
 
-  -- the place of this number
+  -- The place of this number.
   abbrev pub place_at : List (Place T) → ℕ → Place T
   place_at places k = get_or places k no_place
 
-  -- an empty place that has used this generation, and names the one behind it as the next
+  -- An empty place that has used this generation, and names the one behind it as the next.
   abbrev pub fresh_place : ℕ → ℕ → Place T
   fresh_place used k = record { generation = used; next = k + 1; value = None }
 
-  -- so many such places
+  -- So many such places.
   abbrev pub AreFresh : List (Place T) → ℕ → ℕ → Type 0
   AreFresh places count used =
       (length places ≡ count) × ((k : ℕ) → k < count → place_at places k ≡ fresh_place used k)
