@@ -31,6 +31,8 @@ class Connection:
 
 
 class Card:
+    """A card of a shape, whose numbers are looked at in their order. Each refusal is a Fault and changes nothing."""
+
     def __init__(self, programs, lines, ports, journal, side):
         for (name, most), number in zip(SHAPE, (programs, lines, ports, journal)):
             if not 1 <= number <= most:
@@ -114,10 +116,12 @@ class Card:
         return vc, connection.program, value, verdict, leaving
 
     def find_program(self, number):
+        """Refuses a name that no program has, or has no more."""
         if number not in self.programs:
             raise Fault("desk", "NoProgram")
 
     def find_connection(self, vc):
+        """The connection that stands under this path and channel."""
         if vc not in self.connections:
             raise Fault("desk", "NoConnection")
         return self.connections[vc]

@@ -15,6 +15,8 @@ def program_of(word):
 
 
 class EvalDialogue:
+    """No program yet, or the program that runs on each further cell."""
+
     def __init__(self):
         self.program = None
 
@@ -23,6 +25,7 @@ class EvalDialogue:
         return self.program is not None
 
     def answer(self, words):
+        """Each line has one word: the first one's is a program, the others' are cells."""
         if len(words) != 1:
             raise Fault("script", "BadLine")
         if not self.is_open:
@@ -31,4 +34,5 @@ class EvalDialogue:
         return "value %d steps %d" % value_and_steps(self.program, cell_of(words[0]))
 
     def refuse_end(self):
+        """What is wrong with an input that ends without a program."""
         raise Fault("script", "NoProgram")

@@ -13,10 +13,12 @@ class Instruction(NamedTuple):
 
     @property
     def mnemonic(self):
+        """The name in the table."""
         return TABLE[self.code][0]
 
     @property
     def form(self):
+        """What stands behind the name."""
         return TABLE[self.code][1]
 
 

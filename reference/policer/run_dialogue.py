@@ -21,6 +21,8 @@ def card_of(words):
 
 
 class RunDialogue:
+    """No card yet, or the card that obeys each further line. A line's words go before what the card says."""
+
     def __init__(self):
         self.card = None
 
@@ -29,6 +31,7 @@ class RunDialogue:
         return self.card is not None
 
     def answer(self, words):
+        """The first line opens a card; each later one is a command with as many words as it takes."""
         if not self.is_open:
             self.card = card_of(words)
             return "ready"
@@ -40,20 +43,25 @@ class RunDialogue:
         return COMMANDS[command, len(behind)](self, *behind)
 
     def refuse_end(self):
+        """What is wrong with a script that ends without a card."""
         raise Fault("script", "NoCard")
 
     def vc(self, path, channel):
+        """The connection that two words name at the card's side."""
         return connection_of(path, channel, self.card.side)
 
     def load(self, word):
+        """`load HEX`: its digits, its code and its check go before the card's room."""
         return "loaded p%d" % self.card.load(program_in(word))
 
     def retire(self, word):
+        """`retire pN`"""
         number = program_of(word)
         self.card.retire(number)
         return "retired p%d" % number
 
     def setup(self, words):
+        """`setup VPI VCI pN CONTRACT ..`"""
         if len(words) < 3:
             raise bad_line()
         vc = self.vc(*words[:2])
@@ -61,20 +69,24 @@ class RunDialogue:
         return "set %d/%d" % vc
 
     def reload(self, path, channel, name):
+        """`reload VPI VCI pN`, whose answer names the new program"""
         vc = self.vc(path, channel)
         number = program_of(name)
         self.card.reload(vc, number)
         return "reloaded %d/%d p%d" % (*vc, number)
 
     def cut(self, path, channel):
+        """`cut VPI VCI`"""
         vc = self.vc(path, channel)
         return "cut %d/%d %d %d %d %d %d" % (*vc, *self.card.cut(vc))
 
     def release(self, path, channel):
+        """`release VPI VCI`"""
         vc = self.vc(path, channel)
         return "released %d/%d %d %d %d %d %d" % (*vc, *self.card.release(vc))
 
     def cell(self, moment, word):
+        """`cell MOMENT HEX`: the header is told of a cell that leaves."""
         number = number_of(moment)
         vc, program, value, verdict, leaving = self.card.arrive(number, cell_of(word))
         answer = "%s %d/%d p%d %d" % (verdict, *vc, program, value)

@@ -16,6 +16,7 @@ BUCKETS = {b"cbr1": 1, b"vbr1": 2, b"vbr2": 2, b"vbr3": 2}
 
 
 def bad_line():
+    """The fault of a word or a line of another form."""
     return Fault("script", "BadLine")
 
 

@@ -18,6 +18,7 @@ COVERAGE = Coverage()
 
 
 def arguments():
+    """What the words ask for."""
     parser = argparse.ArgumentParser(
         prog="bin/compare",
         description="Compares N random and mutated inputs of each subcommand, and fixed ones at the limits, between "
@@ -74,10 +75,12 @@ def tell_difference(program, subcommand, seed, number):
     print("otherwise: upc %s, input %d of the seed %s" % (subcommand, number, seed))
     print("  %s" % told)
     print("  bin/upc %s < %s/short" % (subcommand, folder))
-    print("  (cd reference && python3 -m policer %s < %s/short); the whole input is %s/whole" % (subcommand, folder, folder))
+    print("  (cd reference && python3 -m policer %s < %s/short)" % (subcommand, folder))
+    print("  The whole input is %s/whole" % folder)
 
 
 def main():
+    """Compares each subcommand up to its first difference."""
     asked = arguments()
     seed = asked.seed or str(random.SystemRandom().randrange(10**9))
     subcommands = [asked.only] if asked.only else list(MAKERS)

@@ -29,7 +29,10 @@ def input_of(subcommand, seed, number):
 
 def of_program(program, subcommand, text):
     """What the program writes, its exit status, and what it tells of errors."""
-    ended = subprocess.run([program, subcommand], input=text, capture_output=True, timeout=SECONDS, check=False)
+    try:
+        ended = subprocess.run([program, subcommand], input=text, capture_output=True, timeout=SECONDS, check=False)
+    except subprocess.TimeoutExpired:
+        return b"", -1, b"no end in %d seconds" % SECONDS
     return ended.stdout, ended.returncode, ended.stderr
 
 

@@ -58,12 +58,14 @@ def ends():
 
 
 def eval_edges():
+    """Lines, words of cells and programs, and programs themselves."""
     first, last = RETURN + b"\n", b"00000000\n"
     yield from ends()
     yield from long_lines(first, last)
     yield from many_lines(first, last)
     yield first + b"".join(b"0" * digits + b"\n" for digits in range(1, 111))
-    yield first + b"".join(b"0" * at + bytes([octet]) + b"0" * (7 - at) + b"\n" for octet in range(256) for at in (0, 7))
+    for at in (0, 7):
+        yield first + b"".join(b"0" * at + bytes([octet]) + b"0" * (7 - at) + b"\n" for octet in range(256))
     for digits in range(1, 35):
         yield (RETURN * 3)[:digits] + b"\n" + last
     for program in sized_programs():
@@ -113,6 +115,7 @@ def jumping_programs():
 
 
 def check_edges():
+    """Sources of all sizes, each octet alone, jumps and numbers."""
     yield from ends()
     for octet in range(256):
         yield bytes([octet])
@@ -146,10 +149,12 @@ def far_labels():
 
 def numbers():
     """Numbers about the greatest, in each spelling, and in each place where a number may stand."""
-    spelled = [b"4294967294", b"4294967295", b"4294967296", b"0xfffffffe", b"0XFFFFFFFF", b"0x100000000", b"0x0ffffffff"]
-    spelled += [b"00004294967295", b"42949672950", b"0", b"00", b"0x0", b"0x", b"0X", b"1x", b"0b1", b"08", b"1_", b"0xg"]
+    spelled = [b"4294967294", b"4294967295", b"4294967296", b"00004294967295", b"42949672950"]
+    spelled += [b"0xfffffffe", b"0XFFFFFFFF", b"0x100000000", b"0x0ffffffff"]
+    spelled += [b"0", b"00", b"0x0", b"0x", b"0X", b"1x", b"0b1", b"08", b"1_", b"0xg"]
     places = [b"ld #%s", b"ld #-%s", b"ld [%s]", b"ldh [x+%s]", b"ldxb 4*([%s]&0xf)", b"ldx %s*([0]&0xf)"]
-    places += [b"ldxb 4*([0]&%s)", b"st M[%s]", b"add #%s", b"lsh #%s", b"div #-%s", b"jeq #%s, here\nhere:", b"ret #%s"]
+    places += [b"ldxb 4*([0]&%s)", b"st M[%s]", b"add #%s", b"lsh #%s", b"div #-%s", b"ret #%s"]
+    places += [b"jeq #%s, here\nhere:"]
     for place in places:
         for number in spelled:
             yield place % number + b"\nret a\n"
@@ -159,6 +164,7 @@ def numbers():
 
 
 def run_edges():
+    """Lines, words of cells, all codes, programs, shapes, names and moments."""
     first = b"card 2 2 1 4\nload " + RETURN + b"\nsetup 1 1 p1 cbr1:1/0\n"
     last = b"cell 1 00100010\n"
     yield from ends()
@@ -189,7 +195,8 @@ def full_card():
     """As many programs and connections as a card may have, and one more of each, between nodes of the network."""
     lines = [b"card 1024 4096 16 65536 nni"]
     lines += [b"load 00060000%08x" % (number % 4) for number in range(1025)]
-    lines += [b"setup %d %d p%d cbr1:2/1" % (number % 4096, number * 16 % 65536, number % 1024 + 1) for number in range(4097)]
+    for number in range(4097):
+        lines.append(b"setup %d %d p%d cbr1:2/1" % (number % 4096, number * 16 % 65536, number % 1024 + 1))
     lines += [b"cell 5 %08x" % (number << 20 | (number * 16 % 65536) << 4) for number in range(0, 4096, 5)]
     lines += [b"cut %d %d" % (number, number * 16 % 65536) for number in range(0, 4096, 3)]
     return b"\n".join(lines) + b"\n"

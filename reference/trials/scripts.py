@@ -24,22 +24,26 @@ ODD_LINES = [
     b"load", b"load 00 00", b"load 0", b"load 00", b"load xx", b"load 0006000000000001 ", b"LOAD 0006000000000001",
     b"retire", b"retire 1", b"retire p", b"retire p-1", b"retire P1", b"retire p1 p1", b"retire p0", b"retire p0001",
     b"retire p18446744073709551615", b"retire p18446744073709551616", b"retire p99999999999999999999999999999999",
-    b"setup", b"setup 1 1", b"setup 1 1 p1", b"setup 1 1 cbr1:1/1", b"setup 256 1 p1 cbr1:1/1", b"setup 4095 1 p1 cbr1:1/1",
-    b"setup 4096 1 p1 cbr1:1/1", b"setup 1 65535 p1 cbr1:1/1", b"setup 1 65536 p1 cbr1:1/1", b"setup 1 1 p1 cbr1:1",
-    b"setup 1 1 p1 cbr1:1/1:1/1", b"setup 1 1 p1 vbr1:1/1", b"setup 1 1 p1 vbr2:1/1:1/1:1/1", b"setup 1 1 p1 cbr1",
-    b"setup 1 1 p1 cbr1:", b"setup 1 1 p1 cbr1:/", b"setup 1 1 p1 cbr1:1/", b"setup 1 1 p1 cbr1:/1", b"setup 1 1 p1 cbr1:1//1",
-    b"setup 1 1 p1 CBR1:1/1", b"setup 1 1 p1 cbr1;1/1", b"setup 1 1 p1 cbr2:1/1", b"setup 1 1 p1 vbr4:1/1:1/1",
-    b"setup 1 1 p1 :1/1", b"setup 1 1 p1 cbr1:1/1 x", b"setup 1 1 p1 " + b" ".join([b"cbr1:1/1"] * 5),
-    b"setup 1 1 p1 cbr1:18446744073709551615/0", b"setup 1 1 p1 cbr1:18446744073709551616/0", b"setup 1 1 p1 cbr1:+1/0",
-    b"reload", b"reload 1 1", b"reload 1 1 1", b"reload 1 1 p1 p1", b"reload 300 1 p1", b"reload -1 1 p1",
-    b"cut", b"cut 1", b"cut 1 1 1", b"cut 0x1 1", b"cut 256 1", b"cut 1 65536", b"release", b"release 1", b"release 1 1 p1",
-    b"release 4096 0", b"Release 1 1", b"cell", b"cell 1", b"cell 1 00000000 0", b"cell x 00000000", b"cell -1 00000000",
-    b"cell 18446744073709551615 00000000", b"cell 18446744073709551616 00000000", b"cell 18446744073709551616 0",
-    b"cell 1 0000000", b"cell 1 000000", b"cell 1 0x000000", b"cell 01 00000000", b"card 1 1 1 1", b"cards", b"p1", b"\x80",
+    b"setup", b"setup 1 1", b"setup 1 1 p1", b"setup 1 1 cbr1:1/1", b"setup 256 1 p1 cbr1:1/1",
+    b"setup 4095 1 p1 cbr1:1/1", b"setup 4096 1 p1 cbr1:1/1", b"setup 1 65535 p1 cbr1:1/1",
+    b"setup 1 65536 p1 cbr1:1/1", b"setup 1 1 p1 cbr1:1", b"setup 1 1 p1 cbr1:1/1:1/1", b"setup 1 1 p1 vbr1:1/1",
+    b"setup 1 1 p1 vbr2:1/1:1/1:1/1", b"setup 1 1 p1 cbr1", b"setup 1 1 p1 cbr1:", b"setup 1 1 p1 cbr1:/",
+    b"setup 1 1 p1 cbr1:1/", b"setup 1 1 p1 cbr1:/1", b"setup 1 1 p1 cbr1:1//1", b"setup 1 1 p1 CBR1:1/1",
+    b"setup 1 1 p1 cbr1;1/1", b"setup 1 1 p1 cbr2:1/1", b"setup 1 1 p1 vbr4:1/1:1/1", b"setup 1 1 p1 :1/1",
+    b"setup 1 1 p1 cbr1:1/1 x", b"setup 1 1 p1 " + b" ".join([b"cbr1:1/1"] * 5),
+    b"setup 1 1 p1 cbr1:18446744073709551615/0", b"setup 1 1 p1 cbr1:18446744073709551616/0",
+    b"setup 1 1 p1 cbr1:+1/0", b"reload", b"reload 1 1", b"reload 1 1 1", b"reload 1 1 p1 p1", b"reload 300 1 p1",
+    b"reload -1 1 p1", b"cut", b"cut 1", b"cut 1 1 1", b"cut 0x1 1", b"cut 256 1", b"cut 1 65536", b"release",
+    b"release 1", b"release 1 1 p1", b"release 4096 0", b"Release 1 1", b"cell", b"cell 1", b"cell 1 00000000 0",
+    b"cell x 00000000", b"cell -1 00000000", b"cell 18446744073709551615 00000000",
+    b"cell 18446744073709551616 00000000", b"cell 18446744073709551616 0", b"cell 1 0000000", b"cell 1 000000",
+    b"cell 1 0x000000", b"cell 01 00000000", b"card 1 1 1 1", b"cards", b"p1", b"\x80",
 ]
 
 
 class Script:
+    """A card line, programs, connections, and then cells and commands as they come."""
+
     def __init__(self, rng):
         self.rng = rng
         self.lines = []
@@ -56,6 +60,7 @@ class Script:
 
     @property
     def card(self):
+        """The card that has taken the lines so far."""
         return self.answers.card
 
     def say(self, line):
@@ -67,14 +72,17 @@ class Script:
             pass
 
     def open_card(self):
+        """A small card, or seldom the largest, of either side."""
         rng = self.rng
-        sizes = (rng.choice((1, 2, 3, 4)), rng.choice((1, 2, 3, 5)), rng.choice((1, 2, 16)), rng.choice((1, 3, 9, 30, 100, 65536)))
+        numbers = ((1, 2, 3, 4), (1, 2, 3, 5), (1, 2, 16), (1, 3, 9, 30, 100, 65536))
+        sizes = tuple(rng.choice(some) for some in numbers)
         if rng.random() < 0.03:
             sizes = (1024, 4096, 16, 65536)
         side = rng.choice(("", "", " uni", " nni"))
         self.say(("card %d %d %d %d" % sizes + side).encode())
 
     def next_line(self):
+        """A cell as a rule, else a command, or seldom a line of another form. Full journals are often cut."""
         rng = self.rng
         if rng.random() < 0.05:
             return rng.choice(ODD_LINES)
@@ -89,6 +97,7 @@ class Script:
         return say(0.25)
 
     def is_full(self, connection):
+        """No further cell fits into the connection's journal."""
         return connection.tally()[0] == self.card.most_judged
 
     # What there is, and with the given likelihood what perhaps isn't there.
@@ -173,7 +182,8 @@ class Script:
         """A bucket: as a rule with one of these increments and a small limit."""
         rng = self.rng
         if rng.random() < odd / 8:
-            return "%d/%d" % (rng.choice((0, 1, MOST_RATE + 1, MOST_NUMBER)), rng.choice((0, MOST_RATE + 1, MOST_NUMBER)))
+            increment = rng.choice((0, 1, MOST_RATE + 1, MOST_NUMBER))
+            return "%d/%d" % (increment, rng.choice((0, MOST_RATE + 1, MOST_NUMBER)))
         if self.is_large:
             return "%d/%d" % (
                 rng.choice((MOST_RATE, MOST_RATE - 1, 1, rng.getrandbits(48) or 1)),

@@ -25,6 +25,11 @@ ODD_LINES = [
 ]
 
 
+# Jumps to `far`, and jumps that have no offset or nearly none.
+FAR_JUMPS = ["jeq #%d, far, near", "jset x, near, far", "jne #%d, far", "ja far", "jgt #%d, far", "jle x, far"]
+ODD_JUMPS = ["ja up", "jeq #1, down, up", "jeq #1, up, lost", "jlt x, up", "here: ja here", "jeq x, down, lost"]
+
+
 def stays_inside(program):
     """All targets of jumps are places of the program."""
     return all(target < len(program) for place, one in enumerate(program) for target in targets(one, place))
@@ -43,8 +48,8 @@ class Speller:
         """A name for each place."""
         names = ["L%d" % place for place in range(len(program))]
         if self.rng.random() < 0.4:
-            for place, name in zip(self.rng.sample(range(len(program)), min(len(program), 6)),
-                                   self.rng.sample(NAMES, 6)):
+            places = self.rng.sample(range(len(program)), min(len(program), 6))
+            for place, name in zip(places, self.rng.sample(NAMES, 6)):
                 if name not in names:
                     names[place] = name
         return names
@@ -56,11 +61,13 @@ class Speller:
         return self.names[place]
 
     def blank(self, least=""):
+        """Blanks between two tokens: as a rule the least, which is one where they would run together without."""
         if self.rng.random() < 0.15:
             return self.rng.choice((" ", "\t", "  ")) if least or self.rng.random() < 0.5 else self.blanks
         return least
 
     def number(self, value):
+        """A number in decimal or hexadecimal, seldom behind zeros."""
         way = self.rng.random()
         if way < 0.6:
             return str(value)
@@ -72,12 +79,14 @@ class Speller:
         return "0" * self.rng.choice((0, 1, 12)) + str(value)
 
     def constant(self, value):
+        """`#k`, or seldom `#-k`."""
         if self.rng.random() < 0.1:
             negative = 0 if value == 0 else 2**32 - value
             return "#" + self.blank() + "-" + self.blank() + self.number(negative)
         return "#" + self.blank() + self.number(value)
 
     def joined(self, *tokens):
+        """The tokens with perhaps a blank behind each."""
         return "".join(token + self.blank() for token in tokens)
 
     def instruction(self, one, place):
@@ -103,6 +112,7 @@ class Speller:
         return (head + form).rstrip() if form else one.mnemonic
 
     def header(self, k):
+        """`4*([k]&0xf)`, with both numbers in some spelling."""
         four = self.rng.choice(("4", "4", "0x4", "04"))
         fifteen = self.rng.choice(("0xf", "0xf", "15", "0XF", "0x0f"))
         return self.joined(four, "*", "(", "[", self.number(k), "]", "&", fifteen, ")")
@@ -144,7 +154,8 @@ def instruction_lines(rng, speller, one, place, is_labelled):
     if rng.random() < 0.04:
         lines.append(rng.choice(("", " ", "; a remark", "\t;;", "extra%d:" % place)))
     remark = rng.choice(("", "", "", "", " ; why", ";", "\t; 9x @ \x80"))
-    lines.append(speller.blank() + label + speller.blank(" " if label else "") + speller.instruction(one, place) + remark)
+    head = speller.blank() + label + speller.blank(" " if label else "")
+    lines.append(head + speller.instruction(one, place) + remark)
     return lines
 
 
@@ -180,12 +191,11 @@ def far(rng):
     way = rng.random()
     if way < 0.45:
         between = rng.choice((254, 255, 256, 257, 300))
-        jump = rng.choice(("jeq #%d, far, near", "jset x, near, far", "jne #%d, far", "ja far", "jgt #%d, far", "jle x, far"))
+        jump = rng.choice(FAR_JUMPS)
         first = jump % word(rng) if "%" in jump else jump
         lines = ["ld [0]", first, "near: neg"] + ["tax"] * (between - 1) + ["far: ret a"]
     elif way < 0.75:
-        back = rng.choice(("ja up", "jeq #1, down, up", "jeq #1, up, lost", "jlt x, up", "here: ja here", "jeq x, down, lost"))
-        lines = ["up: ld #1", back, "down: ret a"]
+        lines = ["up: ld #1", rng.choice(ODD_JUMPS), "down: ret a"]
     elif way < 0.9:
         lines = ["ld #1", "jmp end", "ret a", "end:"] + rng.choice(([], ["; end"], ["more:"], ["ret #0"]))
     else:

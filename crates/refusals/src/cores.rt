@@ -1,0 +1,290 @@
+//! The card, one step at a time.
+use crate::trial::{Call, Outcome, ample_if, refused_if, try_out};
+use arrayvec::ArrayVec;
+use bpf_code::Instr;
+use bpf_verify::{Program, verify};
+use card_core::{Answer, Ask, CardFault, Core, DeskFault, PortReply, Reply, Shape, Step};
+use gen_arena::Id;
+use leaky::Contract;
+use std::alloc::{AllocError, Global};
+use upc_cell::{Cell, Side, Vc};
+
+/// Two programs, one line, one port.
+fn shape() -> Shape {
+    Shape {
+        programs: 2,
+        lines: 1,
+        ports: 1,
+        journal: 16,
+        side: Side::Uni,
+    }
+}
+
+#[derive(Drop)]
+struct MakingCore {
+    alloc: Global,
+}
+
+impl Call for MakingCore {
+    fn make(&mut self) -> Outcome {
+        match Core::new(self.alloc, shape()) {
+            Ok(core) => ample_if(core.shape() == shape()),
+            Err(fault) => refused_if(fault == CardFault::NoMemory),
+        }
+    }
+}
+
+/// `Core::new`.
+pub fn try_new_core(alloc: Global) -> Outcome {
+    try_out(&mut MakingCore { alloc })
+}
+
+/// A program that gives this value for every cell.
+fn constant(alloc: Global, value: u32) -> Result<Program, AllocError> {
+    let code = vec![in alloc; Instr::RetK(value)]?;
+    match verify(code) {
+        Ok(program) => Ok(program),
+        Err(_) => Err(AllocError),
+    }
+}
+
+/// The connection of every cell here.
+fn vc() -> Vc {
+    Vc { vpi: 0, vci: 0 }
+}
+
+/// Loads two programs.
+#[derive(Drop)]
+struct Loading<'a> {
+    alloc: Global,
+    core: &'a mut Core,
+    ids: Option<(Id, Id)>,
+}
+
+impl Loading<'_> {
+    fn steps(&self) -> Result<Vec<Step>, AllocError> {
+        let first = Step::Load(constant(self.alloc, 1)?);
+        let second = Step::Load(constant(self.alloc, 2)?);
+        Ok(vec![in self.alloc; first, second]?)
+    }
+}
+
+impl Call for Loading<'_> {
+    fn make(&mut self) -> Outcome {
+        let Ok(steps) = self.steps() else {
+            return Outcome::Refused;
+        };
+        let replies = match self.core.run(self.alloc, steps) {
+            Ok(replies) => replies,
+            Err(steps) => return refused_if(steps.len() == 2),
+        };
+        let [Reply::Loaded(first), Reply::Loaded(second)] = replies.as_slice() else {
+            return Outcome::Otherwise;
+        };
+        self.ids = Some((*first, *second));
+        Outcome::Ample
+    }
+}
+
+/// Sets up the connection, whose cells ask for this program.
+#[derive(Drop)]
+struct SettingUp<'a> {
+    alloc: Global,
+    core: &'a mut Core,
+    program: Id,
+}
+
+impl SettingUp<'_> {
+    fn steps(&self) -> Result<Vec<Step>, AllocError> {
+        let mut contracts = ArrayVec::new();
+        contracts.push(Contract::default());
+        let ask = Ask {
+            vc: vc(),
+            program: self.program,
+            contracts,
+        };
+        Ok(vec![in self.alloc; Step::Setup(ask)]?)
+    }
+}
+
+impl Call for SettingUp<'_> {
+    fn make(&mut self) -> Outcome {
+        let Ok(steps) = self.steps() else {
+            return Outcome::Refused;
+        };
+        let replies = match self.core.run(self.alloc, steps) {
+            Ok(replies) => replies,
+            Err(steps) => return refused_if(steps.len() == 1),
+        };
+        match replies.as_slice() {
+            [Reply::SetUp(owner)] => ample_if(owner.vc == vc()),
+            [Reply::NotSetUp(DeskFault::NoMemory, ask)] => refused_if(ask.contracts.len() == 1),
+            _ => Outcome::Otherwise,
+        }
+    }
+}
+
+/// Gives the connection another program between the pick of a cell and its judgement.
+#[derive(Drop)]
+struct Policing<'a> {
+    alloc: Global,
+    core: &'a mut Core,
+    first: Id,
+    second: Id,
+}
+
+impl Policing<'_> {
+    fn steps(&self) -> Result<Vec<Step>, AllocError> {
+        let enter = Step::Enter {
+            port: 0,
+            cell: Cell::from([0; 52]),
+            moment: 0,
+        };
+        let reload = Step::Reload {
+            vc: vc(),
+            program: self.second,
+        };
+        let in_vain = Step::Load(constant(self.alloc, 3)?);
+        let again = Step::Load(constant(self.alloc, 4)?);
+        let (pick, judge) = (Step::Pick { port: 0 }, Step::Judge { port: 0 });
+        let (retire, once_more) = (Step::Retire(self.first), Step::Retire(self.first));
+        Ok(vec![in self.alloc;
+            enter, pick, in_vain, reload, judge, retire, again, once_more,
+        ]?)
+    }
+
+    fn is_answered_by(&self, replies: &[Reply]) -> bool {
+        let [
+            Reply::Entered,
+            Reply::Picked,
+            Reply::NotLoaded(DeskFault::Busy, _),
+            Reply::Reloaded(before),
+            Reply::Answered(Answer::Judged { program, .. }),
+            Reply::Retired(_),
+            Reply::Loaded(id),
+            Reply::Refused(DeskFault::NoProgram),
+        ] = replies
+        else {
+            return false;
+        };
+        *before == self.first
+            && *program == self.first
+            && id.slot == self.first.slot
+            && id.generation == 2
+    }
+}
+
+impl Call for Policing<'_> {
+    fn make(&mut self) -> Outcome {
+        let Ok(steps) = self.steps() else {
+            return Outcome::Refused;
+        };
+        match self.core.run(self.alloc, steps) {
+            Ok(replies) => ample_if(self.is_answered_by(&replies)),
+            Err(steps) => refused_if(steps.len() == 8),
+        }
+    }
+}
+
+/// Loads two programs, and gives their ids, if that was done.
+fn load_two(alloc: Global, core: &mut Core) -> (Outcome, Option<(Id, Id)>) {
+    let mut loading = Loading {
+        alloc,
+        core,
+        ids: None,
+    };
+    let outcome = try_out(&mut loading);
+    (outcome, loading.ids)
+}
+
+/// Sets up the connection, whose cells ask for this program.
+fn set_up(alloc: Global, core: &mut Core, program: Id) -> Outcome {
+    try_out(&mut SettingUp {
+        alloc,
+        core,
+        program,
+    })
+}
+
+/// Polices a cell, with a reload between its pick and its judgement.
+fn police_one(alloc: Global, core: &mut Core, first: Id, second: Id) -> Outcome {
+    try_out(&mut Policing {
+        alloc,
+        core,
+        first,
+        second,
+    })
+}
+
+/// `Core::run`, of lists that are cut where a step needs an id that an earlier one answered.
+pub fn try_run(alloc: Global) -> Outcome {
+    let Ok(mut core) = Core::new(alloc, shape()) else {
+        return Outcome::Refused;
+    };
+    let (loaded, ids) = load_two(alloc, &mut core);
+    let Some((first, second)) = ids else {
+        return Outcome::Otherwise;
+    };
+    loaded
+        .then(set_up(alloc, &mut core, first))
+        .then(police_one(alloc, &mut core, first, second))
+}
+
+/// A connection, and five cells of it. Once it is set up neither its cells nor its release are refused for want of memory,
+/// whatever is.
+pub fn try_cells(alloc: Global) -> Outcome {
+    let Ok(mut core) = Core::new(alloc, shape()) else {
+        return Outcome::Refused;
+    };
+    let (_, ids) = load_two(alloc, &mut core);
+    let Some((first, _)) = ids else {
+        return Outcome::Refused;
+    };
+    if set_up_once(alloc, &mut core, first) != Outcome::Ample {
+        return Outcome::Refused;
+    }
+    for moment in 0..5 {
+        if !police(&mut core, moment) {
+            return Outcome::Otherwise;
+        }
+    }
+    ample_if(hands_out_five(&mut core))
+}
+
+/// Sets up the connection, by one call.
+fn set_up_once(alloc: Global, core: &mut Core, program: Id) -> Outcome {
+    let mut setting_up = SettingUp {
+        alloc,
+        core,
+        program,
+    };
+    setting_up.make()
+}
+
+/// How many entries a piece has, if the reply hands one out.
+fn entries_of(reply: Reply) -> Option<usize> {
+    match reply {
+        Reply::Cut(piece) | Reply::Released(piece) => Some(piece.entries().len()),
+        _ => None,
+    }
+}
+
+/// Whether the connection's five cells are handed out: by the cut, or by the release where the cut lacks memory.
+fn hands_out_five(core: &mut Core) -> bool {
+    let reply = core.step(Step::Cut(vc()));
+    let is_refused = matches!(reply, Reply::Refused(DeskFault::NoMemory));
+    let cut = entries_of(reply);
+    let released = entries_of(core.step(Step::Release(vc())));
+    if is_refused {
+        released == Some(5)
+    } else {
+        cut == Some(5) && released == Some(0)
+    }
+}
+
+/// Whether a cell of this moment was judged.
+fn police(core: &mut Core, moment: u64) -> bool {
+    core.enter(0, Cell::from([0; 52]), moment);
+    core.pick(0);
+    matches!(core.judge(0), PortReply::Answered(Answer::Judged { .. }))
+}

@@ -1,0 +1,73 @@
+//! Makes each call that may be refused memory, and makes it again where it was refused.
+//!
+//! A line is printed for each: its name, and whether it gave its ample answer at once, or was refused and gave it when it
+//! was made again. Anything else is status 1. `bin/refusals` runs this program with its first request for memory
+//! refused, then with its second, and so on.
+#![tactic(auto)]
+
+mod codes;
+mod cores;
+mod stores;
+mod texts;
+mod trial;
+
+use std::alloc::Global;
+use std::io;
+use std::process::ExitCode;
+use trial::Outcome;
+
+/// A call by its name.
+type Trial = (&'static str, fn(Global) -> Outcome);
+
+/// The name that the words ask for, if they ask for one: its trial alone is made.
+fn name_asked(rt: &HostRuntime) -> io::Result<Option<String>> {
+    Ok(std::env::args(rt)?.nth(1))
+}
+
+fn main(rt: HostRuntime) -> ExitCode {
+    let Ok(asked) = name_asked(&rt) else {
+        // The words themselves were refused memory.
+        return ExitCode::SUCCESS;
+    };
+    let trials: [Trial; 17] = [
+        ("decode", codes::try_decode),
+        ("encode", codes::try_encode),
+        ("assemble", codes::try_assemble),
+        ("listing", codes::try_listing),
+        ("Arena::new", stores::try_new_arena),
+        ("Line::new", stores::try_new_line),
+        ("Line::prepare", stores::try_prepare),
+        ("Line::open", stores::try_open),
+        ("Line::cut", stores::try_cut),
+        ("Directory::new", stores::try_new_directory),
+        ("Directory::put", stores::try_put),
+        ("Core::new", cores::try_new_core),
+        ("Core::run", cores::try_run),
+        ("eval_bytes", texts::try_eval),
+        ("check_source", texts::try_check),
+        ("run_script", texts::try_script),
+        ("cells", cores::try_cells),
+    ];
+    let mut ends_well = true;
+    for (name, trial) in trials {
+        if asked.as_ref().is_some_and(|asked| asked.as_str() != name) {
+            continue;
+        }
+        let said = match trial(rt.alloc()) {
+            Outcome::Ample => "answered",
+            Outcome::Refused => "refused, and answered when made again",
+            Outcome::Otherwise => {
+                ends_well = false;
+                "OTHERWISE"
+            }
+        };
+        if println!(rt; "{name}: {said}").is_err() {
+            ends_well = false;
+        }
+    }
+    if ends_well {
+        ExitCode::SUCCESS
+    } else {
+        ExitCode::from(1)
+    }
+}
