@@ -47,11 +47,12 @@ impl Model for Core {
 }
 
 impl Core {
-    ghost use Rattle.std.specs.Prelude.{◌≡◌, ◌≢◌, ◌⊎◌, ℕ, length, None, Some, IfOk, IfErr, OnErr, MatchResult};
+    ghost use Rattle.std.specs.Prelude.{◌≡◌, ◌≢◌, ◌⊎◌, ℕ, length, None, Some, IfOk, IfErr, IfSome, IfNone, OnErr, MatchResult};
     ghost use Rattle.card_core.specs.World.{opening_world};
     ghost use Rattle.card_core.specs.Shapes.{shape_fault};
     ghost use Rattle.card_core.specs.declared.step.Step.TheVariants.{Enter, Pick, Judge, Load, Retire, Setup, Reload, Release, Cut};
     ghost use Rattle.card_core.specs.Agreement.{Agrees, Follows, FollowsAll};
+    ghost use Rattle.card_core.specs.Arrival.{Answers};
     ghost use Rattle.card_core.specs.PortReplies.{reply_of};
     ghost use Rattle.card_core.specs.Stale.{IsNeverStale};
 
@@ -190,6 +191,32 @@ impl Core {
         let answer = judge_line(&mut self.lines, &found);
         move_port(&mut self.ports, port, Port::Outside);
         PortReply::Answered(answer)
+    }
+
+    /// A cell comes to a port and goes its whole way: the steps `Enter`, `Pick` and `Judge`, of which the
+    /// pick or the judging answers it. None where the port has a cell or there is no such port, and then
+    /// nothing changes.
+    #[inline]
+    pub fn arrive(&mut self, port: u8, cell: &Cell, moment: u64) -> Option<Answer>
+        ensures answered { IfSome result (λ answer.
+            Answers self.old port cell.now moment answer self.new) }
+        ensures not_now { IfNone result (Follows self.old (Enter port cell.now moment) Reply.NotNow self.new) }
+        ensures unchanged { IfNone result (self.new ≡ self.old) }
+        ensures memory { result ≢ Some Answer.NoMemory }
+    {
+        if !is_idle_at(&self.ports, port) {
+            return None;
+        }
+        // The port is outside before and afterwards, and nobody looks at it in between.
+        let came = Came {
+            cell: *cell,
+            moment,
+        };
+        let picked = find_and_name(&self.store, &self.directory, self.shape.side, &came);
+        match picked {
+            Ok(found) => Some(judge_line(&mut self.lines, &found)),
+            Err(answer) => Some(answer),
+        }
     }
 
     // A program is put into the store.
