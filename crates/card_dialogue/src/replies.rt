@@ -159,24 +159,30 @@ pub fn add_cut(answers: &mut Vec<u8>, vc: Vc, piece: &Piece) -> Result<(), Alloc
     Ok(())
 }
 
+/// Room for the answer to a cell: a verdict of at most eight octets, three numbers of at most ten digits and
+/// one of at most twenty, eight digits of a header, and six octets between them and behind.
+const ANSWER_ROOM: usize = 72;
+
 /// Puts the connection that a cell came on, the program that named its contract, and the value that it
 /// gave.
-fn put_judging(text: &mut TextFromEnd, vc: Vc, number: u64, value: u32)
-    requires { length text.old ≤ 16 }
+#[inline(always)]
+fn put_judging(text: &mut TextFromEnd<ANSWER_ROOM>, vc: Vc, number: u64, value: u32)
+    requires { length text.old ≤ 10 }
     ensures text { text.new ≡ judging_text vc number value ++ text.old }
-    ensures length { length text.new ≤ 84 + length text.old }
+    ensures length { length text.new ≤ 54 + length text.old }
 {
-    text.put_number(u64::from(value));
+    text.put_short_number(value);
     text.put(b" ");
     text.put_number(number);
     text.put(b" p");
-    text.put_number(u64::from(vc.vci));
+    text.put_short_number(u32::from(vc.vci));
     text.put(b"/");
-    text.put_number(u64::from(vc.vpi));
+    text.put_short_number(u32::from(vc.vpi));
 }
 
 /// Puts the header of a leaving cell.
-fn put_header(text: &mut TextFromEnd, cell: &Cell)
+#[inline(always)]
+fn put_header(text: &mut TextFromEnd<ANSWER_ROOM>, cell: &Cell)
     requires { length text.old ≤ 1 }
     ensures text { text.new ≡ header_text cell.now ++ text.old }
     ensures length { length text.new ≡ 9 + length text.old }
@@ -190,6 +196,7 @@ fn put_header(text: &mut TextFromEnd, cell: &Cell)
 }
 
 /// Adds the answer to a judged cell that leaves.
+#[inline(always)]
 #[tactic(auto, using(std::proofs::lemmas::List::append_assoc))]
 fn add_leaving(
     answers: &mut Vec<u8>,
@@ -208,11 +215,11 @@ fn add_leaving(
     put_header(&mut text, cell);
     put_judging(&mut text, vc, number, value);
     text.put(verdict);
-    answers.extend_from_slice(text.as_slice())?;
-    Ok(())
+    answers.extend_from_slice(text.as_slice())
 }
 
 /// Adds the answer to a judged cell that doesn't leave.
+#[inline(always)]
 #[tactic(auto, using(std::proofs::lemmas::List::append_assoc))]
 fn add_kept(
     answers: &mut Vec<u8>,
@@ -229,8 +236,7 @@ fn add_kept(
     text.put(b"\n");
     put_judging(&mut text, vc, number, value);
     text.put(verdict);
-    answers.extend_from_slice(text.as_slice())?;
-    Ok(())
+    answers.extend_from_slice(text.as_slice())
 }
 
 /// Adds the answer to a cell that came before the last judged one of its connection.
@@ -239,7 +245,7 @@ fn add_moment_back(answers: &mut Vec<u8>, last: u64) -> Result<(), AllocError>
     ensures { OnOk result
         (answers.new.items ≡ answers.old.items ++ arrive_fault (codes "4 MomentBack " ++ decimal last)) }
 {
-    let mut text = TextFromEnd::new();
+    let mut text = TextFromEnd::<ANSWER_ROOM>::new();
     text.put(b"\n");
     text.put_number(last);
     text.put(b"fault arrive 4 MomentBack ");

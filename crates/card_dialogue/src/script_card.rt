@@ -1,5 +1,6 @@
 //! The card that a script has opened, and the commands that it obeys.
 use crate::card_faults::{add_desk_fault, add_gcra_fault, add_no_such_program};
+use crate::cell_line::read_cell;
 use crate::commands::{Command, read_command};
 use crate::names::Names;
 use crate::rates::contracts_of;
@@ -9,7 +10,8 @@ use crate::replies::{
 use crate::script_words::Wanted;
 use arrayvec::ArrayVec;
 use bpf_verify::Program;
-use card_core::{Answer, Ask, CardFault, Core, PortReply, Reply, Shape, Step};
+use card_core::{Answer, Ask, CardFault, Core, Reply, Shape, Step};
+use dialogue::{LineWords, line_words};
 use program_dialogue::{
     CellWord, add_bad_hex, add_bad_line, add_wrong_length, cell_of_word, octets_of_word,
     read_program,
@@ -48,7 +50,7 @@ impl ScriptCard {
     ghost use Rattle.card_dialogue.specs.Replies.{number_of_judging};
     ghost use Rattle.card_dialogue.specs.Run.{Asks, CommandLine, LoadsOctets, Obeys, Polices, Takes, TakesNamed, new_card};
     ghost use Rattle.card_dialogue.specs.inner.CommandSeen.{command_seen};
-    ghost use Rattle.card_dialogue.specs.inner.Policing.{AnswersCell, JudgesPort, Moves, ShowsCard};
+    ghost use Rattle.card_dialogue.specs.inner.Policing.{AnswersCell, Moves, SaysLine, ShowsCard};
     ghost use Rattle.dialogue.specs.Words.{words_of};
 
     /// A card of this shape, to which nothing has come.
@@ -203,30 +205,17 @@ impl ScriptCard {
         }
     }
 
-    /// What becomes of a cell that was picked.
-    fn judge(&mut self) -> Option<Answer>
-        ensures follows { JudgesPort self.old.core result self.new.core }
-        ensures names { self.new.names ≡ self.old.names }
+    /// What becomes of a cell, from its entering the port to its answer. It has none where the port isn't
+    /// free, as it is before every command.
+    #[inline(always)]
+    fn arrive(&mut self, cell: &Cell, moment: u64) -> Option<Answer>
+        ensures { AnswersCell self.old cell.now moment result self.new }
     {
-        if let PortReply::Answered(answer) = self.core.judge(PORT) {
-            return Some(answer);
-        }
-        None
-    }
-
-    /// What becomes of a cell: it enters the port, and is picked; where it belongs to a connection, it is
-    /// judged.
-    fn arrive(&mut self, cell: Cell, moment: u64) -> Option<Answer>
-        ensures { AnswersCell self.old cell moment result self.new }
-    {
-        self.core.enter(PORT, cell, moment);
-        if let PortReply::Answered(answer) = self.core.pick(PORT) {
-            return Some(answer);
-        }
-        self.judge()
+        self.core.arrive(PORT, cell, moment)
     }
 
     /// The number of the name of the program that named a judged cell's contract, and 0 for other answers.
+    #[inline(always)]
     fn number_judging(&self, answer: &Answer) -> u64
         ensures { result ≡ number_of_judging self.now.names answer.now }
     {
@@ -237,12 +226,18 @@ impl ScriptCard {
     }
 
     /// Polices a cell.
-    fn police(&mut self, moment: u64, cell: Cell, answers: &mut Vec<u8>) -> Result<(), AllocError>
+    #[inline(always)]
+    fn police(
+        &mut self,
+        moment: u64,
+        cell: Cell,
+        answers: &mut Vec<u8>,
+    ) -> Result<(), AllocError>
         ensures { OnOk result (Moves (λ before. Polices before moment cell)
             self.old self.new answers.old.items answers.new.items) }
     {
         let vc = cell.vc_at(self.core.shape().side);
-        let Some(answer) = self.arrive(cell, moment) else {
+        let Some(answer) = self.arrive(&cell, moment) else {
             return Ok(());
         };
         add_answer(answers, self.number_judging(&answer), vc, &answer)
@@ -288,7 +283,7 @@ impl ScriptCard {
     }
 
     /// Answers a line with words.
-    pub fn answer(
+    fn answer_command(
         &mut self,
         alloc: Global,
         line: &[u8],
@@ -300,6 +295,38 @@ impl ScriptCard {
         match read_command(self.core.shape().side, line) {
             Some(command) => self.obey(alloc, &command, answers),
             None => add_bad_line(answers),
+        }
+    }
+
+    /// Answers a line by its words.
+    #[inline(never)]
+    fn answer_words(
+        &mut self,
+        alloc: Global,
+        line: &[u8],
+        answers: &mut Vec<u8>,
+    ) -> Result<(), AllocError>
+        ensures { OnOk result (Moves (SaysLine line.now) self.old self.new answers.old.items answers.new.items) }
+    {
+        match line_words(line) {
+            LineWords::Silent => Ok(()),
+            LineWords::One(_) | LineWords::Several => self.answer_command(alloc, line, answers),
+        }
+    }
+
+    /// Answers a line. That of a cell in the common form is read at once, without a look for its words.
+    #[inline(always)]
+    pub fn answer(
+        &mut self,
+        alloc: Global,
+        line: &[u8],
+        answers: &mut Vec<u8>,
+    ) -> Result<(), AllocError>
+        ensures { OnOk result (Moves (SaysLine line.now) self.old self.new answers.old.items answers.new.items) }
+    {
+        match read_cell(line) {
+            Some(arrival) => self.police(arrival.moment, arrival.cell, answers),
+            None => self.answer_words(alloc, line, answers),
         }
     }
 }
