@@ -1,5 +1,5 @@
 -- How a cell goes through the card that is kept: in at the port, picked, and judged.
-use Rattle.std.proofs.Common.{◌≡◌, ◌⊎◌, ◌==◌, ℕ, inl, inr, true, List, length, [], ◌∷◌, ◌++◌, Option, Some, None, Result, OnOk, refl, sym, ap, ◌∙◌, subst}
+use Rattle.std.proofs.Common.{◌≡◌, ◌⊎◌, ◌==◌, ℕ, inl, inr, true, List, length, [], ◌∷◌, ◌++◌, Option, Some, None, option_map, Result, OnOk, refl, sym, ap, ◌∙◌, subst}
 use Rattle.std.specs.Bool.{MatchBool}
 use Rattle.std.specs.Option.{IfNone, IfSome, MatchOption}
 use Rattle.std.proofs.lemmas.List.{append-nil}
@@ -12,7 +12,9 @@ use Rattle.card_core.specs.Arrival.{Answers}
 use Rattle.card_core.specs.Log.{Event, Leads}
 use Rattle.card_core.specs.Steps.{WorldStep}
 use Rattle.card_core.specs.World.{Picking, World, entered, picked}
+use Rattle.card_core.specs.Sections.{answer_to}
 use Rattle.card_core.specs.declared.answer.Answer.{Answer}
+use Rattle.card_core.specs.declared.answer.Judgement.{Judgement}
 use Rattle.card_core.specs.PortReplies.{reply_of}
 use Rattle.card_core.specs.declared.reply.PortReply.{PortReply}
 use Rattle.card_core.specs.declared.reply.PortReply.TheVariants as port
@@ -63,10 +65,11 @@ arrives-not held held' octets moment names enters = (
       let no = came.0 in cc,
 )
 
-pub arrives : (held held' : Held) (octets : List ℕ) (moment : ℕ) (given : Option Answer) → held'.names ≡ held.names
-    → IfSome given (λ answer. Answers held.core 0 octets moment answer held'.core)
-    → IfNone given (Follows held.core (Enter 0 octets moment) NotNow held'.core) → AnswersCell held octets moment given held'
-arrives held held' octets moment (Some answer) names goes not = arrives-answered held held' octets moment answer names goes
+pub arrives : (held held' : Held) (octets : List ℕ) (moment : ℕ) (told : Option (Result Judgement Answer)) → held'.names ≡ held.names
+    → IfSome told (λ t. Answers held.core 0 octets moment (answer_to octets t) held'.core)
+    → IfNone told (Follows held.core (Enter 0 octets moment) NotNow held'.core)
+    → AnswersCell held octets moment (option_map (λ t. answer_to octets t) told) held'
+arrives held held' octets moment (Some t) names goes not = arrives-answered held held' octets moment (answer_to octets t) names goes
 arrives held held' octets moment None names goes not = arrives-not held held' octets moment names not
 
 -- A cell is policed where its answer is told.

@@ -1,12 +1,13 @@
 //! The lines by which `run` answers what the card replies, each added at the end of the answers.
-ghost use Rattle.std.specs.Prelude.{◌≡◌, ◌+◌, ◌≤◌, ◌++◌, codes, decimal, length, map, OnOk};
+ghost use Rattle.std.specs.Prelude.{◌≡◌, ◌+◌, ◌≤◌, ◌++◌, codes, decimal, length, map, Ok, OnOk};
 ghost use Rattle.line_record.specs.Tally.{tally_of};
+ghost use Rattle.card_core.specs.Sections.{answer_to};
 ghost use Rattle.program_dialogue.specs.FaultLines.{line};
 ghost use Rattle.card_dialogue.specs.CardFaults.{arrive_fault};
-ghost use Rattle.card_dialogue.specs.Replies.{connection_name, header_text, judging_text, numbered_answer_text, piece_text, program_name, tally_text};
+ghost use Rattle.card_dialogue.specs.Replies.{connection_name, header_text, judging_text, numbered_answer_text, piece_text, program_name, tally_text, verdict_text};
 ghost use Rattle.card_dialogue.specs.inner.AddsSome.{AddsSome};
 
-use card_core::Answer;
+use card_core::{Answer, Judgement};
 use leaky::Verdict;
 use line_record::{Piece, Tally};
 use program_dialogue::{TextFromEnd, add_number, add_text};
@@ -253,12 +254,62 @@ fn add_moment_back(answers: &mut Vec<u8>, last: u64) -> Result<(), AllocError>
     Ok(())
 }
 
+/// Adds the answer to a cell that got this verdict and leaves so, where it leaves.
+#[inline(never)]
+fn add_verdict(
+    answers: &mut Vec<u8>,
+    verdict: Verdict,
+    vc: Vc,
+    number: u64,
+    value: u32,
+    leaving: &Cell,
+) -> Result<(), AllocError>
+    ensures { OnOk result (answers.new.items ≡ answers.old.items
+        ++ verdict_text verdict (judging_text vc number value) leaving.now) }
+{
+    match verdict {
+        Verdict::Pass => add_leaving(answers, b"pass ", vc, number, value, leaving),
+        Verdict::Tag => add_leaving(answers, b"tag ", vc, number, value, leaving),
+        Verdict::Discard => add_kept(answers, b"discard ", vc, number, value),
+        Verdict::Refuse => add_kept(answers, b"refuse ", vc, number, value),
+    }
+}
+
+/// Adds the answer to a cell that came on this connection and was judged so, by the contract that the
+/// program named whose name has this number, from 1.
+///
+/// # Errors
+///
+/// `AllocError` where memory was refused.
+#[inline(always)]
+pub fn add_judged(
+    answers: &mut Vec<u8>,
+    number: u64,
+    vc: Vc,
+    cell: &Cell,
+    judged: &Judgement,
+) -> Result<(), AllocError>
+    ensures { OnOk result (AddsSome (numbered_answer_text number vc (answer_to cell.now (Ok judged.now)))
+        answers.old.items answers.new.items) }
+{
+    match judged.verdict {
+        Verdict::Tag => {
+            let tagged = cell.tagged();
+            add_verdict(answers, Verdict::Tag, vc, number, judged.value, &tagged)
+        }
+        Verdict::Pass => add_verdict(answers, Verdict::Pass, vc, number, judged.value, cell),
+        Verdict::Discard => add_verdict(answers, Verdict::Discard, vc, number, judged.value, cell),
+        Verdict::Refuse => add_verdict(answers, Verdict::Refuse, vc, number, judged.value, cell),
+    }
+}
+
 /// Adds the answer to a cell that came on this connection, where the program that named its contract has
 /// a name of this number, from 1; a cell that isn't judged has no such program.
 ///
 /// # Errors
 ///
 /// `AllocError` where memory was refused, here or to the cell.
+#[inline(never)]
 pub fn add_answer(
     answers: &mut Vec<u8>,
     number: u64,
@@ -274,12 +325,7 @@ pub fn add_answer(
             verdict,
             cell,
             ..
-        } => match verdict {
-            Verdict::Pass => add_leaving(answers, b"pass ", vc, number, *value, cell),
-            Verdict::Tag => add_leaving(answers, b"tag ", vc, number, *value, cell),
-            Verdict::Discard => add_kept(answers, b"discard ", vc, number, *value),
-            Verdict::Refuse => add_kept(answers, b"refuse ", vc, number, *value),
-        },
+        } => add_verdict(answers, *verdict, vc, number, *value, cell),
         Answer::NoConnection => add_text(answers, b"fault arrive 1 NoConnection\n"),
         Answer::Released => add_text(answers, b"fault arrive 2 Released\n"),
         Answer::Stale => add_text(answers, b"fault arrive 3 Stale\n"),

@@ -5,12 +5,12 @@ use crate::commands::{Command, read_command};
 use crate::names::Names;
 use crate::rates::contracts_of;
 use crate::replies::{
-    add_answer, add_cut, add_loaded, add_released, add_reloaded, add_retired, add_set,
+    add_answer, add_cut, add_judged, add_loaded, add_released, add_reloaded, add_retired, add_set,
 };
 use crate::script_words::Wanted;
 use arrayvec::ArrayVec;
 use bpf_verify::Program;
-use card_core::{Answer, Ask, CardFault, Core, Reply, Shape, Step};
+use card_core::{Answer, Ask, CardFault, Core, Judgement, Reply, Shape, Step};
 use dialogue::{LineWords, line_words};
 use program_dialogue::{
     CellWord, add_bad_hex, add_bad_line, add_wrong_length, cell_of_word, octets_of_word,
@@ -42,7 +42,8 @@ impl Model for ScriptCard {
 // that is shown leads there. Steps and replies of the desk may hold a program; the functions that have some
 // are kept out of the path of a cell, which would pay for their room.
 impl ScriptCard {
-    ghost use Rattle.std.specs.Prelude.{◌≡◌, ◌⊎◌, [], IfOk, IfErr, OnOk, MatchResult, None, Some};
+    ghost use Rattle.std.specs.Prelude.{◌≡◌, ◌⊎◌, [], IfOk, IfErr, OnOk, MatchResult, None, Some, option_map};
+    ghost use Rattle.card_core.specs.Sections.{answer_to};
     ghost use Rattle.card_core.specs.Shapes.{shape_fault};
     ghost use Rattle.card_dialogue.specs.CardLine.{card_of};
     ghost use Rattle.card_dialogue.specs.ScriptCommands.{load, retire, setup, reload, release, cut, cell};
@@ -208,14 +209,13 @@ impl ScriptCard {
     /// What becomes of a cell, from its entering the port to its answer. It has none where the port isn't
     /// free, as it is before every command.
     #[inline(always)]
-    fn arrive(&mut self, cell: &Cell, moment: u64) -> Option<Answer>
-        ensures { AnswersCell self.old cell.now moment result self.new }
+    fn arrive(&mut self, cell: &Cell, moment: u64) -> Option<Result<Judgement, Answer>>
+        ensures { AnswersCell self.old cell.now moment (option_map (λ told. answer_to cell.now told) result) self.new }
     {
         self.core.arrive(PORT, cell, moment)
     }
 
     /// The number of the name of the program that named a judged cell's contract, and 0 for other answers.
-    #[inline(always)]
     fn number_judging(&self, answer: &Answer) -> u64
         ensures { result ≡ number_of_judging self.now.names answer.now }
     {
@@ -237,13 +237,18 @@ impl ScriptCard {
             self.old self.new answers.old.items answers.new.items) }
     {
         let vc = cell.vc_at(self.core.shape().side);
-        let Some(answer) = self.arrive(&cell, moment) else {
-            return Ok(());
-        };
-        add_answer(answers, self.number_judging(&answer), vc, &answer)
+        match self.arrive(&cell, moment) {
+            Some(Ok(judged)) => {
+                let number = self.names.number_of(judged.program) as u64;
+                add_judged(answers, number, vc, &cell, &judged)
+            }
+            Some(Err(answer)) => add_answer(answers, self.number_judging(&answer), vc, &answer),
+            None => Ok(()),
+        }
     }
 
     /// Polices the cell that a word spells, if it spells one.
+    #[inline(never)]
     fn cell(
         &mut self,
         alloc: Global,
