@@ -64,7 +64,7 @@ fn shifted(value: u64, octet: u8) -> Option<u64>
 }
 
 /// The number that a word spells, of at most 2^64 - 1.
-#[inline]
+#[inline(always)]
 pub fn number(word: &[u8]) -> Option<u64>
     ensures { result ≡ number_of word.now }
 {
