@@ -1,9 +1,9 @@
 -- Look-ups in the world's connections, before and after a change.
-use Rattle.std.proofs.Common.{◌≡◌, ◌≢◌, ◌⊎◌, ℕ, suc, Bool, true, false, cond, Option, Some, None, List, [], ◌∷◌, refl, sym, ap, subst, ◌∙◌, inl, inr, arith}
+use Rattle.std.proofs.Common.{◌≡◌, ◌≢◌, Bool, true, false, cond, Option, Some, None, List, [], ◌∷◌, refl, sym, ap, ◌∙◌}
 use Rattle.std.specs.Prelude.{option_map}
 use Rattle.upc_cell.specs.declared.vc.Vc.{Vc}
 use Rattle.upc_cell.specs.Connection.{is_same_vc}
-use Rattle.upc_cell.proofs.Public.{vc_same, vc_itself, vc_differs, vc_cases}
+use Rattle.upc_cell.proofs.Public.{vc_same, vc_itself, vc_differs}
 use Rattle.card_core.specs.World.{Connection, connection_in, without_connection, with_connection}
 
 -- What an option that was mapped to something had.

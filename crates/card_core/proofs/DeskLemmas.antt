@@ -1,5 +1,5 @@
 -- Pieces, and a line at its connection's setup and cut.
-use Rattle.std.proofs.Common.{◌≡◌, ◌≢◌, ℕ, ◌-◌, false, Option, Some, None, List, [], ◌∷◌, length, take, drop, refl, sym, ap, subst, ◌∙◌, arith}
+use Rattle.std.proofs.Common.{◌≡◌, ◌≢◌, ℕ, ◌-◌, false, Some, None, List, [], ◌∷◌, length, take, drop, refl, sym, ap, subst, ◌∙◌, arith}
 use Rattle.std.specs.Prelude.{Result, Ok, Err, MatchResult, IfOk, OnOk, OnErr}
 use Rattle.line_record.specs.declared.directory.Seating.{Seating}
 use Rattle.line_record.specs.Directory.{DirectoryView, Sits}
@@ -7,7 +7,6 @@ use Rattle.card_core.specs.declared.fault.DeskFault.{DeskFault}
 use Rattle.card_core.specs.declared.fault.DeskFault.TheVariants.{Stale}
 use Rattle.card_core.specs.Sections.{holder}
 use Rattle.card_core.specs.inner.Parts.{ReleasesOrRefuses}
-use Rattle.leaky.specs.declared.contract.Contract.{Contract}
 use Rattle.leaky.specs.declared.verdict.Verdict.{Verdict}
 use Rattle.upc_cell.specs.declared.vc.Vc.{Vc}
 use Rattle.line_record.specs.declared.owner.Owner.{Owner}
@@ -18,7 +17,7 @@ use Rattle.line_record.specs.Piece.{PieceView, IsJournalOf}
 use Rattle.line_record.specs.StateAfter.{IsStateAfter}
 use Rattle.line_record.specs.Tally.{tally_of}
 use Rattle.card_core.specs.declared.ask.Ask.{Ask}
-use Rattle.card_core.specs.World.{World, Connection, handed_cells, kept_cells, verdicts_before}
+use Rattle.card_core.specs.World.{World, Connection, handed_cells}
 use Rattle.card_core.specs.Steps.{IsPieceOf, new_connection}
 use Rattle.card_core.specs.Agreement.{Serves, owner_of}
 use Rattle.card_core.proofs.ConnectionLemmas.{is_same_Some}

@@ -1,6 +1,6 @@
 -- A Reload, a Release and a Cut.
-use Rattle.std.proofs.Common.{◌≡◌, ◌≢◌, ◌⊎◌, ◌↔◌, ℕ, ◌+◌, ◌<◌, Bool, true, false, cond, Option, Some, None, IsSome, List, [], length, set, refl, sym, ap, subst, ◌∙◌, inl, inr, arith}
-use Rattle.std.specs.Prelude.{slice_get, option_map, is_none, IsOk, IsErrOf, Result, Ok, Err, MatchResult}
+use Rattle.std.proofs.Common.{◌≡◌, ◌↔◌, ℕ, cond, Option, Some, None, IsSome, List, length, set, refl, sym, ap, subst, ◌∙◌}
+use Rattle.std.specs.Prelude.{slice_get, option_map, is_none, IsErrOf, Result, Ok, Err}
 use Rattle.gen_arena.specs.declared.id.Id.{Id}
 use Rattle.gen_arena.specs.Slot.{Slot}
 use Rattle.gen_arena.specs.Live.{live_value, IsLive}
@@ -9,24 +9,20 @@ use Rattle.bpf_code.specs.declared.instr.Instr.{Instr}
 use Rattle.line_record.specs.declared.owner.Owner.{Owner}
 use Rattle.line_record.specs.declared.directory.Seating.{Seating}
 use Rattle.line_record.specs.Directory.{DirectoryView, seat_of, Sits}
-use Rattle.line_record.specs.Line.{LineView, free_line}
-use Rattle.line_record.specs.Piece.{PieceView, IsJournalOf}
-use Rattle.line_record.specs.Tally.{tally_of}
+use Rattle.line_record.specs.Line.{LineView}
+use Rattle.line_record.specs.Piece.{PieceView}
 use Rattle.card_core.specs.declared.fault.DeskFault.{DeskFault}
 use Rattle.card_core.specs.declared.fault.DeskFault.TheVariants.{NoProgram, NoConnection, Taken, NoLine, InUse, ProgramsFull, Exhausted, BadContracts, Busy, NoMemory, Stale}
 use Rattle.card_core.specs.declared.port.Port.{Port}
-use Rattle.card_core.specs.declared.reply.Reply.{Reply}
 use Rattle.card_core.specs.declared.reply.Reply.TheVariants.{Reloaded, Released, Cut as CutOff, Refused}
-use Rattle.card_core.specs.declared.step.Step.{Step}
 use Rattle.card_core.specs.declared.step.Step.TheVariants.{Reload, Release, Cut}
 use Rattle.card_core.specs.declared.shape.Shape.{Shape}
 use Rattle.card_core.specs.World.{World, Connection, code_in, connection_in, with_connection, without_connection}
-use Rattle.card_core.specs.Refusals.{refusal, reload_fault, missing_fault}
+use Rattle.card_core.specs.Refusals.{reload_fault, missing_fault}
 use Rattle.card_core.specs.Steps.{WorldStep}
-use Rattle.card_core.specs.Agreement.{CoreView, Agrees, Follows, Serves, LinesAgree, seating_of, owner_of}
+use Rattle.card_core.specs.Agreement.{CoreView, Agrees, Follows, Serves, LinesAgree, seating_of}
 use Rattle.card_core.specs.Sections.{holder, IsUncut}
 use Rattle.card_core.specs.inner.Parts.{ChangesLine, ReleasesOrRefuses, CutsOrRefuses, IsReleased}
-use Rattle.card_core.proofs.Sound.{IsSound}
 use Rattle.card_core.proofs.Follow.{follows, step-refused, step-taken, step-without_memory}
 use Rattle.card_core.proofs.ConnectionLemmas.{map_some, map_none, is_same_Some}
 use Rattle.card_core.proofs.LineLemmas.{Change, set-again, lines-with, lines-without, seats-with, seats-kept, seats-without}

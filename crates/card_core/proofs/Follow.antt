@@ -1,11 +1,11 @@
 -- How a step of the core is proved: from a sound world.
-use Rattle.std.proofs.Common.{◌≡◌, List, [], ◌∷◌, ◌++◌, Some, None, Option, refl, sym, subst, inl, inr, ◌⊎◌}
+use Rattle.std.proofs.Common.{◌≡◌, List, [], ◌∷◌, ◌++◌, Some, None, refl, subst, inl, inr}
 use Rattle.card_core.specs.declared.reply.Reply.{Reply}
 use Rattle.card_core.specs.declared.step.Step.{Step}
 use Rattle.card_core.specs.World.{World}
 use Rattle.card_core.specs.Refusals.{refusal}
 use Rattle.card_core.specs.Steps.{WorldStep, Succeeds, without_memory, left_by}
-use Rattle.card_core.specs.Log.{Event, Run, Leads}
+use Rattle.card_core.specs.Log.{Event, Run}
 use Rattle.card_core.specs.Agreement.{CoreView, Agrees, Follows}
 use Rattle.card_core.proofs.Sound.{IsSound}
 use Rattle.card_core.proofs.SoundSteps.{reached-sound}

@@ -1,18 +1,15 @@
 -- What a judged cell is to the line and to the connection's history.
-use Rattle.std.proofs.Common.{◌≡◌, ◌≢◌, ℕ, suc, ◌+◌, ◌-◌, ◌^◌, ◌<◌, ◌≤◌, Bool, true, false, cond, Option, Some, None, List, [], ◌∷◌, ◌++◌, length, take, drop, refl, sym, ap, subst, ◌∙◌, arith, length-append, length-drop}
-use Rattle.std.specs.Prelude.{slice_get, option_map, nat_lt, nat_le, ◌==◌, MatchOption}
+use Rattle.std.proofs.Common.{◌≡◌, ◌≢◌, ℕ, ◌+◌, ◌-◌, ◌^◌, ◌≤◌, Bool, true, false, cond, Option, Some, None, List, [], ◌∷◌, ◌++◌, length, take, refl, sym, ap, subst, ◌∙◌, arith, length-append}
+use Rattle.std.specs.Prelude.{option_map, nat_lt, nat_le, ◌==◌, MatchOption}
 use Rattle.std.proofs.lemmas.Bool.Decides.{nat_tests, Decides-eqb}
 use Rattle.std.proofs.lemmas.List.{take-append-drop, take-append-le, drop-append-le}
 use Rattle.leaky.specs.declared.verdict.Verdict.{Verdict}
-use Rattle.leaky.specs.declared.contract.Contract.{Contract}
-use Rattle.leaky.specs.Contract.{Buckets}
 use Rattle.line_record.specs.declared.entry.Entry.{Entry}
-use Rattle.line_record.specs.declared.fault.LineFault.{LineFault}
 use Rattle.line_record.specs.declared.fault.LineFault.TheVariants.{TooLate, Back, Full}
 use Rattle.line_record.specs.History.{NamedCell, last_moment, cell_of, entry_of, empty_buckets, verdict_after, judged}
 use Rattle.line_record.specs.Line.{LineView, line_refusal}
 use Rattle.line_record.specs.Tally.{cells_in}
-use Rattle.line_record.proofs.Public.{cells_are_judged_in_turn, each_cell_is_judged}
+use Rattle.line_record.proofs.Public.{cells_are_judged_in_turn}
 use Rattle.card_core.specs.declared.answer.Answer.{Answer}
 use Rattle.card_core.specs.declared.answer.Answer.TheVariants.{MomentTooLate, MomentBack, JournalFull}
 use Rattle.card_core.specs.World.{World, Connection, kept_cells, handed_cells, verdicts_before, with_verdict}

@@ -1,7 +1,7 @@
 -- A Judge of a picked cell.
-use Rattle.std.proofs.Common.{◌≡◌, ◌≢◌, ℕ, ◌+◌, ◌≤◌, Bool, true, false, cond, Option, Some, None, List, [], ◌∷◌, ◌++◌, length, set, refl, sym, ap, subst, ◌∙◌, arith}
-use Rattle.std.specs.Prelude.{slice_get, slice_set, option_map, ◌==◌, MatchOption}
-use Rattle.std.proofs.lemmas.Bool.Decides.{nat_tests, Decides-eqb}
+use Rattle.std.proofs.Common.{◌≡◌, ℕ, ◌+◌, ◌≤◌, Bool, true, false, cond, Option, Some, None, List, [], ◌∷◌, ◌++◌, length, set, refl, sym, ap, subst, ◌∙◌}
+use Rattle.std.specs.Prelude.{slice_get, slice_set, option_map, ◌==◌}
+use Rattle.std.proofs.lemmas.Bool.Decides.{Decides-eqb}
 use Rattle.gen_arena.specs.Slot.{Slot}
 use Rattle.upc_cell.specs.declared.vc.Vc.{Vc}
 use Rattle.bpf_code.specs.declared.instr.Instr.{Instr}
@@ -9,9 +9,8 @@ use Rattle.leaky.specs.declared.contract.Contract.{Contract}
 use Rattle.leaky.specs.declared.verdict.Verdict.{Verdict}
 use Rattle.line_record.specs.declared.entry.Entry.{Entry}
 use Rattle.line_record.specs.declared.owner.Owner.{Owner}
-use Rattle.line_record.specs.declared.fault.LineFault.{LineFault}
 use Rattle.line_record.specs.declared.state.State.{State}
-use Rattle.line_record.specs.Directory.{DirectoryView, seat_of}
+use Rattle.line_record.specs.Directory.{DirectoryView}
 use Rattle.line_record.specs.History.{NamedCell, cell_of, empty_buckets, verdict_after}
 use Rattle.line_record.specs.Line.{LineView, line_refusal}
 use Rattle.line_record.specs.StateAfter.{IsStateAfter}
@@ -22,18 +21,17 @@ use Rattle.card_core.specs.declared.answer.Answer.TheVariants.{Judged, Released}
 use Rattle.card_core.specs.declared.port.Port.{Port}
 use Rattle.card_core.specs.declared.port.Port.TheVariants.{Outside}
 use Rattle.card_core.specs.declared.port.Found.{Found}
-use Rattle.card_core.specs.declared.reply.Reply.{Reply}
 use Rattle.card_core.specs.declared.reply.Reply.TheVariants.{Answered}
 use Rattle.card_core.specs.declared.step.Step.TheVariants.{Judge}
 use Rattle.card_core.specs.declared.shape.Shape.{Shape}
-use Rattle.card_core.specs.World.{World, Connection, Picking, outside, picked, with_port, with_verdict, connection_in, kept_cells, handed_cells, verdicts_before}
+use Rattle.card_core.specs.World.{World, Connection, Picking, outside, picked, with_port, connection_in, kept_cells, handed_cells}
 use Rattle.card_core.specs.Refusals.{refusal, judge_refusal, picking_refusal, cell_refusal}
-use Rattle.card_core.specs.Steps.{WorldStep, cell_of_picking, cell_after, verdict_on, with_cell, judged_world, judgement_of, number_with}
-use Rattle.card_core.specs.Agreement.{CoreView, Agrees, Follows, Serves, LinesAgree, owner_of, seating_of}
+use Rattle.card_core.specs.Steps.{WorldStep, cell_of_picking, cell_after, verdict_on, with_cell, judged_world, number_with}
+use Rattle.card_core.specs.Agreement.{CoreView, Agrees, Follows, Serves, LinesAgree, seating_of}
 use Rattle.card_core.specs.Sections.{holder, is_owned_by, answer_for, judging_refusal, JudgesAt}
-use Rattle.card_core.specs.inner.Ports.{states_of, found_in, picking_of}
+use Rattle.card_core.specs.inner.Ports.{found_in, picking_of}
 use Rattle.card_core.specs.inner.Parts.{ChangesLine, JudgesOrRefuses}
-use Rattle.card_core.proofs.Sound.{IsSound, SoundConnection}
+use Rattle.card_core.proofs.Sound.{IsSound}
 use Rattle.card_core.proofs.Follow.{follows, step-refused, step-taken}
 use Rattle.card_core.proofs.ConnectionLemmas.{is_same_Some}
 use Rattle.card_core.proofs.LineLemmas.{Change, set-again, lines-with, seats-kept}

@@ -1,4 +1,5 @@
 pub mod Allowed
+pub mod ArrivalSteps
 pub mod CellLemmas
 pub mod ConnectionLemmas
 pub mod DeskLemmas

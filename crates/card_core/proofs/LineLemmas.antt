@@ -1,5 +1,5 @@
 -- The agreement of lines and of seats with the connections, after one connection changed.
-use Rattle.std.proofs.Common.{◌≡◌, ◌≢◌, ◌⊎◌, ℕ, zero, suc, ◌<◌, Bool, Option, Some, None, List, [], ◌∷◌, length, set, refl, sym, ap, subst, ◌∙◌, inl, inr, arith}
+use Rattle.std.proofs.Common.{◌≡◌, ◌≢◌, ℕ, zero, suc, ◌<◌, Bool, Some, None, List, [], ◌∷◌, length, set, refl, sym, ap, subst, ◌∙◌, inl, inr, arith}
 use Rattle.std.specs.Prelude.{slice_get, option_map}
 use Rattle.std.proofs.lemmas.Bool.{cases_eq}
 use Rattle.std.proofs.lemmas.List.{length-set, set-get_or}
@@ -8,7 +8,6 @@ use Rattle.upc_cell.specs.declared.vc.Vc.{Vc}
 use Rattle.upc_cell.proofs.Public.{vc_cases}
 use Rattle.leaky.specs.declared.verdict.Verdict.{Verdict}
 use Rattle.line_record.specs.declared.owner.Owner.{Owner}
-use Rattle.line_record.specs.declared.directory.Seating.{Seating}
 use Rattle.line_record.specs.Directory.{DirectoryView, seat_of, Sits}
 use Rattle.line_record.specs.Line.{LineView}
 use Rattle.line_record.specs.Tally.{tally_of}

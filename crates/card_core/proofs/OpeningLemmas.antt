@@ -1,21 +1,19 @@
 -- A new core agrees with the opening world.
-use Rattle.std.proofs.Common.{◌≡◌, ◌<◌, ℕ, zero, suc, Bool, true, false, cond, Option, Some, None, List, [], ◌∷◌, length, map, replicate, refl, sym, ap, subst, ◌∙◌, arith}
-use Rattle.std.specs.Prelude.{slice_get, option_map, ◌==◌}
+use Rattle.std.proofs.Common.{◌≡◌, ◌<◌, ℕ, zero, suc, Bool, true, false, cond, Option, Some, None, List, ◌∷◌, length, replicate, refl, sym, ap, subst, ◌∙◌, arith}
+use Rattle.std.specs.Prelude.{slice_get, ◌==◌}
 use Rattle.gen_arena.specs.declared.id.Id.{Id}
 use Rattle.gen_arena.specs.Slot.{Slot, empty_slot, unused_slots, generation_at, generation_or_zero}
 use Rattle.gen_arena.specs.Live.{live_value, value_under}
 use Rattle.bpf_code.specs.declared.instr.Instr.{Instr}
-use Rattle.line_record.specs.declared.owner.Owner.{Owner}
 use Rattle.line_record.specs.Directory.{DirectoryView, IsEmpty}
 use Rattle.line_record.specs.Line.{LineView, free_line}
 use Rattle.line_record.specs.Tally.{nothing}
 use Rattle.card_core.specs.declared.port.Port.{Port}
 use Rattle.card_core.specs.declared.port.Port.TheVariants.{Outside}
-use Rattle.card_core.specs.declared.port.Found.{Found}
 use Rattle.card_core.specs.declared.shape.Shape.{Shape}
 use Rattle.card_core.specs.World.{opening_world, outside, PortState}
 use Rattle.card_core.specs.Agreement.{Agrees}
-use Rattle.card_core.specs.inner.Ports.{states_of, state_of, found_in, IsCore}
+use Rattle.card_core.specs.inner.Ports.{states_of, found_in, IsCore}
 use Rattle.card_core.proofs.PortLemmas.{core_of}
 
 module _ {X : Type 0} where

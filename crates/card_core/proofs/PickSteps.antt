@@ -1,11 +1,9 @@
 -- A Pick, found or missed.
-use Rattle.std.proofs.Common.{◌≡◌, ◌≢◌, ℕ, cond, Option, Some, None, List, IsSome, refl, sym, ap, subst, ◌∙◌}
+use Rattle.std.proofs.Common.{◌≡◌, ℕ, cond, Option, Some, None, List, IsSome, refl, sym, ap, subst, ◌∙◌}
 use Rattle.std.specs.Prelude.{slice_get, slice_set, option_map, is_none}
 use Rattle.gen_arena.specs.Slot.{Slot}
-use Rattle.gen_arena.specs.Live.{live_value}
 use Rattle.gen_arena.specs.declared.id.Id.{Id}
 use Rattle.upc_cell.specs.declared.vc.Vc.{Vc}
-use Rattle.upc_cell.specs.declared.side.Side.{Side}
 use Rattle.upc_cell.specs.Connection.{vc_of}
 use Rattle.bpf_code.specs.declared.instr.Instr.{Instr}
 use Rattle.line_record.specs.declared.directory.Seating.{Seating}
@@ -17,18 +15,15 @@ use Rattle.card_core.specs.declared.port.Port.{Port}
 use Rattle.card_core.specs.declared.port.Port.TheVariants.{Outside, Picked as PickedPort}
 use Rattle.card_core.specs.declared.port.Came.{Came}
 use Rattle.card_core.specs.declared.port.Found.{Found}
-use Rattle.card_core.specs.declared.reply.Reply.{Reply}
 use Rattle.card_core.specs.declared.reply.Reply.TheVariants.{Picked, Answered}
 use Rattle.card_core.specs.declared.step.Step.TheVariants.{Pick}
 use Rattle.card_core.specs.declared.shape.Shape.{Shape}
 use Rattle.card_core.specs.World.{World, Connection, Picking, PortState, outside, entered, picked, with_port, connection_in, code_in}
 use Rattle.card_core.specs.Refusals.{refusal, pick_refusal}
-use Rattle.card_core.specs.Steps.{picking_of as picking_at, Picks, left_by}
+use Rattle.card_core.specs.Steps.{picking_of as picking_at}
 use Rattle.card_core.specs.Agreement.{CoreView, Agrees, Follows, seating_of}
-use Rattle.card_core.specs.Sections.{NamedView}
-use Rattle.card_core.specs.inner.Ports.{state_of, states_of, came_in, picking_of}
+use Rattle.card_core.specs.inner.Ports.{came_in, picking_of}
 use Rattle.card_core.specs.inner.Parts.{IsFound, IsMissed}
-use Rattle.card_core.proofs.Sound.{IsSound}
 use Rattle.card_core.proofs.Follow.{follows, step-refused, step-taken}
 use Rattle.card_core.proofs.ConnectionLemmas.{map_some, map_none}
 use Rattle.card_core.proofs.PortLemmas.{core_of, came, Agrees-moved}

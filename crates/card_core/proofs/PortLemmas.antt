@@ -1,9 +1,9 @@
 -- What the core's ports are to the world, and what a move of one leaves of the agreement.
-use Rattle.std.proofs.Common.{◌≡◌, ◌≢◌, ◌⊎◌, ℕ, zero, suc, ◌<◌, Bool, true, false, Option, Some, None, List, [], ◌∷◌, length, map, set, refl, sym, ap, subst, ◌∙◌, inl, inr, arith}
+use Rattle.std.proofs.Common.{◌≡◌, ◌⊎◌, ℕ, zero, suc, ◌<◌, true, false, Option, Some, None, List, [], ◌∷◌, length, set, refl, sym, ap, subst, ◌∙◌, inl, inr}
 use Rattle.std.specs.Prelude.{slice_get, slice_set, option_map}
 use Rattle.std.proofs.lemmas.Bool.{cases_eq}
 use Rattle.std.proofs.lemmas.List.{map-set, length-set}
-use Rattle.std.proofs.lemmas.Option.{slice_get-map, slice_get_within, slice_get_past}
+use Rattle.std.proofs.lemmas.Option.{slice_get-map}
 use Rattle.gen_arena.specs.Slot.{Slot}
 use Rattle.bpf_code.specs.declared.instr.Instr.{Instr}
 use Rattle.line_record.specs.Directory.{DirectoryView}
@@ -12,7 +12,6 @@ use Rattle.card_core.specs.declared.port.Port.{Port}
 use Rattle.card_core.specs.declared.port.Port.TheVariants.{Outside, Entered, Picked}
 use Rattle.card_core.specs.declared.port.Came.{Came}
 use Rattle.card_core.specs.declared.port.Found.{Found}
-use Rattle.card_core.specs.declared.reply.Reply.{Reply}
 use Rattle.card_core.specs.declared.reply.Reply.TheVariants.{NotNow}
 use Rattle.card_core.specs.declared.shape.Shape.{Shape}
 use Rattle.card_core.specs.World.{World, PortState, outside, entered, picked, with_port}

@@ -1,23 +1,20 @@
 -- The steps of a port.
-use Rattle.std.proofs.Common.{◌≡◌, ◌≢◌, ℕ, true, false, Option, Some, None, List, refl, sym, ap, subst, ◌∙◌}
+use Rattle.std.proofs.Common.{◌≡◌, ℕ, true, false, Some, None, List, refl, sym, ap, ◌∙◌}
 use Rattle.std.specs.Prelude.{slice_get, slice_set, option_map}
 use Rattle.gen_arena.specs.Slot.{Slot}
 use Rattle.bpf_code.specs.declared.instr.Instr.{Instr}
 use Rattle.line_record.specs.Directory.{DirectoryView}
 use Rattle.line_record.specs.Line.{LineView}
 use Rattle.card_core.specs.declared.port.Port.{Port}
-use Rattle.card_core.specs.declared.port.Port.TheVariants.{Outside, Entered as EnteredPort, Picked as PickedPort}
+use Rattle.card_core.specs.declared.port.Port.TheVariants.{Entered as EnteredPort}
 use Rattle.card_core.specs.declared.port.Came.{Came}
-use Rattle.card_core.specs.declared.port.Found.{Found}
-use Rattle.card_core.specs.declared.reply.Reply.{Reply}
 use Rattle.card_core.specs.declared.reply.Reply.TheVariants.{Entered, NotNow}
-use Rattle.card_core.specs.declared.step.Step.{Step}
 use Rattle.card_core.specs.declared.step.Step.TheVariants.{Enter, Pick, Judge}
 use Rattle.card_core.specs.declared.shape.Shape.{Shape}
-use Rattle.card_core.specs.World.{World, PortState, outside, entered, picked, with_port}
+use Rattle.card_core.specs.World.{World, PortState, outside, entered, with_port}
 use Rattle.card_core.specs.Refusals.{refusal, enter_refusal, pick_refusal, judge_refusal}
 use Rattle.card_core.specs.Agreement.{CoreView, Agrees, Follows}
-use Rattle.card_core.specs.inner.Ports.{state_of, states_of, is_idle, came_in, found_in}
+use Rattle.card_core.specs.inner.Ports.{state_of, is_idle, came_in, found_in}
 use Rattle.card_core.proofs.Follow.{follows, step-refused, step-taken}
 use Rattle.card_core.proofs.PortLemmas.{core_of, state-at, idle, not_idle, not_came, not_found, Agrees-moved}
 

@@ -1,10 +1,9 @@
 -- A core that took some steps takes one more.
-use Rattle.std.proofs.Common.{◌≡◌, ℕ, suc, List, [], ◌∷◌, ◌++◌, length, refl, sym, ap, subst, ◌∙◌, arith, append_assoc}
+use Rattle.std.proofs.Common.{◌≡◌, List, [], ◌∷◌, ◌++◌, length, refl, sym, ap, subst, ◌∙◌, arith, append_assoc}
 use Rattle.card_core.specs.declared.reply.Reply.{Reply}
 use Rattle.card_core.specs.declared.step.Step.{Step}
-use Rattle.card_core.specs.World.{World}
 use Rattle.card_core.specs.Log.{Event, Run, Leads}
-use Rattle.card_core.specs.Agreement.{CoreView, Agrees, Follows, FollowsAll, events_of}
+use Rattle.card_core.specs.Agreement.{CoreView, Follows, FollowsAll, events_of}
 use Rattle.card_core.proofs.Follow.{Run-next}
 
 pub events_of-next : (steps : List Step) (replies : List Reply) (step : Step) (reply : Reply) → length replies ≡ length steps

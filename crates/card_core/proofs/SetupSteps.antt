@@ -1,9 +1,8 @@
 -- A Setup.
-use Rattle.std.proofs.Common.{◌≡◌, ◌≢◌, ℕ, ◌+◌, ◌^◌, ◌<◌, Bool, true, false, cond, not, Option, Some, None, IsSome, List, [], length, set, refl, sym, ap, subst, ◌∙◌, arith}
-use Rattle.std.specs.Prelude.{slice_get, option_map, is_none, is_some, nat_le, ◌==◌, Result, Ok, Err, MatchResult}
+use Rattle.std.proofs.Common.{◌≡◌, ℕ, ◌+◌, ◌^◌, ◌<◌, Bool, true, false, cond, not, Option, Some, None, IsSome, List, length, refl, sym, ap, subst, ◌∙◌, arith}
+use Rattle.std.specs.Prelude.{option_map, is_none, is_some, nat_le, ◌==◌, Result, Ok, Err}
 use Rattle.std.specs.List.{list_any}
 use Rattle.std.proofs.lemmas.Bool.Decides.{nat_tests, Decides-eqb}
-use Rattle.gen_arena.specs.declared.id.Id.{Id}
 use Rattle.gen_arena.specs.Slot.{Slot}
 use Rattle.gen_arena.specs.Live.{live_value, IsLive}
 use Rattle.upc_cell.specs.declared.vc.Vc.{Vc}
@@ -19,18 +18,17 @@ use Rattle.card_core.specs.declared.fault.DeskFault.TheVariants.{NoProgram, NoCo
 use Rattle.card_core.specs.declared.port.Port.{Port}
 use Rattle.card_core.specs.declared.reply.Reply.{Reply}
 use Rattle.card_core.specs.declared.reply.Reply.TheVariants.{SetUp, NotSetUp}
-use Rattle.card_core.specs.declared.step.Step.{Step}
 use Rattle.card_core.specs.declared.step.Step.TheVariants.{Setup}
 use Rattle.card_core.specs.declared.shape.Shape.{Shape}
 use Rattle.card_core.specs.World.{World, Connection, code_in, connection_in, with_connection, any_below, is_open_line}
-use Rattle.card_core.specs.Refusals.{refusal, setup_fault}
+use Rattle.card_core.specs.Refusals.{setup_fault}
 use Rattle.card_core.specs.Steps.{WorldStep, new_connection}
-use Rattle.card_core.specs.Agreement.{CoreView, Agrees, Follows, Serves, LinesAgree, SeatsAgree, seating_of}
+use Rattle.card_core.specs.Agreement.{CoreView, Agrees, Follows, LinesAgree, SeatsAgree, seating_of}
 use Rattle.card_core.specs.Sections.{Admits, IsUnfit, IsUnready}
 use Rattle.card_core.specs.inner.Parts.{ChangesLine, SetsUpOrRefuses, IsSetUp}
 use Rattle.card_core.proofs.Sound.{IsSound}
 use Rattle.card_core.proofs.Follow.{follows, step-refused, step-taken, step-without_memory}
-use Rattle.card_core.proofs.ConnectionLemmas.{map_some, map_none, is_same_Some}
+use Rattle.card_core.proofs.ConnectionLemmas.{map_some, map_none}
 use Rattle.card_core.proofs.LookUps.{connection_passes, there_is}
 use Rattle.card_core.proofs.LineLemmas.{Change, lines-with, lines-ready, seats-with}
 use Rattle.card_core.proofs.StoreLemmas.{below-passes, below-fails}

@@ -1,5 +1,5 @@
 -- No step of the world is answered by a stale reply.
-use Rattle.std.proofs.Common.{◌≡◌, ◌⊎◌, ℕ, ◌^◌, Bool, true, false, cond, not, Option, Some, None, List, [], ◌∷◌, ◌++◌, length, refl, sym, ap, subst, ◌∙◌, inl, inr}
+use Rattle.std.proofs.Common.{◌≡◌, ◌⊎◌, ℕ, ◌^◌, Bool, true, false, cond, not, Option, Some, None, List, length, refl, sym, ap, ◌∙◌, inl, inr}
 use Rattle.std.specs.Prelude.{slice_get, option_map, is_none, is_some, nat_lt, nat_le, ◌==◌, MatchOption}
 use Rattle.upc_cell.specs.Connection.{vc_of}
 use Rattle.bpf_code.specs.declared.instr.Instr.{Instr}
@@ -7,10 +7,9 @@ use Rattle.line_record.specs.History.{last_moment}
 use Rattle.card_core.specs.declared.answer.Answer.{Answer}
 use Rattle.card_core.specs.declared.answer.Answer.TheVariants.{NoConnection as UnknownCell, Released, MomentTooLate, MomentBack, JournalFull}
 use Rattle.card_core.specs.declared.ask.Ask.{Ask}
-use Rattle.card_core.specs.declared.fault.DeskFault.{DeskFault}
 use Rattle.card_core.specs.declared.fault.DeskFault.TheVariants.{NoProgram, NoConnection, Taken, NoLine, InUse, ProgramsFull, Exhausted, BadContracts, Busy}
 use Rattle.card_core.specs.declared.reply.Reply.{Reply}
-use Rattle.card_core.specs.declared.reply.Reply.TheVariants.{Answered, NotLoaded, NotSetUp, Refused, Cut as CutOff}
+use Rattle.card_core.specs.declared.reply.Reply.TheVariants.{Answered, NotLoaded, NotSetUp, Refused}
 use Rattle.card_core.specs.declared.step.Step.{Step}
 use Rattle.card_core.specs.declared.step.Step.TheVariants.{Enter, Pick, Judge, Load, Retire, Setup, Reload, Release, Cut}
 use Rattle.card_core.specs.World.{World, Connection, Picking, PortState, outside, entered, picked, code_in, connection_in, kept_cells, is_busy, is_named, any_below, is_open_slot, is_open_line}

@@ -1,18 +1,18 @@
 -- The agreement of the store, and what the world's tests of slots and programs say.
-use Rattle.std.proofs.Common.{◌≡◌, ◌≢◌, ◌⊎◌, ℕ, zero, suc, ◌+◌, ◌<◌, ◌≤◌, Bool, true, false, cond, not, ◌&&◌, ◌||◌, Option, Some, None, IsSome, List, [], ◌∷◌, length, map, set, refl, sym, ap, subst, ◌∙◌, inl, inr, arith}
-use Rattle.std.specs.Prelude.{slice_get, option_map, nat_lt, is_none, ◌==◌, IsTrue, Contains}
-use Rattle.std.specs.List.{list_any, list_all}
+use Rattle.std.proofs.Common.{◌≡◌, ◌≢◌, ℕ, zero, suc, ◌+◌, ◌<◌, Bool, true, false, cond, not, ◌&&◌, ◌||◌, Option, Some, None, IsSome, List, [], ◌∷◌, length, refl, sym, ap, subst, ◌∙◌, inl, inr, arith}
+use Rattle.std.specs.Prelude.{slice_get, nat_lt, is_none, ◌==◌}
+use Rattle.std.specs.List.{list_any}
 use Rattle.std.proofs.lemmas.Bool.{cases_eq}
-use Rattle.std.proofs.lemmas.Bool.Decides.{nat_tests, Decides-eqb, Decides-ltb}
+use Rattle.std.proofs.lemmas.Bool.Decides.{nat_tests, Decides-eqb}
 use Rattle.std.proofs.lemmas.Option.{slice_get_within}
 use Rattle.gen_arena.specs.declared.id.Id.{Id}
 use Rattle.gen_arena.specs.SameId.{is_same_id}
 use Rattle.gen_arena.specs.Slot.{Slot, generation_at, generation_or_zero, greatest_generation, full_slot, empty_slot}
-use Rattle.gen_arena.specs.Live.{live_value, value_under}
-use Rattle.gen_arena.specs.Free.{is_free, NoneIsFree}
+use Rattle.gen_arena.specs.Live.{live_value}
+use Rattle.gen_arena.specs.Free.{NoneIsFree}
 use Rattle.gen_arena.specs.Insert.{Inserts}
 use Rattle.gen_arena.specs.Remove.{Removes}
-use Rattle.gen_arena.proofs.Public.{id_same, id_itself, id_differs, id_cases, slot_of_live, live_of_slot, live_generation, Inserts-live, Inserts-others, Inserts-length, Removes-gone, Removes-others, Removes-length}
+use Rattle.gen_arena.proofs.Public.{id_same, id_itself, id_differs, id_cases, slot_of_live, live_of_slot, Inserts-live, Inserts-others, Inserts-length, Removes-gone, Removes-others, Removes-length}
 use Rattle.bpf_code.specs.declared.instr.Instr.{Instr}
 use Rattle.card_core.specs.declared.shape.Shape.{Shape}
 use Rattle.card_core.specs.World.{World, Loading, code_in, without_code, times_given, is_open_slot, any_below}

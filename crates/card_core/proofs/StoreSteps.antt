@@ -1,6 +1,6 @@
 -- A Load and a Retire.
-use Rattle.std.proofs.Common.{◌≡◌, ◌≢◌, ◌⊎◌, ◌↔◌, ℕ, suc, ◌+◌, ◌<◌, Bool, true, false, cond, not, ◌&&◌, ◌||◌, Option, Some, None, IsSome, List, [], ◌∷◌, length, map, refl, sym, ap, subst, ◌∙◌, inl, inr, arith}
-use Rattle.std.specs.Prelude.{slice_get, option_map, is_none, IsOk, IsErrOf, Result, Ok, Err, Contains}
+use Rattle.std.proofs.Common.{◌≡◌, ◌↔◌, suc, Bool, true, false, cond, not, ◌||◌, Option, Some, None, IsSome, List, [], ◌∷◌, refl, sym, ap, subst, ◌∙◌, arith}
+use Rattle.std.specs.Prelude.{option_map, is_none, IsErrOf, Err, Contains}
 use Rattle.std.specs.List.{list_any, list_all}
 use Rattle.gen_arena.specs.declared.id.Id.{Id}
 use Rattle.gen_arena.specs.SameId.{is_same_id}
@@ -14,18 +14,17 @@ use Rattle.upc_cell.specs.declared.vc.Vc.{Vc}
 use Rattle.bpf_code.specs.declared.instr.Instr.{Instr}
 use Rattle.bpf_verify.specs.Accepted.{IsAccepted}
 use Rattle.line_record.specs.declared.directory.Seating.{Seating}
-use Rattle.line_record.specs.Directory.{DirectoryView, seat_of, IsNamed}
+use Rattle.line_record.specs.Directory.{DirectoryView, IsNamed}
 use Rattle.line_record.specs.Line.{LineView}
 use Rattle.card_core.specs.declared.fault.DeskFault.{DeskFault}
 use Rattle.card_core.specs.declared.fault.DeskFault.TheVariants.{NoProgram, InUse, Busy, ProgramsFull}
 use Rattle.card_core.specs.declared.port.Port.{Port}
 use Rattle.card_core.specs.declared.port.Port.TheVariants.{Outside, Entered, Picked}
-use Rattle.card_core.specs.declared.reply.Reply.{Reply}
 use Rattle.card_core.specs.declared.reply.Reply.TheVariants.{Loaded, NotLoaded, Retired, Refused}
 use Rattle.card_core.specs.declared.step.Step.TheVariants.{Load, Retire}
 use Rattle.card_core.specs.declared.shape.Shape.{Shape}
-use Rattle.card_core.specs.World.{World, Loading, Connection, PortState, is_outside, is_busy, is_named, any_below, is_open_slot, code_in, without_code, times_given, connection_in}
-use Rattle.card_core.specs.Refusals.{refusal, load_fault, retire_fault}
+use Rattle.card_core.specs.World.{World, Loading, Connection, PortState, is_outside, is_busy, is_named, any_below, is_open_slot, code_in, without_code, connection_in}
+use Rattle.card_core.specs.Refusals.{load_fault, retire_fault}
 use Rattle.card_core.specs.Agreement.{CoreView, Agrees, Follows, seating_of}
 use Rattle.card_core.specs.inner.Ports.{states_of, is_free_port}
 use Rattle.card_core.proofs.Sound.{IsSound}

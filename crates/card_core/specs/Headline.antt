@@ -10,7 +10,6 @@ use Rattle.leaky.specs.declared.verdict.Verdict.TheVariants.{Pass, Tag, Discard,
 use Rattle.line_record.specs.History.{NamedCell, empty_buckets, verdict_after}
 use Rattle.upc_cell.specs.Connection.{is_same_vc}
 use Rattle.gen_arena.specs.SameId.{is_same_id}
-use Rattle.card_core.specs.declared.answer.Answer.{Answer}
 use Rattle.card_core.specs.declared.answer.Answer.TheVariants.{Judged}
 use Rattle.card_core.specs.declared.ask.Ask.{Ask}
 use Rattle.card_core.specs.declared.reply.Reply.{Reply}

@@ -1,5 +1,5 @@
 -- The card in whole histories, what its steps do, what a log of them tells, and when a core agrees
--- with it. To be read in the order World, Refusals, Steps, Log, Agreement, Headline;
+-- with it. To be read in the order World, Refusals, Steps, Log, Agreement, Arrival, Headline;
 -- Laws has what holds beside the headline.
 pub mod World
 pub mod Refusals
@@ -8,6 +8,7 @@ pub mod Log
 pub mod Shapes
 pub mod PortReplies
 pub mod Agreement
+pub mod Arrival
 pub mod Stale
 pub mod Headline
 pub mod Laws

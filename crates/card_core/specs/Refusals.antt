@@ -1,7 +1,6 @@
 -- When a step is refused. The refusals of each step are tried in the order in which they stand.
-use Rattle.std.specs.Prelude.{ℕ, ◌-◌, ◌^◌, ◌==◌, nat_lt, nat_le, Bool, not, if◌then◌else◌, List, length, Option, Some, None, is_some, is_none, option_map, slice_get}
+use Rattle.std.specs.Prelude.{ℕ, ◌^◌, ◌==◌, nat_lt, nat_le, not, if◌then◌else◌, length, Option, Some, None, is_some, is_none, option_map, slice_get}
 use Rattle.upc_cell.specs.declared.vc.Vc.{Vc}
-use Rattle.bpf_code.specs.declared.instr.Instr.{Instr}
 use Rattle.gen_arena.specs.declared.id.Id.{Id}
 use Rattle.line_record.specs.History.{last_moment}
 use Rattle.card_core.specs.declared.answer.Answer.{Answer}

@@ -1,5 +1,5 @@
 -- What the locked sections do to the parts that they are lent.
-use Rattle.std.specs.Prelude.{◌≡◌, ◌≢◌, ℕ, ◌+◌, ◌^◌, ◌<◌, ◌==◌, ◌&&◌, Bool, true, false, if◌then◌else◌, List, [], ◌∷◌, ◌++◌, length, Option, Some, None, option_map, IsSome}
+use Rattle.std.specs.Prelude.{◌≡◌, ◌≢◌, ℕ, ◌+◌, ◌^◌, ◌<◌, ◌==◌, ◌&&◌, Bool, false, if◌then◌else◌, List, [], ◌∷◌, ◌++◌, length, Option, Some, None, option_map, IsSome, Result, Ok, Err}
 use Rattle.upc_cell.specs.declared.vc.Vc.{Vc}
 use Rattle.upc_cell.specs.Connection.{is_same_vc}
 use Rattle.bpf_code.specs.declared.instr.Instr.{Instr}
@@ -18,6 +18,7 @@ use Rattle.line_record.specs.Line.{LineView, line_refusal, Gains}
 use Rattle.line_record.specs.StateAfter.{IsStateAfter}
 use Rattle.line_record.specs.Tally.{number_of}
 use Rattle.card_core.specs.declared.answer.Answer.{Answer}
+use Rattle.card_core.specs.declared.answer.Judgement.{Judgement}
 use Rattle.card_core.specs.declared.answer.Answer.TheVariants.{Judged, Released, MomentTooLate, MomentBack, JournalFull, NoMemory}
 use Rattle.card_core.specs.declared.ask.Ask.{Ask}
 use Rattle.card_core.specs.declared.fault.DeskFault.{DeskFault}
@@ -97,6 +98,14 @@ told (Judged line number moment value program verdict cell) = Some (record {
   cell = cell;
 })
 told _ = None
+
+-- The answer to a cell of which this is told: it was judged, and leaves as its verdict says; or this is its
+-- answer.
+abbrev pub answer_to : List ℕ → Result Judgement Answer → Answer
+answer_to cell (Ok judgement) =
+    Judged judgement.line judgement.number judgement.moment judgement.value judgement.program judgement.verdict
+    (cell_after judgement.verdict cell)
+answer_to cell (Err answer) = answer
 
 -- What is asked may be set up on this line.
 pub record Admits (store : List (Slot (List Instr))) (directory : DirectoryView) (ask : Ask) (line : ℕ) : Type 0 where

@@ -1,5 +1,5 @@
 -- What each step does where it isn't refused, and what a refusal leaves.
-use Rattle.std.specs.Prelude.{◌≡◌, ℕ, ◌+◌, ◌-◌, ◌<◌, ◌≤◌, Bool, if◌then◌else◌, ◌⊎◌, List, [], ◌∷◌, ◌++◌, length, take, Option, Some, None, MatchOption, IsTrue, slice_get, slice_set}
+use Rattle.std.specs.Prelude.{◌≡◌, ℕ, ◌+◌, ◌<◌, ◌≤◌, ◌⊎◌, List, [], ◌∷◌, ◌++◌, length, Option, Some, None, MatchOption, IsTrue, slice_get, slice_set}
 use Rattle.upc_cell.specs.declared.vc.Vc.{Vc}
 use Rattle.upc_cell.specs.Tagged.{tagged_form}
 use Rattle.bpf_code.specs.declared.instr.Instr.{Instr}
@@ -8,7 +8,6 @@ use Rattle.bpf_interp.specs.Value.{Value}
 use Rattle.gen_arena.specs.declared.id.Id.{Id}
 use Rattle.leaky.specs.declared.verdict.Verdict.{Verdict}
 use Rattle.leaky.specs.declared.verdict.Verdict.TheVariants.{Pass, Tag, Discard, Refuse}
-use Rattle.line_record.specs.declared.owner.Owner.{Owner}
 use Rattle.line_record.specs.Tally.{number_of}
 use Rattle.line_record.specs.History.{NamedCell, empty_buckets, verdict_after, judged}
 use Rattle.line_record.specs.StateAfter.{IsStateAfter}
@@ -18,13 +17,13 @@ use Rattle.card_core.specs.declared.answer.Answer.TheVariants.{Judged}
 use Rattle.card_core.specs.declared.ask.Ask.{Ask}
 use Rattle.card_core.specs.declared.fault.DeskFault.TheVariants.{NoMemory}
 use Rattle.card_core.specs.declared.reply.Reply.{Reply}
-use Rattle.card_core.specs.declared.reply.Reply.TheVariants.{Entered, Picked, NotNow, Answered, Loaded, NotLoaded, Retired, SetUp, NotSetUp, Reloaded, Released, Cut as CutOff, Refused}
+use Rattle.card_core.specs.declared.reply.Reply.TheVariants.{Entered, Picked, Answered, Loaded, Retired, SetUp, NotSetUp, Reloaded, Released, Cut as CutOff, Refused}
 use Rattle.card_core.specs.declared.step.Step.{Step}
 use Rattle.card_core.specs.declared.step.Step.TheVariants.{Enter, Pick, Judge, Load, Retire, Setup, Reload, Release, Cut}
 use Rattle.upc_cell.specs.Connection.{vc_of}
 use Rattle.upc_cell.specs.Header.{has_low_priority}
 use Rattle.line_record.specs.Tally.{tally_of}
-use Rattle.card_core.specs.World.{World, Loading, Connection, Picking, outside, entered, picked, code_in, without_code, times_given, handed_cells, kept_cells, verdicts_before, connection_in, without_connection, with_connection, with_port, with_verdict, is_open_slot, is_open_line}
+use Rattle.card_core.specs.World.{World, Connection, Picking, outside, entered, picked, code_in, without_code, times_given, handed_cells, kept_cells, verdicts_before, connection_in, without_connection, with_connection, with_port, with_verdict, is_open_slot, is_open_line}
 use Rattle.card_core.specs.Refusals.{refusal}
 
 -- The code gives this value for the cell, within as many steps as it has instructions.

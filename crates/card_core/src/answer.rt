@@ -40,3 +40,20 @@ pub enum Answer {
     /// The memory was refused. It is never answered, since no cell takes memory.
     NoMemory,
 }
+
+/// What is told of a judged cell, but for the cell itself, which whoever lent it has.
+#[derive(Clone, Copy, Debug, PartialEq, Eq)]
+pub struct Judgement {
+    /// The number of the line, from 0.
+    pub line: u16,
+    /// How many cells with this verdict were judged on the line, this one included.
+    pub number: u64,
+    /// When the cell came, in ticks.
+    pub moment: u64,
+    /// The number that the program gave for it: that of a contract, counted from 1, or any other,
+    /// which names none.
+    pub value: u32,
+    /// The program that gave it.
+    pub program: Id,
+    pub verdict: Verdict,
+}

@@ -1,9 +1,9 @@
-ghost use Rattle.std.specs.Prelude.{◌≡◌, ◌≢◌, ◌+◌, ◌↔◌, IsTrue, IfSome, IfNone, MatchOption, Some};
+ghost use Rattle.std.specs.Prelude.{◌≡◌, ◌≢◌, ◌+◌, ◌↔◌, IsTrue, IfSome, IfNone, IfOk, IfErr, OnErr, MatchOption, Some, None, Err};
 ghost use Rattle.line_record.specs.Tally.{counted, number_of};
 ghost use Rattle.card_core.specs.Steps.{cell_after};
-ghost use Rattle.card_core.specs.Sections.{holder, is_owned_by, answer_for, judging_refusal, JudgesAt, told};
+ghost use Rattle.card_core.specs.Sections.{holder, is_owned_by, answer_for, answer_to, judging_refusal, JudgesAt, told};
 
-use crate::answer::Answer;
+use crate::answer::{Answer, Judgement};
 use crate::naming::Named;
 use leaky::Verdict;
 use line_record::{Line, LineFault, Seating};
@@ -41,21 +41,62 @@ pub fn judge_at(line: &mut Line, vc: Vc, seating: &Seating, named: &Named, momen
     ensures program_live { result ≢ Answer.Stale }
     ensures connection { result ≢ Answer.NoConnection }
 {
-    if !serves(line, vc, seating) {
-        return Answer::Released;
-    }
     let cell = named.cell();
-    match line.judge(moment, cell.clp(), named.value(), named.program()) {
-        Ok(entry) => Answer::Judged {
+    match tell_at(line, vc, seating, named, moment) {
+        Ok(judged) => Answer::Judged {
+            line: judged.line,
+            number: judged.number,
+            moment: judged.moment,
+            value: judged.value,
+            program: judged.program,
+            verdict: judged.verdict,
+            cell: leaving(judged.verdict, &cell),
+        },
+        Err(answer) => answer,
+    }
+}
+
+/// Judges a named cell as [`judge_at`] does, and tells all of it but the cell as it leaves: it is not copied
+/// on the path of each cell.
+#[inline(always)]
+pub(crate) fn tell_at(
+    line: &mut Line,
+    vc: Vc,
+    seating: &Seating,
+    named: &Named,
+    moment: u64,
+) -> Result<Judgement, Answer>
+    ensures judged { MatchOption (judging_refusal line.old vc seating.now moment)
+        (JudgesAt line.old seating.now named.now moment (answer_to named.now.cell result) line.new)
+        (λ refused. (answer_to named.now.cell result ≡ refused) × (line.new ≡ line.old)) }
+    ensures line { IfOk result (λ judged. judged.line ≡ seating.now.line) }
+    ensures number { IfOk result (λ judged.
+        judged.number ≡ number_of line.old.state.counts judged.verdict + 1) }
+    ensures moment { IfOk result (λ judged. judged.moment ≡ moment) }
+    ensures value { IfOk result (λ judged. judged.value ≡ named.now.value) }
+    ensures program { IfOk result (λ judged. judged.program ≡ named.now.program) }
+    ensures owner { line.new.owner ≡ line.old.owner }
+    ensures counts { IfOk result (λ judged.
+        line.new.state.counts ≡ counted line.old.state.counts judged.verdict) }
+    ensures unchanged { OnErr result (line.new ≡ line.old) }
+    ensures refused { IfErr result (λ answer. told answer ≡ None) }
+    ensures memory { result ≢ Err Answer.NoMemory }
+    ensures program_live { result ≢ Err Answer.Stale }
+    ensures connection { result ≢ Err Answer.NoConnection }
+{
+    if !serves(line, vc, seating) {
+        return Err(Answer::Released);
+    }
+    match line.judge(moment, named.cell().clp(), named.value(), named.program()) {
+        Ok(entry) => Ok(Judgement {
             line: seating.line,
             number: line.counts().of(entry.verdict),
             moment: entry.moment,
             value: entry.value,
             program: entry.program,
             verdict: entry.verdict,
-            cell: leaving(entry.verdict, &cell),
-        },
-        Err(fault) => refusal_of(fault),
+        }),
+        Err(fault) => Err(refusal_of(fault)),
     }
 }
 

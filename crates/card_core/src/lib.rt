@@ -15,7 +15,7 @@ mod serial;
 mod shape;
 mod step;
 
-pub use answer::Answer;
+pub use answer::{Answer, Judgement};
 pub use ask::Ask;
 pub use desk::{admit, cut, load, release, reload, retire, setup};
 pub use fault::{CardFault, DeskFault};

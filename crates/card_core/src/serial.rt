@@ -1,10 +1,10 @@
 ghost use Rattle.std.specs.Prelude.{◌≡◌, ℕ};
 
-use crate::answer::Answer;
+use crate::answer::{Answer, Judgement};
 use crate::ask::Ask;
 use crate::desk;
 use crate::fault::{CardFault, DeskFault};
-use crate::judging::judge_at;
+use crate::judging::{judge_at, tell_at};
 use crate::naming::{Store, name, pick};
 use crate::port::{
     Came, Found, Port, are_outside, entered_at, is_idle_at, move_port, outside_ports, picked_at,
@@ -47,11 +47,13 @@ impl Model for Core {
 }
 
 impl Core {
-    ghost use Rattle.std.specs.Prelude.{◌≡◌, ◌≢◌, ◌⊎◌, ℕ, length, None, Some, IfOk, IfErr, OnErr, MatchResult};
+    ghost use Rattle.std.specs.Prelude.{◌≡◌, ◌≢◌, ◌⊎◌, ℕ, length, None, Some, Err, IfOk, IfErr, IfSome, IfNone, OnErr, MatchResult};
     ghost use Rattle.card_core.specs.World.{opening_world};
     ghost use Rattle.card_core.specs.Shapes.{shape_fault};
     ghost use Rattle.card_core.specs.declared.step.Step.TheVariants.{Enter, Pick, Judge, Load, Retire, Setup, Reload, Release, Cut};
     ghost use Rattle.card_core.specs.Agreement.{Agrees, Follows, FollowsAll};
+    ghost use Rattle.card_core.specs.Arrival.{Answers};
+    ghost use Rattle.card_core.specs.Sections.{answer_to};
     ghost use Rattle.card_core.specs.PortReplies.{reply_of};
     ghost use Rattle.card_core.specs.Stale.{IsNeverStale};
 
@@ -192,6 +194,38 @@ impl Core {
         PortReply::Answered(answer)
     }
 
+    /// A cell comes to a port and goes its whole way: the steps `Enter`, `Pick` and `Judge`, of which the
+    /// pick or the judging answers it. Of a judged cell all is told but the cell as it leaves, which is what
+    /// was lent, or `Cell::tagged` of it where the verdict is Tag. None where the port has a cell or there is
+    /// no such port, and then nothing changes.
+    #[inline(always)]
+    pub fn arrive(
+        &mut self,
+        port: u8,
+        cell: &Cell,
+        moment: u64,
+    ) -> Option<Result<Judgement, Answer>>
+        ensures answered { IfSome result (λ told.
+            Answers self.old port cell.now moment (answer_to cell.now told) self.new) }
+        ensures not_now { IfNone result (Follows self.old (Enter port cell.now moment) Reply.NotNow self.new) }
+        ensures unchanged { IfNone result (self.new ≡ self.old) }
+        ensures memory { result ≢ Some (Err Answer.NoMemory) }
+    {
+        if !is_idle_at(&self.ports, port) {
+            return None;
+        }
+        // The port is outside before and afterwards, and nobody looks at it in between.
+        let came = Came {
+            cell: *cell,
+            moment,
+        };
+        let picked = find_and_name(&self.store, &self.directory, self.shape.side, &came);
+        match picked {
+            Ok(found) => Some(tell_line(&mut self.lines, &found)),
+            Err(answer) => Some(Err(answer)),
+        }
+    }
+
     // A program is put into the store.
     fn load(&mut self, program: Program) -> Reply
         ensures { Follows self.old (Load program) result self.new }
@@ -269,7 +303,8 @@ impl Core {
     }
 }
 
-ghost use Rattle.std.specs.Prelude.{◌<◌, ◌≤◌, ◌≢◌, ◌^◌, false, length, replicate, None, Some, IfSome, IfOk, MatchResult};
+ghost use Rattle.std.specs.Prelude.{◌<◌, ◌≤◌, ◌≢◌, ◌^◌, false, length, replicate, None, Some, Err, IfSome, IfOk, MatchResult};
+ghost use Rattle.card_core.specs.Sections.{answer_to};
 ghost use Rattle.line_record.specs.Tally.{nothing};
 ghost use Rattle.line_record.specs.Line.{free_line};
 ghost use Rattle.line_record.specs.Directory.{seat_of, IsOpenLine};
@@ -294,7 +329,9 @@ fn free_lines(alloc: Global, many: usize, journal: u32) -> Option<Vec<Line>>
     Some(lines)
 }
 
-// Where the cell's connection is, and the contract that its program names for it.
+// Where the cell's connection is, and the contract that its program names for it. It is part of the path of
+// each cell, as is the next: called, they would hand the cell over by copies.
+#[inline(always)]
 fn find_and_name(
     store: &Store,
     directory: &Directory,
@@ -319,6 +356,18 @@ fn find_and_name(
         seating,
         named,
     })
+}
+
+// Judges a picked cell on its line, which is one of these, and tells all of it but the cell as it leaves.
+#[inline(always)]
+fn tell_line(lines: &mut Vec<Line>, found: &Found) -> Result<Judgement, Answer>
+    requires { found.now.seating.line < length lines.old.items }
+    ensures line { ChangesLine lines.old.items found.now.seating.line
+        (JudgesOrRefuses found.now (answer_to found.now.named.cell result)) lines.new.items }
+    ensures memory { result ≢ Err Answer.NoMemory }
+{
+    let line = &mut lines[usize::from(found.seating.line)];
+    tell_at(line, found.vc, &found.seating, &found.named, found.moment)
 }
 
 // Judges a picked cell on its line, which is one of these.

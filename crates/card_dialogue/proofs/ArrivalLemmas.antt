@@ -1,22 +1,25 @@
 -- How a cell goes through the card that is kept: in at the port, picked, and judged.
-use Rattle.std.proofs.Common.{◌≡◌, ◌⊎◌, ◌==◌, ℕ, inl, inr, true, List, length, [], ◌∷◌, ◌++◌, Option, Some, None, Result, OnOk, refl, sym, ap, ◌∙◌, subst}
+use Rattle.std.proofs.Common.{◌≡◌, ◌⊎◌, ◌==◌, ℕ, inl, inr, true, List, length, [], ◌∷◌, ◌++◌, Option, Some, None, option_map, Result, OnOk, refl, sym, ap, ◌∙◌, subst}
 use Rattle.std.specs.Bool.{MatchBool}
-use Rattle.std.specs.Option.{MatchOption}
+use Rattle.std.specs.Option.{IfNone, IfSome, MatchOption}
 use Rattle.std.proofs.lemmas.List.{append-nil}
 use Rattle.gen_arena.specs.declared.id.Id.{Id}
 use Rattle.upc_cell.specs.Connection.{vc_of}
 use Rattle.upc_cell.specs.declared.side.Side.{Side}
 use Rattle.upc_cell.specs.declared.vc.Vc.{Vc}
 use Rattle.card_core.specs.Agreement.{Agrees, CoreView, Follows}
+use Rattle.card_core.specs.Arrival.{Answers}
 use Rattle.card_core.specs.Log.{Event, Leads}
 use Rattle.card_core.specs.Steps.{WorldStep}
 use Rattle.card_core.specs.World.{Picking, World, entered, picked}
+use Rattle.card_core.specs.Sections.{answer_to}
 use Rattle.card_core.specs.declared.answer.Answer.{Answer}
+use Rattle.card_core.specs.declared.answer.Judgement.{Judgement}
 use Rattle.card_core.specs.PortReplies.{reply_of}
 use Rattle.card_core.specs.declared.reply.PortReply.{PortReply}
 use Rattle.card_core.specs.declared.reply.PortReply.TheVariants as port
 use Rattle.card_core.specs.declared.reply.Reply.{Reply}
-use Rattle.card_core.specs.declared.reply.Reply.TheVariants.{Answered, Entered, Picked}
+use Rattle.card_core.specs.declared.reply.Reply.TheVariants.{Answered, NotNow}
 use Rattle.card_core.specs.declared.step.Step.TheVariants.{Enter, Pick, Judge}
 use Rattle.card_dialogue.specs.Replies.{answer_text, number_of_judging, numbered_answer_text}
 use Rattle.program_dialogue.specs.FaultLines.{bad_hex, wrong_length}
@@ -24,56 +27,50 @@ use Rattle.program_dialogue.specs.Hexadecimal.{cell_of, octets_of}
 use Rattle.card_dialogue.specs.Run.{Arrives, Card, IsLed, Obeys, Polices, PolicesOctets, Refuses}
 use Rattle.card_dialogue.specs.ScriptCommands.{cell}
 use Rattle.card_dialogue.proofs.MovesLemmas.{moves-map}
-use Rattle.card_dialogue.specs.inner.Policing.{AnswersCell, Held, JudgesPort, Moves, ShowsCard}
+use Rattle.card_dialogue.specs.inner.Policing.{AnswersCell, Held, Moves, ShowsCard}
 use Rattle.card_core.specs.declared.shape.Shape.{Shape}
-use Rattle.card_dialogue.specs.inner.PortZero.{PortIs, enter-goes, judge-goes, pick-goes}
+use Rattle.card_dialogue.specs.inner.PortZero.{enter-goes}
 
--- A cell that the pick answers.
-pub arrives-picked : (held held' : Held) (middle : CoreView) (octets : List ℕ) (moment : ℕ) (entering : Reply) (given : Answer) → held'.names ≡ held.names
-    → Follows held.core (Enter 0 octets moment) entering middle → Follows middle (Pick 0) (Answered given) held'.core
-    → AnswersCell held octets moment (Some given) held'
-arrives-picked held held' middle octets moment entering given names enters picks = (
+-- A cell that goes its whole way is answered by the pick or by its judging.
+pub arrives-answered : (held held' : Held) (octets : List ℕ) (moment : ℕ) (given : Answer) → held'.names ≡ held.names
+    → Answers held.core 0 octets moment given held'.core → AnswersCell held octets moment (Some given) held'
+arrives-answered held held' octets moment given names (inl way) = (
+  names,
+  λ before led shows.
+      let on = way led.shape led.log before.world led.leads shows.agrees in
+      let picks = on.stepped.2 in
+      let last : WorldStep on.stepped.0 (Pick 0) (Answered given) on.after =
+      subst (λ (world : World). WorldStep on.stepped.0 (Pick 0) (Answered given) world) (sym picks.2) picks.1 in
+      (given, refl, on.after, (on.stepped.0, on.stepped.1, inl last), on.agrees),
+)
+arrives-answered held held' octets moment given names (inr way) = (
+  names,
+  λ before led shows.
+      let on = way led.shape led.log before.world led.leads shows.agrees in
+      let picks = on.stepped.2 in
+      let judges = picks.2 in
+      let last : WorldStep picks.0 (Judge 0) (Answered given) on.after =
+      subst (λ (world : World). WorldStep picks.0 (Judge 0) (Answered given) world) (sym judges.2) judges.1 in
+      (given, refl, on.after, (on.stepped.0, on.stepped.1, inr (picks.0, picks.1, last)), on.agrees),
+)
+
+-- It isn't let in only where no card is shown.
+pub arrives-not : (held held' : Held) (octets : List ℕ) (moment : ℕ) → held'.names ≡ held.names
+    → Follows held.core (Enter 0 octets moment) NotNow held'.core → AnswersCell held octets moment None held'
+arrives-not held held' octets moment names enters = (
   names,
   λ before led shows.
       let one = enters led.shape led.log before.world led.leads shows.agrees in
-      let came = enter-goes before.world one.after octets moment entering led.free one.stepped in
-      let first : WorldStep before.world (Enter 0 octets moment) Entered one.after =
-      subst (λ (r : Reply). WorldStep before.world (Enter 0 octets moment) r one.after) came.0 one.stepped in
-      let two = picks led.shape _ one.after one.leads one.agrees in
-      (given, refl, two.after, (one.after, first, inl two.stepped), two.agrees),
+      let came = enter-goes before.world one.after octets moment NotNow led.free one.stepped in
+      let no = came.0 in cc,
 )
 
--- A cell that was found to belong to a connection, and is judged.
-pub arrives-judged : (held held' : Held) (middle found : CoreView) (octets : List ℕ) (moment : ℕ) (entering picking : Reply) (given : Option Answer) → held'.names ≡ held.names
-    → Follows held.core (Enter 0 octets moment) entering middle → Follows middle (Pick 0) picking found → ((answer : Answer) → picking ≡ Answered answer → ⊥)
-    → JudgesPort found given held'.core → AnswersCell held octets moment given held'
-arrives-judged held held' middle found octets moment entering picking given names enters picks other judges = (
-  names,
-  λ before led shows.
-      let one = enters led.shape led.log before.world led.leads shows.agrees in
-      let came = enter-goes before.world one.after octets moment entering led.free one.stepped in
-      let first : WorldStep before.world (Enter 0 octets moment) Entered one.after =
-      subst (λ (r : Reply). WorldStep before.world (Enter 0 octets moment) r one.after) came.0 one.stepped in
-      let two = picks led.shape _ one.after one.leads one.agrees in
-      elim (pick-goes one.after two.after octets moment picking came.1 two.stepped) [
-        | inl missed ↦ absurd (other missed.0 missed.1)
-        | inr here ↦
-            let second : WorldStep one.after (Pick 0) Picked two.after = subst (λ (r : Reply). WorldStep one.after (Pick 0) r two.after) here.1 two.stepped in
-            by given judges before one.after first led.shape _ two.after second two.leads two.agrees here.0 here.2
-      ],
-)
-  where
-    by : (given : Option Answer) → JudgesPort found given held'.core → (before : Card) (came : World) → WorldStep before.world (Enter 0 octets moment) Entered came
-        → (shape : Shape) (log : List Event) (went : World) → WorldStep came (Pick 0) Picked went → Leads shape log went → Agrees found went
-        → (picking : Picking) → PortIs went (picked picking)
-        → (answer : Answer) × (given ≡ Some answer) × (after : World) × Arrives before.world octets moment answer after × Agrees held'.core after
-    by None judges before came first shape log went second leads agrees picking had =
-        let three = judges.1 shape log went leads agrees in
-        let gives = judge-goes went three.after picking judges.0 had three.stepped in
-        absurd (judges.2 gives.0 gives.1)
-    by (Some answer) judges before came first shape log went second leads agrees picking had =
-        let three = judges shape log went leads agrees in
-        (answer, refl, three.after, (came, first, inr (went, second, three.stepped)), three.agrees)
+pub arrives : (held held' : Held) (octets : List ℕ) (moment : ℕ) (told : Option (Result Judgement Answer)) → held'.names ≡ held.names
+    → IfSome told (λ t. Answers held.core 0 octets moment (answer_to octets t) held'.core)
+    → IfNone told (Follows held.core (Enter 0 octets moment) NotNow held'.core)
+    → AnswersCell held octets moment (option_map (λ t. answer_to octets t) told) held'
+arrives held held' octets moment (Some t) names goes not = arrives-answered held held' octets moment (answer_to octets t) names goes
+arrives held held' octets moment None names goes not = arrives-not held held' octets moment names not
 
 -- A cell is policed where its answer is told.
 pub polices-told : (held held' : Held) (side : Side) (octets : List ℕ) (moment : ℕ) (given : Answer) (text old new : List ℕ) → held.core.shape.side ≡ side
@@ -119,10 +116,3 @@ moves-cell moment word octets here held held' old new spelled is long moves =
     subst (λ b. MatchBool b (Polices before moment here text after) (Refuses (wrong_length (length here)) before text after)) (sym test) polices in
     subst (λ (found : Option (List ℕ)). MatchOption found (Refuses bad_hex before text after) (λ read. PolicesOctets before moment (cell_of read) text after)) (sym spelled)
     (subst (λ read. PolicesOctets before moment read text after) (sym is) sized)) moves
-
--- A port's reply is an answer only where it is said to be one.
-pub answered-only : (found : PortReply) (answer : Answer) → reply_of found ≡ Answered answer → found ≡ port.Answered answer
-answered-only port.Entered answer e = cc
-answered-only port.Picked answer e = cc
-answered-only port.NotNow answer e = cc
-answered-only (port.Answered given) answer e = cc

@@ -1,5 +1,6 @@
 pub mod MarkLemmas
 pub mod ArrivalLemmas
+pub mod CellLineLemmas
 pub mod DeskReplies
 pub mod MovesLemmas
 pub mod NamingLemmas

@@ -7,8 +7,8 @@ use Rattle.dialogue.specs.Words.{is_silent, words_of}
 use Rattle.dialogue.specs.declared.machine.Turn.TheVariants.{GoesOn}
 use Rattle.dialogue.specs.declared.words.LineWords.{LineWords}
 use Rattle.dialogue.specs.declared.words.LineWords.TheVariants.{Silent, One, Several}
-use Rattle.card_dialogue.specs.Run.{CommandLine, IsSoundRun, RunSteps, RunWorld, Tells, run_rules}
-use Rattle.card_dialogue.specs.inner.Policing.{Held, Moves, OpensAs, ShowsRun}
+use Rattle.card_dialogue.specs.Run.{IsSoundRun, RunSteps, RunWorld, Tells, run_rules}
+use Rattle.card_dialogue.specs.inner.Policing.{Held, Moves, OpensAs, SaysLine, ShowsRun}
 
 -- A line that is one word or more asks for something.
 pub line-asks : (words : List (List ℕ)) (found : LineWords) → IsLineWords words found
@@ -23,17 +23,14 @@ steps : (world : RunWorld) (line text : List ℕ) (next : Option RunWorld) → i
 steps world line text next asks told =
     subst (λ (b : Bool). MatchBool b ((text ≡ []) × (next ≡ Some world)) (Tells world (words_of line) text next)) (sym asks) told
 
--- A command that moves the card.
-pub turn-moved : (line old new : List ℕ) (held held' : Held) → is_silent (words_of line) ≡ false
-    → Moves (λ before. CommandLine before (words_of line)) held held' old new
+-- A line that moves the card.
+pub turn-moved : (line old new : List ℕ) (held held' : Held) → Moves (SaysLine line) held held' old new
     → Answers run_rules (ShowsRun (Some held)) line GoesOn (ShowsRun (Some held')) old new
-turn-moved line old new held held' asks moves = (moves.0, moves.1, by)
+turn-moved line old new held held' moves = (moves.0, moves.1, by)
   where
     by : (world : RunWorld) → IsSoundRun world → ShowsRun (Some held) world → TurnsFrom run_rules world line moves.0 GoesOn (ShowsRun (Some held'))
     by None sound shown = absurd shown
-    by (Some card) led shown =
-        let on = moves.2 card led shown in
-        (Some on.0, on.1, steps (Some card) line moves.0 (Some (Some on.0)) asks (on.0, on.2, refl))
+    by (Some card) led shown = let on = moves.2 card led shown in (Some on.0, on.1, on.2)
 
 -- The line that has opened a card.
 pub turn-opened : (line old new : List ℕ) (held : Held) → is_silent (words_of line) ≡ false → OpensAs (words_of line) (Some held) old new

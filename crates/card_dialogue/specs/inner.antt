@@ -2,6 +2,7 @@
 pub mod AddsSome
 pub mod CommandSeen
 pub mod Digits
+pub mod CellLine
 pub mod Naming
 pub mod CardSteps
 pub mod PortZero

@@ -4,6 +4,7 @@
 
 mod card_faults;
 mod card_line;
+mod cell_line;
 mod commands;
 pub mod laws;
 mod names;

@@ -1,12 +1,13 @@
 //! The lines by which `run` answers what the card replies, each added at the end of the answers.
-ghost use Rattle.std.specs.Prelude.{◌≡◌, ◌+◌, ◌≤◌, ◌++◌, codes, decimal, length, map, OnOk};
+ghost use Rattle.std.specs.Prelude.{◌≡◌, ◌+◌, ◌≤◌, ◌++◌, codes, decimal, length, map, Ok, OnOk};
 ghost use Rattle.line_record.specs.Tally.{tally_of};
+ghost use Rattle.card_core.specs.Sections.{answer_to};
 ghost use Rattle.program_dialogue.specs.FaultLines.{line};
 ghost use Rattle.card_dialogue.specs.CardFaults.{arrive_fault};
-ghost use Rattle.card_dialogue.specs.Replies.{connection_name, header_text, judging_text, numbered_answer_text, piece_text, program_name, tally_text};
+ghost use Rattle.card_dialogue.specs.Replies.{connection_name, header_text, judging_text, numbered_answer_text, piece_text, program_name, tally_text, verdict_text};
 ghost use Rattle.card_dialogue.specs.inner.AddsSome.{AddsSome};
 
-use card_core::Answer;
+use card_core::{Answer, Judgement};
 use leaky::Verdict;
 use line_record::{Piece, Tally};
 use program_dialogue::{TextFromEnd, add_number, add_text};
@@ -159,24 +160,30 @@ pub fn add_cut(answers: &mut Vec<u8>, vc: Vc, piece: &Piece) -> Result<(), Alloc
     Ok(())
 }
 
+/// Room for the answer to a cell: a verdict of at most eight octets, three numbers of at most ten digits and
+/// one of at most twenty, eight digits of a header, and six octets between them and behind.
+const ANSWER_ROOM: usize = 72;
+
 /// Puts the connection that a cell came on, the program that named its contract, and the value that it
 /// gave.
-fn put_judging(text: &mut TextFromEnd, vc: Vc, number: u64, value: u32)
-    requires { length text.old ≤ 16 }
+#[inline(always)]
+fn put_judging(text: &mut TextFromEnd<ANSWER_ROOM>, vc: Vc, number: u64, value: u32)
+    requires { length text.old ≤ 10 }
     ensures text { text.new ≡ judging_text vc number value ++ text.old }
-    ensures length { length text.new ≤ 84 + length text.old }
+    ensures length { length text.new ≤ 54 + length text.old }
 {
-    text.put_number(u64::from(value));
+    text.put_short_number(value);
     text.put(b" ");
     text.put_number(number);
     text.put(b" p");
-    text.put_number(u64::from(vc.vci));
+    text.put_short_number(u32::from(vc.vci));
     text.put(b"/");
-    text.put_number(u64::from(vc.vpi));
+    text.put_short_number(u32::from(vc.vpi));
 }
 
 /// Puts the header of a leaving cell.
-fn put_header(text: &mut TextFromEnd, cell: &Cell)
+#[inline(always)]
+fn put_header(text: &mut TextFromEnd<ANSWER_ROOM>, cell: &Cell)
     requires { length text.old ≤ 1 }
     ensures text { text.new ≡ header_text cell.now ++ text.old }
     ensures length { length text.new ≡ 9 + length text.old }
@@ -190,6 +197,7 @@ fn put_header(text: &mut TextFromEnd, cell: &Cell)
 }
 
 /// Adds the answer to a judged cell that leaves.
+#[inline(always)]
 #[tactic(auto, using(std::proofs::lemmas::List::append_assoc))]
 fn add_leaving(
     answers: &mut Vec<u8>,
@@ -208,11 +216,11 @@ fn add_leaving(
     put_header(&mut text, cell);
     put_judging(&mut text, vc, number, value);
     text.put(verdict);
-    answers.extend_from_slice(text.as_slice())?;
-    Ok(())
+    answers.extend_from_slice(text.as_slice())
 }
 
 /// Adds the answer to a judged cell that doesn't leave.
+#[inline(always)]
 #[tactic(auto, using(std::proofs::lemmas::List::append_assoc))]
 fn add_kept(
     answers: &mut Vec<u8>,
@@ -229,8 +237,7 @@ fn add_kept(
     text.put(b"\n");
     put_judging(&mut text, vc, number, value);
     text.put(verdict);
-    answers.extend_from_slice(text.as_slice())?;
-    Ok(())
+    answers.extend_from_slice(text.as_slice())
 }
 
 /// Adds the answer to a cell that came before the last judged one of its connection.
@@ -239,12 +246,61 @@ fn add_moment_back(answers: &mut Vec<u8>, last: u64) -> Result<(), AllocError>
     ensures { OnOk result
         (answers.new.items ≡ answers.old.items ++ arrive_fault (codes "4 MomentBack " ++ decimal last)) }
 {
-    let mut text = TextFromEnd::new();
+    let mut text = TextFromEnd::<ANSWER_ROOM>::new();
     text.put(b"\n");
     text.put_number(last);
     text.put(b"fault arrive 4 MomentBack ");
     answers.extend_from_slice(text.as_slice())?;
     Ok(())
+}
+
+/// Adds the answer to a cell that got this verdict and leaves so, where it leaves.
+#[inline(never)]
+fn add_verdict(
+    answers: &mut Vec<u8>,
+    verdict: Verdict,
+    vc: Vc,
+    number: u64,
+    value: u32,
+    leaving: &Cell,
+) -> Result<(), AllocError>
+    ensures { OnOk result (answers.new.items ≡ answers.old.items
+        ++ verdict_text verdict (judging_text vc number value) leaving.now) }
+{
+    match verdict {
+        Verdict::Pass => add_leaving(answers, b"pass ", vc, number, value, leaving),
+        Verdict::Tag => add_leaving(answers, b"tag ", vc, number, value, leaving),
+        Verdict::Discard => add_kept(answers, b"discard ", vc, number, value),
+        Verdict::Refuse => add_kept(answers, b"refuse ", vc, number, value),
+    }
+}
+
+/// Adds the answer to a cell that came on this connection and was judged so, by the contract that the
+/// program named whose name has this number, from 1.
+///
+/// # Errors
+///
+/// `AllocError` where memory was refused.
+#[inline(always)]
+pub fn add_judged(
+    answers: &mut Vec<u8>,
+    number: u64,
+    vc: Vc,
+    cell: &Cell,
+    judged: &Judgement,
+) -> Result<(), AllocError>
+    ensures { OnOk result (AddsSome (numbered_answer_text number vc (answer_to cell.now (Ok judged.now)))
+        answers.old.items answers.new.items) }
+{
+    match judged.verdict {
+        Verdict::Tag => {
+            let tagged = cell.tagged();
+            add_verdict(answers, Verdict::Tag, vc, number, judged.value, &tagged)
+        }
+        Verdict::Pass => add_verdict(answers, Verdict::Pass, vc, number, judged.value, cell),
+        Verdict::Discard => add_verdict(answers, Verdict::Discard, vc, number, judged.value, cell),
+        Verdict::Refuse => add_verdict(answers, Verdict::Refuse, vc, number, judged.value, cell),
+    }
 }
 
 /// Adds the answer to a cell that came on this connection, where the program that named its contract has
@@ -253,6 +309,7 @@ fn add_moment_back(answers: &mut Vec<u8>, last: u64) -> Result<(), AllocError>
 /// # Errors
 ///
 /// `AllocError` where memory was refused, here or to the cell.
+#[inline(never)]
 pub fn add_answer(
     answers: &mut Vec<u8>,
     number: u64,
@@ -268,12 +325,7 @@ pub fn add_answer(
             verdict,
             cell,
             ..
-        } => match verdict {
-            Verdict::Pass => add_leaving(answers, b"pass ", vc, number, *value, cell),
-            Verdict::Tag => add_leaving(answers, b"tag ", vc, number, *value, cell),
-            Verdict::Discard => add_kept(answers, b"discard ", vc, number, *value),
-            Verdict::Refuse => add_kept(answers, b"refuse ", vc, number, *value),
-        },
+        } => add_verdict(answers, *verdict, vc, number, *value, cell),
         Answer::NoConnection => add_text(answers, b"fault arrive 1 NoConnection\n"),
         Answer::Released => add_text(answers, b"fault arrive 2 Released\n"),
         Answer::Stale => add_text(answers, b"fault arrive 3 Stale\n"),

@@ -44,6 +44,32 @@ struct Policing {
     card: Option<ScriptCard>,
 }
 
+impl Policing {
+    ghost use Rattle.std.specs.Prelude.{◌≡◌, None, IfOk};
+    ghost use Rattle.dialogue.specs.Answering.{Answers};
+    ghost use Rattle.card_dialogue.specs.Run.{run_rules};
+    ghost use Rattle.card_dialogue.specs.inner.Policing.{ShowsRun};
+
+    /// Answers a line before there is a card. It stands apart from the lines behind it, since what a card
+    /// takes while it is made would be made room for at each of them.
+    #[inline(never)]
+    fn answer_first(&mut self, line: &[u8], answers: &mut Vec<u8>) -> Result<Turn, AllocError>
+        requires { self.old.card ≡ None }
+        ensures { IfOk result (λ turn. Answers run_rules (ShowsRun self.old.card) line.now turn
+            (ShowsRun self.new.card) answers.old.items answers.new.items) }
+    {
+        match line_words(line) {
+            LineWords::Silent => return Ok(Turn::GoesOn),
+            LineWords::One(_) | LineWords::Several => {}
+        }
+        self.card = open(self.alloc, line, answers)?;
+        match self.card {
+            Some(_) => Ok(Turn::GoesOn),
+            None => Ok(Turn::Ends),
+        }
+    }
+}
+
 impl Machine for Policing {
     ghost use Rattle.card_dialogue.specs.Run.{RunWorld, run_rules};
     ghost use Rattle.card_dialogue.specs.inner.Policing.{ShowsRun};
@@ -55,19 +81,14 @@ impl Machine for Policing {
 
     ghost rules = { run_rules };
 
+    #[inline(always)]
     fn answer(&mut self, line: &[u8], answers: &mut Vec<u8>) -> Result<Turn, AllocError> {
-        match line_words(line) {
-            LineWords::Silent => return Ok(Turn::GoesOn),
-            LineWords::One(_) | LineWords::Several => {}
-        }
-        if let Some(card) = &mut self.card {
-            card.answer(self.alloc, line, answers)?;
-            return Ok(Turn::GoesOn);
-        }
-        self.card = open(self.alloc, line, answers)?;
-        match self.card {
-            Some(_) => Ok(Turn::GoesOn),
-            None => Ok(Turn::Ends),
+        match &mut self.card {
+            Some(card) => {
+                card.answer(self.alloc, line, answers)?;
+                Ok(Turn::GoesOn)
+            }
+            None => self.answer_first(line, answers),
         }
     }
 

@@ -1,15 +1,17 @@
 //! The card that a script has opened, and the commands that it obeys.
 use crate::card_faults::{add_desk_fault, add_gcra_fault, add_no_such_program};
+use crate::cell_line::read_cell;
 use crate::commands::{Command, read_command};
 use crate::names::Names;
 use crate::rates::contracts_of;
 use crate::replies::{
-    add_answer, add_cut, add_loaded, add_released, add_reloaded, add_retired, add_set,
+    add_answer, add_cut, add_judged, add_loaded, add_released, add_reloaded, add_retired, add_set,
 };
 use crate::script_words::Wanted;
 use arrayvec::ArrayVec;
 use bpf_verify::Program;
-use card_core::{Answer, Ask, CardFault, Core, PortReply, Reply, Shape, Step};
+use card_core::{Answer, Ask, CardFault, Core, Judgement, Reply, Shape, Step};
+use dialogue::{LineWords, line_words};
 use program_dialogue::{
     CellWord, add_bad_hex, add_bad_line, add_wrong_length, cell_of_word, octets_of_word,
     read_program,
@@ -40,7 +42,8 @@ impl Model for ScriptCard {
 // that is shown leads there. Steps and replies of the desk may hold a program; the functions that have some
 // are kept out of the path of a cell, which would pay for their room.
 impl ScriptCard {
-    ghost use Rattle.std.specs.Prelude.{◌≡◌, ◌⊎◌, [], IfOk, IfErr, OnOk, MatchResult, None, Some};
+    ghost use Rattle.std.specs.Prelude.{◌≡◌, ◌⊎◌, [], IfOk, IfErr, OnOk, MatchResult, None, Some, option_map};
+    ghost use Rattle.card_core.specs.Sections.{answer_to};
     ghost use Rattle.card_core.specs.Shapes.{shape_fault};
     ghost use Rattle.card_dialogue.specs.CardLine.{card_of};
     ghost use Rattle.card_dialogue.specs.ScriptCommands.{load, retire, setup, reload, release, cut, cell};
@@ -48,7 +51,7 @@ impl ScriptCard {
     ghost use Rattle.card_dialogue.specs.Replies.{number_of_judging};
     ghost use Rattle.card_dialogue.specs.Run.{Asks, CommandLine, LoadsOctets, Obeys, Polices, Takes, TakesNamed, new_card};
     ghost use Rattle.card_dialogue.specs.inner.CommandSeen.{command_seen};
-    ghost use Rattle.card_dialogue.specs.inner.Policing.{AnswersCell, JudgesPort, Moves, ShowsCard};
+    ghost use Rattle.card_dialogue.specs.inner.Policing.{AnswersCell, Moves, SaysLine, ShowsCard};
     ghost use Rattle.dialogue.specs.Words.{words_of};
 
     /// A card of this shape, to which nothing has come.
@@ -203,27 +206,13 @@ impl ScriptCard {
         }
     }
 
-    /// What becomes of a cell that was picked.
-    fn judge(&mut self) -> Option<Answer>
-        ensures follows { JudgesPort self.old.core result self.new.core }
-        ensures names { self.new.names ≡ self.old.names }
+    /// What becomes of a cell, from its entering the port to its answer. It has none where the port isn't
+    /// free, as it is before every command.
+    #[inline(always)]
+    fn arrive(&mut self, cell: &Cell, moment: u64) -> Option<Result<Judgement, Answer>>
+        ensures { AnswersCell self.old cell.now moment (option_map (λ told. answer_to cell.now told) result) self.new }
     {
-        if let PortReply::Answered(answer) = self.core.judge(PORT) {
-            return Some(answer);
-        }
-        None
-    }
-
-    /// What becomes of a cell: it enters the port, and is picked; where it belongs to a connection, it is
-    /// judged.
-    fn arrive(&mut self, cell: Cell, moment: u64) -> Option<Answer>
-        ensures { AnswersCell self.old cell moment result self.new }
-    {
-        self.core.enter(PORT, cell, moment);
-        if let PortReply::Answered(answer) = self.core.pick(PORT) {
-            return Some(answer);
-        }
-        self.judge()
+        self.core.arrive(PORT, cell, moment)
     }
 
     /// The number of the name of the program that named a judged cell's contract, and 0 for other answers.
@@ -237,18 +226,29 @@ impl ScriptCard {
     }
 
     /// Polices a cell.
-    fn police(&mut self, moment: u64, cell: Cell, answers: &mut Vec<u8>) -> Result<(), AllocError>
+    #[inline(always)]
+    fn police(
+        &mut self,
+        moment: u64,
+        cell: Cell,
+        answers: &mut Vec<u8>,
+    ) -> Result<(), AllocError>
         ensures { OnOk result (Moves (λ before. Polices before moment cell)
             self.old self.new answers.old.items answers.new.items) }
     {
         let vc = cell.vc_at(self.core.shape().side);
-        let Some(answer) = self.arrive(cell, moment) else {
-            return Ok(());
-        };
-        add_answer(answers, self.number_judging(&answer), vc, &answer)
+        match self.arrive(&cell, moment) {
+            Some(Ok(judged)) => {
+                let number = self.names.number_of(judged.program) as u64;
+                add_judged(answers, number, vc, &cell, &judged)
+            }
+            Some(Err(answer)) => add_answer(answers, self.number_judging(&answer), vc, &answer),
+            None => Ok(()),
+        }
     }
 
     /// Polices the cell that a word spells, if it spells one.
+    #[inline(never)]
     fn cell(
         &mut self,
         alloc: Global,
@@ -288,7 +288,7 @@ impl ScriptCard {
     }
 
     /// Answers a line with words.
-    pub fn answer(
+    fn answer_command(
         &mut self,
         alloc: Global,
         line: &[u8],
@@ -300,6 +300,38 @@ impl ScriptCard {
         match read_command(self.core.shape().side, line) {
             Some(command) => self.obey(alloc, &command, answers),
             None => add_bad_line(answers),
+        }
+    }
+
+    /// Answers a line by its words.
+    #[inline(never)]
+    fn answer_words(
+        &mut self,
+        alloc: Global,
+        line: &[u8],
+        answers: &mut Vec<u8>,
+    ) -> Result<(), AllocError>
+        ensures { OnOk result (Moves (SaysLine line.now) self.old self.new answers.old.items answers.new.items) }
+    {
+        match line_words(line) {
+            LineWords::Silent => Ok(()),
+            LineWords::One(_) | LineWords::Several => self.answer_command(alloc, line, answers),
+        }
+    }
+
+    /// Answers a line. That of a cell in the common form is read at once, without a look for its words.
+    #[inline(always)]
+    pub fn answer(
+        &mut self,
+        alloc: Global,
+        line: &[u8],
+        answers: &mut Vec<u8>,
+    ) -> Result<(), AllocError>
+        ensures { OnOk result (Moves (SaysLine line.now) self.old self.new answers.old.items answers.new.items) }
+    {
+        match read_cell(line) {
+            Some(arrival) => self.police(arrival.moment, arrival.cell, answers),
+            None => self.answer_words(alloc, line, answers),
         }
     }
 }

@@ -41,21 +41,30 @@ impl Default for Wanted {
     }
 }
 
+/// The greatest value that any digit may stand behind: with 9 it is 2^64 - 7.
+const MOST_BEFORE: u64 = 1844674407370955160;
+
 /// The value with one more digit behind it; none where the octet is no digit, or the value is above
-/// 2^64 - 1.
+/// 2^64 - 1. Where the value was small enough before, it need not be tested afterwards.
+#[inline(always)]
 fn shifted(value: u64, octet: u8) -> Option<u64>
     ensures { result ≡ with_digit value octet }
 {
     if octet < b'0' || octet > b'9' {
         return None;
     }
+    let digit = u64::from(octet - b'0');
+    if value <= MOST_BEFORE {
+        return Some(10 * value + digit);
+    }
     match value.checked_mul(10) {
-        Some(tens) => tens.checked_add(u64::from(octet - b'0')),
+        Some(tens) => tens.checked_add(digit),
         None => None,
     }
 }
 
 /// The number that a word spells, of at most 2^64 - 1.
+#[inline(always)]
 pub fn number(word: &[u8]) -> Option<u64>
     ensures { result ≡ number_of word.now }
 {

@@ -1,5 +1,5 @@
 -- What the crates above may use in their proofs.
-use Rattle.std.proofs.Common.{◌≡◌, ℕ, ◌<◌, length, get_or, false, [], ◌∷◌, List, refl, sym, append-nil}
+use Rattle.std.proofs.Common.{◌≡◌, ℕ, ◌<◌, length, get_or, true, false, [], ◌∷◌, ◌++◌, List, refl, sym, append-nil}
 use Rattle.dialogue.specs.Devices.{Adds}
 use Rattle.dialogue.specs.Lines.{Line}
 use Rattle.dialogue.specs.Printing.{Rules, IsTotal, IsFunctional, Prints, IsFront}
@@ -13,6 +13,11 @@ use Rattle.dialogue.specs.declared.outcome.Done.{Done}
 -- Octets without a blank are one word.
 pub one-word : (line : List ℕ) → 0 < length line → ((k : ℕ) → k < length line → is_blank (get_or line k 0) ≡ false) → words_of line ≡ line ∷ []
 one-word line some none = words.words-of_word line some none
+
+-- Octets without a blank, with a blank behind them, are the first word.
+pub first-word : (word rest : List ℕ) (blank : ℕ) → 0 < length word → ((k : ℕ) → k < length word → is_blank (get_or word k 0) ≡ false)
+    → is_blank blank ≡ true → words_of (word ++ blank ∷ rest) ≡ word ∷ words_of rest
+first-word word rest blank some none parts = words.words-at_blank word rest blank some none parts
 
 -- By total rules every list of lines has a text, from every world that a run reaches.
 pub some-text : {World : Type 0} (rules : Rules World) → IsTotal rules

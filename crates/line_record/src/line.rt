@@ -230,6 +230,7 @@ impl Line {
     /// `TooLate` where the moment is above 2^62; `Back` where it is before that of the connection's
     /// last judged cell; `Full` where the journal is full or 2^62 cells were judged on the line. The
     /// first that holds is answered, and nothing changes. `NoMemory` is never answered.
+    #[inline(always)]
     pub fn judge(
         &mut self,
         moment: u64,

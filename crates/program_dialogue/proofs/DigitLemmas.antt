@@ -126,6 +126,14 @@ filled : (octets cell : List ℕ) → cell_of octets ≡ cell → length cell �
 filled [] cell same sized = let none : 0 ≡ length cell = ap length same in absurd (omega arith)
 filled (octet ∷ octets) cell same sized = omega arith
 
+-- a word that spells a cell is no blank word, and has no blank in it
+pub cell-visible : (word cell : List ℕ) → IsCellWord word (OfCell cell)
+    → (0 < length word) × ((k : ℕ) → k < length word → is_blank (get_or word k 0) ≡ false)
+cell-visible word cell is =
+    let octets : List ℕ = is.0 in
+    let some : 0 < length word = omega (arith, spelled-length word octets is.1, filled octets cell is.2 is.3) in
+    (some, λ k below. (digits-visible word octets is.1 k below).0)
+
 loud : (word : List ℕ) → 0 < length word → (get_or word 0 0 == 35) ≡ false → is_silent (word ∷ []) ≡ false
 loud [] some other = absurd (omega arith)
 loud (octet ∷ octets) some other = other

@@ -1,12 +1,21 @@
 -- What the crates above may use in their proofs.
-use Rattle.std.proofs.Common.{◌≡◌, ℕ, List}
+use Rattle.std.proofs.Common.{◌≡◌, ℕ, ◌<◌, List, length, get_or, false}
 use Rattle.dialogue.specs.declared.outcome.Done.{Done}
+use Rattle.dialogue.specs.Words.{is_blank}
+use Rattle.program_dialogue.specs.CellWord.{IsCellWord}
 use Rattle.program_dialogue.specs.Check.{IsCheckText}
 use Rattle.program_dialogue.specs.Eval.{IsEvalText}
 use Rattle.program_dialogue.specs.Program.{Reading, ReadsAs}
+use Rattle.program_dialogue.specs.declared.hexadecimal.CellWord.TheVariants.{OfCell}
 use Rattle.program_dialogue.specs.inner.EvalLaws as laws
 use Rattle.program_dialogue.proofs.CheckText as check
+use Rattle.program_dialogue.proofs.DigitLemmas as digits
 use Rattle.program_dialogue.proofs.OneText as eval
+
+-- A word that spells a cell isn't empty, and has no blank in it.
+pub cell-visible : (word cell : List ℕ) → IsCellWord word (OfCell cell)
+    → (0 < length word) × ((k : ℕ) → k < length word → is_blank (get_or word k 0) ≡ false)
+cell-visible = digits.cell-visible
 
 -- Any octets are a program or refused,
 pub reads-as : (octets : List ℕ) → (reading : Reading) × ReadsAs octets reading

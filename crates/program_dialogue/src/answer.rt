@@ -1,13 +1,13 @@
 //! The answer lines of the subcommands, each added at the end of the answers.
-ghost use Rattle.std.specs.Prelude.{◌≡◌, ◌≢◌, ◌+◌, ◌<◌, ◌≤◌, ◌++◌, ◌^◌, codes, decimal, drop, length, OnOk};
+ghost use Rattle.std.specs.Prelude.{◌≡◌, ◌≢◌, ◌++◌, codes, decimal, OnOk};
 ghost use Rattle.hex.specs.Hex.{encode_lower};
 ghost use Rattle.program_dialogue.specs.FaultLines.{asm_fault, asm_name, bad_hex, bad_line, decode_fault, line, no_program, too_long, verify_fault, wrong_length};
 ghost use Rattle.program_dialogue.specs.Hexadecimal.{four_digits};
 
+use crate::text_from_end::TextFromEnd;
 use bpf_asm::{AsmFault, AsmKind};
 use bpf_code::DecodeFault;
 use bpf_verify::Fault;
-use itoa::write_digits;
 use std::alloc::{AllocError, Global};
 
 /// Adds a number in decimal digits.
@@ -84,46 +84,23 @@ pub fn add_too_long(answers: &mut Vec<u8>) -> Result<(), AllocError>
     add_text(answers, b"fault script 5 TooLong\n")
 }
 
-/// Room for the answer to a cell, which is written from its end: 13 octets of words, two numbers of at
-/// most ten digits, the line's end.
+/// Room for the answer to a cell: 13 octets of words, two numbers of at most ten digits, the line's end.
 const VALUE_ROOM: usize = 34;
-
-/// Writes a text into the room so that it ends at a place, and answers where it begins.
-#[inline(always)]
-fn write_before(room: &mut [u8], end: usize, text: &[u8]) -> usize
-    requires { (length text.now ≤ end) × (end ≤ length room.old) }
-    ensures start { result + length text.now ≡ end }
-    ensures written { drop result room.new ≡ text.now ++ drop end room.old }
-{
-    let start = end - text.len();
-    room[start..end].copy_from_slice(text);
-    start
-}
-
-/// Writes a number into the room in decimal digits, of which it has at most ten, so that it ends at a
-/// place, and answers where it begins.
-#[inline(always)]
-fn write_number_before(room: &mut [u8], end: usize, number: u32) -> usize
-    requires { (10 ≤ end) × (end ≤ length room.old) }
-    ensures start { result + length (decimal number) ≡ end }
-    ensures short { end ≤ result + 10 }
-    ensures written { drop result room.new ≡ decimal number ++ drop end room.old }
-{
-    write_digits(u64::from(number), room, end)
-}
 
 /// Adds the value that a program gave, and the number of instructions that it began.
 #[inline(always)]
+#[tactic(auto, using(std::proofs::lemmas::List::append_assoc))]
 pub fn add_value(answers: &mut Vec<u8>, value: u32, steps: u32) -> Result<(), AllocError>
     ensures { OnOk result (answers.new.items ≡ answers.old.items
         ++ line (codes "value " ++ decimal value ++ codes " steps " ++ decimal steps)) }
 {
-    let mut room = [b'\n'; VALUE_ROOM];
-    let start = write_number_before(&mut room, VALUE_ROOM - 1, steps);
-    let start = write_before(&mut room, start, b" steps ");
-    let start = write_number_before(&mut room, start, value);
-    let start = write_before(&mut room, start, b"value ");
-    answers.extend_from_slice(&room[start..])
+    let mut text = TextFromEnd::<VALUE_ROOM>::new();
+    text.put(b"\n");
+    text.put_short_number(steps);
+    text.put(b" steps ");
+    text.put_short_number(value);
+    text.put(b"value ");
+    answers.extend_from_slice(text.as_slice())
 }
 
 /// Adds the answer to octets that are no cell.

@@ -16,6 +16,7 @@ mod text_from_end;
 
 pub use answer::{add_bad_hex, add_bad_line, add_number, add_text, add_too_long, add_wrong_length};
 pub use check::check_source;
+pub use digits::cell_of_digits;
 pub use eval::eval_bytes;
 pub use hexadecimal::{CellWord, cell_of_word, octets_of_word};
 pub use program::read_program;

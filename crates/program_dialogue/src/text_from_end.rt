@@ -1,71 +1,81 @@
 //! A short text that is written from its end.
 use std::marker::Model;
 
-/// How many octets such a text has at most.
-const MOST_OCTETS: usize = 128;
-
-/// A short text that is written from its end: what is put to it stands before what it has. So the digits
-/// of a number are written where they stay, and a line is added to the answers in one go.
+/// A text of at most `ROOM` octets that is written from its end: what is put to it stands before what it
+/// has. So the digits of a number are written where they stay, and a line is added to the answers in one
+/// go. The room is zeroed for each text, so it is as large as the longest line needs.
 ///
 /// Contracts see it as the list of its octets.
 #[derive(Drop)]
-pub struct TextFromEnd {
-    octets: [u8; MOST_OCTETS],
+pub struct TextFromEnd<const ROOM: usize> {
+    octets: [u8; ROOM],
     start: usize,
 }
 
-impl Model for TextFromEnd {
+impl<const ROOM: usize> Model for TextFromEnd<ROOM> {
     ghost use Rattle.std.specs.Prelude.{ℕ, List, ◌≤◌, drop};
 
     ghost Value = { List ℕ };
 
     ghost view = { λ text. drop text.start text.octets };
 
-    ghost invariant = { λ text. text.start ≤ 128 };
+    ghost invariant = { λ text. text.start ≤ ROOM };
 }
 
-impl TextFromEnd {
+impl<const ROOM: usize> TextFromEnd<ROOM> {
     ghost use Rattle.std.specs.Prelude.{◌≡◌, ◌+◌, ◌≤◌, [], ◌++◌, length, decimal};
 
     /// The text of no octet.
-    #[inline]
+    #[inline(always)]
     pub fn new() -> Self
         ensures { result ≡ [] }
     {
         TextFromEnd {
-            octets: [0; MOST_OCTETS],
-            start: MOST_OCTETS,
+            octets: [0; ROOM],
+            start: ROOM,
         }
     }
 
     /// Puts these octets before the others.
-    #[inline]
+    #[inline(always)]
     pub fn put(&mut self, octets: &[u8])
-        requires { length octets.now + length self.old ≤ MOST_OCTETS }
+        requires { length octets.now + length self.old ≤ ROOM }
         ensures text { self.new ≡ octets.now ++ self.old }
         ensures length { length self.new ≡ length octets.now + length self.old }
     {
         let end = self.start;
         let start = end - octets.len();
-        self.octets[start..end].copy_from_slice(octets);
+        let room = &mut self.octets[..];
+        room[start..end].copy_from_slice(octets);
         self.start = start;
     }
 
-    /// Puts a number in decimal digits before the others.
-    #[inline]
+    /// Puts a number in decimal digits before the others, of which there are at most twenty.
+    #[inline(always)]
     pub fn put_number(&mut self, number: u64)
-        requires { 20 + length self.old ≤ MOST_OCTETS }
+        requires { 20 + length self.old ≤ ROOM }
         ensures text { self.new ≡ decimal number ++ self.old }
         ensures length { length self.new ≤ 20 + length self.old }
     {
         self.start = itoa::write_digits(number, &mut self.octets, self.start);
     }
 
+    /// Puts a number of 32 bits in decimal digits before the others, of which there are at most ten.
+    #[inline(always)]
+    pub fn put_short_number(&mut self, number: u32)
+        requires { 10 + length self.old ≤ ROOM }
+        ensures text { self.new ≡ decimal number ++ self.old }
+        ensures length { length self.new ≤ 10 + length self.old }
+    {
+        self.start = itoa::write_digits(u64::from(number), &mut self.octets, self.start);
+    }
+
     /// The octets.
-    #[inline]
+    #[inline(always)]
     pub fn as_slice(&self) -> &[u8]
         ensures { result.now ≡ self.now }
     {
-        &self.octets[self.start..]
+        let room = &self.octets[..];
+        &room[self.start..]
     }
 }

@@ -1,5 +1,5 @@
 -- What the core's helpers do to its parts.
-use Rattle.std.specs.Prelude.{◌≡◌, ◌≢◌, ℕ, ◌+◌, false, List, [], Option, Some, None, Result, MatchOption, MatchResult, slice_get, slice_set}
+use Rattle.std.specs.Prelude.{◌≡◌, ◌≢◌, ℕ, ◌+◌, false, List, [], Some, None, Result, MatchOption, MatchResult, slice_get, slice_set}
 use Rattle.upc_cell.specs.declared.vc.Vc.{Vc}
 use Rattle.upc_cell.specs.declared.side.Side.{Side}
 use Rattle.upc_cell.specs.Connection.{vc_of}

@@ -1,12 +1,12 @@
 -- What every world keeps that a log leads to. Each step is proved to keep it, and the proofs of the
 -- core use it.
-use Rattle.std.specs.Prelude.{◌≡◌, ℕ, ◌^◌, ◌<◌, ◌≤◌, List, length, Option, Some, IsSome, All, Contains, slice_get}
+use Rattle.std.specs.Prelude.{◌≡◌, ℕ, ◌^◌, ◌<◌, ◌≤◌, List, length, Some, IsSome, All, Contains, slice_get}
 use Rattle.upc_cell.specs.declared.vc.Vc.{Vc}
 use Rattle.upc_cell.specs.Connection.{vc_of}
 use Rattle.bpf_code.specs.declared.instr.Instr.{Instr}
 use Rattle.bpf_verify.specs.Accepted.{IsAccepted}
 use Rattle.gen_arena.specs.declared.id.Id.{Id}
-use Rattle.line_record.specs.History.{NamedCell, IsHistory}
+use Rattle.line_record.specs.History.{IsHistory}
 use Rattle.card_core.specs.declared.shape.Shape.{Shape}
 use Rattle.card_core.specs.World.{World, Connection, Picking, picked, code_in, times_given, connection_in}
 use Rattle.card_core.specs.Log.{Event, Leads}

@@ -1,13 +1,10 @@
 -- A card as the code keeps it, and what its answers say of the cards that it shows.
 use Rattle.std.specs.Prelude.{◌≡◌, ℕ, List, ◌++◌, Option, Some, None, MatchOption}
 use Rattle.gen_arena.specs.declared.id.Id.{Id}
-use Rattle.card_core.specs.Agreement.{Agrees, CoreView, Follows}
+use Rattle.card_core.specs.Agreement.{Agrees, CoreView}
 use Rattle.card_core.specs.World.{World}
 use Rattle.card_core.specs.declared.answer.Answer.{Answer}
-use Rattle.card_core.specs.declared.reply.Reply.{Reply}
-use Rattle.card_core.specs.declared.reply.Reply.TheVariants.{Answered}
-use Rattle.card_core.specs.declared.step.Step.TheVariants.{Judge}
-use Rattle.card_dialogue.specs.Run.{Arrives, Card, IsLed, OpeningLine, RunWorld}
+use Rattle.card_dialogue.specs.Run.{Arrives, Card, IsLed, OpeningLine, RunSteps, RunWorld}
 
 -- The core, and the ids of the programs in the order of their names.
 pub record Held : Type 0 where
@@ -34,17 +31,16 @@ MovesBy Goes held text held' = (before : Card) → IsLed before → ShowsCard he
 abbrev pub Moves : (Card → List ℕ → Card → Type 0) → Held → Held → List ℕ → List ℕ → Type 0
 Moves Goes held held' old new = (text : List ℕ) × (new ≡ old ++ text) × MovesBy Goes held text held'
 
--- The core goes on by a reply to the judging of port 0; it tells no answer where the reply is none.
-abbrev pub JudgesPort : CoreView → Option Answer → CoreView → Type 0
-JudgesPort old None new = (reply : Reply) × Follows old (Judge 0) reply new × ((answer : Answer) → reply ≡ Answered answer → ⊥)
-JudgesPort old (Some answer) new = Follows old (Judge 0) (Answered answer) new
-
 -- The card has an answer to the cell, from each card that was shown, and goes to a world that the core
 -- agrees with afterwards; it has none only where no card is shown. The names stay.
 abbrev pub AnswersCell : Held → List ℕ → ℕ → Option Answer → Held → Type 0
 AnswersCell held octets moment given held' = (held'.names ≡ held.names) × ((before : Card) → IsLed before → ShowsCard held before
     → (answer : Answer) × (given ≡ Some answer) × (after : World)
     × Arrives before.world octets moment answer after × Agrees held'.core after)
+
+-- The line is answered by the text, and the run goes on with the card afterwards.
+abbrev pub SaysLine : List ℕ → Card → List ℕ → Card → Type 0
+SaysLine line before text after = RunSteps (Some before) line text (Some (Some after))
 
 -- What the first line with words has come to: a card that shows the new one, or the line's fault.
 abbrev pub OpensAs : List (List ℕ) → Option Held → List ℕ → List ℕ → Type 0

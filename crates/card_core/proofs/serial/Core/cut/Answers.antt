@@ -1,6 +1,5 @@
-use Rattle.std.proofs.Common.{◌≡◌, Some, None, List, refl, sym, ap, subst, ◌∙◌, arith}
+use Rattle.std.proofs.Common.{◌≡◌, Some, None, refl, sym, subst, arith}
 use Rattle.line_record.specs.Directory.{seat_of}
-use Rattle.line_record.specs.Line.{LineView}
 use Rattle.card_core.specs.declared.fault.DeskFault.TheVariants.{NoConnection}
 use Rattle.card_core.specs.declared.reply.Reply.{Reply}
 use Rattle.card_core.specs.declared.reply.Reply.TheVariants.{Cut as CutOff, Refused}

@@ -1,5 +1,5 @@
-use Rattle.std.proofs.Common.{◌≡◌, ℕ, Bool, true, false, List, refl, sym, ap, subst, ◌∙◌}
-use Rattle.std.specs.Prelude.{slice_get, slice_set}
+use Rattle.std.proofs.Common.{◌≡◌, true, false, List, refl, sym, subst}
+use Rattle.std.specs.Prelude.{slice_get}
 use Rattle.card_core.specs.declared.port.Port.{Port}
 use Rattle.card_core.specs.declared.port.Port.TheVariants.{Entered as EnteredPort}
 use Rattle.card_core.specs.declared.reply.Reply.TheVariants.{Entered, NotNow}

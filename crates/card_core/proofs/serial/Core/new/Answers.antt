@@ -1,5 +1,3 @@
-use Rattle.std.proofs.Common.{◌≡◌, ℕ, replicate, false, refl, sym, ap, subst, ◌∙◌}
-use Rattle.line_record.specs.Directory.{IsEmpty}
 use Rattle.card_core.proofs.OpeningLemmas.{opening-agrees, opening-core}
 use Rattle.card_core.proofs.serial.Core.new.Goals as goal
 

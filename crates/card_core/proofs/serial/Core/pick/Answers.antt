@@ -1,12 +1,12 @@
-use Rattle.std.proofs.Common.{◌≡◌, ◌<◌, ℕ, Option, Some, None, List, length, refl, sym, ap, subst, ◌∙◌}
-use Rattle.std.specs.Prelude.{slice_get, slice_set}
+use Rattle.std.proofs.Common.{◌≡◌, ◌<◌, ℕ, Some, None, List, length, refl, sym, subst}
+use Rattle.std.specs.Prelude.{slice_get}
 use Rattle.card_core.specs.declared.port.Port.{Port}
-use Rattle.card_core.specs.declared.port.Port.TheVariants.{Outside, Picked as PickedPort}
+use Rattle.card_core.specs.declared.port.Port.TheVariants.{Picked as PickedPort}
 use Rattle.card_core.specs.declared.port.Found.{Found}
 use Rattle.card_core.specs.declared.reply.Reply.TheVariants.{Picked, NotNow, Answered}
 use Rattle.card_core.specs.declared.step.Step.TheVariants.{Pick}
 use Rattle.card_core.specs.Agreement.{CoreView, Follows}
-use Rattle.card_core.specs.inner.Ports.{came_in, found_in}
+use Rattle.card_core.specs.inner.Ports.{came_in}
 use Rattle.card_core.proofs.ConnectionLemmas.{is_same_Some}
 use Rattle.card_core.proofs.PortLemmas.{core_of, IsCore-moved, IsCore-left}
 use Rattle.card_core.proofs.PortSteps.{pick-not}

@@ -1,5 +1,4 @@
-use Rattle.std.proofs.Common.{◌≡◌, Some, None, IsSome, Option, List, refl, sym, ap, subst, ◌∙◌}
-use Rattle.line_record.specs.declared.directory.Seating.{Seating}
+use Rattle.std.proofs.Common.{refl, sym, subst}
 use Rattle.line_record.specs.Directory.{DirectoryView, seat_of}
 use Rattle.card_core.specs.declared.reply.Reply.{Reply}
 use Rattle.card_core.specs.declared.reply.Reply.TheVariants.{Reloaded, Refused}

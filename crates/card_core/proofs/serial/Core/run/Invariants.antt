@@ -1,4 +1,4 @@
-use Rattle.std.proofs.Common.{◌≡◌, ◌≤◌, length, vec_len, vec_capacity}
+use Rattle.std.proofs.Common.{◌≡◌, ◌≤◌, length, vec_capacity}
 use Rattle.card_core.specs.Agreement.{FollowsAll}
 use Rattle.card_core.proofs.serial.Core.run.Given as goal
 

@@ -1,5 +1,4 @@
-use Rattle.std.proofs.Common.{◌≡◌, ◌<◌, Some, None, List, length, refl, sym, ap, subst, ◌∙◌, arith}
-use Rattle.line_record.specs.Line.{LineView}
+use Rattle.std.proofs.Common.{sym, subst}
 use Rattle.card_core.specs.declared.reply.Reply.{Reply}
 use Rattle.card_core.specs.declared.reply.Reply.TheVariants.{SetUp, NotSetUp}
 use Rattle.card_core.specs.declared.step.Step.TheVariants.{Setup}

@@ -1,13 +1,13 @@
--- A cell that the pick hasn't answered is judged.
-use Rattle.std.proofs.Common.{◌≡◌, ◌∙◌, ap, subst}
+-- A cell is answered, where the port is free.
+use Rattle.std.proofs.Common.{option_map, refl, subst}
+use Rattle.card_core.specs.Sections.{answer_to}
 use Rattle.card_dialogue.specs.inner.Policing.{AnswersCell, Held}
-use Rattle.card_core.specs.PortReplies.{reply_of}
-use Rattle.card_dialogue.proofs.ArrivalLemmas.{answered-only, arrives-judged}
+use Rattle.card_dialogue.proofs.ArrivalLemmas.{arrives}
 use Rattle.card_dialogue.proofs.script_card.ScriptCard.arrive.Goals as goal
 
 pub returns : goal.returns
 returns c =
     let old : Held = record { core = c.self.inside.core; names = c.self.inside.names } in
-    subst (λ held. AnswersCell held c.args.cell c.args.moment c.judge.result c.judge.new.self) c.self.view_is
-    (arrives-judged old c.judge.new.self c.enter.new.self c.pick.new.self c.args.cell c.args.moment (reply_of c.enter.result) (reply_of c.pick.result) c.judge.result
-    c.judge.ensures.names c.enter.ensures c.pick.ensures (λ answer e. c.in_default.not-Answered answer (answered-only c.pick.result answer e)) c.judge.ensures.follows)
+    let new : Held = record { core = c.arrive.new.self; names = c.self.inside.names } in
+    subst (λ held. AnswersCell held c.args.cell.now c.args.moment (option_map (λ told. answer_to c.args.cell.now told) c.arrive.result) new) c.self.view_is
+    (arrives old new c.args.cell.now c.args.moment c.arrive.result refl c.arrive.ensures.answered c.arrive.ensures.not_now)

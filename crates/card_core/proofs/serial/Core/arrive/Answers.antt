@@ -1,0 +1,44 @@
+use Rattle.std.proofs.Common.{◌≡◌, ◌<◌, ℕ, true, false, List, length, refl, ap, subst}
+use Rattle.std.specs.Prelude.{slice_get}
+use Rattle.card_core.specs.declared.reply.Reply.TheVariants.{NotNow}
+use Rattle.card_core.specs.declared.step.Step.TheVariants.{Enter}
+use Rattle.card_core.specs.Agreement.{CoreView, Follows}
+use Rattle.card_core.specs.Arrival.{Answers}
+use Rattle.card_core.specs.Sections.{answer_to}
+use Rattle.card_core.specs.inner.Ports.{is_idle}
+use Rattle.card_core.proofs.ArrivalSteps.{arrives-judged, arrives-missed}
+use Rattle.card_core.proofs.PortLemmas.{core_of}
+use Rattle.card_core.proofs.PortSteps.{enter-not}
+use Rattle.card_core.proofs.serial.Core.arrive.Goals as goal
+
+pub returns-then-not-is_idle_at-clause-not_now : goal.returns-then-not-is_idle_at-clause-not_now
+returns-then-not-is_idle_at-clause-not_now c =
+    let l = c.self.inside in
+    let busy : is_idle (slice_get l.ports.items c.args.port) ≡ false =
+    let test = c.is_idle_at.ensures in let same = c.deref.ensures.value in let is = c.if-not-is_idle_at.true in cc in
+    subst (λ (core : CoreView). Follows core (Enter c.args.port c.args.cell.now c.args.moment) NotNow core) c.self.view_is
+    (enter-not l.shape l.store l.directory l.lines.items l.ports.items c.args.port c.args.cell.now c.args.moment busy)
+
+pub returns-in-Ok-clause-answered : goal.returns-in-Ok-clause-answered
+returns-in-Ok-clause-answered c =
+    let l = c.self.inside in
+    let free : is_idle (slice_get l.ports.items c.args.port) ≡ true =
+    let test = c.is_idle_at.ensures in let same = c.deref.ensures.value in let is = c.if-not-is_idle_at.false in cc in
+    let after = c.tell_line.new.lines.items in
+    let told = c.tell_line.result in
+    let found = c.in-Ok.found in
+    let New : CoreView = core_of l.shape l.store l.directory after l.ports.items in
+    subst (λ (core : CoreView). Answers core c.args.port c.args.cell.now c.args.moment (answer_to c.args.cell.now told) New) c.self.view_is
+    (subst (λ (octets : List ℕ). Answers (core_of l.shape l.store l.directory l.lines.items l.ports.items) c.args.port c.args.cell.now c.args.moment (answer_to octets told) New)
+    c.in-Ok.ensures.found.naming.same
+    (arrives-judged l.shape l.store l.directory l.lines.items l.ports.items c.args.port (record { cell = c.args.cell.now; moment = c.args.moment }) free
+    found c.in-Ok.ensures.found (answer_to found.named.cell told) after c.tell_line.ensures.line))
+
+pub returns-in-Err-clause-answered : goal.returns-in-Err-clause-answered
+returns-in-Err-clause-answered c =
+    let l = c.self.inside in
+    let free : is_idle (slice_get l.ports.items c.args.port) ≡ true =
+    let test = c.is_idle_at.ensures in let same = c.deref.ensures.value in let is = c.if-not-is_idle_at.false in cc in
+    subst (λ (core : CoreView). Answers core c.args.port c.args.cell.now c.args.moment c.in-Err.answer core) c.self.view_is
+    (arrives-missed l.shape l.store l.directory l.lines.items l.ports.items c.args.port (record { cell = c.args.cell.now; moment = c.args.moment }) free
+    c.in-Err.answer c.in-Err.ensures.found)
