@@ -1,6 +1,6 @@
 -- The words of a script: numbers, names of programs and of connections, rates and contracts. Words are
 -- read to the letter.
-use Rattle.std.specs.Prelude.{ℕ, ◌+◌, ◌-◌, ◌*◌, ◌%◌, ◌==◌, ◌&&◌, Bool, nat_le, if◌then◌else◌, List, [], ◌∷◌, codes, Option, Some, None, option_map}
+use Rattle.std.specs.Prelude.{◌≡◌, ℕ, ◌+◌, ◌-◌, ◌*◌, ◌%◌, ◌==◌, ◌&&◌, Bool, nat_le, if◌then◌else◌, List, [], ◌∷◌, codes, Option, Some, None, option_map}
 use Rattle.std.proofs.Math.Nat.{mod-lt, zero-lt-suc, le_of_suc-le-suc}
 use Rattle.std.specs.Option.{option_and_then}
 use Rattle.std.specs.Str.{bytes_eq}
@@ -70,6 +70,10 @@ cut_at mark (octet ∷ octets) =
 
 abbrev pub rate_with : ℕ → ℕ → Rate
 rate_with ticks tolerance = record { increment = ticks; limit = tolerance }
+
+-- Both numbers 0: what no rate may be, in a place that no contract has taken yet.
+abbrev pub IsBlankContract : Wanted → Type 0
+IsBlankContract wanted = wanted ≡ Cbr1 (rate_with 0 0)
 
 -- A rate: its increment and its limit, with a slash (47) between them.
 abbrev pub rate_of : List ℕ → Option Rate

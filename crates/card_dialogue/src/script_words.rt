@@ -29,7 +29,7 @@ pub enum Wanted {
 
 /// Both numbers 0: what no rate may be, in a place that no contract has taken yet.
 impl Default for Wanted {
-    ghost use Rattle.card_dialogue.specs.inner.Digits.{IsBlankContract};
+    ghost use Rattle.card_dialogue.specs.ScriptWords.{IsBlankContract};
 
     ghost is_default = { IsBlankContract };
 

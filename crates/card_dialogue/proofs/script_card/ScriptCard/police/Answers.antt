@@ -2,7 +2,7 @@
 use Rattle.std.proofs.Common.{◌≡◌, ◌∙◌, ◌++◌, None, Option, Some, ap, subst, sym}
 use Rattle.upc_cell.specs.Connection.{vc_of}
 use Rattle.card_dialogue.specs.Replies.{number_of_judging, numbered_answer_text}
-use Rattle.card_dialogue.specs.inner.AddsSome.{adds-some}
+use Rattle.card_dialogue.proofs.AddingLemmas.{adds-some}
 use Rattle.card_dialogue.specs.inner.Policing.{AnswersCell}
 use Rattle.card_dialogue.proofs.ArrivalLemmas.{polices-never, polices-told}
 use Rattle.card_dialogue.proofs.MovesLemmas.{on-ok}

@@ -1,0 +1,6 @@
+-- The dialogue with a running card. In the order of reading:
+pub mod CellLine
+pub mod Dealing
+pub mod ClosingText
+pub mod PortsText
+pub mod inner
