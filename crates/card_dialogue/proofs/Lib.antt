@@ -1,3 +1,4 @@
+pub mod AddingLemmas
 pub mod MarkLemmas
 pub mod ArrivalLemmas
 pub mod CellLineLemmas

@@ -1,9 +1,11 @@
 -- The dialogue with a card. In the order of reading:
 pub mod ScriptWords
 pub mod ScriptCommands
+pub mod CommandSeen
 pub mod CardLine
 pub mod Rates
 pub mod CardFaults
 pub mod Replies
+pub mod AddsSome
 pub mod Run
 pub mod inner

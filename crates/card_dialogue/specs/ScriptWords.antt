@@ -72,6 +72,10 @@ cut_at mark (octet ∷ octets) =
 abbrev pub rate_with : ℕ → ℕ → Rate
 rate_with ticks tolerance = record { increment = ticks; limit = tolerance }
 
+-- Both numbers 0: what no rate may be, in a place that no contract has taken yet.
+abbrev pub IsBlankContract : Wanted → Type 0
+IsBlankContract wanted = wanted ≡ Cbr1 (rate_with 0 0)
+
 -- A rate: its increment and its limit, with a slash (47) between them.
 abbrev pub rate_of : List ℕ → Option Rate
 rate_of word =

@@ -1,6 +1,5 @@
 -- What only private functions and proofs need.
-pub mod AddsSome
-pub mod CommandSeen
+pub mod OnlyWord
 pub mod Digits
 pub mod CellLine
 pub mod Naming

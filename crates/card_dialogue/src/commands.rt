@@ -1,7 +1,8 @@
 //! The commands of a script, read from the words of a line.
 ghost use Rattle.std.specs.Prelude.{◌≡◌, option_map};
 ghost use Rattle.card_dialogue.specs.ScriptCommands.{cell_of_words, command_of, contracts_of, cut_of, load_of, only_vc, release_of, reload_of, retire_of, setup_of};
-ghost use Rattle.card_dialogue.specs.inner.CommandSeen.{command_seen, only_of};
+ghost use Rattle.card_dialogue.specs.CommandSeen.{command_seen};
+ghost use Rattle.card_dialogue.specs.inner.OnlyWord.{only_of};
 ghost use Rattle.dialogue.specs.Words.{words_of};
 
 use crate::script_words::{Wanted, connection, contract, number, program};

@@ -1,5 +1,8 @@
 //! The dialogue with a card: `run`, which answers the lines of a script by what a card replies to its desk's commands
 //! and its cells.
+//!
+//! What other dialogues with a card need stands here too: the line that opens a card, commands, the names of programs,
+//! and the answers.
 #![tactic(auto)]
 
 mod card_faults;
@@ -16,5 +19,16 @@ mod script_words;
 #[cfg(test)]
 mod tests;
 
+pub use card_faults::{
+    add_desk_fault, add_gcra_fault, add_no_card, add_no_such_program, add_shape_fault,
+};
+pub use card_line::read_card;
+pub use commands::{Command, read_command};
+pub use names::Names;
+pub use rates::contracts_of;
+pub use replies::{
+    add_answer, add_cut, add_loaded, add_ready, add_released, add_reloaded, add_retired, add_set,
+    add_tally,
+};
 pub use run::run_script;
 pub use script_words::{Rate, Wanted};

@@ -1,11 +1,11 @@
-//! The lines by which `run` answers what the card replies, each added at the end of the answers.
+//! The lines by which what the card replies is answered, each added at the end of the answers.
 ghost use Rattle.std.specs.Prelude.{◌≡◌, ◌+◌, ◌≤◌, ◌++◌, codes, decimal, length, map, Ok, OnOk};
 ghost use Rattle.line_record.specs.Tally.{tally_of};
 ghost use Rattle.card_core.specs.Sections.{answer_to};
 ghost use Rattle.program_dialogue.specs.FaultLines.{line};
 ghost use Rattle.card_dialogue.specs.CardFaults.{arrive_fault};
 ghost use Rattle.card_dialogue.specs.Replies.{connection_name, header_text, judging_text, numbered_answer_text, piece_text, program_name, tally_text, verdict_text};
-ghost use Rattle.card_dialogue.specs.inner.AddsSome.{AddsSome};
+ghost use Rattle.card_dialogue.specs.AddsSome.{AddsSome};
 
 use card_core::{Answer, Judgement};
 use leaky::Verdict;
@@ -99,9 +99,9 @@ fn add_count(answers: &mut Vec<u8>, count: u64) -> Result<(), AllocError>
     add_number(answers, count)
 }
 
-/// Adds the counts of each verdict.
+/// Adds the counts of each verdict, each behind a blank.
 #[tactic(auto, using(std::proofs::lemmas::List::append_assoc))]
-fn add_tally(answers: &mut Vec<u8>, tally: Tally) -> Result<(), AllocError>
+pub fn add_tally(answers: &mut Vec<u8>, tally: Tally) -> Result<(), AllocError>
     ensures { OnOk result (answers.new.items ≡ answers.old.items ++ tally_text tally) }
 {
     add_count(answers, tally.passed)?;

@@ -50,7 +50,7 @@ impl ScriptCard {
     ghost use Rattle.card_core.specs.declared.step.Step.TheVariants.{Load};
     ghost use Rattle.card_dialogue.specs.Replies.{number_of_judging};
     ghost use Rattle.card_dialogue.specs.Run.{Asks, CommandLine, LoadsOctets, Obeys, Polices, Takes, TakesNamed, new_card};
-    ghost use Rattle.card_dialogue.specs.inner.CommandSeen.{command_seen};
+    ghost use Rattle.card_dialogue.specs.CommandSeen.{command_seen};
     ghost use Rattle.card_dialogue.specs.inner.Policing.{AnswersCell, Moves, SaysLine, ShowsCard};
     ghost use Rattle.dialogue.specs.Words.{words_of};
 
@@ -219,10 +219,7 @@ impl ScriptCard {
     fn number_judging(&self, answer: &Answer) -> u64
         ensures { result ≡ number_of_judging self.now.names answer.now }
     {
-        match answer {
-            Answer::Judged { program, .. } => self.names.number_of(*program) as u64,
-            _ => 0,
-        }
+        self.names.number_judging(answer)
     }
 
     /// Polices a cell.

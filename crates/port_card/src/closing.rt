@@ -16,6 +16,23 @@ pub struct Closing {
     /// The number of the first line, from 0, of which some count isn't the sum of the seats' tallies
     /// of it; none where there is no such line.
     pub uneven: Option<u16>,
+    ghost fit: { FitsWords (lines_total lines.items) },
+}
+
+impl Closing {
+    ghost use Rattle.std.specs.Prelude.{◌≡◌};
+    ghost use Rattle.port_card.specs.Closing.{lines_total};
+
+    /// How many cells got each verdict, on all lines together.
+    pub fn total(&self) -> Tally
+        ensures { result ≡ lines_total self.now.lines.items }
+    {
+        let mut sum = Tally::new();
+        for line in &self.lines {
+            sum = sum.plus(line.counts());
+        }
+        sum
+    }
 }
 
 /// Why a card can't be closed. It is printed as its number and its name.

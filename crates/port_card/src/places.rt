@@ -18,9 +18,12 @@ pub(crate) struct Places<S: Ledgers> {
 }
 
 impl<S: Ledgers> Places<S> {
-    ghost use Rattle.std.specs.Prelude.{◌≡◌, ◌<◌, ◌≤◌, MatchResult, IfSome, IfOk, IfErr};
+    ghost use Rattle.std.specs.Prelude.{◌≡◌, ◌<◌, ◌≤◌, ◌↔◌, None, Some, MatchResult, IfSome, IfOk, IfErr, IsErrOf, OnErr};
     ghost use Rattle.bpf_verify.specs.Accepted.{IsAccepted};
-    ghost use Rattle.line_record.specs.Directory.{seat_of, IsDirectory};
+    ghost use Rattle.gen_arena.specs.Live.{live_value, IsLive};
+    ghost use Rattle.gen_arena.specs.Remove.{Removes};
+    ghost use Rattle.line_record.specs.Directory.{seat_of, IsDirectory, IsNamed, Sits};
+    ghost use Rattle.line_record.specs.declared.directory.Seating.{Seating as TheSeating};
     ghost use Rattle.card_core.specs.Sections.{Admits, IsUnfit};
     ghost use Rattle.port_card.specs.Answers.{IsOfSetup, IsOfRetirement, IsOfReload};
 
@@ -50,6 +53,13 @@ impl<S: Ledgers> Places<S> {
 
     // Takes out a program that no connection names.
     pub(crate) fn retire(&self, store: &mut Store, id: Id) -> Result<Program, DeskFault>
+        // It is the locked section of the core, on the programs that were lent.
+        ensures retired { IfOk result (λ program. Removes store.old store.new id program) }
+        ensures no_program { IsErrOf result DeskFault.NoProgram ↔ (live_value store.old id ≡ None) }
+        ensures in_use { IsErrOf result DeskFault.InUse
+            ↔ (IsLive store.old id × IsNamed self.now.directory id) }
+        ensures unchanged { OnErr result (store.new ≡ store.old) }
+
         ensures accepted { IfOk result (λ program. IsAccepted program) }
         ensures refused { IfErr result IsOfRetirement }
     {
@@ -74,6 +84,16 @@ impl<S: Ledgers> Places<S> {
 
     // Gives a connection another program.
     pub(crate) fn reload(&mut self, store: &Store, vc: Vc, program: Id) -> Result<Id, DeskFault>
+        // It is the locked section of the core, on the directory that was lent.
+        ensures no_program { IsErrOf result DeskFault.NoProgram
+            ↔ (live_value store.now program ≡ None) }
+        ensures no_connection { IsErrOf result DeskFault.NoConnection
+            ↔ (IsLive store.now program × (seat_of self.old.directory vc ≡ None)) }
+        ensures reloaded { IfOk result (λ before. (seat : TheSeating) → seat_of self.old.directory vc ≡ Some seat
+            → (before ≡ seat.program)
+            × Sits self.old.directory vc (Some (record seat { program = program })) self.new.directory) }
+        ensures unchanged { OnErr result (self.new.directory ≡ self.old.directory) }
+
         ensures refused { IfErr result IsOfReload }
     {
         reload(store, &mut self.directory, vc, program)

@@ -22,12 +22,12 @@ pub(crate) struct Slot<S: Ledgers> {
 }
 
 impl<S: Ledgers> Slot<S> {
-    ghost use Rattle.std.specs.Prelude.{◌≡◌, ◌≢◌, ◌<◌, ◌≤◌, ◌^◌, length, Some, None, IfOk, IfErr, IfSome, IsSome, MatchOption};
-    ghost use Rattle.line_record.specs.Directory.{seat_of, IsOpenLine};
-    ghost use Rattle.line_record.specs.Line.{IsLine};
-    ghost use Rattle.line_record.specs.Piece.{IsPiece};
+    ghost use Rattle.std.specs.Prelude.{◌≡◌, ◌≢◌, ◌+◌, ◌<◌, ◌≤◌, ◌^◌, [], length, Some, None, IfOk, IfErr, IfSome, IsSome, MatchOption, MatchResult, OnErr, OnOk};
+    ghost use Rattle.line_record.specs.Directory.{seat_of, IsOpenLine, Sits};
+    ghost use Rattle.line_record.specs.Line.{IsLine, Opens};
+    ghost use Rattle.line_record.specs.Piece.{IsJournalOf, IsPiece};
     ghost use Rattle.line_record.specs.Tally.{nothing, HasRoom};
-    ghost use Rattle.card_core.specs.Sections.{judging_refusal, JudgesAt, told};
+    ghost use Rattle.card_core.specs.Sections.{holder, judging_refusal, IsUncut, IsUnready, JudgesAt, told};
     ghost use Rattle.card_core.specs.Steps.{cell_after};
     ghost use Rattle.port_card.specs.Seats.{seat_after};
     ghost use Rattle.port_card.specs.Answers.{IsNoNumber, BlamesRightly, IsOfSetup, IsOfRelease, IsOfCut};
@@ -107,6 +107,16 @@ impl<S: Ledgers> Slot<S> {
         requires open { IsOpenLine places.old.directory number }
         requires some { 0 < length ask.contracts.items }
         requires unworn { places.old.directory.used < 2 ^ 62 }
+
+        // It is the locked section of the core, on the line and the directory that were lent.
+        ensures opened { IfOk result (λ owner.
+            Opens self.old.line owner ask.contracts.items self.new.line) }
+        ensures seat { OnOk result (Sits places.old.directory ask.vc
+            (Some (record { line = number; incarnation = places.old.directory.used + 1; program = ask.program }))
+            places.new.directory) }
+        ensures unready { IfErr result (λ refused. IsUnready self.old.line refused.0) }
+        ensures unchanged { OnErr result (places.new.directory ≡ places.old.directory) }
+
         ensures owner { IfOk result (λ owner. owner.vc ≡ ask.vc) }
         ensures refused { IfErr result (λ refused. IsOfSetup refused.0) }
         ensures returned { IfErr result (λ refused. refused.1 ≡ ask) }
@@ -122,6 +132,16 @@ impl<S: Ledgers> Slot<S> {
         seating: &Seating,
     ) -> Result<Piece, DeskFault>
         requires { seat_of places.old.directory vc ≡ Some seating.now }
+
+        // It is the locked section of the core, on the line and the directory that were lent.
+        ensures served { MatchResult result
+            (λ _. self.old.line.owner ≡ Some (holder vc seating.now))
+            (λ fault. (fault ≡ DeskFault.Stale) × (self.old.line.owner ≢ Some (holder vc seating.now))) }
+        ensures journal { IfOk result (λ piece. IsJournalOf self.old.line piece) }
+        ensures gone { OnOk result (Sits places.old.directory vc None places.new.directory) }
+        ensures unchanged { OnErr result
+            ((places.new.directory ≡ places.old.directory) × (self.new.line ≡ self.old.line)) }
+
         ensures piece { IfOk result (λ piece. piece.owner.vc ≡ vc) }
         ensures run { IfOk result (λ piece. IsPiece piece) }
         ensures refused { IfErr result IsOfRelease }
@@ -131,6 +151,14 @@ impl<S: Ledgers> Slot<S> {
 
     // Hands out the connection's journal.
     pub(crate) fn cut(&mut self, vc: Vc, seating: &Seating) -> Result<Piece, DeskFault>
+        // It is the locked section of the core, on the line that was lent.
+        ensures served { OnOk result (self.old.line.owner ≡ Some (holder vc seating.now)) }
+        ensures uncut { IfErr result (λ fault. IsUncut self.old.line (holder vc seating.now) fault) }
+        ensures journal { IfOk result (λ piece. IsJournalOf self.old.line piece) }
+        ensures begun { OnOk result
+            (self.new.line ≡ record self.old.line { start = self.old.line.state; entries = [] }) }
+        ensures unchanged { OnErr result (self.new.line ≡ self.old.line) }
+
         ensures piece { IfOk result (λ piece. piece.owner.vc ≡ vc) }
         ensures run { IfOk result (λ piece. IsPiece piece) }
         ensures refused { IfErr result IsOfCut }

@@ -9,13 +9,13 @@ use Rattle.clap.specs.Faults.{fault_of}
 use Rattle.clap.specs.declared.error.kind.ErrorKind.{ErrorKind}
 use Rattle.clap.specs.declared.error.kind.ErrorKind.TheVariants.{DisplayHelp, OutOfMemory}
 use Rattle.upc.specs.declared.choose.Choice.{Choice}
-use Rattle.upc.specs.declared.choose.Choice.TheVariants.{Check, Eval, Run}
+use Rattle.upc.specs.declared.choose.Choice.TheVariants.{Check, Eval, Run, Ports}
 use Rattle.upc.specs.declared.choose.Stop.{Stop}
 use Rattle.upc.specs.declared.choose.Stop.TheVariants.{Help, Words, NoMemory}
 
 -- the subcommands: each one's name, and the choice that it stands for
 abbrev pub subcommands : List (Text × Choice)
-subcommands = (codes "check", Check) ∷ (codes "eval", Eval) ∷ (codes "run", Run) ∷ []
+subcommands = (codes "check", Check) ∷ (codes "eval", Eval) ∷ (codes "run", Run) ∷ (codes "ports", Ports) ∷ []
 
 -- the command with one more subcommand of this name, which takes no words of its own
 unfoldable pub with_name : App → Text → App

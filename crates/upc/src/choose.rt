@@ -22,6 +22,9 @@ pub enum Choice {
     /// Obey a script that sets up a card and its connections and brings cells, and print what becomes of
     /// each.
     Run,
+    /// Obey such a script with a thread for each port of its card, and print what becomes of each line, and the
+    /// totals.
+    Ports,
 }
 
 /// Why the words lead to no choice. A text is `clap`'s own, whole, with its last line feed.
@@ -85,11 +88,17 @@ fn own_command<'a>(alloc: Global) -> Result<Command<'a>, AllocError>
         "eval",
         "Run a BPF program on each ATM cell and print its value and steps",
     )?;
-    with_subcommand(
+    let command = with_subcommand(
         alloc,
         command,
         "run",
         "Police the ATM cells of a script by its programs and contracts",
+    )?;
+    with_subcommand(
+        alloc,
+        command,
+        "ports",
+        "Police such cells at the card's ports, with a thread for each",
     )
 }
 
@@ -148,6 +157,7 @@ fn named(name: &str) -> Option<Choice>
         "check" => Some(Choice::Check),
         "eval" => Some(Choice::Eval),
         "run" => Some(Choice::Run),
+        "ports" => Some(Choice::Ports),
         _ => None,
     }
 }
@@ -187,6 +197,7 @@ mod tests {
             ("eval", Choice::Eval),
             ("check", Choice::Check),
             ("run", Choice::Run),
+            ("ports", Choice::Ports),
         ] {
             let answer = chosen_by(rt.alloc(), line)?;
             assert_eq!(rt; answer.ok(), Some(choice), "{line}");
@@ -201,6 +212,7 @@ mod tests {
             "eval extra",
             "check eval",
             "run run",
+            "ports 4",
             "Check",
             "--version",
         ] {
@@ -220,6 +232,7 @@ mod tests {
             assert!(rt; text.as_str().contains("\n  check "), "{line}");
             assert!(rt; text.as_str().contains("\n  eval "), "{line}");
             assert!(rt; text.as_str().contains("\n  run "), "{line}");
+            assert!(rt; text.as_str().contains("\n  ports "), "{line}");
         }
         Ok(())
     }

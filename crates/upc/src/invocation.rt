@@ -8,6 +8,8 @@ use crate::exit::status;
 use crate::subcommand::run_subcommand;
 use dialogue::{Input, Output, RunFault, give_all};
 use std::alloc::Global;
+use std::sync::Wait;
+use std::thread::Threads;
 
 /// The line that tells why a run failed.
 fn line_of(fault: RunFault) -> &'static [u8]
@@ -42,7 +44,8 @@ fn tell_failure<E: Output>(errors: &mut E, fault: RunFault) -> u8
 
 /// Carries out what the words came to, and gives the exit status: the subcommand is run; help is written;
 /// what was wrong with the words is told, and so is a failure.
-pub fn carry_out<I: Input, O: Output, E: Output>(
+pub fn carry_out<R: Threads + Wait + Sync, I: Input, O: Output, E: Output>(
+    rt: &R,
     alloc: Global,
     chosen: Result<Choice, Stop>,
     input: &mut I,
@@ -64,7 +67,7 @@ pub fn carry_out<I: Input, O: Output, E: Output>(
 {
     match chosen {
         Ok(choice) => {
-            let ended = run_subcommand(alloc, choice, input, output);
+            let ended = run_subcommand(rt, alloc, choice, input, output);
             match ended {
                 Ok(_) => status(&ended),
                 Err(fault) => tell_failure(errors, fault),

@@ -29,7 +29,14 @@ fn main(rt: HostRuntime) -> ExitCode {
     let mut input = Taking::new(rt.stdin());
     let mut output = Giving::new(rt.stdout());
     let mut errors = Giving::new(rt.stderr());
-    ExitCode::from(carry_out(rt.alloc(), chosen, &mut input, &mut output, &mut errors))
+    ExitCode::from(carry_out(
+        &rt,
+        rt.alloc(),
+        chosen,
+        &mut input,
+        &mut output,
+        &mut errors,
+    ))
 }
 
 /// The words behind the program's own name. Where one of them isn't UTF-8, the replacement character
@@ -54,5 +61,6 @@ fn awaited(choice: Choice) -> &'static str {
             "upc eval: reading a program and cells from the terminal, a line each, to the end",
         Choice::Run =>
             "upc run: reading a script of a card from the terminal, a line each, to the end",
+        Choice::Ports => "upc ports: reading a script of a card from the terminal, to its end",
     }
 }

@@ -9,16 +9,20 @@ ghost use Rattle.upc.specs.Subcommand.{IsTextOf};
 use crate::choose::Choice;
 use card_dialogue::run_script;
 use dialogue::{Done, Input, Output, RunFault};
+use port_dialogue::run_ports;
 use program_dialogue::{check_source, eval_bytes};
 use std::alloc::Global;
+use std::sync::Wait;
+use std::thread::Threads;
 
-/// Runs the subcommand over the whole input.
+/// Runs the subcommand over the whole input. Only `ports` starts threads, and waits for them.
 ///
 /// # Errors
 ///
 /// `ReadFailed` and `WriteFailed` where that device failed, once; `NoMemory` where memory was refused.
 /// What was written is then a beginning of the text.
-pub fn run_subcommand<I: Input, O: Output>(
+pub fn run_subcommand<R: Threads + Wait + Sync, I: Input, O: Output>(
+    rt: &R,
     alloc: Global,
     choice: Choice,
     input: &mut I,
@@ -42,5 +46,6 @@ pub fn run_subcommand<I: Input, O: Output>(
         Choice::Check => check_source(alloc, input, output),
         Choice::Eval => eval_bytes(alloc, input, output),
         Choice::Run => run_script(alloc, input, output),
+        Choice::Ports => run_ports(rt, alloc, input, output),
     }
 }

@@ -5,7 +5,9 @@ use crate::choose::Choice;
 use crate::subcommand::run_subcommand;
 use dialogue::{Done, Failed, Input, Output, RunFault};
 use std::alloc::Global;
+use std::sync::Wait;
 use std::test::Fail;
+use std::thread::Threads;
 
 const INPUT: &[u8; 83] =
     b"0030000000000003001500010000004a00060000000000020006000000000001\n00100640\n0010064a\n";
@@ -95,7 +97,8 @@ impl Output for Catcher {
 }
 
 /// Runs a subcommand over such devices: how it ends, and what was written.
-pub fn run_over(
+pub fn run_over<R: Threads + Wait + Sync>(
+    rt: &R,
     alloc: Global,
     choice: Choice,
     octets: &[u8],
@@ -104,21 +107,31 @@ pub fn run_over(
 ) -> (Result<Done, RunFault>, Vec<u8>) {
     let mut input = Dropper::new(octets, takes);
     let mut output = Catcher::new(alloc, gives);
-    let ended = run_subcommand(alloc, choice, &mut input, &mut output);
+    let ended = run_subcommand(rt, alloc, choice, &mut input, &mut output);
     (ended, output.held)
 }
 
-fn run(alloc: Global, takes: usize, gives: usize) -> (Result<Done, RunFault>, Vec<u8>) {
-    run_over(alloc, Choice::Eval, INPUT, takes, gives)
+fn run<R: Threads + Wait + Sync>(
+    rt: &R,
+    alloc: Global,
+    takes: usize,
+    gives: usize,
+) -> (Result<Done, RunFault>, Vec<u8>) {
+    run_over(rt, alloc, Choice::Eval, INPUT, takes, gives)
 }
 
-fn run_check(alloc: Global, takes: usize, gives: usize) -> (Result<Done, RunFault>, Vec<u8>) {
-    run_over(alloc, Choice::Check, SOURCE, takes, gives)
+fn run_check<R: Threads + Wait + Sync>(
+    rt: &R,
+    alloc: Global,
+    takes: usize,
+    gives: usize,
+) -> (Result<Done, RunFault>, Vec<u8>) {
+    run_over(rt, alloc, Choice::Check, SOURCE, takes, gives)
 }
 
 #[test]
 fn one_octet_a_call_gives_the_same_text(rt: HostRuntime) -> Result<(), Fail> {
-    let (ended, text) = run(rt.alloc(), 1000, 1000);
+    let (ended, text) = run(&rt, rt.alloc(), 1000, 1000);
     assert_eq!(rt; ended, Ok(Done::Whole));
     assert_eq!(rt; text.as_slice(), TEXT.as_slice());
     Ok(())
@@ -127,11 +140,11 @@ fn one_octet_a_call_gives_the_same_text(rt: HostRuntime) -> Result<(), Fail> {
 #[test]
 fn a_write_that_fails_leaves_the_octets_before_it(rt: HostRuntime) -> Result<(), Fail> {
     for gives in 0..TEXT.len() {
-        let (ended, text) = run(rt.alloc(), 1000, gives);
+        let (ended, text) = run(&rt, rt.alloc(), 1000, gives);
         assert_eq!(rt; ended, Err(RunFault::WriteFailed));
         assert_eq!(rt; text.as_slice(), &TEXT[..gives]);
     }
-    let (ended, _text) = run(rt.alloc(), 1000, TEXT.len());
+    let (ended, _text) = run(&rt, rt.alloc(), 1000, TEXT.len());
     assert_eq!(rt; ended, Ok(Done::Whole));
     Ok(())
 }
@@ -139,7 +152,7 @@ fn a_write_that_fails_leaves_the_octets_before_it(rt: HostRuntime) -> Result<(),
 #[test]
 fn a_read_that_fails_leaves_the_answers_before_it(rt: HostRuntime) -> Result<(), Fail> {
     for takes in 0..INPUT.len() {
-        let (ended, text) = run(rt.alloc(), takes, 1000);
+        let (ended, text) = run(&rt, rt.alloc(), takes, 1000);
         assert_eq!(rt; ended, Err(RunFault::ReadFailed));
         let answered = if takes < 65 {
             0
@@ -157,16 +170,16 @@ fn a_read_that_fails_leaves_the_answers_before_it(rt: HostRuntime) -> Result<(),
 
 #[test]
 fn a_source_is_gathered_whole_before_it_is_answered(rt: HostRuntime) {
-    let (ended, text) = run_check(rt.alloc(), 1000, 1000);
+    let (ended, text) = run_check(&rt, rt.alloc(), 1000, 1000);
     assert_eq!(rt; ended, Ok(Done::Whole));
     assert_eq!(rt; text.as_slice(), CHECKED.as_slice());
     for takes in 0..SOURCE.len() + 1 {
-        let (ended, text) = run_check(rt.alloc(), takes, 1000);
+        let (ended, text) = run_check(&rt, rt.alloc(), takes, 1000);
         assert_eq!(rt; ended, Err(RunFault::ReadFailed));
         assert_eq!(rt; text.len(), 0);
     }
     for gives in 0..CHECKED.len() {
-        let (ended, text) = run_check(rt.alloc(), 1000, gives);
+        let (ended, text) = run_check(&rt, rt.alloc(), 1000, gives);
         assert_eq!(rt; ended, Err(RunFault::WriteFailed));
         assert_eq!(rt; text.as_slice(), &CHECKED[..gives]);
     }

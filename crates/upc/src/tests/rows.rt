@@ -187,7 +187,7 @@ fn a_value_for_each_kind_of_instruction(rt: HostRuntime) -> Result<(), Fail> {
     ];
     for (program, text) in rows {
         let input = format!(in rt.alloc(); "{program}\n00100640\n")?;
-        let (printed, _done) = evaluated(rt.alloc(), input.as_bytes())?;
+        let (printed, _done) = evaluated(&rt, rt.alloc(), input.as_bytes())?;
         assert_eq!(rt; printed.as_slice(), text.as_bytes(), "{program}");
     }
     Ok(())

@@ -138,7 +138,7 @@ fn first_lines(alloc: Global, text: &[u8], lines: usize) -> Result<Vec<u8>, Allo
 fn each_beginning_of_a_script_has_a_beginning_of_its_text(rt: HostRuntime) -> Result<(), Fail> {
     let whole = FULL_JOURNAL.as_bytes();
     for count in 0..whole.len() {
-        let (found, _done) = printed(rt.alloc(), Choice::Run, &whole[..count])?;
+        let (found, _done) = printed(&rt, rt.alloc(), Choice::Run, &whole[..count])?;
         let lines = whole[..count]
             .iter()
             .filter(|octet| **octet == b'\n')
@@ -341,7 +341,7 @@ fn names_are_printed_without_zeros(rt: HostRuntime) -> Result<(), Fail> {
     for _ in 0..11 {
         script.push_str("retire p1\nload 0006000000000001\n")?;
     }
-    let (first, _done) = printed(rt.alloc(), Choice::Run, script.as_bytes())?;
+    let (first, _done) = printed(&rt, rt.alloc(), Choice::Run, script.as_bytes())?;
     assert!(rt;
         first.as_slice().starts_with(
             b"ready\nloaded p1\nretired p1\nloaded p2\nfault desk 1 NoProgram\n"
@@ -364,7 +364,7 @@ fn names_are_printed_without_zeros(rt: HostRuntime) -> Result<(), Fail> {
 
 #[test]
 fn a_script_read_octet_by_octet_has_the_same_text(rt: HostRuntime) -> Result<(), Fail> {
-    let (ended, text) = run_over(rt.alloc(), Choice::Run, RELOADS.as_bytes(), 1000, 1000);
+    let (ended, text) = run_over(&rt, rt.alloc(), Choice::Run, RELOADS.as_bytes(), 1000, 1000);
     assert_eq!(rt; ended, Ok(Done::Whole));
     assert_eq!(rt; text.as_slice(), RELOADS_ANSWERS.as_bytes());
     Ok(())
@@ -373,7 +373,14 @@ fn a_script_read_octet_by_octet_has_the_same_text(rt: HostRuntime) -> Result<(),
 #[test]
 fn a_read_that_fails_leaves_a_beginning(rt: HostRuntime) -> Result<(), Fail> {
     for takes in 0..RELOADS.len() {
-        let (ended, text) = run_over(rt.alloc(), Choice::Run, RELOADS.as_bytes(), takes, 1000);
+        let (ended, text) = run_over(
+            &rt,
+            rt.alloc(),
+            Choice::Run,
+            RELOADS.as_bytes(),
+            takes,
+            1000,
+        );
         assert_eq!(rt; ended, Err(RunFault::ReadFailed));
         assert!(rt;
             RELOADS_ANSWERS.as_bytes().starts_with(text.as_slice()),
@@ -386,7 +393,14 @@ fn a_read_that_fails_leaves_a_beginning(rt: HostRuntime) -> Result<(), Fail> {
 #[test]
 fn a_write_that_fails_leaves_what_stood_before_it(rt: HostRuntime) -> Result<(), Fail> {
     for gives in 0..RELOADS_ANSWERS.len() {
-        let (ended, text) = run_over(rt.alloc(), Choice::Run, RELOADS.as_bytes(), 1000, gives);
+        let (ended, text) = run_over(
+            &rt,
+            rt.alloc(),
+            Choice::Run,
+            RELOADS.as_bytes(),
+            1000,
+            gives,
+        );
         assert_eq!(rt; ended, Err(RunFault::WriteFailed));
         assert_eq!(rt;
             text.as_slice(),

@@ -96,7 +96,7 @@ fn a_branch_reaches_over_255_lines_and_no_further(rt: HostRuntime) -> Result<(),
     ] {
         let returns = "ret #1\n".repeat(rt.alloc(), between)?;
         let source = format!(in rt.alloc(); "jeq #0, out\n{returns}out: ret #2\n")?;
-        let (found, _done) = printed(rt.alloc(), Choice::Check, source.as_bytes())?;
+        let (found, _done) = printed(&rt, rt.alloc(), Choice::Check, source.as_bytes())?;
         assert!(rt; found.starts_with(text.as_bytes()), "{between}");
     }
     Ok(())

@@ -1,7 +1,7 @@
 -- The command that the line spells is obeyed.
 use Rattle.std.proofs.Common.{◌∙◌, ap, sym}
 use Rattle.dialogue.specs.Words.{words_of}
-use Rattle.card_dialogue.specs.inner.CommandSeen.{command_seen}
+use Rattle.card_dialogue.specs.CommandSeen.{command_seen}
 use Rattle.card_dialogue.proofs.MovesLemmas.{moves-line, on-ok}
 use Rattle.card_dialogue.proofs.script_card.ScriptCard.answer_command.Goals as goal
 

@@ -3,7 +3,7 @@ use Rattle.std.proofs.Common.{◌≡◌, ◌∙◌, ◌++◌, None, Ok, Err, Opt
 use Rattle.upc_cell.specs.Connection.{vc_of}
 use Rattle.card_core.specs.Sections.{answer_to}
 use Rattle.card_dialogue.specs.Replies.{number_of_judging, number_of_program, numbered_answer_text}
-use Rattle.card_dialogue.specs.inner.AddsSome.{adds-some}
+use Rattle.card_dialogue.proofs.AddingLemmas.{adds-some}
 use Rattle.card_dialogue.specs.inner.Policing.{AnswersCell}
 use Rattle.card_dialogue.proofs.ArrivalLemmas.{polices-never, polices-told}
 use Rattle.card_dialogue.proofs.MovesLemmas.{on-ok}

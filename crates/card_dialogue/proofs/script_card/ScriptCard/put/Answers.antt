@@ -7,7 +7,7 @@ use Rattle.program_dialogue.specs.FaultLines.{line}
 use Rattle.card_dialogue.specs.Replies.{program_name}
 use Rattle.card_dialogue.specs.Run.{Takes}
 use Rattle.card_dialogue.specs.ScriptCommands.{load}
-use Rattle.card_dialogue.specs.inner.AddsSome.{adds-some}
+use Rattle.card_dialogue.proofs.AddingLemmas.{adds-some}
 use Rattle.card_dialogue.specs.inner.Policing.{Held}
 use Rattle.card_dialogue.proofs.DeskReplies.{load-replies}
 use Rattle.card_dialogue.proofs.MovesLemmas.{moves-at, moves-never, moves-taken, no-name, on-ok}

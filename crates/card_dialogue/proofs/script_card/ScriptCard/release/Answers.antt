@@ -4,7 +4,7 @@ use Rattle.card_core.specs.declared.reply.Reply.TheVariants.{Refused, Released}
 use Rattle.card_core.specs.declared.step.Step.TheVariants.{Release}
 use Rattle.card_dialogue.specs.Run.{Obeys, Takes}
 use Rattle.card_dialogue.specs.ScriptCommands.{release}
-use Rattle.card_dialogue.specs.inner.AddsSome.{adds-some}
+use Rattle.card_dialogue.proofs.AddingLemmas.{adds-some}
 use Rattle.card_dialogue.specs.inner.Policing.{Held}
 use Rattle.card_dialogue.proofs.DeskReplies.{release-replies}
 use Rattle.card_dialogue.proofs.MovesLemmas.{moves-at, moves-never, moves-taken, no-name, on-ok}

@@ -4,7 +4,7 @@ use Rattle.card_core.specs.declared.reply.Reply.TheVariants.{Refused, Reloaded}
 use Rattle.card_core.specs.declared.step.Step.TheVariants.{Reload}
 use Rattle.card_dialogue.specs.Run.{Obeys, Takes}
 use Rattle.card_dialogue.specs.ScriptCommands.{reload}
-use Rattle.card_dialogue.specs.inner.AddsSome.{adds-some}
+use Rattle.card_dialogue.proofs.AddingLemmas.{adds-some}
 use Rattle.card_dialogue.specs.inner.Policing.{Held, Moves}
 use Rattle.card_dialogue.proofs.DeskReplies.{reload-replies}
 use Rattle.card_dialogue.proofs.MovesLemmas.{moves-at, moves-named, moves-never, moves-taken, no-name, on-ok, on-tie}

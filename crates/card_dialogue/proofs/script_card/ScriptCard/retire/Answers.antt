@@ -6,7 +6,7 @@ use Rattle.card_core.specs.declared.reply.Reply.TheVariants.{Refused, Retired}
 use Rattle.card_core.specs.declared.step.Step.TheVariants.{Retire}
 use Rattle.card_dialogue.specs.Run.{Card, Obeys, Takes}
 use Rattle.card_dialogue.specs.ScriptCommands.{retire}
-use Rattle.card_dialogue.specs.inner.AddsSome.{adds-some}
+use Rattle.card_dialogue.proofs.AddingLemmas.{adds-some}
 use Rattle.card_dialogue.specs.inner.Policing.{Held, Moves}
 use Rattle.card_dialogue.proofs.DeskReplies.{retire-replies}
 use Rattle.card_dialogue.proofs.MovesLemmas.{moves-named, moves-never, moves-taken, moves-unnamed, no-name, on-ok}

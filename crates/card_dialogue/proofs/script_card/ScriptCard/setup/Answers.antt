@@ -5,7 +5,7 @@ use Rattle.card_core.specs.declared.reply.Reply.TheVariants.{NotSetUp, SetUp}
 use Rattle.card_core.specs.declared.step.Step.TheVariants.{Setup}
 use Rattle.card_dialogue.specs.Run.{Obeys, Takes}
 use Rattle.card_dialogue.specs.ScriptCommands.{setup}
-use Rattle.card_dialogue.specs.inner.AddsSome.{adds-some}
+use Rattle.card_dialogue.proofs.AddingLemmas.{adds-some}
 use Rattle.card_dialogue.specs.inner.Policing.{Held}
 use Rattle.card_dialogue.proofs.DeskReplies.{setup-replies}
 use Rattle.card_dialogue.proofs.MovesLemmas.{moves-at, moves-never, moves-setup, moves-taken, no-name, on-ok, on-tie}

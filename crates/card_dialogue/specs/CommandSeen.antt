@@ -1,13 +1,7 @@
 -- A command of the code, as the definitions have it.
-use Rattle.std.specs.Prelude.{ℕ, List, [], ◌∷◌, Option, Some, None}
 use Rattle.card_dialogue.specs.ScriptCommands.{Command, load, retire, setup, reload, release, cut, cell}
 use Rattle.card_dialogue.specs.declared.commands.Command.{Command as Coded}
 use Rattle.card_dialogue.specs.declared.commands.Command.TheVariants as coded
-
--- The word of a line that has no other.
-abbrev pub only_of : List (List ℕ) → Option (List ℕ)
-only_of (word ∷ []) = Some word
-only_of _ = None
 
 -- Its words without what the code knows of where they stand.
 abbrev pub command_seen : Coded → Command

@@ -1,0 +1,3 @@
+pub mod ReadingText
+pub mod PortsTexts
+pub mod Public

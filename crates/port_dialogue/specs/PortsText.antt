@@ -1,0 +1,69 @@
+-- The text of `upc ports`. The whole script is read before anything of it is run: its first line with words opens a
+-- card, and each later one is kept. Where the script can't be run, the one line that tells why is the whole text.
+use Rattle.std.specs.Prelude.{◌≡◌, ◌⊎◌, ℕ, Bool, true, false, List, [], ◌++◌, Option, Some, None, MatchOption, MatchBool}
+use Rattle.line_record.specs.Line.{LineView}
+use Rattle.card_core.specs.Shapes.{shape_fault}
+use Rattle.card_core.specs.declared.shape.Shape.{Shape}
+use Rattle.dialogue.specs.Lines.{lines_of}
+use Rattle.dialogue.specs.Printing.{Rules, Prints}
+use Rattle.dialogue.specs.Words.{words_of, is_silent}
+use Rattle.dialogue.specs.declared.outcome.Done.{Done}
+use Rattle.dialogue.specs.declared.outcome.Done.TheVariants.{Whole, Ended}
+use Rattle.program_dialogue.specs.FaultLines.{too_long}
+use Rattle.card_dialogue.specs.CardFaults.{no_card, shape_fault_line}
+use Rattle.card_dialogue.specs.CardLine.{card_of}
+use Rattle.port_dialogue.specs.ClosingText.{closing_text, done_of}
+
+-- A fault of the line that opens the card ends the reading.
+abbrev pub EndsBy : List ℕ → List ℕ → Option Bool → Type 0
+EndsBy fault text next = (text ≡ fault) × (next ≡ None)
+
+-- The line opens a card of this shape, or the shape is out of its limits.
+abbrev pub OpensOrEnds : Shape → List ℕ → Option Bool → Type 0
+OpensOrEnds shape text next =
+    MatchOption (shape_fault shape) ((text ≡ []) × (next ≡ Some true)) (λ fault. EndsBy (shape_fault_line fault) text next)
+
+-- A line with words: the first opens the card, and each later one is kept. A world is whether a card was
+-- opened.
+abbrev pub ReadsWords : Bool → List (List ℕ) → List ℕ → Option Bool → Type 0
+ReadsWords false words text next = MatchOption (card_of words) (EndsBy no_card text next) (λ shape. OpensOrEnds shape text next)
+ReadsWords true words text next = (text ≡ []) × (next ≡ Some true)
+
+-- What a line says leads to the next world; none where it ends the reading. A line without words and a
+-- remark are passed over.
+abbrev pub ReadSteps : Bool → List ℕ → List ℕ → Option Bool → Type 0
+ReadSteps opened said text next =
+    MatchBool (is_silent (words_of said)) ((text ≡ []) × (next ≡ Some opened)) (ReadsWords opened (words_of said) text next)
+
+-- The end of the input. Without a card it is a fault.
+abbrev pub ReadCloses : Bool → List ℕ → Done → Type 0
+ReadCloses false text done = (text ≡ no_card) × (done ≡ Ended)
+ReadCloses true text done = (text ≡ []) × (done ≡ Whole)
+
+-- Every world may be reached.
+abbrev pub IsSoundReading : Bool → Type 0
+IsSoundReading opened = Unit {0}
+
+-- The rules of the reading.
+abbrev pub reading_rules : Rules Bool
+reading_rules = record { steps = ReadSteps; closes = ReadCloses; too_long = too_long; is_sound = IsSoundReading }
+
+-- What the reading of a whole script prints, and how it ends.
+abbrev pub IsReadingText : List ℕ → List ℕ → Done → Type 0
+IsReadingText octets text done = Prints reading_rules 0 false (lines_of octets) text done
+
+-- The text of a script that was run: what its lines were answered, of which no more is said here, and then what the
+-- close of its card tells.
+pub record IsClosedText (text : List ℕ) (done : Done) : Type 0 where
+  pub answers : List ℕ
+  pub lines : List LineView
+  pub uneven : Option ℕ
+  pub cut : text ≡ answers ++ closing_text lines uneven
+  pub ends : done ≡ done_of uneven
+
+-- The text of the octets of a whole script, as far as it is told, and how it ends. A script that can't be run has the
+-- text of its reading, and is ended. One that is run has many: which answers cells and desk lines get where they meet is
+-- open.
+abbrev pub IsPortsText : List ℕ → List ℕ → Done → Type 0
+IsPortsText octets text done =
+    ((done ≡ Ended) × IsReadingText octets text Ended) ⊎ (IsReadingText octets [] Whole × IsClosedText text done)

@@ -1,0 +1,4 @@
+-- What only private functions and proofs need.
+pub mod ReadingLaws
+pub mod CellLine
+pub mod Dealing

@@ -1,0 +1,21 @@
+//! The dialogue with a running card: `ports`, which answers a script as `run` does, but lets each port's cells arrive on
+//! a thread of their own while the desk answers the lines between them.
+//!
+//! A script is read whole before anything of it is run. The lines before its first cell line are answered one by one;
+//! from there on the cells are dealt to the ports and the other lines to the desk, all of which run at the same time; and
+//! what they were answered is written in the script's order, once all have ended.
+#![tactic(auto)]
+
+mod at_once;
+mod cell_line;
+mod closing;
+mod dealing;
+mod desk;
+mod in_order;
+mod lines;
+mod run;
+mod script;
+#[cfg(test)]
+mod tests;
+
+pub use run::{run_ports, run_ports_with};

@@ -1,0 +1,88 @@
+//! The script of `upc ports`, which is read whole before anything of it is run.
+ghost use Rattle.std.specs.Prelude.{◌≡◌, false};
+
+use card_core::Shape;
+use card_dialogue::{add_no_card, add_shape_fault, read_card};
+use dialogue::{Done, LineWords, Machine, Turn, line_words};
+use program_dialogue::add_too_long;
+use std::alloc::{AllocError, Global};
+use upc_cell::Side;
+
+/// What was read of a script.
+#[derive(Drop)]
+pub struct Script {
+    /// Whether a line has opened a card.
+    pub is_open: bool,
+    /// The shape of the card that a line has opened; until then that of the smallest card.
+    pub shape: Shape,
+    /// The later lines with words, each ended by a line feed.
+    pub lines: Vec<u8>,
+}
+
+impl Script {
+    /// A script of which nothing was read.
+    pub fn new(alloc: Global) -> Script
+        ensures { result.is_open ≡ false }
+    {
+        Script {
+            is_open: false,
+            shape: Shape {
+                programs: 1,
+                lines: 1,
+                ports: 1,
+                journal: 1,
+                side: Side::Uni,
+            },
+            lines: Vec::new(alloc),
+        }
+    }
+}
+
+impl Machine for Script {
+    ghost use Rattle.std.specs.Prelude.{◌≡◌, Bool};
+    ghost use Rattle.port_dialogue.specs.PortsText.{reading_rules};
+    ghost use Rattle.port_dialogue.specs.inner.ReadingLaws.{reading-total};
+
+    ghost World = { Bool };
+
+    ghost shows = { λ script world. world ≡ script.is_open };
+
+    ghost rules = { reading_rules };
+
+    fn answer(&mut self, line: &[u8], answers: &mut Vec<u8>) -> Result<Turn, AllocError> {
+        match line_words(line) {
+            LineWords::Silent => return Ok(Turn::GoesOn),
+            LineWords::One(_) | LineWords::Several => {}
+        }
+        if self.is_open {
+            self.lines.extend_from_slice(line)?;
+            self.lines.push(b'\n')?;
+            return Ok(Turn::GoesOn);
+        }
+        let Some(shape) = read_card(line) else {
+            add_no_card(answers)?;
+            return Ok(Turn::Ends);
+        };
+        if let Some(fault) = shape.fault() {
+            add_shape_fault(answers, fault)?;
+            return Ok(Turn::Ends);
+        }
+        self.shape = shape;
+        self.is_open = true;
+        Ok(Turn::GoesOn)
+    }
+
+    fn close(&mut self, answers: &mut Vec<u8>) -> Result<Done, AllocError> {
+        if self.is_open {
+            return Ok(Done::Whole);
+        }
+        add_no_card(answers)?;
+        Ok(Done::Ended)
+    }
+
+    fn refuse(&self, answers: &mut Vec<u8>) -> Result<(), AllocError> {
+        add_too_long(answers)
+    }
+
+    ghost is_total = { reading-total };
+}
