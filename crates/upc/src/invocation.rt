@@ -1,12 +1,14 @@
 //! The choice that the words came to, carried out between three devices, with the exit status.
-ghost use Rattle.std.specs.Prelude.{◌≡◌, ◌⊎◌, ◌++◌, OnOk, OnErr, IfOk};
+ghost use Rattle.std.specs.Prelude.{◌≡◌, ◌≢◌, ◌⊎◌, ◌++◌, Ok as TheOk, OnOk, OnErr, IfOk};
 ghost use Rattle.dialogue.specs.Devices.{IsPart, one_more};
 ghost use Rattle.upc.specs.Invocation.{CarriesOut, IsStatusFor, failure_line};
+ghost use Rattle.upc.specs.declared.choose.Choice.TheVariants.{Ports};
 
 use crate::choose::{Choice, Stop};
 use crate::exit::status;
-use crate::subcommand::run_subcommand;
+use crate::subcommand::run_alone;
 use dialogue::{Input, Output, RunFault, give_all};
+use port_dialogue::run_ports;
 use std::alloc::Global;
 use std::sync::Wait;
 use std::thread::Threads;
@@ -43,7 +45,49 @@ fn tell_failure<E: Output>(errors: &mut E, fault: RunFault) -> u8
 }
 
 /// Carries out what the words came to, and gives the exit status: the subcommand is run; help is written;
-/// what was wrong with the words is told, and so is a failure.
+/// what was wrong with the words is told, and so is a failure. It always ends, whatever subcommand it is but `ports`.
+pub fn carry_out_alone<I: Input, O: Output, E: Output>(
+    alloc: Global,
+    chosen: Result<Choice, Stop>,
+    input: &mut I,
+    output: &mut O,
+    errors: &mut E,
+) -> u8
+    requires alone { chosen ≢ TheOk Ports }
+    ensures carried { I.is_known → O.is_known → E.is_known → CarriesOut chosen
+        (record {
+          input = I.rest input.old;
+          left = I.rest input.new;
+          before = O.held output.old;
+          after = O.held output.new;
+          silence = E.held errors.old;
+          said = E.held errors.new;
+          failures = E.failures errors.old;
+          failures' = E.failures errors.new;
+        }) result }
+    ensures status { IsStatusFor chosen result }
+{
+    match chosen {
+        Ok(choice) => {
+            let ended = run_alone(alloc, choice, input, output);
+            match ended {
+                Ok(_) => status(&ended),
+                Err(fault) => tell_failure(errors, fault),
+            }
+        }
+        Err(Stop::Help(text)) => match give_all(output, text.as_bytes()) {
+            Ok(()) => 0,
+            Err(_) => tell_failure(errors, RunFault::WriteFailed),
+        },
+        Err(Stop::Words(text)) => {
+            tell(errors, text.as_bytes());
+            2
+        }
+        Err(Stop::NoMemory) => tell_failure(errors, RunFault::NoMemory),
+    }
+}
+
+/// Carries out what the words came to, and gives the exit status. Only `ports` starts threads, and waits for them.
 pub fn carry_out<R: Threads + Wait + Sync, I: Input, O: Output, E: Output>(
     rt: &R,
     alloc: Global,
@@ -66,21 +110,14 @@ pub fn carry_out<R: Threads + Wait + Sync, I: Input, O: Output, E: Output>(
     ensures status { IsStatusFor chosen result }
 {
     match chosen {
-        Ok(choice) => {
-            let ended = run_subcommand(rt, alloc, choice, input, output);
+        Ok(Choice::Ports) => {
+            let ended = run_ports(rt, alloc, input, output);
             match ended {
                 Ok(_) => status(&ended),
                 Err(fault) => tell_failure(errors, fault),
             }
         }
-        Err(Stop::Help(text)) => match give_all(output, text.as_bytes()) {
-            Ok(()) => 0,
-            Err(_) => tell_failure(errors, RunFault::WriteFailed),
-        },
-        Err(Stop::Words(text)) => {
-            tell(errors, text.as_bytes());
-            2
-        }
-        Err(Stop::NoMemory) => tell_failure(errors, RunFault::NoMemory),
+        Ok(choice) => carry_out_alone(alloc, Ok(choice), input, output, errors),
+        Err(stop) => carry_out_alone(alloc, Err(stop), input, output, errors),
     }
 }

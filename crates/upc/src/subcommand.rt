@@ -1,33 +1,32 @@
 //! The subcommand that was chosen, between two devices.
-ghost use Rattle.std.specs.Prelude.{◌≡◌, IfOk, OnErr, ℕ, List, [], Ok};
+ghost use Rattle.std.specs.Prelude.{◌≡◌, ◌≢◌, IfOk, OnErr, ℕ, List, [], Ok};
 ghost use Rattle.dialogue.specs.Devices.{Adds, TakesEnough};
 ghost use Rattle.dialogue.specs.Limits.{most_ahead};
 ghost use Rattle.dialogue.specs.Outcome.{read_failures, write_failures};
 ghost use Rattle.dialogue.specs.Printing.{IsFront};
 ghost use Rattle.upc.specs.Subcommand.{IsTextOf};
+ghost use Rattle.upc.specs.declared.choose.Choice.TheVariants.{Ports};
 
 use crate::choose::Choice;
 use card_dialogue::run_script;
 use dialogue::{Done, Input, Output, RunFault};
-use port_dialogue::run_ports;
 use program_dialogue::{check_source, eval_bytes};
 use std::alloc::Global;
-use std::sync::Wait;
-use std::thread::Threads;
 
-/// Runs the subcommand over the whole input. Only `ports` starts threads, and waits for them.
+/// Runs a subcommand over the whole input: any that is done by one thread, and so always ends.
 ///
 /// # Errors
 ///
 /// `ReadFailed` and `WriteFailed` where that device failed, once; `NoMemory` where memory was refused.
 /// What was written is then a beginning of the text.
-pub fn run_subcommand<R: Threads + Wait + Sync, I: Input, O: Output>(
-    rt: &R,
+pub fn run_alone<I: Input, O: Output>(
     alloc: Global,
     choice: Choice,
     input: &mut I,
     output: &mut O,
 ) -> Result<Done, RunFault>
+    requires alone { choice ≢ Ports }
+
     // What was written is the subcommand's text of the whole input, or a beginning of it.
     ensures text { I.is_known → O.is_known → IfOk result (λ done.
         Adds (λ text. IsTextOf choice (I.rest input.old) text done) (O.held output.old) (O.held output.new)) }
@@ -46,6 +45,6 @@ pub fn run_subcommand<R: Threads + Wait + Sync, I: Input, O: Output>(
         Choice::Check => check_source(alloc, input, output),
         Choice::Eval => eval_bytes(alloc, input, output),
         Choice::Run => run_script(alloc, input, output),
-        Choice::Ports => run_ports(rt, alloc, input, output),
+        Choice::Ports => unreachable!(),
     }
 }
