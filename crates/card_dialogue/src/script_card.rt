@@ -224,12 +224,7 @@ impl ScriptCard {
 
     /// Polices a cell.
     #[inline(always)]
-    fn police(
-        &mut self,
-        moment: u64,
-        cell: Cell,
-        answers: &mut Vec<u8>,
-    ) -> Result<(), AllocError>
+    fn police(&mut self, moment: u64, cell: Cell, answers: &mut Vec<u8>) -> Result<(), AllocError>
         ensures { OnOk result (Moves (λ before. Polices before moment cell)
             self.old self.new answers.old.items answers.new.items) }
     {

@@ -1,4 +1,4 @@
-use Rattle.std.proofs.Common.{◌≡◌, ◌<◌, ℕ, true, false, List, length, refl, ap, subst}
+use Rattle.std.proofs.Common.{◌≡◌, ℕ, true, false, List, subst}
 use Rattle.std.specs.Prelude.{slice_get}
 use Rattle.card_core.specs.declared.reply.Reply.TheVariants.{NotNow}
 use Rattle.card_core.specs.declared.step.Step.TheVariants.{Enter}
