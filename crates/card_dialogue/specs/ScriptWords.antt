@@ -103,7 +103,3 @@ wanted_of word = option_and_then (λ (cut : List ℕ × List ℕ). wanted_with c
 abbrev pub wanted_of_each : List (List ℕ) → Option (List Wanted)
 wanted_of_each [] = Some []
 wanted_of_each (word ∷ words) = with_both (λ first later. first ∷ later) (wanted_of word) (wanted_of_each words)
-
--- A place that no contract has taken yet.
-abbrev pub IsBlankContract : Wanted → Type 0
-IsBlankContract wanted = wanted ≡ Cbr1 (rate_with 0 0)
