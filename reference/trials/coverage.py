@@ -11,6 +11,7 @@ ANSWERS = {
     "check": ["accepted"],
     "eval": ["accepted", "value"],
     "run": ["ready", "loaded", "retired", "set", "reloaded", "cut", "released", "pass", "tag", "discard", "refuse"],
+    "ports": ["ready", "loaded", "set", "pass", "tag", "discard", "refuse", "totals"],
 }
 
 FAMILIES = {
@@ -26,6 +27,7 @@ FAMILIES = {
         "desk": None,
         "arrive": None,
     },
+    "ports": {"script": ["BadLine", "NoCard", "BadHex", "TooLong"], "cell": None, "shape": None, "arrive": None},
 }
 
 # What no input of this kind can reach, and why.

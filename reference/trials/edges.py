@@ -219,4 +219,12 @@ def moments(first):
             )
 
 
-EDGES = {"check": check_edges, "eval": eval_edges, "run": run_edges}
+def ports_edges():
+    """Inputs that end in odd places, and lines at the limits, which have their fault line alone."""
+    first = b"card 2 2 4 4\nload " + RETURN + b"\nsetup 1 1 p1 cbr1:1/0\n"
+    yield from ends()
+    yield from many_lines(first, b"cell 1 00100010\n")
+    yield from shapes()
+
+
+EDGES = {"check": check_edges, "eval": eval_edges, "run": run_edges, "ports": ports_edges}

@@ -6,9 +6,8 @@ ghost use Rattle.upc.specs.declared.choose.Choice.TheVariants.{Ports};
 
 use crate::choose::{Choice, Stop};
 use crate::exit::status;
-use crate::subcommand::run_alone;
+use crate::subcommand::{run_alone, run_subcommand};
 use dialogue::{Input, Output, RunFault, give_all};
-use port_dialogue::run_ports;
 use std::alloc::Global;
 use std::sync::Wait;
 use std::thread::Threads;
@@ -87,7 +86,8 @@ pub fn carry_out_alone<I: Input, O: Output, E: Output>(
     }
 }
 
-/// Carries out what the words came to, and gives the exit status. Only `ports` starts threads, and waits for them.
+/// Carries out what the words came to, whatever it is, and gives the exit status. Only `ports` starts threads, and waits
+/// for them.
 pub fn carry_out<R: Threads + Wait + Sync, I: Input, O: Output, E: Output>(
     rt: &R,
     alloc: Global,
@@ -110,14 +110,13 @@ pub fn carry_out<R: Threads + Wait + Sync, I: Input, O: Output, E: Output>(
     ensures status { IsStatusFor chosen result }
 {
     match chosen {
-        Ok(Choice::Ports) => {
-            let ended = run_ports(rt, alloc, input, output);
+        Ok(choice) => {
+            let ended = run_subcommand(rt, alloc, choice, input, output);
             match ended {
                 Ok(_) => status(&ended),
                 Err(fault) => tell_failure(errors, fault),
             }
         }
-        Ok(choice) => carry_out_alone(alloc, Ok(choice), input, output, errors),
         Err(stop) => carry_out_alone(alloc, Err(stop), input, output, errors),
     }
 }

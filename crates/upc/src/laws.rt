@@ -9,7 +9,7 @@ pub fn an_input_has_a_text()
     ensures { (choice : TheChoice) (octets : List ℕ) → (text : List ℕ) × (done : TheDone) × IsTextOf choice octets text done }
 {}
 
-/// It has one, with one end, but for scripts that ports run: `run_subcommand` says which octets are written, and not
+/// It has one, with one end, but for scripts that ports run: `run_alone` says which octets are written, and not
 /// only that they are some answer.
 pub fn an_input_has_one_text()
     ensures { (choice : TheChoice) (octets : List ℕ) (one other : List ℕ) (ends other_ends : TheDone)

@@ -12,7 +12,7 @@ mod tests;
 
 use choose::{Choice, Stop, choose};
 use dialogue::{Giving, Taking};
-use invocation::carry_out;
+use invocation::{carry_out, carry_out_alone};
 use std::io::{self, IsTerminal};
 use std::process::ExitCode;
 

@@ -10,8 +10,11 @@ ghost use Rattle.upc.specs.declared.choose.Choice.TheVariants.{Ports};
 use crate::choose::Choice;
 use card_dialogue::run_script;
 use dialogue::{Done, Input, Output, RunFault};
+use port_dialogue::run_ports;
 use program_dialogue::{check_source, eval_bytes};
 use std::alloc::Global;
+use std::sync::Wait;
+use std::thread::Threads;
 
 /// Runs a subcommand over the whole input: any that is done by one thread, and so always ends.
 ///
@@ -46,5 +49,39 @@ pub fn run_alone<I: Input, O: Output>(
         Choice::Eval => eval_bytes(alloc, input, output),
         Choice::Run => run_script(alloc, input, output),
         Choice::Ports => unreachable!(),
+    }
+}
+
+/// Runs any subcommand over the whole input. Only `ports` starts threads, and waits for them.
+///
+/// # Errors
+///
+/// As [`run_alone`].
+pub fn run_subcommand<R: Threads + Wait + Sync, I: Input, O: Output>(
+    rt: &R,
+    alloc: Global,
+    choice: Choice,
+    input: &mut I,
+    output: &mut O,
+) -> Result<Done, RunFault>
+    // What was written is the subcommand's text of the whole input, or a beginning of it.
+    ensures text { I.is_known → O.is_known → IfOk result (λ done.
+        Adds (λ text. IsTextOf choice (I.rest input.old) text done) (O.held output.old) (O.held output.new)) }
+    ensures front { I.is_known → O.is_known → OnErr result
+        (Adds (IsFront (IsTextOf choice (I.rest input.old))) (O.held output.old) (O.held output.new)) }
+
+    // No more of the input was taken than what had to be answered, and what a window holds.
+    ensures left { I.is_known → IfOk result (λ done. TakesEnough
+        (λ octets. (text : List ℕ) × IsTextOf choice octets text done) most_ahead (I.rest input.old) (I.rest input.new)) }
+    ensures whole { I.is_known → result ≡ Ok Done.Whole → I.rest input.new ≡ [] }
+
+    ensures reading { I.failures input.new ≡ read_failures result (I.failures input.old) }
+    ensures writing { O.failures output.new ≡ write_failures result (O.failures output.old) }
+{
+    match choice {
+        Choice::Check => run_alone(alloc, Choice::Check, input, output),
+        Choice::Eval => run_alone(alloc, Choice::Eval, input, output),
+        Choice::Run => run_alone(alloc, Choice::Run, input, output),
+        Choice::Ports => run_ports(rt, alloc, input, output),
     }
 }

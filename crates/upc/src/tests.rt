@@ -7,29 +7,12 @@ mod sources;
 mod statuses;
 
 use crate::choose::Choice;
-use crate::subcommand::run_alone;
-use dialogue::{Done, Giving, Input, Output, RunFault, Taking};
-use port_dialogue::run_ports;
+use crate::subcommand::run_subcommand;
+use dialogue::{Done, Giving, RunFault, Taking};
 use std::alloc::Global;
 use std::process::Abort;
 use std::sync::Wait;
 use std::thread::Threads;
-
-/// Runs any subcommand, as `carry_out` does.
-fn run_subcommand<R: Threads + Wait + Sync, I: Input, O: Output>(
-    rt: &R,
-    alloc: Global,
-    choice: Choice,
-    input: &mut I,
-    output: &mut O,
-) -> Result<Done, RunFault> {
-    match choice {
-        Choice::Ports => run_ports(rt, alloc, input, output),
-        Choice::Check => run_alone(alloc, Choice::Check, input, output),
-        Choice::Eval => run_alone(alloc, Choice::Eval, input, output),
-        Choice::Run => run_alone(alloc, Choice::Run, input, output),
-    }
-}
 
 /// What a subcommand prints for an input, and how it ends.
 fn printed<R: Threads + Wait + Sync>(

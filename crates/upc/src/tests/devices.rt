@@ -1,8 +1,8 @@
 //! Devices that move one octet a call, and fail at a call of one's choice.
 ghost use Rattle.std.specs.Prelude.{◌≡◌, drop};
 
-use super::run_subcommand;
 use crate::choose::Choice;
+use crate::subcommand::run_subcommand;
 use dialogue::{Done, Failed, Input, Output, RunFault};
 use std::alloc::Global;
 use std::sync::Wait;

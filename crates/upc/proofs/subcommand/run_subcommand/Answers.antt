@@ -1,0 +1,5 @@
+-- The text of the subcommand that was chosen is that of its call.
+use Rattle.upc.proofs.subcommand.run_subcommand.Goals as goal
+
+pub returns-in-Check-clause-left : goal.returns-in-Check-clause-left
+returns-in-Check-clause-left g c = λ known. rw c.in-Check.is (c.run_alone.ensures.left known)
