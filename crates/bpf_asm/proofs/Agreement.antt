@@ -7,14 +7,14 @@ use Rattle.std.proofs.lemmas.Slice.Eq.{bytes_eq-Decides}
 use Rattle.bpf_asm.specs.Grammar.{AreLines, IsLine, Line}
 use Rattle.bpf_asm.specs.Labels.{EachLabelOnce, HasLabel, StandsFor, statements_of}
 use Rattle.bpf_asm.specs.inner.Counts.{statement_count}
-use Rattle.bpf_asm.specs.Spelling.{Statement}
+use Rattle.bpf_asm.specs.StatementSpelling.{Statement}
 use Rattle.bpf_asm.specs.inner.Drafts.{AgreesWith, IsReadTo, IsTwice}
 
--- a line that is there is one
+-- A line that is there is one.
 pub some_line : (one other : Line) → Some one ≡ Some other → one ≡ other
 some_line one other e = cc
 
--- so is a name
+-- So is a name.
 pub some_name : (one other : List ℕ) → Some one ≡ Some other → one ≡ other
 some_name one other e = cc
 
@@ -24,22 +24,22 @@ some_place one other e = cc
 some_none : (place : ℕ) → Some place ≡ None → ⊥
 some_none place e = cc
 
--- a name that is there is not none
+-- A name that is there is not none.
 pub no_name : (name : List ℕ) → Some name ≡ None → ⊥
 no_name name e = cc
 
--- the statements of lines and more lines
+-- The statements of lines and more lines.
 pub statements_of-append : (lines more : List Line) → statements_of (lines ++ more) ≡ statements_of lines ++ statements_of more
 unfolding statements_of
 statements_of-append lines more = filter_map-append (λ (line : Line). line.statement) lines more
 
--- a line of a front is one of the whole
+-- A line of a front is one of the whole.
 pub label_kept : (lines more : List Line) (at : ℕ) (name : List ℕ) → HasLabel lines at name → HasLabel (lines ++ more) at name
 label_kept [] more at name h = cc
 label_kept (line ∷ lines) more zero name h = h
 label_kept (line ∷ lines) more (suc at) name h = label_kept lines more at name h
 
--- a line of the whole is the last or one of the front
+-- A line of the whole is the last or one of the front.
 pub label_split : (lines : List Line) (line : Line) (at : ℕ) (name : List ℕ) → HasLabel (lines ++ line ∷ []) at name → HasLabel lines at name ⊎ ((at ≡ length lines) × (line.label ≡ Some name))
 label_split [] line zero name h = let same : line ≡ h.0 = some_line _ _ h.1 in inr (refl, ap (λ (l : Line). l.label) same ∙ h.2)
 label_split [] line (suc at) name h = cc
@@ -47,7 +47,7 @@ label_split (first ∷ lines) line zero name h = inl h
 label_split (first ∷ lines) line (suc at) name h =
     elim (label_split lines line at name h) [ inl f ↦ inl f | inr l ↦ inr (ap suc l.0, l.1) ]
 
--- what stands in a front stands in the whole
+-- What stands in a front stands in the whole.
 pub stands_kept : (lines more : List Line) (name : List ℕ) (place : ℕ) → StandsFor lines name place → StandsFor (lines ++ more) name place
 stands_kept lines more name place s = record {
   before = s.before;
@@ -58,26 +58,26 @@ stands_kept lines more name place s = record {
   counted = s.counted;
 }
 
--- the last line's label stands for the number of statements before it
+-- The last line's label stands for the number of statements before it.
 stands_last : (lines : List Line) (line : Line) (name : List ℕ) → line.label ≡ Some name → StandsFor (lines ++ line ∷ []) name (length (statements_of lines))
 stands_last lines line name e = record { before = lines; here = line; behind = []; split = refl; named = e; counted = refl }
 
--- how many statements one line has
+-- How many statements one line has.
 pub statements_one : (line : Line) (s : Option Statement) → line.statement ≡ s → length (statements_of (line ∷ [])) ≡ statement_count s
 unfolding statements_of
 statements_one line None e = rw e refl
 statements_one line (Some s) e = rw e refl
 
--- one line more
+-- One line more.
 pub count_more : (lines : List Line) (line : Line) → length (statements_of (lines ++ line ∷ [])) ≡ length (statements_of lines) + statement_count line.statement
 count_more lines line =
     ap length (statements_of-append lines (line ∷ [])) ∙ length-append (statements_of lines) (statements_of (line ∷ [])) ∙ ap (λ (n : ℕ). length (statements_of lines) + n) (statements_one line line.statement refl)
 
--- a label of the whole is one of the front, where the last line has none
+-- A label of the whole is one of the front, where the last line has none.
 pub no_last : (lines : List Line) (line : Line) (at : ℕ) (name : List ℕ) → line.label ≡ None → HasLabel (lines ++ line ∷ []) at name → HasLabel lines at name
 no_last lines line at name n h = elim (label_split lines line at name h) [ inl f ↦ f | inr l ↦ absurd (no_name name (sym l.1 ∙ n)) ]
 
--- a label stands once, where the last line's is new
+-- A label stands once, where the last line's is new.
 pub both_once : (lines : List Line) (line : Line) (label : List ℕ) (one other : ℕ) (name : List ℕ) → line.label ≡ Some label → ((at : ℕ) → ¬ HasLabel lines at label) → EachLabelOnce lines → HasLabel lines one name ⊎ ((one ≡ length lines) × (line.label ≡ Some name)) → HasLabel lines other name ⊎ ((other ≡ length lines) × (line.label ≡ Some name)) → one ≡ other
 both_once lines line label one other name is new once (inl f) (inl g) = once one other name f g
 both_once lines line label one other name is new once (inl f) (inr g) = let same : name ≡ label = some_name _ _ (sym g.1 ∙ is) in absurd (new one (rw same at f))
@@ -99,12 +99,12 @@ put_unknown lines line label name places at is old unknown false b e (inr l) =
     let both : false ≡ true = sym b ∙ (bytes_eq-Decides label name).1 same in
     cc
 
--- the line at which a list falls apart has its label
+-- The line at which a list falls apart has its label.
 pub stands_label : (before : List Line) (here : Line) (behind : List Line) (name : List ℕ) → here.label ≡ Some name → HasLabel (before ++ here ∷ behind) (length before) name
 stands_label [] here behind name e = (here, refl, e)
 stands_label (first ∷ before) here behind name e = stands_label before here behind name e
 
--- a label that stands for a place is some line's
+-- A label that stands for a place is some line's.
 pub stands_has : (lines : List Line) (name : List ℕ) (place : ℕ) → StandsFor lines name place → (at : ℕ) × HasLabel lines at name
 stands_has lines name place s = (length s.before, subst (λ (ls : List Line). HasLabel ls (length s.before) name) (sym s.split) (stands_label s.before s.here s.behind name s.named))
 
@@ -118,7 +118,7 @@ are_more [] (first ∷ lines) octets line is a = cc
 are_more (one ∷ done) [] octets line is a = absurd a
 are_more (one ∷ done) (first ∷ lines) octets line is a = (a.0, are_more done lines octets line is a.1)
 
--- no lines
+-- No lines.
 pub agrees_none : (find : List ℕ → Option ℕ) → ((name : List ℕ) → find name ≡ None) → AgreesWith [] find 0
 unfolding statements_of
 agrees_none find none = record {
@@ -128,7 +128,7 @@ agrees_none find none = record {
   unknown = λ name e at h. cc;
 }
 
--- a line without a label
+-- A line without a label.
 pub agrees_plain : (lines : List Line) (line : Line) (find : List ℕ → Option ℕ) (places : ℕ) → line.label ≡ None → AgreesWith lines find places → AgreesWith (lines ++ line ∷ []) find (places + statement_count line.statement)
 agrees_plain lines line find places n a = record {
   counted = ap (λ (m : ℕ). m + statement_count line.statement) a.counted ∙ sym (count_more lines line);
@@ -137,7 +137,7 @@ agrees_plain lines line find places n a = record {
   unknown = λ name e at h. a.unknown name e at (no_last lines line at name n h);
 }
 
--- a line with a new label
+-- A line with a new label.
 pub agrees_label : (lines : List Line) (line : Line) (label : List ℕ) (find found : List ℕ → Option ℕ) (places : ℕ) → line.label ≡ Some label → find label ≡ None → ((name : List ℕ) → found name ≡ (if bytes_eq label name then Some places else find name)) → AgreesWith lines find places → AgreesWith (lines ++ line ∷ []) found (places + statement_count line.statement)
 agrees_label lines line label find found places is new put a = record {
   counted = ap (λ (m : ℕ). m + statement_count line.statement) a.counted ∙ sym (count_more lines line);
@@ -146,15 +146,15 @@ agrees_label lines line label find found places is new put a = record {
   unknown = λ name e at h. put_unknown lines line label name places at is (find name) (λ f. a.unknown name f at) (bytes_eq label name) refl (sym (put name) ∙ e) (label_split lines line at name h);
 }
 
--- a line with an old label
+-- A line with an old label.
 pub twice_is : (lines : List Line) (line : Line) (label : List ℕ) (find : List ℕ → Option ℕ) (places : ℕ) → line.label ≡ Some label → is_none (find label) ≡ false → AgreesWith lines find places → IsTwice lines line
 twice_is lines line label find places is old a = twice_by lines line label (find label) is old (a.stands label)
 
--- nothing is read
+-- Nothing is read.
 pub read_none : (source : List (List ℕ)) → IsReadTo source source [] 0
 read_none source = record { done = []; split = refl; said = refl; counted = refl }
 
--- one line more is read
+-- One line more is read.
 pub read_more : (source left : List (List ℕ)) (octets : List ℕ) (lines : List Line) (line : Line) (count : ℕ) → IsLine octets line → IsReadTo source (octets ∷ left) lines count → IsReadTo source left (lines ++ line ∷ []) (count + 1)
 read_more source left octets lines line count is r = record {
   done = r.done ++ octets ∷ [];
@@ -163,17 +163,17 @@ read_more source left octets lines line count is r = record {
   counted = ap (λ (n : ℕ). n + 1) r.counted ∙ sym (length-append r.done (octets ∷ []));
 }
 
--- what one clause of an answer tells of another
+-- What one clause of an answer tells of another.
 pub if_ok : {A E : Type 0} (r : Result A E) (P Q : A → Type 0) → ((v : A) → P v → Q v) → IfOk r P → IfOk r Q
 if_ok (Ok v) P Q f h = f v h
 if_ok (Err e) P Q f h = tt
 
--- what two of them tell
+-- What two of them tell.
 pub if_ok_both : {A E : Type 0} (r : Result A E) (P R Q : A → Type 0) → ((v : A) → P v → R v → Q v) → IfOk r P → IfOk r R → IfOk r Q
 if_ok_both (Ok v) P R Q f h g = f v h g
 if_ok_both (Err e) P R Q f h g = tt
 
--- nothing is there
+-- Nothing is there.
 pub none_is : {A : Type 0} (o : Option A) → is_none o ≡ true → o ≡ None
 none_is None e = refl
 none_is (Some v) e = cc

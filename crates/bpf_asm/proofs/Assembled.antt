@@ -3,23 +3,23 @@ use Rattle.std.proofs.Common.{◌≡◌, ◌⊎◌, ℕ, ◌+◌, List, Some, No
 use Rattle.bpf_asm.specs.Faults.{IsFault, IsFirstOperandFault, IsOutOfMemory}
 use Rattle.bpf_asm.specs.Grammar.{AreLines, Line}
 use Rattle.bpf_asm.specs.Labels.{EachLabelOnce, statements_of}
-use Rattle.bpf_asm.specs.Lines.{source_lines}
+use Rattle.bpf_asm.specs.SourceLines.{source_lines}
 use Rattle.bpf_asm.specs.Meaning.{IsMeaning, MeanFrom}
 use Rattle.bpf_asm.specs.inner.Pending.{IsPending}
 use Rattle.bpf_asm.specs.declared.fault.AsmFault.{AsmFault}
 use Rattle.bpf_asm.specs.declared.fault.AsmKind.TheVariants.{DanglingLabel}
 use Rattle.bpf_code.specs.declared.instr.Instr.{Instr}
 
--- what one clause of an answer's fault tells of another
+-- What one clause of an answer's fault tells of another.
 pub if_err : {A E : Type 0} (r : Result A E) (P Q : E → Type 0) → ((e : E) → P e → Q e) → IfErr r P → IfErr r Q
 if_err (Ok v) P Q f h = tt
 if_err (Err e) P Q f h = f e h
 
--- the meaning
+-- The meaning.
 pub means_source : (source : List ℕ) (lines : List Line) (code : List Instr) → AreLines (source_lines source) lines → EachLabelOnce lines → IsPending lines None → MeanFrom lines 0 (statements_of lines) code → IsMeaning source code
 means_source source lines code said once none meant = record { lines = lines; said = said; mean = record { once = once; followed = none; meant = meant } }
 
--- the first label that no instruction follows
+-- The first label that no instruction follows.
 pub dangling_source : (source : List ℕ) (lines : List Line) (at : ℕ) (fault : AsmFault) → AreLines (source_lines source) lines → EachLabelOnce lines → IsPending lines (Some at) → (fault.line ≡ at + 1) × (fault.kind ≡ DanglingLabel) → IsFault source fault
 dangling_source source lines at fault said once p n = inr (record {
   lines = lines;
@@ -28,7 +28,7 @@ dangling_source source lines at fault said once p n = inr (record {
   faulty = inl (record { kind = n.1; at = at; number = n.0; dangling = p.1; followed = p.2 });
 })
 
--- the first label operand that has no offset
+-- The first label operand that has no offset.
 pub operand_source : (source : List ℕ) (lines : List Line) (fault : AsmFault) → AreLines (source_lines source) lines → EachLabelOnce lines → IsPending lines None → IsFirstOperandFault lines fault ⊎ IsOutOfMemory fault → IsFault source fault ⊎ IsOutOfMemory fault
 operand_source source lines fault said once none f =
     elim f [ inl g ↦ inl (inr (record { lines = lines; said = said; once = once; faulty = inr (none, g) })) | inr m ↦ inr m ]

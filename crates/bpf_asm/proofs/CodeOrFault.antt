@@ -4,10 +4,10 @@ use Rattle.std.specs.Option.{option_to_list}
 use Rattle.bpf_asm.specs.Faults.{IsFault, IsFirstOperandFault}
 use Rattle.bpf_asm.specs.Grammar.{AreLines, Line}
 use Rattle.bpf_asm.specs.Labels.{EachLabelOnce, statements_of}
-use Rattle.bpf_asm.specs.Lines.{source_lines}
+use Rattle.bpf_asm.specs.SourceLines.{source_lines}
 use Rattle.bpf_asm.specs.Meaning.{IsMeaning, MeanFrom, Means}
 use Rattle.bpf_asm.specs.inner.Pending.{IsPending}
-use Rattle.bpf_asm.specs.Spelling.{Statement}
+use Rattle.bpf_asm.specs.StatementSpelling.{Statement}
 use Rattle.bpf_asm.specs.declared.fault.AsmFault.{AsmFault}
 use Rattle.bpf_asm.specs.declared.fault.AsmKind.TheVariants.{DanglingLabel}
 use Rattle.bpf_asm.proofs.Assembled.{dangling_source, means_source}
@@ -21,11 +21,11 @@ use Rattle.bpf_code.specs.declared.instr.Instr.{Instr}
 abbrev pub MeanOrFaulty : List Line → Type 0
 MeanOrFaulty lines = ((code : List Instr) × MeanFrom lines 0 (statements_of lines) code) ⊎ ((fault : AsmFault) × IsFirstOperandFault lines fault)
 
--- the statements of one line more
+-- The statements of one line more.
 next_line : (before : List Line) (line : Line) (s : Option Statement) → line.statement ≡ s → statements_of (before ++ line ∷ []) ≡ statements_of before ++ option_to_list s
 next_line before line s e = statements_more before line ∙ ap (λ (o : Option Statement). statements_of before ++ option_to_list o) e
 
--- they mean instructions too, or an operand has the first fault
+-- They mean instructions too, or an operand has the first fault.
 mean_line : (lines before : List Line) (line : Line) (behind : List Line) (code : List Instr) (s : Option Statement) → line.statement ≡ s → lines ≡ before ++ line ∷ behind → MeanFrom lines 0 (statements_of before) code → ((more : List Instr) × MeanFrom lines 0 (statements_of (before ++ line ∷ [])) more) ⊎ ((fault : AsmFault) × IsFirstOperandFault lines fault)
 mean_line lines before line behind code None none split m =
     let same : statements_of (before ++ line ∷ []) ≡ statements_of before = next_line before line None none ∙ append-nil (statements_of before) in
@@ -55,7 +55,7 @@ mean_line lines before line behind code (Some s) stands split m =
           )
     ]
 
--- so do the lines that are left
+-- So do the lines that are left.
 mean_behind : (lines before behind : List Line) (code : List Instr) → lines ≡ before ++ behind → MeanFrom lines 0 (statements_of before) code → MeanOrFaulty lines
 mean_behind lines before [] code split m =
     let all : before ≡ lines = sym (append-nil before) ∙ sym split in
@@ -66,16 +66,16 @@ mean_behind lines before (line ∷ behind) code split m =
       | inr bad ↦ inr bad
     ]
 
--- nothing means no code
+-- Nothing means no code.
 mean_none : (lines : List Line) → MeanFrom lines 0 (statements_of []) []
 unfolding statements_of
 mean_none lines = refl
 
--- the statements of lines mean instructions, or an operand has the first fault
+-- The statements of lines mean instructions, or an operand has the first fault.
 mean-or_fault : (lines : List Line) → MeanOrFaulty lines
 mean-or_fault lines = mean_behind lines [] lines [] refl (mean_none lines)
 
--- lines of the grammar with each label once mean a code or have a fault of labels
+-- Lines of the grammar with each label once mean a code or have a fault of labels.
 said-or_fault : (source : List ℕ) (lines : List Line) (pending : Option ℕ) → AreLines (source_lines source) lines → EachLabelOnce lines → IsPending lines pending → ((code : List Instr) × IsMeaning source code) ⊎ ((fault : AsmFault) × IsFault source fault)
 said-or_fault source lines (Some at) said once pending =
     let fault : AsmFault = record { line = at + 1; kind = DanglingLabel } in
@@ -86,7 +86,7 @@ said-or_fault source lines None said once none =
       | inr bad ↦ inr (bad.0, inr (record { lines = lines; said = said; once = once; faulty = inr (none, bad.1) }))
     ]
 
--- a source means a code or has a fault
+-- A source means a code or has a fault.
 pub meaning-or_fault : (source : List ℕ) → ((code : List Instr) × IsMeaning source code) ⊎ ((fault : AsmFault) × IsFault source fault)
 meaning-or_fault source =
     elim (lines-or_fault (source_lines source)) [

@@ -3,15 +3,15 @@ use Rattle.std.proofs.Common.{◌≡◌, ◌⊎◌, ℕ, zero, suc, ◌<◌, Lis
 use Rattle.bpf_asm.specs.Grammar.{Line}
 use Rattle.bpf_asm.specs.Labels.{IsDangling, statements_of}
 use Rattle.bpf_asm.specs.inner.Pending.{IsPending}
-use Rattle.bpf_asm.specs.Spelling.{Statement}
+use Rattle.bpf_asm.specs.StatementSpelling.{Statement}
 use Rattle.bpf_asm.proofs.Agreement.{no_name, some_line}
 
--- there is a statement or none
+-- There is a statement or none.
 none-or_some : (ss : List Statement) → (ss ≡ []) ⊎ ¬ (ss ≡ [])
 none-or_some [] = inl refl
 none-or_some (s ∷ ss) = inr (λ e. cc)
 
--- the first line's label has no instruction behind it, or has one
+-- The first line's label has no instruction behind it, or has one.
 first_dangles : (line : Line) (lines : List Line) (label : Option (List ℕ)) → line.label ≡ label → IsDangling (line ∷ lines) 0 ⊎ ¬ IsDangling (line ∷ lines) 0
 first_dangles line lines None none = inr (λ d. no_name d.0 (sym d.1.2 ∙ sym (ap (λ (l : Line). l.label) (some_line line d.1.0 d.1.1)) ∙ none))
 first_dangles line lines (Some label) named =
@@ -20,7 +20,7 @@ first_dangles line lines (Some label) named =
       | inr some ↦ inr (λ d. some d.2)
     ]
 
--- a label that dangles first, or none
+-- A label that dangles first, or none.
 pub dangling-or_none : (lines : List Line) → (pending : Option ℕ) × IsPending lines pending
 dangling-or_none [] = (None, λ at d. cc)
 dangling-or_none (line ∷ lines) =

@@ -3,12 +3,13 @@ use Rattle.std.proofs.Common.{◌≡◌, ℕ, ◌+◌, ◌*◌, ◌/◌, ◌%◌
 use Rattle.std.proofs.lemmas.Bool.{and_from, and_parts, and_right, lt-ltb}
 use Rattle.std.proofs.lemmas.Fmt.{decimal_by_steps}
 use Rattle.bpf_asm.specs.Numbers.{digit_of, number_of, value_behind, value_of, within_word}
-use Rattle.bpf_asm.specs.Tokens.{name, number, is_digit, tokens_of, word_token}
-use Rattle.bpf_asm.specs.inner.Words.{all_word}
+use Rattle.bpf_asm.specs.Tokens.{name, number, tokens_of, word_token}
+use Rattle.dialogue.specs.Words.{is_digit}
+use Rattle.bpf_asm.specs.inner.WordRuns.{all_word}
 use Rattle.bpf_asm.proofs.Pieces.{tokens_of-word}
 use Rattle.bpf_asm.proofs.OctetTests.{digit_no_sign, digit_of-digit, digit_within, digit_word}
 
--- one digit more
+-- One digit more.
 value_behind-snoc : (base high : ℕ) (digits : List ℕ) (octet value : ℕ) → value_behind base high digits ≡ Some value → nat_lt (digit_of octet) base ≡ true → value_behind base high (digits ++ octet ∷ []) ≡ Some (value * base + digit_of octet)
 unfolding value_behind
 value_behind-snoc base high [] octet value e h = let same : high ≡ value = cc in rw (h, same) refl
@@ -16,7 +17,7 @@ value_behind-snoc base high (first ∷ digits) octet value e h =
     elim (nat_lt (digit_of first) base) as (λ t. (if t then value_behind base (high * base + digit_of first) digits else None) ≡ Some value → (if t then value_behind base (high * base + digit_of first) (digits ++ octet ∷ []) else None) ≡ Some (value * base + digit_of octet))
     [ true ↦ λ f. value_behind-snoc base (high * base + digit_of first) digits octet value f h | false ↦ λ f. cc ] e
 
--- every octet is a digit
+-- Every octet is a digit.
 abbrev pub all_digit : List ℕ → Bool
 all_digit [] = true
 all_digit (octet ∷ rest) = is_digit octet && all_digit rest
@@ -33,7 +34,7 @@ digits_word (first ∷ digits) a =
     let both = and_parts (is_digit first) (all_digit digits) a in
     and_from _ _ (digit_word first both.0) (digits_word digits both.1)
 
--- decimal digits, some of them, of this value
+-- Decimal digits, some of them, of this value.
 abbrev pub IsDecimal : ℕ → List ℕ → Type 0
 IsDecimal value [] = ⊥
 IsDecimal value (octet ∷ rest) = (value_behind 10 0 (octet ∷ rest) ≡ Some value) × (all_digit (octet ∷ rest) ≡ true)
@@ -57,11 +58,11 @@ more_decimal value (octet ∷ rest) h d =
     let digit : is_digit (48 + value % 10) ≡ true = digit_within (48 + value % 10) (omega arith) (omega arith) in
     (value_behind-snoc 10 0 (octet ∷ rest) (48 + value % 10) (value / 10) d.0 l ∙ ap (λ (n : ℕ). Some n) e, all_digit-snoc (octet ∷ rest) (48 + value % 10) d.1 digit)
 
--- the decimal digits of a number
+-- The decimal digits of a number.
 pub decimal_digits : (value : ℕ) → value < 2 ^ 64 → IsDecimal value (decimal value)
 decimal_digits value h = decimal_by_steps IsDecimal one_decimal more_decimal value h
 
--- such digits are no hexadecimal number
+-- Such digits are no hexadecimal number.
 value_of-digits : (value : ℕ) (digits : List ℕ) → IsDecimal value digits → value_of digits ≡ Some value
 value_of-digits value [] d = absurd d
 value_of-digits value (octet ∷ []) d = d.0
@@ -81,7 +82,7 @@ number_token-digits value (octet ∷ rest) h d =
     let n : number_of (octet ∷ rest) ≡ Some value = ap within_word v ∙ rw l refl in
     tokens_of-word octet rest (digits_word (octet ∷ rest) d.1) ∙ rw (both.0, n) refl
 
--- a number of 32 bits in decimal is its token
+-- A number of 32 bits in decimal is its token.
 pub tokens_of-decimal : (value : ℕ) → value < 2 ^ 32 → tokens_of (decimal value) ≡ number value ∷ []
 tokens_of-decimal value h = number_token-digits value (decimal value) h (decimal_digits value (omega arith))
 
@@ -94,10 +95,10 @@ unfolding word_token
 label_word value digits d =
     tokens_of-word 76 digits (digits_word digits (decimal_all value digits d))
 
--- the label of a place is a name
+-- The label of a place is a name.
 pub tokens_of-label : (place : ℕ) → place < 2 ^ 64 → tokens_of (76 ∷ decimal place) ≡ name (76 ∷ decimal place) ∷ []
 tokens_of-label place h = label_word place (decimal place) (decimal_digits place h)
 
--- the digits of a number are octets of words
+-- The digits of a number are octets of words.
 pub decimal_word : (value : ℕ) → value < 2 ^ 64 → all_word (decimal value) ≡ true
 decimal_word value h = digits_word (decimal value) (decimal_all value (decimal value) (decimal_digits value h))

@@ -6,9 +6,9 @@ use Rattle.std.specs.Option.{option_to_list}
 use Rattle.bpf_asm.specs.Grammar.{Line}
 use Rattle.bpf_asm.specs.Labels.{statements_of}
 use Rattle.bpf_asm.specs.inner.Seen.{statement_seen}
-use Rattle.bpf_asm.specs.Spelling.{Statement}
+use Rattle.bpf_asm.specs.StatementSpelling.{Statement}
 use Rattle.bpf_asm.specs.declared.draft.Unresolved.{Unresolved}
-use Rattle.bpf_asm.specs.declared.parse.Command.{Command}
+use Rattle.bpf_asm.specs.declared.parse.LentStatement.{LentStatement}
 use Rattle.bpf_asm.specs.inner.Drafts.{EachStands, IsDraft, StandsBehind, drafted, has_labels, is_unresolved, kept_of, statements_seen, unresolved_of}
 use Rattle.bpf_asm.proofs.Resolving.{statements_more}
 use Rattle.bpf_code.specs.declared.instr.Instr.{Instr}
@@ -17,7 +17,7 @@ none_apart : {A : Type 0} (front : List A) (x : A) (back : List A) → [] ≡ fr
 none_apart [] x back e = cc
 none_apart (y ∷ front) x back e = cc
 
--- a place in a list with one element more is in the list, or is the last
+-- A place in a list with one element more is in the list, or is the last.
 split_last : {A : Type 0} (all front : List A) (x y : A) (back : List A) → all ++ x ∷ [] ≡ front ++ y ∷ back → ((rest : List A) × (all ≡ front ++ y ∷ rest)) ⊎ ((front ≡ all) × (y ≡ x))
 split_last [] [] x y back e = let same : y ≡ x = cc in inr (refl, same)
 split_last [] (z ∷ front) x y back e = let rest : [] ≡ front ++ y ∷ back = cc in absurd (none_apart front y back rest)
@@ -42,7 +42,7 @@ stands_more lines line front u s = record {
   place = s.place;
 }
 
-stands_last : (lines : List Line) (line : Line) (all : List Unresolved) (u : Unresolved) → line.statement ≡ Some (statement_seen u.command) → u.line ≡ length lines + 1 → u.place ≡ length all → statements_of lines ≡ statements_seen all → StandsBehind (lines ++ line ∷ []) all u
+stands_last : (lines : List Line) (line : Line) (all : List Unresolved) (u : Unresolved) → line.statement ≡ Some (statement_seen u.statement) → u.line ≡ length lines + 1 → u.place ≡ length all → statements_of lines ≡ statements_seen all → StandsBehind (lines ++ line ∷ []) all u
 stands_last lines line all u s n p e = record { before = lines; here = line; behind = []; split = refl; number = n; stands = s; earlier = e; place = p }
 
 each_add : (lines : List Line) (line : Line) (all : List Unresolved) (u : Unresolved) → StandsBehind (lines ++ line ∷ []) all u → EachStands lines all → EachStands (lines ++ line ∷ []) (all ++ u ∷ [])
@@ -52,12 +52,12 @@ each_add lines line all u last each = λ front v back e.
       | inr s ↦ rw (s.0, s.1) last
     ]
 
--- no lines
+-- No lines.
 pub draft_empty : IsDraft [] [] []
 unfolding statements_of
 draft_empty = record { all = []; statements = refl; each = λ front u back e. absurd (none_apart front u back e); forms = refl; labelled = refl }
 
--- a line without an instruction
+-- A line without an instruction.
 pub draft_skip : (lines : List Line) (line : Line) (code : List Instr) (unresolved : List Unresolved) → line.statement ≡ None → IsDraft lines code unresolved → IsDraft (lines ++ line ∷ []) code unresolved
 draft_skip lines line code unresolved e d = record {
   all = d.all;
@@ -71,18 +71,18 @@ kept_is : (b : Bool) (u : Unresolved) → is_unresolved u ≡ b → kept_of b u 
 kept_is true u e = rw e refl
 kept_is false u e = rw e refl
 
-draft_by : (lines : List Line) (line : Line) (code more : List Instr) (unresolved left : List Unresolved) (u : Unresolved) → line.statement ≡ Some (statement_seen u.command) → u.line ≡ length lines + 1 → u.place ≡ length code → more ≡ code ++ drafted u.command ∷ [] → left ≡ unresolved ++ kept_of (has_labels u.command) u → IsDraft lines code unresolved → IsDraft (lines ++ line ∷ []) more left
+draft_by : (lines : List Line) (line : Line) (code more : List Instr) (unresolved left : List Unresolved) (u : Unresolved) → line.statement ≡ Some (statement_seen u.statement) → u.line ≡ length lines + 1 → u.place ≡ length code → more ≡ code ++ drafted u.statement ∷ [] → left ≡ unresolved ++ kept_of (has_labels u.statement) u → IsDraft lines code unresolved → IsDraft (lines ++ line ∷ []) more left
 draft_by lines line code more unresolved left u s n p m l d =
-    let place : u.place ≡ length d.all = p ∙ ap length d.forms ∙ length-map d.all (λ (v : Unresolved). drafted v.command) in
+    let place : u.place ≡ length d.all = p ∙ ap length d.forms ∙ length-map d.all (λ (v : Unresolved). drafted v.statement) in
     record {
       all = d.all ++ u ∷ [];
-      statements = statements_more lines line ∙ ap (λ (t : Option Statement). statements_of lines ++ option_to_list t) s ∙ ap (λ (ss : List Statement). ss ++ statement_seen u.command ∷ []) d.statements ∙ sym (map-append (λ (v : Unresolved). statement_seen v.command) d.all (u ∷ []));
+      statements = statements_more lines line ∙ ap (λ (t : Option Statement). statements_of lines ++ option_to_list t) s ∙ ap (λ (ss : List Statement). ss ++ statement_seen u.statement ∷ []) d.statements ∙ sym (map-append (λ (v : Unresolved). statement_seen v.statement) d.all (u ∷ []));
       each = each_add lines line d.all u (stands_last lines line d.all u s n place d.statements) d.each;
-      forms = m ∙ ap (λ (c : List Instr). c ++ drafted u.command ∷ []) d.forms ∙ sym (map-append (λ (v : Unresolved). drafted v.command) d.all (u ∷ []));
-      labelled = l ∙ ap (λ (us : List Unresolved). us ++ kept_of (has_labels u.command) u) d.labelled ∙ ap (λ (us : List Unresolved). filter is_unresolved d.all ++ us) (kept_is (has_labels u.command) u refl) ∙ sym (filter-append is_unresolved d.all (u ∷ []));
+      forms = m ∙ ap (λ (c : List Instr). c ++ drafted u.statement ∷ []) d.forms ∙ sym (map-append (λ (v : Unresolved). drafted v.statement) d.all (u ∷ []));
+      labelled = l ∙ ap (λ (us : List Unresolved). us ++ kept_of (has_labels u.statement) u) d.labelled ∙ ap (λ (us : List Unresolved). filter is_unresolved d.all ++ us) (kept_is (has_labels u.statement) u refl) ∙ sym (filter-append is_unresolved d.all (u ∷ []));
     }
 
--- a line with an instruction
-pub draft_add : (lines : List Line) (line : Line) (code more : List Instr) (unresolved left : List Unresolved) (number : ℕ) (command : Command) → line.statement ≡ Some (statement_seen command) → number ≡ length lines + 1 → more ≡ code ++ drafted command ∷ [] → left ≡ unresolved ++ unresolved_of number (length code) command → IsDraft lines code unresolved → IsDraft (lines ++ line ∷ []) more left
-draft_add lines line code more unresolved left number command s n m l d =
-    draft_by lines line code more unresolved left (record { line = number; place = length code; command = command }) s n refl m l d
+-- A line with an instruction.
+pub draft_add : (lines : List Line) (line : Line) (code more : List Instr) (unresolved left : List Unresolved) (number : ℕ) (statement : LentStatement) → line.statement ≡ Some (statement_seen statement) → number ≡ length lines + 1 → more ≡ code ++ drafted statement ∷ [] → left ≡ unresolved ++ unresolved_of number (length code) statement → IsDraft lines code unresolved → IsDraft (lines ++ line ∷ []) more left
+draft_add lines line code more unresolved left number statement s n m l d =
+    draft_by lines line code more unresolved left (record { line = number; place = length code; statement = statement }) s n refl m l d

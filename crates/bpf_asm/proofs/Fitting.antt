@@ -4,24 +4,24 @@ use Rattle.std.specs.List.{cons_option, filter_map}
 use Rattle.std.proofs.lemmas.Bool.{and_from, and_parts, ltb-true, lt-ltb}
 use Rattle.bpf_asm.specs.Grammar.{AreLines, IsLine, IsOneOf, IsStatement, Line, label_tokens}
 use Rattle.bpf_asm.specs.Labels.{statements_of}
-use Rattle.bpf_asm.specs.Lines.{source_lines, without_comment}
+use Rattle.bpf_asm.specs.SourceLines.{source_lines, without_comment}
 use Rattle.bpf_asm.specs.Meaning.{IsMeaning, IsSide, MeanFrom, Means}
 use Rattle.bpf_asm.specs.Numbers.{number_of, value_of, within_word}
-use Rattle.bpf_asm.specs.Spelling.{Part, Statement, inverse_names, label, load_name, num, one_sided, op_name, operand, plain, jump, branch, spelling_tokens, spellings, text, test_name}
-use Rattle.bpf_asm.specs.Tokens.{Token, faulty, is_digit, is_word, mark, name, number, number_token, pieces_of, signed, signed_behind, token_of, tokens_in, tokens_of, tokens_read, word_token}
+use Rattle.bpf_asm.specs.StatementSpelling.{Part, Statement, inverse_names, label, load_name, num, one_sided, op_name, operand, plain, jump, branch, spelling_tokens, spellings, text, test_name}
+use Rattle.bpf_asm.specs.Tokens.{Token, faulty, is_word, mark, name, number, number_token, pieces_of, signed, signed_behind, token_of, tokens_in, tokens_of, tokens_read, word_token}
 use Rattle.bpf_code.specs.Encoding.{code_octets}
 use Rattle.bpf_code.specs.Flow.{StandsAt}
-use Rattle.bpf_code.specs.Spelling.{SpellsPlainly}
+use Rattle.bpf_code.specs.OctetSpelling.{SpellsPlainly}
 use Rattle.bpf_code.specs.Widths.{FitsFields}
-use Rattle.bpf_asm.specs.inner.Operands.{OperandFits}
+use Rattle.bpf_asm.specs.inner.OperandWidths.{OperandFits}
 use Rattle.bpf_code.specs.declared.instr.By.{By}
 use Rattle.bpf_code.specs.declared.instr.By.TheVariants.{Imm, X}
 use Rattle.bpf_code.specs.declared.instr.Instr.{Instr}
 use Rattle.bpf_code.specs.declared.instr.Instr.TheVariants.{LoadAbs, LoadInd, LoadImm, LoadMem, LoadLen, LdxImm, LdxMem, LdxLen, LdxMsh, Store, StoreX, Alu, Neg, Jump, Branch, RetK, RetA, Tax, Txa}
-use Rattle.dialogue.specs.Words.{is_blank}
+use Rattle.dialogue.specs.Words.{is_blank, is_digit}
 use Rattle.bpf_code.proofs.Public.{code_octets-plainly}
 
--- a number that a token holds has at most 32 bits
+-- A number that a token holds has at most 32 bits.
 abbrev is_small : Token → Bool
 is_small (number value) = nat_lt value (2 ^ 32)
 is_small _ = true
@@ -37,7 +37,7 @@ small_parts (token ∷ one) more h =
     let inner = small_parts one more both.1 in
     (and_from _ _ both.0 inner.0, inner.1)
 
--- the numbers of words are small
+-- The numbers of words are small.
 within_small : (value : Option ℕ) → is_small (number_token (within_word value)) ≡ true
 within_small None = refl
 within_small (Some value) =
@@ -51,7 +51,7 @@ word_small (octet ∷ rest) =
     elim (is_digit octet) as (λ t. is_small (if t then number_token (number_of (octet ∷ rest)) else name (octet ∷ rest)) ≡ true)
     [ true ↦ within_small (value_of (octet ∷ rest)) | false ↦ refl ]
 
--- the token of a piece, if it is one, is small
+-- The token of a piece, if it is one, is small.
 abbrev found_small : Option Token → Bool
 found_small None = true
 found_small (Some token) = is_small token
@@ -72,7 +72,7 @@ pieces_small : (pieces : List (List ℕ)) → all_small (filter_map token_of pie
 pieces_small [] = refl
 pieces_small (piece ∷ pieces) = found_more (token_of piece) (filter_map token_of pieces) (piece_small piece) (pieces_small pieces)
 
--- so are numbers below zero
+-- So are numbers below zero.
 rest_small : (value : ℕ) → is_small (number ((2 ^ 32 - value) % 2 ^ 32)) ≡ true
 rest_small value = lt-ltb ((2 ^ 32 - value) % 2 ^ 32) (2 ^ 32) (omega arith)
 
@@ -100,12 +100,12 @@ signed_small (token ∷ tokens) h =
     let both = and_parts (is_small token) (all_small tokens) h in
     signed_more token (signed tokens) both.0 (signed_small tokens both.1)
 
--- the numbers of a line are small
+-- The numbers of a line are small.
 line_small : (octets : List ℕ) → all_small (tokens_in octets) ≡ true
 unfolding tokens_in tokens_read tokens_of
 line_small octets = signed_small (tokens_of (without_comment octets)) (pieces_small (pieces_of (without_comment octets)))
 
--- so are those of a spelling
+-- So are those of a spelling.
 abbrev NumbersFit : List Part → Type 0
 NumbersFit [] = Unit {0}
 NumbersFit (text octets ∷ parts) = NumbersFit parts
@@ -121,7 +121,7 @@ numbers_fit (label octets ∷ parts) h = numbers_fit parts h
 at_row : (tokens : List Token) (spelling : List Part) → all_small tokens ≡ true → tokens ≡ spelling_tokens spelling → NumbersFit spelling
 at_row tokens spelling h e = numbers_fit spelling (ap all_small (sym e) ∙ h)
 
--- the numbers of a statement fit their fields
+-- The numbers of a statement fit their fields.
 abbrev StatementFits : Statement → Type 0
 StatementFits (plain i) = FitsFields i
 StatementFits (jump target) = Unit {0}
@@ -142,7 +142,7 @@ sided_fits (mnemonic ∷ names) by target tokens h o =
 numbers_first : (k : ℕ) (parts : List Part) → NumbersFit (num k ∷ parts) → k < 2 ^ 32
 numbers_first k parts n = n.0
 
--- the number of a statement with one spelling fits
+-- The number of a statement with one spelling fits.
 one_row : (tokens : List Token) (k : ℕ) (spelling : List Part) → all_small tokens ≡ true → IsOneOf tokens (spelling ∷ []) → (NumbersFit spelling → k < 2 ^ 32) → k < 2 ^ 32
 one_row tokens k spelling h o f = elim o [ inl e ↦ f (at_row tokens spelling h e) | inr g ↦ absurd g ]
 
@@ -182,7 +182,7 @@ row_fits (branch test by (Some met) None) ts h o = sided_fits (test_name test �
 row_fits (branch test by None (Some unmet)) ts h o = sided_fits (inverse_names test) by unmet ts h o
 row_fits (branch test by None None) ts h o = absurd o
 
--- those of each statement of lines
+-- Those of each statement of lines.
 abbrev StatementsFit : List Statement → Type 0
 StatementsFit [] = Unit {0}
 StatementsFit (s ∷ ss) = StatementFits s × StatementsFit ss
@@ -208,7 +208,7 @@ side_fits : (lines : List Line) (place : ℕ) (target : Option (List ℕ)) (offs
 side_fits lines place None offset m = omega arith
 side_fits lines place (Some target) offset m = let fits = m.fits in omega arith
 
--- an instruction that a statement means fits its fields
+-- An instruction that a statement means fits its fields.
 means_fits : (lines : List Line) (place : ℕ) (s : Statement) (i : Instr) → StatementFits s → Means lines place s i → FitsFields i
 means_fits lines place (plain j) i f m = rw m f
 means_fits lines place (jump target) i f m = let fits = m.2.fits in rw m.1 (record { k = omega arith; jt = tt; jf = tt })
@@ -221,10 +221,10 @@ mean_fit lines from (s ∷ ss) [] f m place i e = absurd m
 mean_fit lines from (s ∷ ss) (j ∷ code) f m zero i e = let same : j ≡ i = cc in subst (λ (x : Instr). FitsFields x) same (means_fits lines from s j f.0 m.0)
 mean_fit lines from (s ∷ ss) (j ∷ code) f m (suc place) i e = mean_fit lines (from + 1) ss code f.1 m.1 place i e
 
--- each instruction that a source means fits its fields
+-- Each instruction that a source means fits its fields.
 pub meaning-fits : (source : List ℕ) (code : List Instr) → IsMeaning source code → (place : ℕ) (i : Instr) → StandsAt code place i → FitsFields i
 meaning-fits source code m = mean_fit m.lines 0 (statements_of m.lines) code (lines_fit (source_lines source) m.lines m.said) m.mean.meant
 
--- so the octets of its code spell it plainly
+-- So the octets of its code spell it plainly.
 pub meaning-plainly : (source : List ℕ) (code : List Instr) → IsMeaning source code → SpellsPlainly (code_octets code) code
 meaning-plainly source code m = code_octets-plainly code (meaning-fits source code m)

@@ -3,7 +3,7 @@ use Rattle.std.proofs.Common.{◌≡◌, ℕ, List, [], ◌∷◌, ◌++◌, Opt
 use Rattle.bpf_asm.specs.Grammar.{IsOneOf}
 use Rattle.bpf_asm.specs.Numbers.{number_of, value_behind}
 use Rattle.bpf_asm.specs.inner.Reading.{◌>>=◌, absolute_in, arithmetic_in, branch_in, constant_in, cut_name, cut_operand, cut_target, cut_word, ended, header, header_in, indexed_in, inverse_in, jump_in, length_in, load_index, load_word, or_else, packet, return_in, scratch_in, second_in}
-use Rattle.bpf_asm.specs.Spelling.{Statement, plain, jump, branch, spellings}
+use Rattle.bpf_asm.specs.StatementSpelling.{Statement, plain, jump, branch, spellings}
 use Rattle.bpf_asm.specs.Tokens.{Token, name, number, mark, pieces_of, tokens_of, word_token}
 use Rattle.bpf_code.specs.declared.instr.By.{By}
 use Rattle.bpf_code.specs.declared.instr.By.TheVariants.{Imm, X}
@@ -15,25 +15,25 @@ use Rattle.bpf_code.specs.declared.instr.Test.{Test}
 use Rattle.bpf_asm.proofs.TokenCuts.{some_same, next_some, else_some, end_is, name_is, word_is, operand_tokens, operand_is, target_is}
 use Rattle.bpf_asm.proofs.FormTokens.{constant_is, absolute_is, indexed_is, scratch_is, length_is, header_is, header_tokens}
 
--- the spellings of a statement, at tokens and a statement that are these
+-- The spellings of a statement, at tokens and a statement that are these.
 pub at_row : (ts row : List Token) (s found : Statement) → ts ≡ row → s ≡ found → IsOneOf row (spellings s) → IsOneOf ts (spellings found)
 at_row ts row s found e f h = rw (e, sym f) h
 
--- a number that makes a statement
+-- A number that makes a statement.
 makes : {A : Type 0} (found : Option A) (f : A → Statement) (s : Statement) → (found >>= (λ (k : A). Some (f k))) ≡ Some s → (k : A) × (found ≡ Some k) × (f k ≡ s)
 makes {A} found f s e = let n = next_some found (λ (k : A). Some (f k)) s e in (n.0, n.1, some_same (f n.0) s n.2)
 
--- a name before tokens
+-- A name before tokens.
 abbrev pub Named : List ℕ → List Token → Statement → Type 0
 Named octets ts s = IsOneOf (name octets ∷ ts) (spellings s)
 
--- a statement with its number, behind a name
+-- A statement with its number, behind a name.
 pub numbered : (octets : List ℕ) (ts : List Token) (s : Statement) (found : Option ℕ) (f : ℕ → Statement) (row : ℕ → List Token) → (found >>= (λ k. Some (f k))) ≡ Some s → ((k : ℕ) → found ≡ Some k → ts ≡ row k) → ((k : ℕ) → Named octets (row k) (f k)) → Named octets ts s
 numbered octets ts s found f row e is h =
     let n = makes found f s e in
     at_row (name octets ∷ ts) (name octets ∷ row n.0) (f n.0) s (ap (λ (r : List Token). name octets ∷ r) (is n.0 n.1)) n.2 (h n.0)
 
--- a statement behind a name alone
+-- A statement behind a name alone.
 pub lone : (octets : List ℕ) (ts : List Token) (s made : Statement) → ended made ts ≡ Some s → Named octets [] made → Named octets ts s
 lone octets ts s made e h =
     let f = end_is made s ts e in
@@ -113,7 +113,7 @@ arithmetic_sound op octets ts s h e =
     let whole : ts ≡ operand_tokens n.0.0 = operand_is ts n.0 n.1 ∙ ap (λ (r : List Token). operand_tokens n.0.0 ++ r) f.0 ∙ append-nil (operand_tokens n.0.0) in
     at_row (name octets ∷ ts) (name octets ∷ operand_tokens n.0.0) (plain (Alu op n.0.0)) s (ap (λ (r : List Token). name octets ∷ r) whole) f.1 (h n.0.0)
 
--- the tokens of an operand and a label, and of two labels
+-- The tokens of an operand and a label, and of two labels.
 abbrev pub one_tokens : By → List ℕ → List Token
 one_tokens by target = operand_tokens by ++ mark 44 ∷ name target ∷ []
 

@@ -6,7 +6,7 @@ use Rattle.bpf_asm.specs.Grammar.{Line}
 use Rattle.bpf_asm.specs.Labels.{HasLabel, StandsFor, statements_of}
 use Rattle.bpf_asm.proofs.Agreement.{some_line, some_name}
 
--- a label is this name or isn't
+-- A label is this name or isn't.
 named_by : (label : Option (List ℕ)) (name : List ℕ) → (label ≡ Some name) ⊎ ¬ (label ≡ Some name)
 named_by None name = inr (λ e. cc)
 named_by (Some label) name = by_test (bytes_eq label name) refl
@@ -18,17 +18,17 @@ named_by (Some label) name = by_test (bytes_eq label name) refl
         let both : true ≡ false = sym same ∙ h in
         cc)
 
--- no line has the name, where neither the first nor one of the others has it
+-- No line has the name, where neither the first nor one of the others has it.
 no_label : (line : Line) (lines : List Line) (name : List ℕ) → ¬ (line.label ≡ Some name) → ((at : ℕ) → ¬ HasLabel lines at name) → (at : ℕ) → ¬ HasLabel (line ∷ lines) at name
 no_label line lines name not none zero h = not (ap (λ (l : Line). l.label) (some_line line h.0 h.1) ∙ h.2)
 no_label line lines name not none (suc at) h = none at h
 
--- nothing stands before the first line
+-- Nothing stands before the first line.
 none_before : 0 ≡ length (statements_of [])
 unfolding statements_of
 none_before = refl
 
--- a label stands for a place, or no line has it
+-- A label stands for a place, or no line has it.
 pub stands-or_unknown : (lines : List Line) (name : List ℕ) → ((place : ℕ) × StandsFor lines name place) ⊎ ((at : ℕ) → ¬ HasLabel lines at name)
 stands-or_unknown [] name = inr (λ at h. cc)
 stands-or_unknown (line ∷ lines) name =

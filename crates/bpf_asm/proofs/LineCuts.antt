@@ -1,8 +1,8 @@
 -- A text falls into its first line and what is behind it.
-use Rattle.std.proofs.Common.{◌≡◌, ℕ, ◌+◌, ◌-◌, ◌<◌, true, false, not, ◌==◌, List, [], ◌∷◌, ◌++◌, length, map, get_or, take, drop, refl, sym, ap, ◌∙◌, eq-eqb, arith, take-append-drop}
-use Rattle.std.proofs.lemmas.Bool.{and_parts, ne_eqb, not-true}
+use Rattle.std.proofs.Common.{◌≡◌, ℕ, ◌+◌, ◌<◌, true, false, not, ◌==◌, List, [], ◌∷◌, ◌++◌, length, map, get_or, take, drop, refl, sym, ap, ◌∙◌, arith, take-append-drop}
+use Rattle.std.proofs.lemmas.Bool.{and_parts, not-true}
 use Rattle.std.proofs.lemmas.List.{drop_all, drop_more, take_all}
-use Rattle.bpf_asm.specs.Lines.{source_lines}
+use Rattle.bpf_asm.specs.SourceLines.{source_lines}
 use Rattle.bpf_asm.specs.inner.Feeds.{no_feed}
 use Rattle.dialogue.specs.Lines.{begun_with, lines_of, said, without_return}
 
@@ -20,25 +20,25 @@ last octet (next ∷ line) n =
     let both = and_parts (not (octet == 10)) (no_feed (next ∷ line)) n in
     rw (not-true _ both.0) (ap (begun_with octet) (last next line both.1))
 
--- a line that a line feed ends
+-- A line that a line feed ends.
 pub line_ended : (line rest : List ℕ) → no_feed line ≡ true → source_lines (line ++ 10 ∷ rest) ≡ without_return line ∷ source_lines rest
 unfolding source_lines
 line_ended line rest n = ap (map said) (ended line rest n)
 
--- the last line, without a line feed
+-- The last line, without a line feed.
 pub line_last : (line : List ℕ) → 0 < length line → no_feed line ≡ true → source_lines line ≡ line ∷ []
 unfolding source_lines
 line_last [] h n = absurd (omega arith)
 line_last (octet ∷ line) h n = ap (map said) (last octet line n)
 
--- at a line feed
+-- At a line feed.
 pub line_cut : (text : List ℕ) (at : ℕ) → at < length text → no_feed (take at text) ≡ true → get_or text at 0 ≡ 10 → source_lines text ≡ without_return (take at text) ∷ source_lines (drop (at + 1) text)
 line_cut text at h n f =
     let split : text ≡ take at text ++ 10 ∷ drop (at + 1) text =
     sym (take-append-drop at text) ∙ ap (λ (r : List ℕ). take at text ++ r) (drop_more text at 0 h ∙ ap (λ (o : ℕ). o ∷ drop (at + 1) text) f) in
     ap source_lines split ∙ line_ended (take at text) (drop (at + 1) text) n
 
--- at the end
+-- At the end.
 pub line_rest : (text : List ℕ) (at : ℕ) → 0 < length text → at ≡ length text → no_feed (take at text) ≡ true → source_lines text ≡ text ∷ source_lines (drop at text)
 unfolding source_lines
 line_rest text at h e n =
@@ -46,21 +46,8 @@ line_rest text at h e n =
     let none : drop at text ≡ [] = drop_all at text (omega arith) in
     line_last text h (sym (ap no_feed whole) ∙ n) ∙ ap (λ (r : List ℕ). text ∷ source_lines r) (sym none)
 
--- no line in no text
+-- No line in no text.
 pub lines_none : (text : List ℕ) → length text ≡ 0 → source_lines text ≡ []
 unfolding source_lines
 lines_none [] h = refl
 lines_none (octet ∷ rest) h = absurd (omega arith)
-
--- a carriage return at the end
-pub return_dropped : (line : List ℕ) → get_or line (length line - 1) 0 ≡ 13 → take (length line - 1) line ≡ without_return line
-return_dropped line e = rw (eq-eqb (get_or line (length line - 1) 0) 13 e) refl
-
--- none there
-pub return_none : (line : List ℕ) → (get_or line (length line - 1) 0 ≡ 13 → ⊥) → line ≡ without_return line
-return_none line n = rw (ne_eqb (get_or line (length line - 1) 0) 13 n) refl
-
--- nor in no octets
-pub return_empty : (line : List ℕ) → length line ≡ 0 → line ≡ without_return line
-return_empty [] h = refl
-return_empty (octet ∷ line) h = absurd (omega arith)

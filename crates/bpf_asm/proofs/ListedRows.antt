@@ -2,7 +2,7 @@
 use Rattle.std.proofs.Common.{◌≡◌, ℕ, ◌+◌, ◌<◌, ◌^◌, Bool, true, false, ◌&&◌, List, [], ◌∷◌, codes, refl, inl, inr}
 use Rattle.bpf_asm.specs.Listing.{StaysWithin, first_spelling, label_at, statement_at}
 use Rattle.bpf_asm.specs.Numbers.{number_of, value_behind}
-use Rattle.bpf_asm.specs.Spelling.{Part, text, label, spelling_tokens, spellings}
+use Rattle.bpf_asm.specs.StatementSpelling.{Part, text, label, spelling_tokens, spellings}
 use Rattle.bpf_asm.specs.Tokens.{pieces_of, tokens_of, word_token}
 use Rattle.bpf_code.specs.Widths.{FitsFields}
 use Rattle.bpf_asm.proofs.Apart.{ReadParts, ReadsPart, is_apart, no_minus, texts_inline}
@@ -13,20 +13,20 @@ use Rattle.bpf_code.specs.declared.instr.Op.TheVariants.{Add, Sub, Mul, Div, Or,
 use Rattle.bpf_code.specs.declared.instr.Size.TheVariants.{Word, Half, Octet}
 use Rattle.bpf_code.specs.declared.instr.Test.TheVariants.{Eq, Gt, Ge, Set}
 
--- the parts of a line of a listing
+-- The parts of a line of a listing.
 abbrev pub line_parts : ℕ → Instr → List Part
 line_parts place i = label (label_at place) ∷ text (codes ": ") ∷ first_spelling (spellings (statement_at place i))
 
--- there is some spelling
+-- There is some spelling.
 abbrev pub is_some_row : List (List Part) → Bool
 is_some_row [] = false
 is_some_row (row ∷ rows) = true
 
--- the parts of a row don't run into one another, end no line, begin no comment and have no sign
+-- The parts of a row don't run into one another, end no line, begin no comment and have no sign.
 abbrev pub is_good : List Part → Bool
 is_good parts = is_apart parts && (texts_inline parts && no_minus (spelling_tokens parts))
 
--- the instruction has a row, and that row is a good one
+-- The instruction has a row, and that row is a good one.
 pub row_good : (place : ℕ) (i : Instr) → (is_good (line_parts place i) && is_some_row (spellings (statement_at place i))) ≡ true
 unfolding spellings tokens_of pieces_of word_token number_of value_behind
 row_good place (LoadAbs Word k) = refl
@@ -79,7 +79,7 @@ row_good place RetA = refl
 row_good place Tax = refl
 row_good place Txa = refl
 
--- the parts of a row read as their tokens
+-- The parts of a row read as their tokens.
 pub row_reads : (place : ℕ) (i : Instr) → FitsFields i → StaysWithin (2 ^ 64) place i → ((target : ℕ) → target < 2 ^ 64 → ReadsPart (label (label_at target))) → ReadsPart (label (label_at place)) → ReadParts (line_parts place i)
 unfolding spellings
 row_reads place (LoadAbs Word k) w s t l = (l, (tt, (tt, (tt, (w.k, (tt, tt))))))

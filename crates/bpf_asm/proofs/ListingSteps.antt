@@ -8,14 +8,14 @@ pub listing_from-cons : (place : ℕ) (i : Instr) (code : List Instr) → listin
 unfolding listing_from
 listing_from-cons place i code = refl
 
--- one line more is written
+-- One line more is written.
 pub written_more : (text whole : List ℕ) (code : List Instr) (at : ℕ) (d : Instr) → at < length code → text ++ listing_from at (drop at code) ≡ whole → (text ++ line_text at (get_or code at d)) ++ listing_from (at + 1) (drop (at + 1) code) ≡ whole
 written_more text whole code at d h e =
     append_assoc text (line_text at (get_or code at d)) (listing_from (at + 1) (drop (at + 1) code))
     ∙ ap (λ (rest : List ℕ). text ++ rest) (sym (at_drop_more (listing_from at) code at d h ∙ listing_from-cons at (get_or code at d) (drop (at + 1) code)))
     ∙ e
 
--- all lines are written
+-- All lines are written.
 pub written_all : (text whole : List ℕ) (code : List Instr) (at : ℕ) → length code ≤ at → text ++ listing_from at (drop at code) ≡ whole → text ≡ whole
 unfolding listing_from
 written_all text whole code at h e = sym (append-nil text) ∙ ap (λ (rest : List ℕ). text ++ rest) (sym (at_drop_all (listing_from at) code at h)) ∙ e

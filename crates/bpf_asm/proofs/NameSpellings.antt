@@ -4,7 +4,7 @@ use Rattle.std.specs.Str.{bytes_eq}
 use Rattle.std.proofs.lemmas.Slice.Eq.{bytes_eq-Decides}
 use Rattle.bpf_asm.specs.Numbers.{number_of, value_behind}
 use Rattle.bpf_asm.specs.inner.Reading.{arithmetic_in, branch_in, entry_of, header_in, inverse_in, inverse_of, moved_forms, moved_in, op_of, op_rows, test_rows, inverse_rows, other_forms, other_in, scratch_in, test_of}
-use Rattle.bpf_asm.specs.Spelling.{Statement, plain, branch, spellings}
+use Rattle.bpf_asm.specs.StatementSpelling.{Statement, plain, branch, spellings}
 use Rattle.bpf_asm.specs.Tokens.{Token, name, number, mark, pieces_of, tokens_of, word_token}
 use Rattle.bpf_code.specs.declared.instr.Instr.TheVariants.{LdxMsh, Store, StoreX, Alu, Neg, Tax, Txa}
 use Rattle.bpf_code.specs.declared.instr.Op.{Op}
@@ -16,7 +16,7 @@ use Rattle.bpf_asm.proofs.TokenCuts.{some_same, next_some, operand_tokens}
 use Rattle.bpf_asm.proofs.FormTokens.{scratch_is, header_is, header_tokens}
 use Rattle.bpf_asm.proofs.FormSpellings.{Named, numbered, lone, packet_sound, word_sound, index_sound, return_sound, jump_sound, both_operands, arithmetic_sound, one_tokens, two_tokens, inverse_sound, branch_sound}
 
--- the value is the name's in some row
+-- The value is the name's in some row.
 abbrev IsEntry : {A : Type 0} → List ℕ → A → List (List ℕ × A) → Type 0
 IsEntry octets value [] = ⊥
 IsEntry octets value (row ∷ rows) = ((octets ≡ row.0) × (row.1 ≡ value)) ⊎ IsEntry octets value rows

@@ -3,9 +3,9 @@ use Rattle.std.proofs.Common.{◌≡◌, ℕ, ◌+◌, ◌-◌, ◌%◌, ◌^◌
 use Rattle.bpf_asm.specs.Faults.{HasOffset, HasOffsets, IsFault, IsFirstOperandFault, IsLabelFault, IsLineFault, IsOperandFault}
 use Rattle.bpf_asm.specs.Grammar.{AreLines, IsLine, IsLineOf, IsOneOf, Line}
 use Rattle.bpf_asm.specs.Labels.{EachLabelOnce, HasLabel, IsDangling, Operand, statements_of}
-use Rattle.bpf_asm.specs.Lines.{source_lines, without_comment}
+use Rattle.bpf_asm.specs.SourceLines.{source_lines, without_comment}
 use Rattle.bpf_asm.specs.Meaning.{IsMeaning, MeanFrom, Means}
-use Rattle.bpf_asm.specs.Spelling.{Statement}
+use Rattle.bpf_asm.specs.StatementSpelling.{Statement}
 use Rattle.bpf_asm.specs.Tokens.{HasBadNumber, Token, name, number, faulty, mark, has_faulty, is_faulty, signed, signed_behind, tokens_in, tokens_of, tokens_read}
 use Rattle.bpf_asm.specs.declared.fault.AsmFault.{AsmFault}
 use Rattle.bpf_asm.specs.declared.fault.AsmKind.{AsmKind}
@@ -48,7 +48,7 @@ line_faulty : (ts : List Token) (label : Option (List ℕ)) (s : Option Statemen
 line_faulty ts None s h = ap has_faulty h.1 ∙ body_faulty h.0 s h.2
 line_faulty ts (Some l) s h = ap has_faulty h.1 ∙ body_faulty h.0 s h.2
 
--- a line of the grammar has no number that is none
+-- A line of the grammar has no number that is none.
 pub line_numbers : (octets : List ℕ) (line : Line) → IsLine octets line → HasBadNumber octets → ⊥
 unfolding IsLine tokens_in tokens_read HasBadNumber
 line_numbers octets line is bad =
@@ -56,7 +56,7 @@ line_numbers octets line is bad =
     let both : true ≡ false = sym bad ∙ sym (signed_faulty (tokens_of (without_comment octets))) ∙ fine in
     cc
 
--- lines fall apart as their octets do
+-- Lines fall apart as their octets do.
 pub record Parts (before : List (List ℕ)) (here : List ℕ) (lines : List Line) : Type 0 where
   pub front : List Line
   pub line : Line
@@ -143,7 +143,7 @@ label_never source fault code a g =
     let followed = subst (λ (lines : List Line). (at : ℕ) → ¬ IsDangling lines at) same a.mean.followed in
     elim g.faulty [ inl d ↦ followed d.at d.dangling | inr o ↦ first_never g.lines fault code g.once meant o.1 ]
 
--- a source that means a code has no fault
+-- A source that means a code has no fault.
 pub never_both : (source : List ℕ) (code : List Instr) (fault : AsmFault) → IsMeaning source code → IsFault source fault → ⊥
 never_both source code fault a (inl f) =
     line_never f.before f.here a.lines f.lines fault.kind (parts_of f.before f.here f.behind a.lines (rw f.split at a.said)) a.mean.once f.said f.faulty

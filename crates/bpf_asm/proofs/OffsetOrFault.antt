@@ -5,7 +5,7 @@ use Rattle.bpf_asm.specs.Faults.{HasOffset, IsOperandFault, IsStatementFault}
 use Rattle.bpf_asm.specs.Grammar.{Line}
 use Rattle.bpf_asm.specs.Labels.{Operand, StandsFor}
 use Rattle.bpf_asm.specs.Meaning.{IsSide, Means}
-use Rattle.bpf_asm.specs.Spelling.{Statement, plain, jump, branch}
+use Rattle.bpf_asm.specs.StatementSpelling.{Statement, plain, jump, branch}
 use Rattle.bpf_asm.specs.inner.Drafts.{IsSideFault}
 use Rattle.bpf_asm.specs.declared.fault.AsmKind.{AsmKind}
 use Rattle.bpf_asm.specs.declared.fault.AsmKind.TheVariants.{UnknownLabel, Backward, TooFar}
@@ -14,7 +14,7 @@ use Rattle.bpf_asm.proofs.Resolving.{first_side, jump_fault, second_side}
 use Rattle.bpf_code.specs.declared.instr.Instr.{Instr}
 use Rattle.bpf_code.specs.declared.instr.Instr.TheVariants.{Jump, Branch}
 
--- a label that stands for a place
+-- A label that stands for a place.
 reached : (lines : List Line) (place : ℕ) (operand : Operand) (target : ℕ) → StandsFor lines operand.label target → HasOffset lines place operand ⊎ ((kind : AsmKind) × IsOperandFault lines place operand kind)
 reached lines place operand target stands =
     elim (cases_lt place target) [
@@ -27,7 +27,7 @@ reached lines place operand target stands =
       ]
     ]
 
--- a label operand has an offset or a fault
+-- A label operand has an offset or a fault.
 offset-or_fault : (lines : List Line) (place : ℕ) (operand : Operand) → HasOffset lines place operand ⊎ ((kind : AsmKind) × IsOperandFault lines place operand kind)
 offset-or_fault lines place operand =
     elim (stands-or_unknown lines operand.label) [
@@ -35,12 +35,12 @@ offset-or_fault lines place operand =
       | inr unknown ↦ inr (UnknownLabel, unknown)
     ]
 
--- a side of a branch has an offset or a fault
+-- A side of a branch has an offset or a fault.
 side-or_fault : (lines : List Line) (place : ℕ) (label : Option (List ℕ)) → ((offset : ℕ) × IsSide lines place label offset) ⊎ ((kind : AsmKind) × IsSideFault lines place label kind)
 side-or_fault lines place None = inl (0, refl)
 side-or_fault lines place (Some target) = offset-or_fault lines place (record { label = target; most = 255 })
 
--- a statement means an instruction or has a fault
+-- A statement means an instruction or has a fault.
 pub means-or_fault : (lines : List Line) (place : ℕ) (s : Statement) → ((i : Instr) × Means lines place s i) ⊎ ((kind : AsmKind) × IsStatementFault lines place s kind)
 means-or_fault lines place (plain i) = inl (i, refl)
 means-or_fault lines place (jump target) =

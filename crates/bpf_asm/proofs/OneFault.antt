@@ -3,8 +3,8 @@ use Rattle.std.proofs.Common.{◌≡◌, ◌⊎◌, ℕ, ◌+◌, ◌<◌, List,
 use Rattle.bpf_asm.specs.Faults.{HasOffsets, HaveOffsets, IsFault, IsFirstDangling, IsFirstLineFault, IsFirstOperandFault, IsLabelFault, IsLineFault, IsOperandFault, IsStatementFault}
 use Rattle.bpf_asm.specs.Grammar.{Line}
 use Rattle.bpf_asm.specs.Labels.{EachLabelOnce, IsDangling, Operand, operands_of, statements_of}
-use Rattle.bpf_asm.specs.Lines.{source_lines}
-use Rattle.bpf_asm.specs.Spelling.{Statement}
+use Rattle.bpf_asm.specs.SourceLines.{source_lines}
+use Rattle.bpf_asm.specs.StatementSpelling.{Statement}
 use Rattle.bpf_asm.specs.declared.fault.AsmFault.{AsmFault}
 use Rattle.bpf_asm.specs.declared.fault.AsmKind.{AsmKind}
 use Rattle.bpf_asm.specs.declared.fault.AsmKind.TheVariants.{BadLine, BadNumber, LabelTwice, UnknownLabel, Backward, TooFar, DanglingLabel, NoMemory}
@@ -12,7 +12,7 @@ use Rattle.bpf_asm.proofs.Agreement.{stands_has, statements_of-append}
 use Rattle.bpf_asm.proofs.NeverBoth.{line_never, line_numbers, offset_in, operand_never, parts_of, some_here}
 use Rattle.bpf_asm.proofs.OneMeaning.{lines_once, stands_once}
 
--- of two places in a list, they are one, or the first is in front of the second, or the second of the first
+-- Of two places in a list, they are one, or the first is in front of the second, or the second of the first.
 InFront : {A : Type 0} → List A → A → List A → Type 0
 InFront {A} one x other = (more : List A) × (other ≡ one ++ x ∷ more)
 
@@ -179,7 +179,7 @@ label_once source one other f g =
       | inr o ↦ elim there [ inl e ↦ absurd (o.0 e.at e.dangling) | inr q ↦ first_once f.lines one other f.once o.1 q.1 ]
     ]
 
--- a source has at most one fault
+-- A source has at most one fault.
 pub fault_once : (source : List ℕ) (one other : AsmFault) → IsFault source one → IsFault source other → one ≡ other
 fault_once source one other (inl f) (inl g) = line_fault_once (source_lines source) one other f g
 fault_once source one other (inl f) (inr g) = absurd (line_or_label (source_lines source) one other f g)

@@ -3,9 +3,9 @@ use Rattle.std.proofs.Common.{◌≡◌, ℕ, ◌+◌, List, [], ◌∷◌, leng
 use Rattle.std.proofs.lemmas.List.{take_at}
 use Rattle.bpf_asm.specs.Grammar.{AreLines, IsLine, Line}
 use Rattle.bpf_asm.specs.Labels.{EachLabelOnce, HasLabel, IsOffset, Operand, StandsFor, statements_of}
-use Rattle.bpf_asm.specs.Lines.{source_lines}
+use Rattle.bpf_asm.specs.SourceLines.{source_lines}
 use Rattle.bpf_asm.specs.Meaning.{IsMeaning, IsSide, MeanFrom, Means}
-use Rattle.bpf_asm.specs.Spelling.{Statement, plain, jump, branch}
+use Rattle.bpf_asm.specs.StatementSpelling.{Statement, plain, jump, branch}
 use Rattle.bpf_asm.specs.Tokens.{tokens_in}
 use Rattle.bpf_asm.proofs.LineBack.{line_back}
 use Rattle.bpf_asm.proofs.Agreement.{stands_label}
@@ -15,13 +15,13 @@ use Rattle.bpf_code.specs.declared.instr.Instr.TheVariants.{Jump, Branch}
 same_line : (one other : Line) → Some one ≡ Some other → one ≡ other
 same_line one other e = cc
 
--- a line says one thing
+-- A line says one thing.
 pub line_once : (octets : List ℕ) (one other : Line) → IsLine octets one → IsLine octets other → one ≡ other
 unfolding IsLine
 line_once octets one other a b =
     same_line one other (sym (line_back (tokens_in octets) one.label one.statement a) ∙ line_back (tokens_in octets) other.label other.statement b)
 
--- so do lines
+-- So do lines.
 pub lines_once : (octets : List (List ℕ)) (some other : List Line) → AreLines octets some → AreLines octets other → some ≡ other
 lines_once [] some other a b = a ∙ sym b
 lines_once (here ∷ octets) [] other a b = absurd a
@@ -29,7 +29,7 @@ lines_once (here ∷ octets) (one ∷ some) [] a b = absurd b
 lines_once (here ∷ octets) (one ∷ some) (two ∷ other) a b =
     ap (λ (line : Line). line ∷ some) (line_once here one two a.0 b.0) ∙ ap (λ (lines : List Line). two ∷ lines) (lines_once octets some other a.1 b.1)
 
--- a label's place by its line
+-- A label's place by its line.
 stands_place : (lines : List Line) (name : List ℕ) (place : ℕ) → StandsFor lines name place → (at : ℕ) × HasLabel lines at name × (place ≡ length (statements_of (take at lines)))
 stands_place lines name place s =
     let front : take (length s.before) lines ≡ s.before = ap (λ (ls : List Line). take (length s.before) ls) s.split ∙ take_at s.before (s.here ∷ s.behind) (length s.before) refl in (
@@ -38,7 +38,7 @@ stands_place lines name place s =
       s.counted ∙ ap (λ (ls : List Line). length (statements_of ls)) (sym front),
     )
 
--- a label that stands once stands for one place
+-- A label that stands once stands for one place.
 pub stands_once : (lines : List Line) (name : List ℕ) (one other : ℕ) → EachLabelOnce lines → StandsFor lines name one → StandsFor lines name other → one ≡ other
 stands_once lines name one other once a b =
     let first = stands_place lines name one a in
@@ -69,7 +69,7 @@ mean_once lines place (s ∷ ss) (i ∷ one) [] once a b = absurd b
 mean_once lines place (s ∷ ss) (i ∷ one) (j ∷ other) once a b =
     ap (λ (k : Instr). k ∷ one) (means_once lines place s i j once a.0 b.0) ∙ ap (λ (code : List Instr). j ∷ code) (mean_once lines (place + 1) ss one other once a.1 b.1)
 
--- a source means at most one code
+-- A source means at most one code.
 pub meaning_once : (source : List ℕ) (one other : List Instr) → IsMeaning source one → IsMeaning source other → one ≡ other
 meaning_once source one other a b =
     let same = lines_once (source_lines source) b.lines a.lines b.said a.said in

@@ -4,10 +4,10 @@ use Rattle.std.proofs.lemmas.List.{drop_all, drop-append-le}
 use Rattle.bpf_asm.specs.Grammar.{Line}
 use Rattle.bpf_asm.specs.Labels.{HasLabel, IsDangling, statements_of}
 use Rattle.bpf_asm.specs.inner.Pending.{IsPending}
-use Rattle.bpf_asm.specs.Spelling.{Statement}
+use Rattle.bpf_asm.specs.StatementSpelling.{Statement}
 use Rattle.bpf_asm.proofs.Agreement.{statements_one, label_kept, label_split, statements_of-append}
 
--- a line with a label is within the lines
+-- A line with a label is within the lines.
 pub label_within : (lines : List Line) (at : ℕ) (name : List ℕ) → HasLabel lines at name → at < length lines
 label_within [] at name h = cc
 label_within (line ∷ lines) zero name h = omega arith
@@ -20,7 +20,7 @@ no_more lines line s e n =
     let sum = length-append (statements_of lines) (statements_of (line ∷ [])) in
     omega arith
 
--- behind an instruction no label is pending
+-- Behind an instruction no label is pending.
 pub pending_none : (lines : List Line) (line : Line) (s : Statement) → line.statement ≡ Some s → IsPending (lines ++ line ∷ []) None
 pending_none lines line s e at d =
     let within = label_within (lines ++ line ∷ []) at d.0 d.1 in
@@ -43,13 +43,13 @@ drop_empty : (lines : List Line) (line : Line) (at : ℕ) → at ≤ length line
 drop_empty lines line at h e =
     ap statements_of (drop-append-le at lines (line ∷ []) h) ∙ statements_of-append (drop at lines) (line ∷ []) ∙ ap (λ (ss : List Statement). statements_of (drop at lines) ++ ss) (none_of line e) ∙ append-nil (statements_of (drop at lines))
 
--- a label that was pending still is
+-- A label that was pending still is.
 dangling_kept : (lines : List Line) (line : Line) (at : ℕ) → line.statement ≡ None → IsDangling lines at → IsDangling (lines ++ line ∷ []) at
 dangling_kept lines line at e d =
     let within = label_within lines at d.0 d.1 in
     (d.0, label_kept lines (line ∷ []) at d.0 d.1, drop_empty lines line at (omega arith) e ∙ d.2)
 
--- a label that is pending was so, or is the last line's
+-- A label that is pending was so, or is the last line's.
 dangling_split : (lines : List Line) (line : Line) (at : ℕ) → line.statement ≡ None → IsDangling (lines ++ line ∷ []) at → IsDangling lines at ⊎ ((at ≡ length lines) × ((name : List ℕ) × (line.label ≡ Some name)))
 dangling_split lines line at e d =
     elim (label_split lines line at d.0 d.1) [
@@ -57,7 +57,7 @@ dangling_split lines line at e d =
       | inr l ↦ inr (l.0, (d.0, l.1))
     ]
 
--- a label that is pending first stays so
+-- A label that is pending first stays so.
 pub pending_kept : (lines : List Line) (line : Line) (first : ℕ) → line.statement ≡ None → IsPending lines (Some first) → IsPending (lines ++ line ∷ []) (Some first)
 pending_kept lines line first e p = (
   omega (arith, length-append lines (line ∷ []), p.0),
@@ -69,7 +69,7 @@ last_label : (lines : List Line) (line : Line) (name : List ℕ) → line.label 
 last_label [] line name e = (line, refl, e)
 last_label (first ∷ lines) line name e = last_label lines line name e
 
--- the last line's label is pending
+-- The last line's label is pending.
 pub pending_new : (lines : List Line) (line : Line) (name : List ℕ) → line.label ≡ Some name → line.statement ≡ None → IsPending lines None → IsPending (lines ++ line ∷ []) (Some (length lines))
 pending_new lines line name l e p = (
   omega (arith, length-append lines (line ∷ [])),
@@ -77,11 +77,11 @@ pending_new lines line name l e p = (
   λ earlier h d. elim (dangling_split lines line earlier e d) [ inl f ↦ p earlier f | inr m ↦ let same = m.0 in absurd (omega arith) ],
 )
 
--- no label, none pending
+-- No label, none pending.
 pub pending_plain : (lines : List Line) (line : Line) → line.label ≡ None → line.statement ≡ None → IsPending lines None → IsPending (lines ++ line ∷ []) None
 pending_plain lines line l e p at d =
     elim (dangling_split lines line at e d) [ inl f ↦ p at f | inr m ↦ no_label m.1.0 (sym m.1.1 ∙ l) ]
 
--- at a value that is this one
+-- At a value that is this one.
 pub pending_at : (lines : List Line) (one other : Option ℕ) → one ≡ other → IsPending lines one → IsPending lines other
 pending_at lines one other e p = subst (λ (o : Option ℕ). IsPending lines o) e p

@@ -4,16 +4,16 @@ use Rattle.std.specs.List.{filter_map}
 use Rattle.std.proofs.lemmas.List.Elements.{filter_map-append}
 use Rattle.std.proofs.lemmas.Bool.{and_left, and_parts, and_right, eqb-true, or_cases}
 use Rattle.bpf_asm.specs.Tokens.{Token, is_run, is_word, joined, pieces_of, token_of, tokens_of, word_token, mark}
-use Rattle.bpf_asm.specs.inner.Words.{all_word}
+use Rattle.bpf_asm.specs.inner.WordRuns.{all_word}
 use Rattle.dialogue.specs.Words.{is_blank}
 
--- the text ends in an octet of a word
+-- The text ends in an octet of a word.
 abbrev pub ends_word : List ℕ → Bool
 ends_word [] = false
 ends_word (octet ∷ []) = is_word octet
 ends_word (octet ∷ next ∷ rest) = ends_word (next ∷ rest)
 
--- the first piece is a run
+-- The first piece is a run.
 abbrev first_run : List (List ℕ) → Bool
 first_run [] = false
 first_run (piece ∷ pieces) = is_run piece
@@ -23,7 +23,7 @@ joined-run octet [] = refl
 joined-run octet (piece ∷ pieces) =
     elim (is_word octet && is_run piece) as (λ t. first_run (if t then (octet ∷ piece) ∷ pieces else (octet ∷ []) ∷ piece ∷ pieces) ≡ is_word octet) [ true ↦ refl | false ↦ refl ]
 
--- pieces begin as the text does
+-- Pieces begin as the text does.
 pieces_run : (text : List ℕ) → first_run (pieces_of text) ≡ is_run text
 unfolding pieces_of
 pieces_run [] = refl
@@ -37,14 +37,14 @@ joined-append : (octet : ℕ) (piece : List ℕ) (pieces more : List (List ℕ))
 joined-append octet piece pieces more =
     elim (is_word octet && is_run piece) as (λ t. (if t then (octet ∷ piece) ∷ (pieces ++ more) else (octet ∷ []) ∷ piece ∷ (pieces ++ more)) ≡ (if t then (octet ∷ piece) ∷ pieces else (octet ∷ []) ∷ piece ∷ pieces) ++ more) [ true ↦ refl | false ↦ refl ]
 
--- a text of some octets has some piece
+-- A text of some octets has some piece.
 joined-some : (octet : ℕ) (pieces more : List (List ℕ)) (next : ℕ) → joined octet (joined next pieces ++ more) ≡ joined octet (joined next pieces) ++ more
 joined-some octet [] more next = joined-append octet (next ∷ []) [] more
 joined-some octet (piece ∷ pieces) more next =
     elim (is_word next && is_run piece) as (λ t. joined octet ((if t then (next ∷ piece) ∷ pieces else (next ∷ []) ∷ piece ∷ pieces) ++ more) ≡ joined octet (if t then (next ∷ piece) ∷ pieces else (next ∷ []) ∷ piece ∷ pieces) ++ more)
     [ true ↦ joined-append octet (next ∷ piece) pieces more | false ↦ joined-append octet (next ∷ []) (piece ∷ pieces) more ]
 
--- texts of which the first doesn't run into the second fall apart
+-- Texts of which the first doesn't run into the second fall apart.
 pub pieces_of-append : (text more : List ℕ) → (ends_word text && is_run more) ≡ false → pieces_of (text ++ more) ≡ pieces_of text ++ pieces_of more
 unfolding pieces_of
 pieces_of-append [] more h = refl
@@ -54,7 +54,7 @@ pieces_of-append (octet ∷ []) more h =
 pieces_of-append (octet ∷ next ∷ rest) more h =
     ap (joined octet) (pieces_of-append (next ∷ rest) more h) ∙ joined-some octet (pieces_of rest) (pieces_of more) next
 
--- and so do their tokens
+-- And so do their tokens.
 pub tokens_of-append : (text more : List ℕ) → (ends_word text && is_run more) ≡ false → tokens_of (text ++ more) ≡ tokens_of text ++ tokens_of more
 unfolding tokens_of
 tokens_of-append text more h = ap (filter_map token_of) (pieces_of-append text more h) ∙ filter_map-append token_of (pieces_of text) (pieces_of more)
@@ -68,7 +68,7 @@ pieces_of-word octet (next ∷ rest) h =
     let inner = and_parts (is_word next) (all_word rest) both.1 in
     ap (joined octet) later ∙ rw (both.0, inner.0) refl
 
--- a word is one token
+-- A word is one token.
 pub tokens_of-word : (octet : ℕ) (rest : List ℕ) → all_word (octet ∷ rest) ≡ true → tokens_of (octet ∷ rest) ≡ word_token (octet ∷ rest) ∷ []
 unfolding tokens_of
 tokens_of-word octet rest h =
@@ -78,23 +78,23 @@ tokens_of-word octet rest h =
 blank_by : (octet n : ℕ) → is_word n ≡ false → (octet == n) ≡ true → is_word octet ≡ false
 blank_by octet n f e = let same : octet ≡ n = eqb-true octet n e in rw same f
 
--- a blank is no octet of a word
+-- A blank is no octet of a word.
 pub blank_no_word : (octet : ℕ) → is_blank octet ≡ true → is_word octet ≡ false
 blank_no_word octet h = elim (or_cases (octet == 32) (octet == 9) h) [ inl e ↦ blank_by octet 32 refl e | inr e ↦ blank_by octet 9 refl e ]
 
--- an octet that is neither of a word nor blank is a token
+-- An octet that is neither of a word nor blank is a token.
 pub tokens_of-mark : (octet : ℕ) (rest : List ℕ) → is_word octet ≡ false → is_blank octet ≡ false → tokens_of (octet ∷ rest) ≡ mark octet ∷ tokens_of rest
 unfolding tokens_of pieces_of
 tokens_of-mark octet rest w b = tokens_of-append (octet ∷ []) rest (and_left _ _ w) ∙ ap (λ (ts : List Token). ts ++ tokens_of rest) {y = mark octet ∷ []} (rw (w, b) refl)
 
--- a blank is none
+-- A blank is none.
 pub tokens_of-blank : (octet : ℕ) (rest : List ℕ) → is_blank octet ≡ true → tokens_of (octet ∷ rest) ≡ tokens_of rest
 unfolding tokens_of pieces_of
 tokens_of-blank octet rest b =
     let w = blank_no_word octet b in
     tokens_of-append (octet ∷ []) rest (and_left _ _ w) ∙ ap (λ (ts : List Token). ts ++ tokens_of rest) {y = []} (rw (w, b) refl)
 
--- a word is one, where what is behind it is none
+-- A word is one, where what is behind it is none.
 pub tokens_of-words : (word rest : List ℕ) → 0 < length word → all_word word ≡ true → is_run rest ≡ false → tokens_of (word ++ rest) ≡ word_token word ∷ tokens_of rest
 tokens_of-words [] rest h w r = absurd (omega arith)
 tokens_of-words (octet ∷ word) rest h w r =

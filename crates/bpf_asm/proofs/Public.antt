@@ -9,7 +9,7 @@ use Rattle.bpf_asm.specs.Faults.{IsFault}
 use Rattle.bpf_asm.specs.Meaning.{IsMeaning}
 use Rattle.bpf_asm.specs.declared.fault.AsmFault.{AsmFault}
 use Rattle.bpf_code.specs.Encoding.{code_octets}
-use Rattle.bpf_code.specs.Spelling.{SpellsPlainly}
+use Rattle.bpf_code.specs.OctetSpelling.{SpellsPlainly}
 use Rattle.bpf_code.specs.declared.instr.Instr.{Instr}
 
 -- A source means at most one code.

@@ -3,7 +3,7 @@ use Rattle.std.proofs.Common.{◌≡◌, List, Some, None, refl, inl, inr}
 use Rattle.bpf_asm.specs.Grammar.{IsOneOf}
 use Rattle.bpf_asm.specs.Numbers.{number_of, value_behind}
 use Rattle.bpf_asm.specs.inner.Reading.{inverse_of, moved_in, named_in, op_of, other_in, statement_in, test_of}
-use Rattle.bpf_asm.specs.Spelling.{Statement, plain, jump, branch, spellings}
+use Rattle.bpf_asm.specs.StatementSpelling.{Statement, plain, jump, branch, spellings}
 use Rattle.bpf_asm.specs.Tokens.{Token, pieces_of, tokens_of, word_token}
 use Rattle.bpf_code.specs.declared.instr.By.TheVariants.{Imm, X}
 use Rattle.bpf_code.specs.declared.instr.Instr.TheVariants.{LoadAbs, LoadInd, LoadImm, LoadMem, LoadLen, LdxImm, LdxMem, LdxLen, LdxMsh, Store, StoreX, Alu, Neg, Jump, Branch, RetK, RetA, Tax, Txa}
@@ -11,7 +11,7 @@ use Rattle.bpf_code.specs.declared.instr.Op.TheVariants.{Add, Sub, Mul, Div, Or,
 use Rattle.bpf_code.specs.declared.instr.Size.TheVariants.{Word, Half, Octet}
 use Rattle.bpf_code.specs.declared.instr.Test.TheVariants.{Eq, Gt, Ge, Set}
 
--- what is one of the spellings of a statement is read as it
+-- What is one of the spellings of a statement is read as it.
 pub reads_back : (ts : List Token) (s : Statement) → IsOneOf ts (spellings s) → statement_in ts ≡ Some s
 unfolding spellings statement_in named_in op_of test_of inverse_of moved_in other_in tokens_of pieces_of word_token number_of value_behind
 reads_back ts (plain (LoadAbs Word k)) h = elim h [ inl e ↦ rw e refl | inr e ↦ absurd e ]

@@ -2,7 +2,7 @@
 use Rattle.std.proofs.Common.{◌≡◌, ℕ, List, ◌∷◌, Some, refl, inl, inr}
 use Rattle.bpf_asm.specs.Grammar.{IsOneOf}
 use Rattle.bpf_asm.specs.inner.Reading.{arithmetic_in, branch_in, branch_or, cut_name, form_of, inverse_in, inverse_of, inverse_or, moved_in, named_in, op_of, other_in, statement_in, test_of}
-use Rattle.bpf_asm.specs.Spelling.{Statement, spellings}
+use Rattle.bpf_asm.specs.StatementSpelling.{Statement, spellings}
 use Rattle.bpf_asm.specs.Tokens.{Token, name}
 use Rattle.bpf_asm.proofs.TokenCuts.{next_some, else_some, map_some, name_is}
 use Rattle.bpf_asm.proofs.FormSpellings.{at_row, Named}
@@ -25,7 +25,7 @@ named_sound octets ts s e =
       ]
     ]
 
--- what is read as a statement is one of its spellings
+-- What is read as a statement is one of its spellings.
 pub reads_true : (ts : List Token) (s : Statement) → statement_in ts ≡ Some s → IsOneOf ts (spellings s)
 unfolding statement_in
 reads_true ts s e =

@@ -4,10 +4,10 @@ use Rattle.std.proofs.lemmas.Bool.{and_parts}
 use Rattle.std.proofs.lemmas.Fmt.{decimal_injective}
 use Rattle.bpf_asm.specs.Grammar.{Line, AreLines, IsLine, IsOneOf}
 use Rattle.bpf_asm.specs.Labels.{EachLabelOnce, StandsFor, statements_of}
-use Rattle.bpf_asm.specs.Lines.{source_lines, without_comment}
+use Rattle.bpf_asm.specs.SourceLines.{source_lines, without_comment}
 use Rattle.bpf_asm.specs.Listing.{StaysWithin, first_spelling, instruction_text, label_at, line_text, listing_from, listing_of, statement_at}
 use Rattle.bpf_asm.specs.Meaning.{IsMeaning, MeanFrom, Means}
-use Rattle.bpf_asm.specs.Spelling.{Part, label, spelling_octets, spelling_tokens, spellings}
+use Rattle.bpf_asm.specs.StatementSpelling.{Part, label, spelling_octets, spelling_tokens, spellings}
 use Rattle.bpf_asm.specs.Tokens.{Token, name, mark, signed, tokens_in, tokens_of, tokens_read, pieces_of}
 use Rattle.bpf_code.specs.Widths.{FitsFields}
 use Rattle.bpf_asm.proofs.Apart.{ReadsPart, all_inline, inline_whole, is_apart, source_lines-line, no_minus, parts_inline, parts_read, signed_same, texts_inline}
@@ -17,16 +17,16 @@ use Rattle.bpf_asm.proofs.Places.{AllPlaces}
 use Rattle.bpf_code.specs.declared.instr.Instr.{Instr}
 use Rattle.bpf_code.specs.declared.instr.Instr.TheVariants.{LoadAbs, LoadInd, LoadImm, LoadMem, LoadLen, LdxImm, LdxMem, LdxLen, LdxMsh, Store, StoreX, Alu, Neg, Jump, Branch, RetK, RetA, Tax, Txa}
 
--- what a listing's line says
+-- What a listing's line says.
 abbrev line_at : ℕ → Instr → Line
 line_at place i = record { label = Some (label_at place); statement = Some (statement_at place i) }
 
--- what the lines of a listing say, from a place on
+-- What the lines of a listing say, from a place on.
 lines_in : ℕ → List Instr → List Line
 lines_in place [] = []
 lines_in place (i ∷ code) = line_at place i ∷ lines_in (place + 1) code
 
--- the instructions from a place on can be listed, in a code of so many
+-- The instructions from a place on can be listed, in a code of so many.
 abbrev IsListable : ℕ → ℕ → List Instr → Type 0
 IsListable count place [] = Unit {0}
 IsListable count place (i ∷ code) = (FitsFields i × StaysWithin count place i) × IsListable count (place + 1) code
@@ -57,7 +57,7 @@ colon_token : tokens_of (codes ": ") ≡ mark 58 ∷ []
 unfolding tokens_of pieces_of
 colon_token = refl
 
--- one line reads as what it says
+-- One line reads as what it says.
 line_said : (place : ℕ) (i : Instr) → FitsFields i → StaysWithin (2 ^ 64) place i → place < 2 ^ 64 → (all_inline (spelling_octets (line_parts place i)) ≡ true) × IsLine (spelling_octets (line_parts place i)) (line_at place i)
 unfolding IsLine tokens_in tokens_read
 line_said place i w s h =
@@ -73,7 +73,7 @@ line_said place i w s h =
     let behind : spelling_tokens parts ≡ name (label_at place) ∷ mark 58 ∷ spelling_tokens row = ap (λ (ts : List Token). name (label_at place) ∷ (ts ++ spelling_tokens row)) colon_token in
     (inline, (spelling_tokens row, tokens ∙ behind, row_first (spellings (statement_at place i)) both.1))
 
--- the lines of a listing read as what they say
+-- The lines of a listing read as what they say.
 lines_said : (place : ℕ) (code : List Instr) → IsListable (2 ^ 64) place code → place + length code ≤ 2 ^ 64 → AreLines (source_lines (listing_from place code)) (lines_in place code)
 unfolding lines_in source_lines listing_from
 lines_said place [] l h = refl
@@ -87,7 +87,7 @@ lines_said place (i ∷ code) l h =
     ap source_lines cut ∙ source_lines-line octets (listing_from (place + 1) code) here.0 in
     subst (λ (ls : List (List ℕ)). AreLines ls (line_at place i ∷ lines_in (place + 1) code)) (sym split) (here.1, later)
 
--- each line has its place's label
+-- Each line has its place's label.
 line_label : (place : ℕ) (code : List Instr) (at : ℕ) (line : Line) → slice_get (lines_in place code) at ≡ Some line → (at < length code) × (line.label ≡ Some (label_at (place + at)))
 unfolding lines_in
 line_label place [] at line e = cc
@@ -120,7 +120,7 @@ some_statement place [] at h e = omega arith
 some_statement place (i ∷ code) zero h e = cc
 some_statement place (i ∷ code) (suc at) h e = some_statement (place + 1) code at (omega arith) e
 
--- each label stands for its place
+-- Each label stands for its place.
 label_stands : (place : ℕ) (code : List Instr) (at : ℕ) → at < length code → StandsFor (lines_in place code) (label_at (place + at)) at
 unfolding lines_in statements_of
 label_stands place [] at h = absurd (omega arith)
@@ -142,7 +142,7 @@ label_stands place (i ∷ code) (suc at) h =
 stands_at : (whole : List Instr) (target : ℕ) → target < length whole → StandsFor (lines_in 0 whole) (label_at target) target
 stands_at whole target h = let z : 0 + target ≡ target = omega arith in subst (λ (p : ℕ). StandsFor (lines_in 0 whole) (label_at p) target) z (label_stands 0 whole target h)
 
--- each statement means the instruction
+-- Each statement means the instruction.
 means_here : (whole : List Instr) (place : ℕ) (i : Instr) → FitsFields i × StaysWithin (length whole) place i → Means (lines_in 0 whole) place (statement_at place i) i
 means_here whole place (Jump k) l =
     let small : k < 2 ^ 32 = l.0.k in
@@ -184,7 +184,7 @@ listable_more count more place [] h l = tt
 listable_more count more place (i ∷ code) h l =
     ((l.0.0, λ target j. let t : target < count = l.0.1 target j in omega arith), listable_more count more (place + 1) code h l.1)
 
--- a listing means its code
+-- A listing means its code.
 pub listing_means : (code : List Instr) → length code ≤ 2 ^ 64 → AllPlaces (λ place i. FitsFields i) code → AllPlaces (StaysWithin (length code)) code → IsMeaning (listing_of code) code
 listing_means code h wide stays =
     let l = listable_from (length code) 0 code (λ k i e. let z : k ≡ 0 + k = omega arith in (wide k i e, subst (λ (p : ℕ). StaysWithin (length code) p i) z (stays k i e))) in

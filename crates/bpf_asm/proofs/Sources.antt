@@ -10,7 +10,7 @@ use Rattle.bpf_asm.specs.declared.fault.AsmKind.{AsmKind}
 use Rattle.bpf_asm.specs.declared.fault.AsmKind.TheVariants.{BadLine, BadNumber, LabelTwice, UnknownLabel, Backward, TooFar, DanglingLabel, NoMemory}
 use Rattle.bpf_asm.proofs.Agreement.{read_more}
 
--- a line that couldn't be read
+-- A line that couldn't be read.
 pub line_fault : (kind : AsmKind) (lines : List Line) (octets : List ℕ) → ((before : List Line) → IsLineFault before octets kind) → IsTakeFault lines octets kind
 line_fault BadLine lines octets f = f lines
 line_fault BadNumber lines octets f = f lines
@@ -21,7 +21,7 @@ line_fault TooFar lines octets f = f lines
 line_fault DanglingLabel lines octets f = f lines
 line_fault NoMemory lines octets f = tt
 
--- a line's own fault, behind lines that have none
+-- A line's own fault, behind lines that have none.
 pub first_by : (source left : List (List ℕ)) (octets : List ℕ) (lines : List Line) (count : ℕ) (kind : AsmKind) (fault : AsmFault) → IsReadTo source (octets ∷ left) lines count → EachLabelOnce lines → IsLineFault lines octets kind → (fault.line ≡ count + 1) × (fault.kind ≡ kind) → IsFirstLineFault source fault
 first_by source left octets lines count kind fault r once f at = record {
   before = r.done;
@@ -35,7 +35,7 @@ first_by source left octets lines count kind fault r once f at = record {
   faulty = subst (λ (k : AsmKind). IsLineFault lines octets k) (sym at.1) f;
 }
 
--- the first line that has a fault
+-- The first line that has a fault.
 pub first_fault : (source left : List (List ℕ)) (octets : List ℕ) (lines : List Line) (count : ℕ) (kind : AsmKind) (fault : AsmFault) → IsReadTo source (octets ∷ left) lines count → EachLabelOnce lines → IsTakeFault lines octets kind → IsFaultAt (count + 1) kind fault → IsFirstLineFault source fault ⊎ IsOutOfMemory fault
 first_fault source left octets lines count BadLine fault r once f at = inl (first_by source left octets lines count BadLine fault r once f at)
 first_fault source left octets lines count BadNumber fault r once f at = inl (first_by source left octets lines count BadNumber fault r once f at)
@@ -54,11 +54,11 @@ taken_by source left octets lines draft count r n t = record {
   drafts = t.drafts;
 }
 
--- one line more
+-- One line more.
 pub taken_more : (source left : List (List ℕ)) (octets : List ℕ) (old draft : Draft) (count : ℕ) → IsDraftTo source (octets ∷ left) old count → ((lines : List Line) → length lines ≡ count → Drafts lines old → Takes lines draft octets) → IsDraftTo source left draft (count + 1)
 taken_more source left octets old draft count r t = taken_by source left octets r.lines draft count r.read r.counted (t r.lines r.counted r.drafts)
 
--- all lines
+-- All lines.
 pub all_read : (source left : List (List ℕ)) (lines : List Line) (count : ℕ) → left ≡ [] → IsReadTo source left lines count → AreLines source lines
 all_read source left lines count e r =
     let whole : source ≡ r.done = r.split ∙ ap (λ (rest : List (List ℕ)). r.done ++ rest) e ∙ append-nil r.done in

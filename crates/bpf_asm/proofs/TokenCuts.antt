@@ -12,12 +12,12 @@ use Rattle.bpf_code.specs.declared.instr.By.TheVariants.{Imm, X}
 pub some_same : {A : Type 0} (a b : A) → Some a ≡ Some b → a ≡ b
 some_same a b e = cc
 
--- what was read before
+-- What was read before.
 pub next_some : {A B : Type 0} (found : Option A) (next : A → Option B) (value : B) → (found >>= next) ≡ Some value → (x : A) × (found ≡ Some x) × (next x ≡ Some value)
 next_some None next value e = cc
 next_some (Some x) next value e = (x, refl, e)
 
--- one of two was read
+-- One of two was read.
 pub else_some : {A : Type 0} (one other : Option A) (value : A) → or_else one other ≡ Some value → (one ≡ Some value) ⊎ (other ≡ Some value)
 else_some None other value e = inr e
 else_some (Some x) other value e = inl e
@@ -78,7 +78,7 @@ constant_cut ts p e =
     let n = next_some (cut_mark 35 ts) cut_number p e in
     mark_is 35 ts n.0 n.1 ∙ ap (λ (r : List Token). mark 35 ∷ r) (number_is n.0 p n.2)
 
--- the tokens of an operand
+-- The tokens of an operand.
 abbrev pub operand_tokens : By → List Token
 operand_tokens (Imm k) = mark 35 ∷ number k ∷ []
 operand_tokens X = name (codes "x") ∷ []

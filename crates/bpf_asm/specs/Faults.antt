@@ -2,8 +2,8 @@
 use Rattle.std.specs.Prelude.{◌≡◌, ◌⊎◌, ◌+◌, ◌≤◌, ◌<◌, ℕ, List, [], ◌∷◌, ◌++◌, length, Some}
 use Rattle.bpf_asm.specs.Grammar.{Line, AreLines, IsLine}
 use Rattle.bpf_asm.specs.Labels.{EachLabelOnce, HasLabel, IsDangling, IsOffset, Operand, StandsFor, operands_of, statements_of}
-use Rattle.bpf_asm.specs.Lines.{source_lines}
-use Rattle.bpf_asm.specs.Spelling.{Statement}
+use Rattle.bpf_asm.specs.SourceLines.{source_lines}
+use Rattle.bpf_asm.specs.StatementSpelling.{Statement}
 use Rattle.bpf_asm.specs.Tokens.{HasBadNumber}
 use Rattle.bpf_asm.specs.declared.fault.AsmKind.{AsmKind}
 use Rattle.bpf_asm.specs.declared.fault.AsmKind.TheVariants.{BadLine, BadNumber, LabelTwice, UnknownLabel, Backward, TooFar, DanglingLabel, NoMemory}

@@ -1,6 +1,6 @@
 -- The lines of the grammar.
 use Rattle.std.specs.Prelude.{◌≡◌, ◌⊎◌, ℕ, List, [], ◌∷◌, ◌++◌, Option, Some, None}
-use Rattle.bpf_asm.specs.Spelling.{Part, Statement, spelling_tokens, spellings}
+use Rattle.bpf_asm.specs.StatementSpelling.{Part, Statement, spelling_tokens, spellings}
 use Rattle.bpf_asm.specs.Tokens.{Token, name, mark, tokens_in}
 
 -- A line is empty, a label, an instruction, or a label and an instruction.

@@ -2,7 +2,7 @@
 use Rattle.std.specs.Prelude.{◌≡◌, ◌+◌, ◌≤◌, ℕ, List, [], ◌∷◌, ◌++◌, length, drop, Option, Some, None, slice_get}
 use Rattle.std.specs.List.{filter_map}
 use Rattle.bpf_asm.specs.Grammar.{Line}
-use Rattle.bpf_asm.specs.Spelling.{Statement, plain, jump, branch}
+use Rattle.bpf_asm.specs.StatementSpelling.{Statement, plain, jump, branch}
 
 -- The statements of lines, in order.
 unfoldable pub statements_of : List Line → List Statement
@@ -35,16 +35,23 @@ pub record Operand : Type 0 where
   pub label : List ℕ
   pub most : ℕ
 
+-- The greatest offset of a branch, whose fields have 8 bits.
+abbrev pub most_branch : ℕ
+most_branch = 255
+
+-- The greatest offset of `ja`, whose field has 32 bits.
+abbrev pub most_jump : ℕ
+most_jump = 4294967295
+
 -- The label operands of a side of a branch.
 abbrev pub side : Option (List ℕ) → List Operand
 side None = []
-side (Some target) = record { label = target; most = 255 } ∷ []
+side (Some target) = record { label = target; most = most_branch } ∷ []
 
--- The label operands of a statement, from left to right: the field of `ja` has 32 bits, those of
--- a branch have 8.
+-- The label operands of a statement, from left to right.
 abbrev pub operands_of : Statement → List Operand
 operands_of (plain i) = []
-operands_of (jump target) = record { label = target; most = 4294967295 } ∷ []
+operands_of (jump target) = record { label = target; most = most_jump } ∷ []
 operands_of (branch test by met unmet) = side met ++ side unmet
 
 -- The offset of a label operand in the instruction at a place: the label's place less that one, less

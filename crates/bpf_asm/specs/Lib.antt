@@ -1,10 +1,10 @@
 pub mod Faults
 pub mod Grammar
 pub mod Labels
-pub mod Lines
+pub mod SourceLines
 pub mod Listing
 pub mod Meaning
 pub mod Numbers
-pub mod Spelling
+pub mod StatementSpelling
 pub mod Tokens
 pub mod inner

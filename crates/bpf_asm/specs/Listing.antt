@@ -1,6 +1,6 @@
 -- The listing of a code.
 use Rattle.std.specs.Prelude.{◌+◌, ◌≤◌, ◌<◌, ℕ, List, [], ◌∷◌, ◌++◌, length, Some, codes, decimal}
-use Rattle.bpf_asm.specs.Spelling.{Part, Statement, plain, jump, branch, spelling_octets, spellings}
+use Rattle.bpf_asm.specs.StatementSpelling.{Part, Statement, plain, jump, branch, spelling_octets, spellings}
 use Rattle.bpf_asm.specs.declared.fault.ListFault.{ListFault}
 use Rattle.bpf_asm.specs.declared.fault.ListFault.TheVariants.{JumpOutside, NoMemory}
 use Rattle.bpf_code.specs.Flow.{StandsAt, JumpsTo}

@@ -1,22 +1,22 @@
 -- What a source means.
 use Rattle.std.specs.Prelude.{◌≡◌, ◌+◌, ℕ, List, [], ◌∷◌, Option, Some, None}
 use Rattle.bpf_asm.specs.Grammar.{Line, AreLines}
-use Rattle.bpf_asm.specs.Labels.{EachLabelOnce, IsDangling, IsOffset, statements_of}
-use Rattle.bpf_asm.specs.Lines.{source_lines}
-use Rattle.bpf_asm.specs.Spelling.{Statement, plain, jump, branch}
+use Rattle.bpf_asm.specs.Labels.{EachLabelOnce, IsDangling, IsOffset, most_branch, most_jump, statements_of}
+use Rattle.bpf_asm.specs.SourceLines.{source_lines}
+use Rattle.bpf_asm.specs.StatementSpelling.{Statement, plain, jump, branch}
 use Rattle.bpf_code.specs.declared.instr.Instr.{Instr}
 use Rattle.bpf_code.specs.declared.instr.Instr.TheVariants.{Jump, Branch}
 
 -- The offset of a side of a branch: 0 where it names no label.
 abbrev pub IsSide : List Line → ℕ → Option (List ℕ) → ℕ → Type 0
 IsSide lines place None offset = offset ≡ 0
-IsSide lines place (Some target) offset = IsOffset lines place (record { label = target; most = 255 }) offset
+IsSide lines place (Some target) offset = IsOffset lines place (record { label = target; most = most_branch }) offset
 
 -- The statement at a place means this instruction.
 abbrev pub Means : List Line → ℕ → Statement → Instr → Type 0
 Means lines place (plain i) meant = meant ≡ i
 Means lines place (jump target) meant =
-    (offset : ℕ) × (meant ≡ Jump offset) × IsOffset lines place (record { label = target; most = 4294967295 }) offset
+    (offset : ℕ) × (meant ≡ Jump offset) × IsOffset lines place (record { label = target; most = most_jump }) offset
 Means lines place (branch test by met unmet) meant =
     (jt jf : ℕ) × (meant ≡ Branch test by jt jf) × IsSide lines place met jt × IsSide lines place unmet jf
 

@@ -1,9 +1,9 @@
 -- The tokens of a line.
 use Rattle.std.specs.Prelude.{ℕ, ◌-◌, ◌%◌, ◌^◌, Bool, true, false, ◌&&◌, ◌||◌, ◌==◌, nat_le, if◌then◌else◌, List, [], ◌∷◌, Option, Some, None, IsTrue}
 use Rattle.std.specs.List.{filter_map}
-use Rattle.bpf_asm.specs.Lines.{without_comment}
+use Rattle.bpf_asm.specs.SourceLines.{without_comment}
 use Rattle.bpf_asm.specs.Numbers.{number_of}
-use Rattle.dialogue.specs.Words.{is_blank}
+use Rattle.dialogue.specs.Words.{is_blank, is_digit}
 
 -- A name, a number, a word that begins with a digit and is no number, or any other octet. The
 -- grammar knows the octets `# [ ] + - * ( ) & , :` alone.
@@ -12,10 +12,6 @@ pub data Token : Type 0 where
   number : ℕ → Token
   faulty : Token
   mark : ℕ → Token
-
--- An ASCII digit.
-abbrev pub is_digit : ℕ → Bool
-is_digit octet = nat_le 48 octet && nat_le octet 57
 
 -- An octet of a word: an ASCII letter, a digit or `_`.
 abbrev pub is_word : ℕ → Bool

@@ -2,10 +2,10 @@
 pub mod Drafts
 pub mod Feeds
 pub mod Pending
-pub mod Places
+pub mod LabelPlaces
 pub mod Reading
 pub mod Seen
 pub mod Counts
 pub mod Staying
-pub mod Words
-pub mod Operands
+pub mod WordRuns
+pub mod OperandWidths

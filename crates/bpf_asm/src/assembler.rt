@@ -2,14 +2,14 @@
 
 ghost use Rattle.std.specs.Prelude.{◌<◌, ◌⊎◌, List, length, IfErr, IfOk, IfSome, IsErr};
 ghost use Rattle.bpf_asm.specs.Faults.{IsFault, IsFirstLineFault, IsOutOfMemory};
-ghost use Rattle.bpf_asm.specs.Lines.{source_lines};
+ghost use Rattle.bpf_asm.specs.SourceLines.{source_lines};
 ghost use Rattle.bpf_asm.specs.Meaning.{IsMeaning};
 ghost use Rattle.bpf_asm.specs.inner.Drafts.{IsDraftOf, IsFaultAt};
 
 use crate::draft::Draft;
 use crate::fault::{AsmFault, AsmKind};
-use crate::lines::next_line;
 use crate::resolver::resolve_all;
+use crate::source_lines::next_line;
 use bpf_code::Instr;
 use std::alloc::Global;
 

@@ -4,7 +4,7 @@ ghost use Rattle.std.specs.Prelude.{◌≡◌, ◌≢◌, ◌-◌, ◌%◌, ◌^
 ghost use Rattle.bpf_asm.specs.inner.Reading.{cut_constant, cut_length, cut_mark, cut_name, cut_number, cut_operand, cut_target, cut_value, cut_word, is_ended};
 ghost use Rattle.bpf_asm.specs.Tokens.{mark, signed_behind, tokens_read};
 
-use crate::token::{Lexeme, is_spent, next_mark, next_token};
+use crate::token::{LentToken, is_spent, next_mark, next_token};
 use bpf_code::By;
 
 /// What is behind an octet other than `#`.
@@ -24,7 +24,7 @@ pub(crate) fn after_number(text: &[u8]) -> Option<(u32, &[u8])>
 {
     let (token, rest) = next_token(text)?;
     match token {
-        Lexeme::Number(value) => Some((value, rest)),
+        LentToken::Number(value) => Some((value, rest)),
         _ => None,
     }
 }
@@ -36,7 +36,7 @@ pub(crate) fn after_name(text: &[u8]) -> Option<(&[u8], &[u8])>
 {
     let (token, rest) = next_token(text)?;
     match token {
-        Lexeme::Name(name) => Some((name, rest)),
+        LentToken::Name(name) => Some((name, rest)),
         _ => None,
     }
 }

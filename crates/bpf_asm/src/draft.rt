@@ -8,8 +8,8 @@ ghost use Rattle.bpf_asm.specs.inner.Drafts.{drafted};
 
 use crate::fault::AsmKind;
 use crate::labels::Labels;
-use crate::parse::Command;
-use crate::reader::{Said, read_line};
+use crate::parse::LentStatement;
+use crate::reader::{LentLine, read_line};
 use bpf_code::Instr;
 use std::alloc::{AllocError, Global};
 
@@ -21,7 +21,7 @@ pub(crate) struct Unresolved<'a> {
     /// Its place, counted from 0.
     pub place: usize,
     /// The instruction.
-    pub command: Command<'a>,
+    pub statement: LentStatement<'a>,
 }
 
 /// What the lines of a source say that were read so far. Of a line without a label and without an
@@ -38,14 +38,14 @@ pub(crate) struct Draft<'a> {
     pub dangling: Option<usize>,
 }
 
-/// The instruction of a command, with offsets of 0 where it has labels.
-fn first_form(command: Command<'_>) -> Instr
-    ensures { result ≡ drafted command.entry }
+/// The instruction of a statement, with offsets of 0 where it has labels.
+fn first_form(statement: LentStatement<'_>) -> Instr
+    ensures { result ≡ drafted statement.entry }
 {
-    match command {
-        Command::Plain(instr) => instr,
-        Command::Jump(_) => Instr::Jump(0),
-        Command::Branch { test, by, .. } => Instr::Branch {
+    match statement {
+        LentStatement::Plain(instr) => instr,
+        LentStatement::Jump(_) => Instr::Jump(0),
+        LentStatement::Branch { test, by, .. } => Instr::Branch {
             test,
             by,
             jt: 0,
@@ -55,11 +55,11 @@ fn first_form(command: Command<'_>) -> Instr
 }
 
 /// The first line whose label no instruction follows yet, behind one line more.
-fn pending_after(pending: Option<usize>, at: usize, said: &Said<'_>) -> Option<usize>
+fn pending_after(pending: Option<usize>, at: usize, said: &LentLine<'_>) -> Option<usize>
     ensures { (before : List Line) → length before ≡ at → IsPending before pending →
         IsPending (before ++ line_seen said.now ∷ []) result }
 {
-    match said.command {
+    match said.statement {
         Some(_) => None,
         None => match pending {
             Some(first) => Some(first),
@@ -75,7 +75,7 @@ impl<'a> Draft<'a> {
     ghost use Rattle.std.specs.Prelude.{◌≡◌, ◌++◌, ◌+◌, ◌-◌, ◌^◌, ◌<◌, ℕ, List, [], ◌∷◌, false, length, IfErr, IfOk, IsTrue, OnOk};
     ghost use Rattle.bpf_asm.specs.Grammar.{Line};
     ghost use Rattle.bpf_asm.specs.inner.Counts.{statement_count};
-    ghost use Rattle.bpf_asm.specs.inner.Places.{place_of};
+    ghost use Rattle.bpf_asm.specs.inner.LabelPlaces.{place_of};
     ghost use Rattle.bpf_asm.specs.inner.Seen.{line_seen};
     ghost use Rattle.bpf_asm.specs.inner.Drafts.{AgreesWith, Drafts, IsAddFault, IsTakeFault, IsTwice, Takes, drafted, unresolved_of};
 
@@ -92,7 +92,7 @@ impl<'a> Draft<'a> {
     }
 
     /// Gives the label of a line, if it has one, the next place. Whether it is new.
-    fn define(&mut self, said: Said<'a>) -> Result<bool, AllocError>
+    fn define(&mut self, said: LentLine<'a>) -> Result<bool, AllocError>
         ensures code { self.new.code ≡ self.old.code }
         ensures unresolved { self.new.unresolved ≡ self.old.unresolved }
         ensures dangling { self.new.dangling ≡ self.old.dangling }
@@ -110,27 +110,27 @@ impl<'a> Draft<'a> {
     }
 
     /// Adds an instruction of a line, which counts from 1.
-    fn put(&mut self, line: usize, command: Command<'a>) -> Result<(), AllocError>
+    fn put(&mut self, line: usize, statement: LentStatement<'a>) -> Result<(), AllocError>
         ensures labels { self.new.labels ≡ self.old.labels }
         ensures dangling { self.new.dangling ≡ self.old.dangling }
-        ensures code { OnOk result (self.new.code.items ≡ self.old.code.items ++ drafted command.entry ∷ []) }
+        ensures code { OnOk result (self.new.code.items ≡ self.old.code.items ++ drafted statement.entry ∷ []) }
         ensures unresolved { OnOk result (self.new.unresolved.items ≡ self.old.unresolved.items
-            ++ unresolved_of line (length self.old.code.items) command.entry) }
+            ++ unresolved_of line (length self.old.code.items) statement.entry) }
     {
-        match command {
-            Command::Plain(_) => {}
+        match statement {
+            LentStatement::Plain(_) => {}
             _ => self.unresolved.push(Unresolved {
                 line,
                 place: self.code.len(),
-                command,
+                statement,
             })?,
         }
-        self.code.push(first_form(command))?;
+        self.code.push(first_form(statement))?;
         Ok(())
     }
 
     /// Adds what a line says, which counts from 0.
-    fn add(&mut self, at: usize, said: Said<'a>) -> Result<(), AsmKind>
+    fn add(&mut self, at: usize, said: LentLine<'a>) -> Result<(), AsmKind>
         requires { at < 2 ^ 64 - 1 }
         ensures drafts { OnOk result ((lines : List Line) → length lines ≡ at → Drafts lines self.old →
             Drafts (lines ++ line_seen said.entry ∷ []) self.new) }
@@ -143,9 +143,9 @@ impl<'a> Draft<'a> {
             Err(_) => return Err(AsmKind::NoMemory),
         }
         self.dangling = pending_after(self.dangling, at, &said);
-        match said.command {
+        match said.statement {
             None => Ok(()),
-            Some(command) => self.put(at + 1, command).map_err(|_| AsmKind::NoMemory),
+            Some(statement) => self.put(at + 1, statement).map_err(|_| AsmKind::NoMemory),
         }
     }
 

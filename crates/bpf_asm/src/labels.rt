@@ -14,7 +14,7 @@ pub(crate) struct Labels<'a> {
 }
 
 impl<'a> Labels<'a> {
-    ghost use Rattle.bpf_asm.specs.inner.Places.{place_of};
+    ghost use Rattle.bpf_asm.specs.inner.LabelPlaces.{place_of};
 
     /// No labels.
     pub(crate) fn new(alloc: Global) -> Labels<'a>

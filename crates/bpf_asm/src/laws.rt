@@ -4,11 +4,11 @@ ghost use Rattle.std.specs.Prelude.{◌≡◌, ◌⊎◌, ℕ, List};
 ghost use Rattle.bpf_asm.specs.Faults.{IsFault};
 ghost use Rattle.bpf_asm.specs.Grammar.{IsOneOf};
 ghost use Rattle.bpf_asm.specs.Meaning.{IsMeaning};
-ghost use Rattle.bpf_asm.specs.Spelling.{Statement, spellings};
+ghost use Rattle.bpf_asm.specs.StatementSpelling.{Statement, spellings};
 ghost use Rattle.bpf_asm.specs.Tokens.{Token};
 ghost use Rattle.bpf_asm.specs.declared.fault.AsmFault.{AsmFault};
 ghost use Rattle.bpf_code.specs.Encoding.{code_octets};
-ghost use Rattle.bpf_code.specs.Spelling.{SpellsPlainly};
+ghost use Rattle.bpf_code.specs.OctetSpelling.{SpellsPlainly};
 ghost use Rattle.bpf_code.specs.declared.instr.Instr.{Instr};
 
 /// A source means at most one code.

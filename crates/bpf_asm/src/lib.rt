@@ -7,12 +7,12 @@ mod draft;
 mod fault;
 mod labels;
 pub mod laws;
-mod lines;
 mod lister;
 mod mnemonic;
 mod parse;
 mod reader;
 mod resolver;
+mod source_lines;
 mod token;
 
 pub use assembler::assemble;

@@ -5,9 +5,9 @@ ghost use Rattle.bpf_code.specs.declared.instr.Instr.{Instr};
 ghost use Rattle.bpf_asm.specs.Listing.{IsFirstLeaving, IsListFault, Leaves, StaysWithin, instruction_text, label_at, line_text, listing_of};
 ghost use Rattle.bpf_asm.specs.inner.Staying.{NoneLeaves};
 ghost use Rattle.bpf_code.specs.Widths.{FitsFields};
-ghost use Rattle.bpf_asm.specs.inner.Operands.{OperandFits};
+ghost use Rattle.bpf_asm.specs.inner.OperandWidths.{OperandFits};
 ghost use Rattle.bpf_asm.specs.Meaning.{IsMeaning};
-ghost use Rattle.bpf_asm.specs.Spelling.{load_name, op_name, operand, spelling_octets, test_name};
+ghost use Rattle.bpf_asm.specs.StatementSpelling.{load_name, op_name, operand, spelling_octets, test_name};
 
 use crate::fault::ListFault;
 use bpf_code::{By, Instr, Op, Size, Test};
@@ -88,7 +88,7 @@ fn put_operand(text: &mut Vec<u8>, by: By) -> Result<(), AllocError>
 }
 
 /// Writes a branch that stands at a place, with both labels.
-#[tactic(auto, unfolding(crate::specs::Listing::instruction_text, crate::specs::Spelling::spellings))]
+#[tactic(auto, unfolding(crate::specs::Listing::instruction_text, crate::specs::StatementSpelling::spellings))]
 fn put_branch(
     text: &mut Vec<u8>,
     place: usize,
@@ -110,7 +110,7 @@ fn put_branch(
 }
 
 /// Writes the spelling of the instruction that stands at a place.
-#[tactic(auto, unfolding(crate::specs::Listing::instruction_text, crate::specs::Spelling::spellings))]
+#[tactic(auto, unfolding(crate::specs::Listing::instruction_text, crate::specs::StatementSpelling::spellings))]
 fn put_instruction(text: &mut Vec<u8>, place: usize, instr: Instr) -> Result<(), AllocError>
     requires { StaysWithin (2 ^ 64) place instr }
     ensures written { OnOk result (text.new.items ≡ text.old.items ++ instruction_text place instr) }

@@ -1,94 +1,82 @@
 //! Mnemonics, and what may stand behind each.
 
-ghost use Rattle.std.specs.Prelude.{◌≡◌, MatchOption};
-ghost use Rattle.bpf_asm.specs.inner.Reading.{ended, inverse_of, moved_in, named_in, op_of, other_in, statement_in, test_of};
+ghost use Rattle.std.specs.Prelude.{◌≡◌, map, MatchOption};
+ghost use Rattle.bpf_asm.specs.inner.Reading.{ended, entry_of, inverse_of, moved_in, named_in, op_of, other_in, statement_in, test_of};
 ghost use Rattle.bpf_asm.specs.inner.Seen.{statement_seen};
-ghost use Rattle.bpf_asm.specs.Spelling.{plain};
+ghost use Rattle.bpf_asm.specs.StatementSpelling.{plain};
 ghost use Rattle.bpf_asm.specs.Tokens.{tokens_read};
 
 use crate::cutting::{after_name, at_end};
 use crate::parse::{
-    Command, arithmetic, branch, end, header, index_load, inverse, jump, packet_load, scratch,
-    word_load,
+    LentStatement, arithmetic, branch, end, header, index_load, inverse, jump, packet_load,
+    scratch, word_load,
 };
 use bpf_code::{Instr, Op, Size, Test};
 
+/// The mnemonics of arithmetic.
+const OPS: [(&[u8], Op); 10] = [
+    (b"add", Op::Add),
+    (b"sub", Op::Sub),
+    (b"mul", Op::Mul),
+    (b"div", Op::Div),
+    (b"or", Op::Or),
+    (b"and", Op::And),
+    (b"lsh", Op::Lsh),
+    (b"rsh", Op::Rsh),
+    (b"mod", Op::Mod),
+    (b"xor", Op::Xor),
+];
+
+/// The mnemonics of branches.
+const TESTS: [(&[u8], Test); 4] = [
+    (b"jeq", Test::Eq),
+    (b"jgt", Test::Gt),
+    (b"jge", Test::Ge),
+    (b"jset", Test::Set),
+];
+
+/// The mnemonics of branches that go on behind themselves where the test holds.
+const INVERSES: [(&[u8], Test); 4] = [
+    (b"jne", Test::Eq),
+    (b"jneq", Test::Eq),
+    (b"jlt", Test::Ge),
+    (b"jle", Test::Gt),
+];
+
+/// What a table has for a name.
+#[inline(always)]
+fn found_in<T: Copy>(name: &[u8], rows: &[(&[u8], T)]) -> Option<T>
+    ensures { result ≡ entry_of name.now (map (λ row. (row.0.now, row.1)) rows.now) }
+{
+    let mut left = rows;
+    while let [row, rest @ ..] = left {
+        if name == row.0 {
+            return Some(row.1);
+        }
+        left = rest;
+    }
+    None
+}
+
 /// The arithmetic of a mnemonic.
-#[tactic(auto, unfolding(crate::specs::inner::Reading::op_of))]
 fn op_named(name: &[u8]) -> Option<Op>
     ensures { result ≡ op_of name.now }
 {
-    if name == b"add".as_slice() {
-        return Some(Op::Add);
-    }
-    if name == b"sub".as_slice() {
-        return Some(Op::Sub);
-    }
-    if name == b"mul".as_slice() {
-        return Some(Op::Mul);
-    }
-    if name == b"div".as_slice() {
-        return Some(Op::Div);
-    }
-    if name == b"or".as_slice() {
-        return Some(Op::Or);
-    }
-    if name == b"and".as_slice() {
-        return Some(Op::And);
-    }
-    if name == b"lsh".as_slice() {
-        return Some(Op::Lsh);
-    }
-    if name == b"rsh".as_slice() {
-        return Some(Op::Rsh);
-    }
-    if name == b"mod".as_slice() {
-        return Some(Op::Mod);
-    }
-    if name == b"xor".as_slice() {
-        return Some(Op::Xor);
-    }
-    None
+    found_in(name, &OPS)
 }
 
 /// The branch of a mnemonic.
-#[tactic(auto, unfolding(crate::specs::inner::Reading::test_of))]
 fn test_named(name: &[u8]) -> Option<Test>
     ensures { result ≡ test_of name.now }
 {
-    if name == b"jeq".as_slice() {
-        return Some(Test::Eq);
-    }
-    if name == b"jgt".as_slice() {
-        return Some(Test::Gt);
-    }
-    if name == b"jge".as_slice() {
-        return Some(Test::Ge);
-    }
-    if name == b"jset".as_slice() {
-        return Some(Test::Set);
-    }
-    None
+    found_in(name, &TESTS)
 }
 
 /// The test that a mnemonic is the opposite of.
-#[tactic(auto, unfolding(crate::specs::inner::Reading::inverse_of))]
 fn inverse_named(name: &[u8]) -> Option<Test>
     ensures { result ≡ inverse_of name.now }
 {
-    if name == b"jne".as_slice() {
-        return Some(Test::Eq);
-    }
-    if name == b"jneq".as_slice() {
-        return Some(Test::Eq);
-    }
-    if name == b"jlt".as_slice() {
-        return Some(Test::Ge);
-    }
-    if name == b"jle".as_slice() {
-        return Some(Test::Gt);
-    }
-    None
+    found_in(name, &INVERSES)
 }
 
 /// The loads and stores of a mnemonic.
@@ -125,12 +113,12 @@ fn moved(name: &[u8], text: &[u8]) -> Option<Instr>
 }
 
 /// An instruction without operands.
-fn alone(instr: Instr, text: &[u8]) -> Option<Command<'_>>
+fn alone(instr: Instr, text: &[u8]) -> Option<LentStatement<'_>>
     ensures { MatchOption result (ended (plain instr) (tokens_read text.now) ≡ None)
         (λ c. ended (plain instr) (tokens_read text.now) ≡ Some (statement_seen c)) }
 {
     if at_end(text) {
-        Some(Command::Plain(instr))
+        Some(LentStatement::Plain(instr))
     } else {
         None
     }
@@ -138,7 +126,7 @@ fn alone(instr: Instr, text: &[u8]) -> Option<Command<'_>>
 
 /// The other instructions of a mnemonic.
 #[tactic(auto, unfolding(crate::specs::inner::Reading::other_in))]
-fn other<'a>(name: &[u8], text: &'a [u8]) -> Option<Command<'a>>
+fn other<'a>(name: &[u8], text: &'a [u8]) -> Option<LentStatement<'a>>
     ensures { MatchOption result (other_in name.now (tokens_read text.entry.now) ≡ None)
         (λ c. other_in name.now (tokens_read text.entry.now) ≡ Some (statement_seen c)) }
 {
@@ -153,7 +141,7 @@ fn other<'a>(name: &[u8], text: &'a [u8]) -> Option<Command<'a>>
     }
     if name == b"ret".as_slice() {
         let instr = end(text)?;
-        return Some(Command::Plain(instr));
+        return Some(LentStatement::Plain(instr));
     }
     if name == b"tax".as_slice() {
         return alone(Instr::Tax, text);
@@ -166,13 +154,13 @@ fn other<'a>(name: &[u8], text: &'a [u8]) -> Option<Command<'a>>
 
 /// The statement of a mnemonic and what is behind it.
 #[tactic(auto, unfolding(crate::specs::inner::Reading::named_in))]
-pub(crate) fn named<'a>(name: &[u8], text: &'a [u8]) -> Option<Command<'a>>
+pub(crate) fn named<'a>(name: &[u8], text: &'a [u8]) -> Option<LentStatement<'a>>
     ensures { MatchOption result (named_in name.now (tokens_read text.entry.now) ≡ None)
         (λ c. named_in name.now (tokens_read text.entry.now) ≡ Some (statement_seen c)) }
 {
     if let Some(op) = op_named(name) {
         let instr = arithmetic(op, text)?;
-        return Some(Command::Plain(instr));
+        return Some(LentStatement::Plain(instr));
     }
     if let Some(test) = test_named(name) {
         return branch(test, text);
@@ -181,14 +169,14 @@ pub(crate) fn named<'a>(name: &[u8], text: &'a [u8]) -> Option<Command<'a>>
         return inverse(test, text);
     }
     if let Some(instr) = moved(name, text) {
-        return Some(Command::Plain(instr));
+        return Some(LentStatement::Plain(instr));
     }
     other(name, text)
 }
 
 /// The statement of a text's tokens.
 #[tactic(auto, unfolding(crate::specs::inner::Reading::statement_in))]
-pub(crate) fn statement(text: &[u8]) -> Option<Command<'_>>
+pub(crate) fn read_statement(text: &[u8]) -> Option<LentStatement<'_>>
     ensures { MatchOption result (statement_in (tokens_read text.now) ≡ None)
         (λ c. statement_in (tokens_read text.now) ≡ Some (statement_seen c)) }
 {

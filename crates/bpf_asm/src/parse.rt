@@ -3,7 +3,7 @@
 ghost use Rattle.std.specs.Prelude.{◌≡◌, true, MatchBool, MatchOption};
 ghost use Rattle.bpf_asm.specs.inner.Reading.{absolute_in, arithmetic_in, bracket_in, branch_in, constant_in, header_in, indexed_in, inverse_in, jump_in, length_in, load_index, load_word, packet, return_in, scratch_in};
 ghost use Rattle.bpf_asm.specs.inner.Seen.{statement_seen};
-ghost use Rattle.bpf_asm.specs.Spelling.{plain};
+ghost use Rattle.bpf_asm.specs.StatementSpelling.{plain};
 ghost use Rattle.bpf_asm.specs.Tokens.{tokens_read};
 
 use crate::cutting::{
@@ -14,7 +14,7 @@ use bpf_code::{By, Instr, Op, Size, Test};
 
 /// What an instruction line says, with its labels in the source.
 #[derive(Clone, Copy)]
-pub(crate) enum Command<'a> {
+pub(crate) enum LentStatement<'a> {
     /// An instruction without labels.
     Plain(Instr),
     /// A jump to a label.
@@ -175,14 +175,14 @@ pub(crate) fn arithmetic(op: Op, text: &[u8]) -> Option<Instr>
 }
 
 /// The forms of branches.
-pub(crate) fn branch(test: Test, text: &[u8]) -> Option<Command<'_>>
+pub(crate) fn branch(test: Test, text: &[u8]) -> Option<LentStatement<'_>>
     ensures { MatchOption result (branch_in test (tokens_read text.now) ≡ None)
         (λ c. branch_in test (tokens_read text.now) ≡ Some (statement_seen c)) }
 {
     let (by, rest) = after_operand(text)?;
     let (met, rest) = after_target(rest)?;
     if at_end(rest) {
-        return Some(Command::Branch {
+        return Some(LentStatement::Branch {
             test,
             by,
             met: Some(met),
@@ -191,7 +191,7 @@ pub(crate) fn branch(test: Test, text: &[u8]) -> Option<Command<'_>>
     }
     let (unmet, rest) = after_target(rest)?;
     if at_end(rest) {
-        Some(Command::Branch {
+        Some(LentStatement::Branch {
             test,
             by,
             met: Some(met),
@@ -203,14 +203,14 @@ pub(crate) fn branch(test: Test, text: &[u8]) -> Option<Command<'_>>
 }
 
 /// The forms of branches that go on behind themselves where the test holds.
-pub(crate) fn inverse(test: Test, text: &[u8]) -> Option<Command<'_>>
+pub(crate) fn inverse(test: Test, text: &[u8]) -> Option<LentStatement<'_>>
     ensures { MatchOption result (inverse_in test (tokens_read text.now) ≡ None)
         (λ c. inverse_in test (tokens_read text.now) ≡ Some (statement_seen c)) }
 {
     let (by, rest) = after_operand(text)?;
     let (unmet, rest) = after_target(rest)?;
     if at_end(rest) {
-        Some(Command::Branch {
+        Some(LentStatement::Branch {
             test,
             by,
             met: None,
@@ -222,13 +222,13 @@ pub(crate) fn inverse(test: Test, text: &[u8]) -> Option<Command<'_>>
 }
 
 /// The forms of `ja`.
-pub(crate) fn jump(text: &[u8]) -> Option<Command<'_>>
+pub(crate) fn jump(text: &[u8]) -> Option<LentStatement<'_>>
     ensures { MatchOption result (jump_in (tokens_read text.now) ≡ None)
         (λ c. jump_in (tokens_read text.now) ≡ Some (statement_seen c)) }
 {
     let (target, rest) = after_name(text)?;
     if at_end(rest) {
-        Some(Command::Jump(target))
+        Some(LentStatement::Jump(target))
     } else {
         None
     }

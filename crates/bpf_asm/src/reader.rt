@@ -3,25 +3,25 @@
 ghost use Rattle.std.specs.Prelude.{◌≡◌, List, Some, IfErr, IfOk, MatchOption};
 ghost use Rattle.bpf_asm.specs.Faults.{IsLineFault};
 ghost use Rattle.bpf_asm.specs.Grammar.{IsLine, Line};
-ghost use Rattle.bpf_asm.specs.Lines.{without_comment};
+ghost use Rattle.bpf_asm.specs.SourceLines.{without_comment};
 ghost use Rattle.bpf_asm.specs.inner.Reading.{body_in, line_in};
 ghost use Rattle.bpf_asm.specs.inner.Seen.{line_seen};
 ghost use Rattle.bpf_asm.specs.Tokens.{HasBadNumber, has_faulty, tokens_of, tokens_read};
 
 use crate::cutting::{after_mark, after_name, at_end};
 use crate::fault::AsmKind;
-use crate::mnemonic::{named, statement};
-use crate::parse::Command;
-use crate::token::{Lexeme, next_token};
+use crate::mnemonic::{named, read_statement};
+use crate::parse::LentStatement;
+use crate::token::{LentToken, next_token};
 use memchr::memchr;
 
 /// What a line says, with its label in the source.
 #[derive(Clone, Copy)]
-pub(crate) struct Said<'a> {
+pub(crate) struct LentLine<'a> {
     /// The label that it defines.
     pub label: Option<&'a [u8]>,
     /// Its instruction.
-    pub command: Option<Command<'a>>,
+    pub statement: Option<LentStatement<'a>>,
 }
 
 /// What stands before the first `;`.
@@ -40,7 +40,7 @@ fn bad_number(text: &[u8]) -> bool
 {
     let mut left = text;
     while let Some((token, rest)) = next_token(left) {
-        if let Lexeme::Faulty = token {
+        if let LentToken::Faulty = token {
             return true;
         }
         left = rest;
@@ -49,34 +49,34 @@ fn bad_number(text: &[u8]) -> bool
 }
 
 /// What is behind the label of a line.
-fn behind_label<'a>(label: &'a [u8], text: &'a [u8]) -> Option<Said<'a>>
+fn behind_label<'a>(label: &'a [u8], text: &'a [u8]) -> Option<LentLine<'a>>
     ensures { MatchOption result (body_in (Some label.entry.now) (tokens_read text.entry.now) ≡ None)
         (λ said. body_in (Some label.entry.now) (tokens_read text.entry.now) ≡ Some (line_seen said)) }
 {
     if at_end(text) {
-        return Some(Said {
+        return Some(LentLine {
             label: Some(label),
-            command: None,
+            statement: None,
         });
     }
-    let command = statement(text)?;
-    Some(Said {
+    let statement = read_statement(text)?;
+    Some(LentLine {
         label: Some(label),
-        command: Some(command),
+        statement: Some(statement),
     })
 }
 
 /// The line of a text without comments. Its first name is a label or a mnemonic.
 #[tactic(auto, unfolding(crate::specs::inner::Reading::line_in, crate::specs::inner::Reading::statement_in))]
-fn line_of(text: &[u8]) -> Option<Said<'_>>
+fn line_of(text: &[u8]) -> Option<LentLine<'_>>
     ensures { MatchOption result (line_in (tokens_read text.now) ≡ None)
         (λ said. line_in (tokens_read text.now) ≡ Some (line_seen said)) }
 {
     let Some((name, rest)) = after_name(text) else {
         return if at_end(text) {
-            Some(Said {
+            Some(LentLine {
                 label: None,
-                command: None,
+                statement: None,
             })
         } else {
             None
@@ -85,22 +85,22 @@ fn line_of(text: &[u8]) -> Option<Said<'_>>
     if let Some(rest) = after_mark(rest, b':') {
         return behind_label(name, rest);
     }
-    let command = named(name, rest)?;
-    Some(Said {
+    let statement = named(name, rest)?;
+    Some(LentLine {
         label: None,
-        command: Some(command),
+        statement: Some(statement),
     })
 }
 
 /// What a line says, or its own fault.
-pub(crate) fn read_line(line: &[u8]) -> Result<Said<'_>, AsmKind>
+pub(crate) fn read_line(line: &[u8]) -> Result<LentLine<'_>, AsmKind>
     ensures said { IfOk result (λ said. IsLine line.now (line_seen said)) }
     ensures fault { IfErr result (λ kind. (before : List Line) → IsLineFault before line.now kind) }
 {
     let text = before_comment(line);
     match line_of(text) {
         Some(said) => Ok(said),
-        // a line of the grammar has no such number, so only other lines are looked through for one
+        // A line of the grammar has no such number, so only other lines are looked through for one.
         None if bad_number(text) => Err(AsmKind::BadNumber),
         None => Err(AsmKind::BadLine),
     }

@@ -5,15 +5,21 @@ ghost use Rattle.bpf_asm.specs.Faults.{IsFirstOperandFault, IsOperandFault, IsSt
 ghost use Rattle.bpf_asm.specs.Grammar.{Line};
 ghost use Rattle.bpf_asm.specs.Labels.{IsOffset, statements_of};
 ghost use Rattle.bpf_asm.specs.Meaning.{IsSide, MeanFrom, Means};
-ghost use Rattle.bpf_asm.specs.inner.Places.{place_of};
+ghost use Rattle.bpf_asm.specs.inner.LabelPlaces.{place_of};
 ghost use Rattle.bpf_asm.specs.inner.Seen.{statement_seen};
 ghost use Rattle.bpf_asm.specs.inner.Drafts.{AgreesWith, Drafts, IsSideFault};
 
 use crate::draft::Draft;
 use crate::fault::{AsmFault, AsmKind};
 use crate::labels::Labels;
-use crate::parse::Command;
+use crate::parse::LentStatement;
 use bpf_code::Instr;
+
+/// The greatest offset of a branch, whose fields have 8 bits.
+const MOST_BRANCH: usize = 255;
+
+/// The greatest offset of `ja`, whose field has 32 bits.
+const MOST_JUMP: usize = 4294967295;
 
 /// The offset of a label in the instruction at a place, of at most so much.
 fn offset<'a>(
@@ -53,7 +59,7 @@ fn side<'a>(labels: &Labels<'a>, place: usize, label: Option<&'a [u8]>) -> Resul
 {
     match label {
         None => Ok(0),
-        Some(label) => match offset(labels, place, label, 255) {
+        Some(label) => match offset(labels, place, label, MOST_BRANCH) {
             Ok(offset) => Ok(offset as u8),
             Err(kind) => Err(kind),
         },
@@ -61,19 +67,23 @@ fn side<'a>(labels: &Labels<'a>, place: usize, label: Option<&'a [u8]>) -> Resul
 }
 
 /// The instruction that a statement at a place means.
-fn resolved<'a>(labels: &Labels<'a>, place: usize, command: Command<'a>) -> Result<Instr, AsmKind>
+fn resolved<'a>(
+    labels: &Labels<'a>,
+    place: usize,
+    statement: LentStatement<'a>,
+) -> Result<Instr, AsmKind>
     ensures ok { (lines : List Line) (count : ℕ) → AgreesWith lines (place_of labels.now) count →
-        IfOk result (Means lines place (statement_seen command.entry)) }
+        IfOk result (Means lines place (statement_seen statement.entry)) }
     ensures fault { (lines : List Line) (count : ℕ) → AgreesWith lines (place_of labels.now) count →
-        IfErr result (IsStatementFault lines place (statement_seen command.entry)) }
+        IfErr result (IsStatementFault lines place (statement_seen statement.entry)) }
 {
-    match command {
-        Command::Plain(instr) => Ok(instr),
-        Command::Jump(label) => match offset(labels, place, label, 4294967295) {
+    match statement {
+        LentStatement::Plain(instr) => Ok(instr),
+        LentStatement::Jump(label) => match offset(labels, place, label, MOST_JUMP) {
             Ok(offset) => Ok(Instr::Jump(offset as u32)),
             Err(kind) => Err(kind),
         },
-        Command::Branch {
+        LentStatement::Branch {
             test,
             by,
             met,
@@ -103,7 +113,7 @@ pub(crate) fn resolve_all(draft: Draft<'_>) -> Result<Vec<Instr>, AsmFault>
         dangling: _,
     } = draft;
     for jump in &unresolved {
-        match resolved(&labels, jump.place, jump.command) {
+        match resolved(&labels, jump.place, jump.statement) {
             Ok(instr) => code[jump.place] = instr,
             Err(kind) => {
                 return Err(AsmFault {

@@ -2,6 +2,7 @@
 //!
 //! A row is a source, an arrow and its answer. In a source `|`, which is no token, stands for a line
 //! feed. A code is spelled by the digits of its instructions' octets, and a fault as it is printed.
+
 mod bad_lines;
 mod faults;
 mod jumps;

@@ -4,13 +4,13 @@ ghost use Rattle.std.specs.Prelude.{◌≡◌, ◌≤◌, ◌<◌, ℕ, List, []
 ghost use Rattle.bpf_asm.specs.inner.Reading.{cut_mark, is_ended};
 ghost use Rattle.bpf_asm.specs.Numbers.{digit_of, is_hexadecimal, number_of, value_in, within_word};
 ghost use Rattle.bpf_asm.specs.inner.Seen.{token_seen};
-ghost use Rattle.bpf_asm.specs.Tokens.{is_digit, is_run, is_word, mark, tokens_of, tokens_read, word_token};
-ghost use Rattle.bpf_asm.specs.inner.Words.{all_word};
-ghost use Rattle.dialogue.specs.Words.{is_blank};
+ghost use Rattle.bpf_asm.specs.Tokens.{is_run, is_word, mark, tokens_of, tokens_read, word_token};
+ghost use Rattle.bpf_asm.specs.inner.WordRuns.{all_word};
+ghost use Rattle.dialogue.specs.Words.{is_blank, is_digit};
 
 /// A token, with the octets of its name in the line.
 #[derive(Clone, Copy)]
-pub(crate) enum Lexeme<'a> {
+pub(crate) enum LentToken<'a> {
     /// A word that doesn't begin with a digit.
     Name(&'a [u8]),
     /// The value of a number.
@@ -45,6 +45,9 @@ fn blank(octet: u8) -> bool
     octet == b' ' || octet == b'\t'
 }
 
+/// The greatest number of a source, which has 32 bits.
+const MOST_NUMBER: u64 = 4294967295;
+
 /// The value of a digit of base 16, or 16.
 fn digit_value(octet: u8) -> u8
     ensures { result ≡ digit_of octet }
@@ -73,7 +76,7 @@ fn value(base: u8, digits: &[u8]) -> Option<u32>
             return None;
         }
         value = value * u64::from(base) + u64::from(digit);
-        if value > 4294967295 {
+        if value > MOST_NUMBER {
             return None;
         }
     }
@@ -101,17 +104,17 @@ fn number(word: &[u8]) -> Option<u32>
 }
 
 /// The token of a word.
-fn word_lexeme(word: &[u8]) -> Lexeme<'_>
+fn token_of_word(word: &[u8]) -> LentToken<'_>
     requires { 0 < length word.now }
     ensures { token_seen result ≡ word_token word.now }
 {
     if digit(word[0]) {
         match number(word) {
-            Some(value) => Lexeme::Number(value),
-            None => Lexeme::Faulty,
+            Some(value) => LentToken::Number(value),
+            None => LentToken::Faulty,
         }
     } else {
-        Lexeme::Name(word)
+        LentToken::Name(word)
     }
 }
 
@@ -170,7 +173,7 @@ pub(crate) fn is_spent(text: &[u8]) -> bool
 }
 
 /// The first token of a text, and what is behind it.
-pub(crate) fn next_token(text: &[u8]) -> Option<(Lexeme<'_>, &[u8])>
+pub(crate) fn next_token(text: &[u8]) -> Option<(LentToken<'_>, &[u8])>
     ensures tokens { MatchOption result (tokens_of text.now ≡ [])
         (λ found. tokens_of text.now ≡ token_seen found.0 ∷ tokens_of found.1.now) }
     ensures shorter { IfSome result (λ found. length found.1.now < length text.now) }
@@ -181,8 +184,8 @@ pub(crate) fn next_token(text: &[u8]) -> Option<(Lexeme<'_>, &[u8])>
     }
     if word_octet(text[0]) {
         let (word, rest) = text.split_at(word_len(text));
-        Some((word_lexeme(word), rest))
+        Some((token_of_word(word), rest))
     } else {
-        Some((Lexeme::Mark(text[0]), &text[1..]))
+        Some((LentToken::Mark(text[0]), &text[1..]))
     }
 }

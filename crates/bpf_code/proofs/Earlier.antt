@@ -4,7 +4,7 @@ use Rattle.std.proofs.lemmas.Option.{same_Some}
 use Rattle.bpf_code.proofs.Spelled.{SpellsCode-unique}
 use Rattle.bpf_code.specs.EarlierTable.{earlier_code_of, SpelledEarlier, SpelledCodeEarlier}
 use Rattle.bpf_code.specs.Fields.{code_in}
-use Rattle.bpf_code.specs.Spelling.{Spells, SpellsCode}
+use Rattle.bpf_code.specs.OctetSpelling.{Spells, SpellsCode}
 use Rattle.bpf_code.specs.Table.{code_of}
 use Rattle.bpf_code.specs.declared.instr.By.TheVariants.{Imm, X}
 use Rattle.bpf_code.specs.declared.instr.Instr.{Instr}
@@ -13,7 +13,7 @@ use Rattle.bpf_code.specs.declared.instr.Op.TheVariants.{Add, Sub, Mul, Div, Or,
 use Rattle.bpf_code.specs.declared.instr.Size.TheVariants.{Word, Half, Octet}
 use Rattle.bpf_code.specs.declared.instr.Test.TheVariants.{Eq, Gt, Ge, Set}
 
--- an instruction that had a code has it still
+-- An instruction that had a code has it still.
 same_code : (i : Instr) (code : ℕ) → earlier_code_of i ≡ Some code → code ≡ code_of i
 same_code (LoadAbs Word k) code e = sym (same_Some 0x0020 code e)
 same_code (LoadAbs Half k) code e = sym (same_Some 0x0028 code e)

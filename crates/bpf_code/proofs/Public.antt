@@ -7,7 +7,7 @@ use Rattle.bpf_code.proofs.Written as written
 use Rattle.bpf_code.specs.Decoding.{IsFaultOf}
 use Rattle.bpf_code.specs.Encoding.{code_octets}
 use Rattle.bpf_code.specs.Flow.{StandsAt}
-use Rattle.bpf_code.specs.Spelling.{Spells, SpellsCode, SpellsPlainly, eight_at}
+use Rattle.bpf_code.specs.OctetSpelling.{Spells, SpellsCode, SpellsPlainly, eight_at}
 use Rattle.bpf_code.specs.Widths.{FitsFields}
 use Rattle.bpf_code.specs.declared.decoder.DecodeFault.{DecodeFault}
 use Rattle.bpf_code.specs.declared.decoder.DecodeFault.TheVariants.{NoMemory}

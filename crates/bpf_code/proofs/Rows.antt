@@ -2,7 +2,7 @@
 use Rattle.std.proofs.Common.{◌≡◌, ◌≢◌, ◌↔◌, ℕ, ◌==◌, if◌then◌else◌, refl, sym, ap, subst, ◌∙◌, List, Option, Some, None, Ok}
 use Rattle.std.specs.Option.{IfNone, IfSome, ok_or}
 use Rattle.bpf_code.specs.Fields.{code_in, jt_in, jf_in, k_in}
-use Rattle.bpf_code.specs.Spelling.{Spells}
+use Rattle.bpf_code.specs.OctetSpelling.{Spells}
 use Rattle.bpf_code.specs.Table.{code_of, jt_of, jf_of, k_of}
 use Rattle.bpf_code.specs.declared.instr.By.TheVariants.{Imm, X}
 use Rattle.bpf_code.specs.declared.instr.Instr.{Instr}
@@ -11,7 +11,7 @@ use Rattle.bpf_code.specs.declared.instr.Op.TheVariants.{Add, Sub, Mul, Div, Or,
 use Rattle.bpf_code.specs.declared.instr.Size.TheVariants.{Word, Half, Octet}
 use Rattle.bpf_code.specs.declared.instr.Test.TheVariants.{Eq, Gt, Ge, Set}
 
--- the instruction of these fields, where there is one
+-- The instruction of these fields, where there is one.
 unfoldable pub row_at : ℕ → ℕ → ℕ → ℕ → Instr
 row_at code jt jf k =
     if code == 0x0020 then LoadAbs Word k else (
@@ -64,7 +64,7 @@ row_at code jt jf k =
     if code == 0x0007 then Tax else (
     Txa))))))))))))))))))))))))))))))))))))))))))))))))
 
--- the fields of an instruction lead back to it
+-- The fields of an instruction lead back to it.
 pub row_at-fields : (code jt jf k : ℕ) (i : Instr) → code ≡ code_of i → IfSome (jt_of i) (λ offset. jt ≡ offset) → IfSome (jf_of i) (λ offset. jf ≡ offset) → IfSome (k_of i) (λ operand. k ≡ operand) → row_at code jt jf k ≡ i
 unfolding row_at
 row_at-fields code jt jf k (LoadAbs Word n) c t f o = rw (c, o) refl
@@ -117,13 +117,13 @@ row_at-fields code jt jf k RetA c t f o = rw c refl
 row_at-fields code jt jf k Tax c t f o = rw c refl
 row_at-fields code jt jf k Txa c t f o = rw c refl
 
--- eight octets spell at most one instruction
+-- Eight octets spell at most one instruction.
 pub Spells-unique : (octets : List ℕ) (i j : Instr) → Spells octets i → Spells octets j → i ≡ j
 Spells-unique octets i j s r =
     sym (row_at-fields (code_in octets) (jt_in octets) (jf_in octets) (k_in octets) i s.code s.jt s.jf s.k)
     ∙ row_at-fields (code_in octets) (jt_in octets) (jf_in octets) (k_in octets) j r.code r.jt r.jf r.k
 
--- of a row that was found, or that isn't there, this is what the octets spell
+-- Of a row that was found, or that isn't there, this is what the octets spell.
 pub row_spells : (octets : List ℕ) (found : Option Instr) (code : ℕ) → IfSome found (λ i. Spells octets i) → IfNone found ((i : Instr) → code_of i ≢ code_in octets) → (i : Instr) → (Spells octets i ↔ (ok_or found code ≡ Ok i))
 row_spells octets (Some j) code spelled no_row i = (
   λ s. ap Ok (Spells-unique octets j i spelled s),

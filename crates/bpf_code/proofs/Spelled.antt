@@ -1,14 +1,14 @@
 -- What octets that spell a code look like.
 use Rattle.std.proofs.Common.{◌≡◌, ℕ, zero, suc, ◌+◌, ◌*◌, ◌≤◌, List, [], ◌∷◌, length, take, drop, refl, ap, subst, arith, length-take, length-drop, drop-drop}
 use Rattle.bpf_code.proofs.Rows.{Spells-unique}
-use Rattle.bpf_code.specs.Spelling.{Spells, SpellsCode, eight_at}
+use Rattle.bpf_code.specs.OctetSpelling.{Spells, SpellsCode, eight_at}
 use Rattle.bpf_code.specs.declared.instr.Instr.{Instr}
 
--- eight octets that spell an instruction are there
+-- Eight octets that spell an instruction are there.
 pub Spells-length : (octets : List ℕ) (i : Instr) → Spells (take 8 octets) i → 8 ≤ length octets
 Spells-length octets i s = let e = s.eight in let f = length-take 8 octets in omega arith
 
--- octets that spell a code have eight for each instruction
+-- Octets that spell a code have eight for each instruction.
 pub SpellsCode-length : (octets : List ℕ) (code : List Instr) → SpellsCode octets code → length octets ≡ 8 * length code
 SpellsCode-length octets [] s = ap length s
 SpellsCode-length octets (i ∷ code) s =
@@ -17,7 +17,7 @@ SpellsCode-length octets (i ∷ code) s =
     let left = length-drop 8 octets in
     omega arith
 
--- octets spell at most one code
+-- Octets spell at most one code.
 pub SpellsCode-unique : (octets : List ℕ) (one other : List Instr) → SpellsCode octets one → SpellsCode octets other → one ≡ other
 SpellsCode-unique octets [] [] s t = refl
 SpellsCode-unique octets [] (j ∷ js) s t =
@@ -33,7 +33,7 @@ SpellsCode-unique octets (i ∷ is) (j ∷ js) s t =
     let later = SpellsCode-unique (drop 8 octets) is js s.1 t.1 in
     cc
 
--- in octets that spell a code, the eight at each place spell an instruction
+-- In octets that spell a code, the eight at each place spell an instruction.
 pub SpellsCode-at : (octets : List ℕ) (code : List Instr) (place : ℕ) → SpellsCode octets code → 8 * place + 8 ≤ length octets → (i : Instr) × Spells (eight_at octets place) i
 SpellsCode-at octets [] place s h =
     let few : length octets ≡ 0 = ap length s in

@@ -5,7 +5,7 @@ use Rattle.std.proofs.lemmas.Bool.{cases_lt}
 use Rattle.std.proofs.lemmas.Bool.Decides.{eqb_tells}
 use Rattle.bpf_code.specs.Decoding.{IsFaultOf}
 use Rattle.bpf_code.specs.Fields.{code_in, jt_in, jf_in, k_in}
-use Rattle.bpf_code.specs.Spelling.{Spells, SpellsCode, eight_at, IsFirstUnknown}
+use Rattle.bpf_code.specs.OctetSpelling.{Spells, SpellsCode, eight_at, IsFirstUnknown}
 use Rattle.bpf_code.specs.Table.{code_of, jt_of, jf_of, k_of}
 use Rattle.bpf_code.specs.declared.decoder.DecodeFault.{DecodeFault}
 use Rattle.bpf_code.specs.declared.decoder.DecodeFault.TheVariants.{Ragged, UnknownCode, NoMemory}
@@ -17,7 +17,7 @@ use Rattle.bpf_code.specs.declared.instr.Size.TheVariants.{Word, Half, Octet}
 use Rattle.bpf_code.specs.declared.instr.Test.TheVariants.{Eq, Gt, Ge, Set}
 use Rattle.bpf_code.proofs.Rows.{row_at, row_at-fields}
 
--- the fields of the instruction that these fields lead to are these
+-- The fields of the instruction that these fields lead to are these.
 record Owns (jt jf k : ℕ) (i : Instr) : Type 0 where
   jt_own : IfSome (jt_of i) (λ offset. jt ≡ offset)
   jf_own : IfSome (jf_of i) (λ offset. jf ≡ offset)
@@ -27,7 +27,7 @@ module _ (jt jf k : ℕ) where
   own : (i : Instr) → IfSome (jt_of i) (λ offset. jt ≡ offset) → IfSome (jf_of i) (λ offset. jf ≡ offset) → IfSome (k_of i) (λ operand. k ≡ operand) → Owns jt jf k i
   own i t f o = record { jt_own = t; jf_own = f; k_own = o }
 
-  -- one row of the table above the rows below it
+  -- One row of the table above the rows below it.
   row : (b : Bool) (i j : Instr) → IfSome (jt_of i) (λ offset. jt ≡ offset) → IfSome (jf_of i) (λ offset. jf ≡ offset) → IfSome (k_of i) (λ operand. k ≡ operand) → Owns jt jf k j → Owns jt jf k (if b then i else j)
   row true i j t f o below = own i t f o
   row false i j t f o below = below
@@ -85,7 +85,7 @@ module _ (jt jf k : ℕ) where
       row (code == 0x0007) Tax _ tt tt tt (
       own Txa tt tt tt))))))))))))))))))))))))))))))))))))))))))))))))
 
--- eight octets spell an instruction, or none
+-- Eight octets spell an instruction, or none.
 spelled_or_not : (octets : List ℕ) → length octets ≡ 8 → ((i : Instr) × Spells octets i) ⊎ ((i : Instr) → Spells octets i → ⊥)
 spelled_or_not octets eight =
     let code = code_in octets in
@@ -99,7 +99,7 @@ spelled_or_not octets eight =
       | inr other ↦ inr (λ i spells. other.1 (spells.code ∙ ap code_of (sym (row_at-fields code jt jf k i spells.code spells.jt spells.jf spells.k))))
     ]
 
--- the eights of a list whose first eight are gone
+-- The eights of a list whose first eight are gone.
 later : (octets : List ℕ) (place : ℕ) → eight_at (drop 8 octets) place ≡ eight_at octets (suc place)
 later octets place =
     let moved : 8 + 8 * place ≡ 8 * suc place = omega arith in

@@ -6,7 +6,7 @@ use Rattle.byteorder.specs.Numbers.{big_number-reads_back}
 use Rattle.bpf_code.specs.Encoding.{code_octets, octets_of}
 use Rattle.bpf_code.specs.Fields.{code_in, jt_in, jf_in, k_in}
 use Rattle.bpf_code.specs.Flow.{StandsAt}
-use Rattle.bpf_code.specs.Spelling.{Spells, SpellsPlainly, UnusedAreZero}
+use Rattle.bpf_code.specs.OctetSpelling.{Spells, SpellsPlainly, UnusedAreZero}
 use Rattle.bpf_code.specs.Table.{code_of, jt_of, jf_of, k_of}
 use Rattle.bpf_code.specs.Widths.{FitsFields}
 use Rattle.bpf_code.specs.declared.instr.By.TheVariants.{Imm, X}
@@ -16,7 +16,7 @@ use Rattle.bpf_code.specs.declared.instr.Op.TheVariants.{Add, Sub, Mul, Div, Or,
 use Rattle.bpf_code.specs.declared.instr.Size.TheVariants.{Word, Half, Octet}
 use Rattle.bpf_code.specs.declared.instr.Test.TheVariants.{Eq, Gt, Ge, Set}
 
--- a code has two octets
+-- A code has two octets.
 code_small : (i : Instr) → code_of i < 256 ^ 2
 code_small (LoadAbs Word k) = lit< tt
 code_small (LoadAbs Half k) = lit< tt
@@ -68,7 +68,7 @@ code_small RetA = lit< tt
 code_small Tax = lit< tt
 code_small Txa = lit< tt
 
--- a field that is written by what it holds, or 0
+-- A field that is written by what it holds, or 0.
 used : (field : Option ℕ) → IfSome field (λ n. unwrap_or field 0 ≡ n)
 used None = tt
 used (Some n) = refl
@@ -77,7 +77,7 @@ unused : (field : Option ℕ) → IfNone field (unwrap_or field 0 ≡ 0)
 unused None = refl
 unused (Some n) = tt
 
--- a number that fits is read back
+-- A number that fits is read back.
 operand_used : (field : Option ℕ) → IfSome field (λ n. n < 2 ^ 32) → IfSome field (λ n. big_number 4 (big_bytes 4 (unwrap_or field 0)) ≡ n)
 operand_used None small = tt
 operand_used (Some n) small = big_number-reads_back 4 n [] small
@@ -86,7 +86,7 @@ operand_unused : (field : Option ℕ) → IfNone field (big_number 4 (big_bytes 
 operand_unused None = refl
 operand_unused (Some n) = tt
 
--- the octets of an instruction spell it
+-- The octets of an instruction spell it.
 octets_spell : (i : Instr) → FitsFields i → Spells (octets_of i) i
 octets_spell i fits = record {
   eight = refl;
@@ -99,7 +99,7 @@ octets_spell i fits = record {
 octets_plain : (i : Instr) → UnusedAreZero (octets_of i) i
 octets_plain i = record { jt = unused (jt_of i); jf = unused (jf_of i); k = operand_unused (k_of i) }
 
--- the octets of a code spell it
+-- The octets of a code spell it.
 pub code_octets-plainly : (code : List Instr) → ((place : ℕ) (i : Instr) → StandsAt code place i → FitsFields i) → SpellsPlainly (code_octets code) code
 code_octets-plainly [] fits = refl
 code_octets-plainly (i ∷ code) fits = (octets_spell i (fits zero i refl), octets_plain i, code_octets-plainly code (λ place. fits (suc place)))

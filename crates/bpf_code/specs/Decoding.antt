@@ -1,6 +1,6 @@
 -- When octets are no code.
 use Rattle.std.specs.Prelude.{◌≡◌, ◌<◌, ◌%◌, ℕ, List, length}
-use Rattle.bpf_code.specs.Spelling.{IsFirstUnknown}
+use Rattle.bpf_code.specs.OctetSpelling.{IsFirstUnknown}
 use Rattle.bpf_code.specs.declared.decoder.DecodeFault.{DecodeFault}
 use Rattle.bpf_code.specs.declared.decoder.DecodeFault.TheVariants.{Ragged, UnknownCode, NoMemory}
 

@@ -5,6 +5,6 @@ pub mod Fields
 pub mod Flow
 pub mod Operands
 pub mod Scratch
-pub mod Spelling
+pub mod OctetSpelling
 pub mod Table
 pub mod Widths

@@ -1,8 +1,10 @@
+//! Octets, read as instructions.
+
 ghost use Rattle.std.specs.Prelude.{◌≡◌, ◌≢◌, ◌↔◌, ◌<◌, ◌%◌, ◌⊎◌, ℕ, List, length, IfErr, IfNone, IfOk, IfSome, OnErr};
 ghost use Rattle.std.specs.Result.{IsOkUnless};
 ghost use Rattle.bpf_code.specs.Decoding.{IsFaultOf};
 ghost use Rattle.bpf_code.specs.Fields.{code_in};
-ghost use Rattle.bpf_code.specs.Spelling.{IsFirstUnknown, Spells, SpellsCode};
+ghost use Rattle.bpf_code.specs.OctetSpelling.{IsFirstUnknown, Spells, SpellsCode};
 ghost use Rattle.bpf_code.specs.Table.{code_of};
 ghost use Rattle.bpf_code.specs.declared.instr.By.{By};
 ghost use Rattle.bpf_code.specs.declared.instr.Instr.{Instr};

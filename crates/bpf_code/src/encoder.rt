@@ -1,6 +1,8 @@
+//! Instructions, written as octets.
+
 ghost use Rattle.std.specs.Prelude.{◌≡◌, ◌≤◌, ◌+◌, ℕ, unwrap_or, IfOk};
 ghost use Rattle.bpf_code.specs.Encoding.{octets_of, code_octets};
-ghost use Rattle.bpf_code.specs.Spelling.{Spells, SpellsPlainly, UnusedAreZero};
+ghost use Rattle.bpf_code.specs.OctetSpelling.{Spells, SpellsPlainly, UnusedAreZero};
 ghost use Rattle.bpf_code.specs.Table.{code_of, jt_of, jf_of, k_of};
 
 use crate::instr::By::{self, Imm, X};

@@ -5,7 +5,7 @@ ghost use Rattle.bpf_code.specs.Decoding.{IsFaultOf};
 ghost use Rattle.bpf_code.specs.EarlierTable.{SpelledCodeEarlier};
 ghost use Rattle.bpf_code.specs.Encoding.{code_octets};
 ghost use Rattle.bpf_code.specs.Flow.{StandsAt};
-ghost use Rattle.bpf_code.specs.Spelling.{SpellsCode, SpellsPlainly};
+ghost use Rattle.bpf_code.specs.OctetSpelling.{SpellsCode, SpellsPlainly};
 ghost use Rattle.bpf_code.specs.Widths.{FitsFields};
 ghost use Rattle.bpf_code.specs.declared.decoder.DecodeFault.{DecodeFault as TheFault};
 ghost use Rattle.bpf_code.specs.declared.instr.Instr.{Instr};

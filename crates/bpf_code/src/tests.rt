@@ -1,3 +1,5 @@
+//! Every row of the instruction table, read and written, and octets that are none.
+
 use crate::*;
 use std::test::Fail;
 

@@ -1,3 +1,5 @@
+//! The cell, and the fields of its header.
+
 ghost use Rattle.std.specs.Prelude.{◌≡◌, ◌≢◌, ◌≤◌, ◌/◌, ◌↔◌, ℕ, length, slice_index, IfOk, IfErr, IsOk, IsTrue};
 ghost use Rattle.upc_cell.specs.Header.{header_number, gfc_of, vpi_of, vci_of, pti_of, clp_of, has_low_priority};
 ghost use Rattle.upc_cell.specs.Side.{vpi_at, last_vpi};
@@ -28,7 +30,7 @@ pub enum CellFault {
 /// Contracts see a cell as the list of its octets.
 #[derive(Clone, Copy, PartialEq, Eq, Debug)]
 pub struct Cell {
-    octets: [u8; 52],
+    octets: [u8; CELL_OCTETS],
 }
 
 impl Model for Cell {
@@ -41,11 +43,11 @@ impl Model for Cell {
     ghost inverse = { λ octets. record { octets = octets } };
 }
 
-impl From<[u8; 52]> for Cell {
+impl From<[u8; CELL_OCTETS]> for Cell {
     ghost from_gives = { λ octets cell. cell ≡ octets };
 
     /// The cell of these octets, which are as many as a cell has.
-    fn from(octets: [u8; 52]) -> Cell {
+    fn from(octets: [u8; CELL_OCTETS]) -> Cell {
         Cell { octets }
     }
 }
@@ -64,13 +66,13 @@ impl Cell {
         if octets.len() != CELL_OCTETS {
             return Err(CellFault::WrongLength(octets.len()));
         }
-        let mut whole = [0u8; 52];
+        let mut whole = [0u8; CELL_OCTETS];
         whole.copy_from_slice(octets);
         Ok(Cell { octets: whole })
     }
 
     /// The 52 octets.
-    pub fn bytes(&self) -> &[u8; 52]
+    pub fn bytes(&self) -> &[u8; CELL_OCTETS]
         ensures { result.now ≡ self.now }
     {
         &self.octets

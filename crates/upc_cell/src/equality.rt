@@ -1,3 +1,5 @@
+//! When two connections are the same.
+
 ghost use Rattle.std.specs.Prelude.{◌≡◌, ◌↔◌, IsTrue};
 ghost use Rattle.upc_cell.specs.Connection.{is_same_vc};
 

@@ -1,3 +1,11 @@
+//! The two sides at which a header is read.
+
+/// The highest virtual path identifier at the user network interface.
+const LAST_VPI_OF_USERS: u16 = 255;
+
+/// The highest virtual path identifier between nodes of the network.
+const LAST_VPI_OF_NODES: u16 = 4095;
+
 /// The interface at which a cell's header is read (ITU-T I.361): where a user meets the network,
 /// or between two nodes of the network. The four highest bits of the header are generic flow
 /// control at the first, and the upper end of the path at the second.
@@ -7,4 +15,19 @@ pub enum Side {
     Uni,
     /// The network node interface: a path has 12 bits.
     Nni,
+}
+
+impl Side {
+    ghost use Rattle.std.specs.Prelude.{◌≡◌};
+    ghost use Rattle.upc_cell.specs.Side.{last_vpi};
+
+    /// The highest virtual path identifier at this side: 255 or 4095.
+    pub fn last_vpi(self) -> u16
+        ensures { result ≡ last_vpi self }
+    {
+        match self {
+            Side::Uni => LAST_VPI_OF_USERS,
+            Side::Nni => LAST_VPI_OF_NODES,
+        }
+    }
 }

@@ -1,3 +1,5 @@
+//! Headers of known cells, at either side, and where octets or numbers are refused.
+
 use super::*;
 use std::test::Fail;
 

@@ -1,14 +1,13 @@
-ghost use Rattle.std.specs.Prelude.{◌≡◌, ◌≤◌, ◌↔◌, IfOk, IfErr, IsOk};
+//! Virtual connections.
+
+ghost use Rattle.std.specs.Prelude.{◌≡◌, ◌+◌, ◌*◌, ◌≤◌, ◌↔◌, IfOk, IfErr, IsOk};
+ghost use Rattle.std.specs.Hash as fed;
+ghost use Rattle.std.proofs.Common.{rules};
 ghost use Rattle.upc_cell.specs.Side.{last_vpi};
 
 use crate::side::Side;
+use std::hash::{Hash, Hasher};
 use thiserror::Error;
-
-/// The highest virtual path identifier at the user network interface.
-const LAST_VPI_OF_USERS: u16 = 255;
-
-/// The highest virtual path identifier between nodes of the network.
-const LAST_VPI_OF_NODES: u16 = 4095;
 
 /// Why two numbers name no virtual connection.
 #[derive(Clone, Copy, PartialEq, Eq, Debug, Error)]
@@ -21,7 +20,7 @@ pub enum VcFault {
 /// A virtual connection: a virtual path (0 to 255 at the user network interface, 0 to 4095 between
 /// nodes of the network) and a virtual channel (0 to 65535) in it (ITU-T I.361). Ordered by path,
 /// then channel.
-#[derive(Clone, Copy, PartialEq, Eq, PartialOrd, Ord, Hash, Debug)]
+#[derive(Clone, Copy, PartialEq, Eq, PartialOrd, Ord, Debug)]
 pub struct Vc {
     /// The virtual path identifier.
     pub vpi: u16,
@@ -55,13 +54,20 @@ impl Vc {
         ensures path { IfOk result (λ vc. vc.vpi ≡ vpi) }
         ensures channel { IfOk result (λ vc. vc.vci ≡ vci) }
     {
-        let last = match side {
-            Side::Uni => LAST_VPI_OF_USERS,
-            Side::Nni => LAST_VPI_OF_NODES,
-        };
-        if vpi > last {
+        if vpi > side.last_vpi() {
             return Err(VcFault::VpiTooLarge);
         }
         Ok(Vc { vpi, vci })
+    }
+}
+
+/// Hashed as one number, so that a table of connections takes one round for each.
+impl Hash for Vc {
+    ghost hash_input = { λ vc. fed.u32 (65536 * vc.vpi + vc.vci) };
+
+    ghost respects_eq = { Prim.search rules };
+
+    fn hash<H: Hasher>(&self, state: &mut H) {
+        state.write_u32(65536 * u32::from(self.vpi) + u32::from(self.vci));
     }
 }

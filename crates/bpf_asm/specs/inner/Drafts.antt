@@ -1,21 +1,21 @@
 -- What the assembler holds of the lines that it has read: the draft of a code.
 use Rattle.std.specs.Prelude.{◌≡◌, ◌+◌, ◌++◌, ℕ, Bool, true, false, List, [], ◌∷◌, length, map, filter, Option, Some, None}
 use Rattle.bpf_asm.specs.Grammar.{AreLines, IsLine, Line}
-use Rattle.bpf_asm.specs.Labels.{EachLabelOnce, HasLabel, StandsFor, statements_of}
-use Rattle.bpf_asm.specs.Lines.{source_lines}
+use Rattle.bpf_asm.specs.Labels.{EachLabelOnce, HasLabel, StandsFor, most_branch, statements_of}
+use Rattle.bpf_asm.specs.SourceLines.{source_lines}
 use Rattle.bpf_asm.specs.Faults.{IsLineFault, IsOperandFault, IsOutOfMemory}
 use Rattle.bpf_asm.specs.Meaning.{MeanFrom}
 use Rattle.bpf_asm.specs.inner.Pending.{IsPending}
-use Rattle.bpf_asm.specs.inner.Places.{place_of}
+use Rattle.bpf_asm.specs.inner.LabelPlaces.{place_of}
 use Rattle.bpf_asm.specs.inner.Seen.{statement_seen}
-use Rattle.bpf_asm.specs.Spelling.{Statement}
+use Rattle.bpf_asm.specs.StatementSpelling.{Statement}
 use Rattle.bpf_asm.specs.declared.draft.Draft.{Draft}
 use Rattle.bpf_asm.specs.declared.draft.Unresolved.{Unresolved}
 use Rattle.bpf_asm.specs.declared.fault.AsmFault.{AsmFault}
 use Rattle.bpf_asm.specs.declared.fault.AsmKind.{AsmKind}
 use Rattle.bpf_asm.specs.declared.fault.AsmKind.TheVariants.{LabelTwice, NoMemory}
-use Rattle.bpf_asm.specs.declared.parse.Command.{Command}
-use Rattle.bpf_asm.specs.declared.parse.Command.TheVariants.{Plain, Jump as LabelJump, Branch as LabelBranch}
+use Rattle.bpf_asm.specs.declared.parse.LentStatement.{LentStatement}
+use Rattle.bpf_asm.specs.declared.parse.LentStatement.TheVariants.{Plain, Jump as LabelJump, Branch as LabelBranch}
 use Rattle.bpf_code.specs.declared.instr.Instr.{Instr}
 use Rattle.bpf_code.specs.declared.instr.Instr.TheVariants.{Jump, Branch}
 
@@ -26,29 +26,29 @@ pub record AgreesWith (lines : List Line) (find : List ℕ → Option ℕ) (plac
   pub stands : (name : List ℕ) (place : ℕ) → find name ≡ Some place → StandsFor lines name place
   pub unknown : (name : List ℕ) → find name ≡ None → (at : ℕ) → ¬ HasLabel lines at name
 
--- The instruction of a command, with offsets of 0 where it has labels.
-abbrev pub drafted : Command → Instr
+-- The instruction of a statement, with offsets of 0 where it has labels.
+abbrev pub drafted : LentStatement → Instr
 drafted (Plain i) = i
 drafted (LabelJump target) = Jump 0
 drafted (LabelBranch test by met unmet) = Branch test by 0 0
 
--- The command has labels.
-abbrev pub has_labels : Command → Bool
+-- The statement has labels.
+abbrev pub has_labels : LentStatement → Bool
 has_labels (Plain i) = false
 has_labels (LabelJump target) = true
 has_labels (LabelBranch test by met unmet) = true
 
 -- The instruction has labels.
 abbrev pub is_unresolved : Unresolved → Bool
-is_unresolved u = has_labels u.command
+is_unresolved u = has_labels u.statement
 
 -- The statements of instructions.
 abbrev pub statements_seen : List Unresolved → List Statement
-statements_seen all = map (λ (u : Unresolved). statement_seen u.command) all
+statements_seen all = map (λ (u : Unresolved). statement_seen u.statement) all
 
 -- The first forms of instructions.
 abbrev pub first_forms : List Unresolved → List Instr
-first_forms all = map (λ (u : Unresolved). drafted u.command) all
+first_forms all = map (λ (u : Unresolved). drafted u.statement) all
 
 -- An instruction stands in lines behind others: at its line and at its place.
 pub record StandsBehind (lines : List Line) (front : List Unresolved) (u : Unresolved) : Type 0 where
@@ -57,7 +57,7 @@ pub record StandsBehind (lines : List Line) (front : List Unresolved) (u : Unres
   pub behind : List Line
   pub split : lines ≡ before ++ here ∷ behind
   pub number : u.line ≡ length before + 1
-  pub stands : here.statement ≡ Some (statement_seen u.command)
+  pub stands : here.statement ≡ Some (statement_seen u.statement)
   pub earlier : statements_of before ≡ statements_seen front
   pub place : u.place ≡ length front
 
@@ -97,8 +97,8 @@ kept_of true u = u ∷ []
 kept_of false u = []
 
 -- The instruction at a line and a place, where it has labels.
-abbrev pub unresolved_of : ℕ → ℕ → Command → List Unresolved
-unresolved_of line place command = kept_of (has_labels command) (record { line = line; place = place; command = command })
+abbrev pub unresolved_of : ℕ → ℕ → LentStatement → List Unresolved
+unresolved_of line place statement = kept_of (has_labels statement) (record { line = line; place = place; statement = statement })
 
 -- The line has a label of an earlier line.
 abbrev pub IsTwice : List Line → Line → Type 0
@@ -149,4 +149,4 @@ pub record IsDraftOf (source : List ℕ) (draft : Draft) : Type 0 where
 -- The fault of a side of a branch: that of its label, where it has one.
 abbrev pub IsSideFault : List Line → ℕ → Option (List ℕ) → AsmKind → Type 0
 IsSideFault lines place None kind = ⊥
-IsSideFault lines place (Some target) kind = IsOperandFault lines place (record { label = target; most = 255 }) kind
+IsSideFault lines place (Some target) kind = IsOperandFault lines place (record { label = target; most = most_branch }) kind

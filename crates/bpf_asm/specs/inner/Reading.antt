@@ -4,7 +4,7 @@ use Rattle.std.specs.Prelude.{ℕ, Bool, true, false, ◌==◌, if◌then◌else
 use Rattle.std.specs.Option.{option_and_then, option_map_or}
 use Rattle.std.specs.Str.{bytes_eq}
 use Rattle.bpf_asm.specs.Grammar.{Line}
-use Rattle.bpf_asm.specs.Spelling.{Statement, plain, jump, branch}
+use Rattle.bpf_asm.specs.StatementSpelling.{Statement, plain, jump, branch}
 use Rattle.bpf_asm.specs.Tokens.{Token, name, number, mark}
 use Rattle.bpf_code.specs.declared.instr.By.{By}
 use Rattle.bpf_code.specs.declared.instr.By.TheVariants.{Imm, X}

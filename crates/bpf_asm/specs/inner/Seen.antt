@@ -1,27 +1,27 @@
 -- The tokens and statements that the assembler holds, as the definitions have them.
 use Rattle.std.specs.Prelude.{option_copied, option_map}
 use Rattle.bpf_asm.specs.Tokens.{Token, name, number, faulty, mark}
-use Rattle.bpf_asm.specs.Spelling.{Statement, plain, jump, branch}
+use Rattle.bpf_asm.specs.StatementSpelling.{Statement, plain, jump, branch}
 use Rattle.bpf_asm.specs.Grammar.{Line}
-use Rattle.bpf_asm.specs.declared.reader.Said.{Said}
-use Rattle.bpf_asm.specs.declared.parse.Command.{Command}
-use Rattle.bpf_asm.specs.declared.parse.Command.TheVariants.{Plain, Jump, Branch}
-use Rattle.bpf_asm.specs.declared.token.Lexeme.{Lexeme}
-use Rattle.bpf_asm.specs.declared.token.Lexeme.TheVariants.{Name, Number, Faulty, Mark}
+use Rattle.bpf_asm.specs.declared.reader.LentLine.{LentLine}
+use Rattle.bpf_asm.specs.declared.parse.LentStatement.{LentStatement}
+use Rattle.bpf_asm.specs.declared.parse.LentStatement.TheVariants.{Plain, Jump, Branch}
+use Rattle.bpf_asm.specs.declared.token.LentToken.{LentToken}
+use Rattle.bpf_asm.specs.declared.token.LentToken.TheVariants.{Name, Number, Faulty, Mark}
 
 -- A token that is lent from a line.
-abbrev pub token_seen : Lexeme → Token
+abbrev pub token_seen : LentToken → Token
 token_seen (Name octets) = name octets.now
 token_seen (Number value) = number value
 token_seen Faulty = faulty
 token_seen (Mark octet) = mark octet
 
 -- A statement whose labels are lent from a line.
-abbrev pub statement_seen : Command → Statement
+abbrev pub statement_seen : LentStatement → Statement
 statement_seen (Plain i) = plain i
 statement_seen (Jump target) = jump target.now
 statement_seen (Branch test by met unmet) = branch test by (option_copied met) (option_copied unmet)
 
 -- A line whose label and statement are lent from the source.
-abbrev pub line_seen : Said → Line
-line_seen said = record { label = option_copied said.label; statement = option_map statement_seen said.command }
+abbrev pub line_seen : LentLine → Line
+line_seen said = record { label = option_copied said.label; statement = option_map statement_seen said.statement }

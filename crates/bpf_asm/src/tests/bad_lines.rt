@@ -1,4 +1,5 @@
 //! Lines that are close to a spelling and none.
+
 use super::expect;
 use std::alloc::Global;
 use std::process::Abort;

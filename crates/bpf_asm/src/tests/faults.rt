@@ -1,4 +1,5 @@
 //! The texts of all faults.
+
 use crate::{AsmFault, AsmKind, ListFault};
 use std::test::Fail;
 

@@ -1,4 +1,5 @@
 //! Operands that are labels: how far they may be, and their faults.
+
 use super::{expect, expect_table, parts_of};
 use std::alloc::{AllocError, Global};
 use std::process::Abort;

@@ -1,4 +1,5 @@
 //! Names of labels, and labels with faults.
+
 use super::{expect, expect_table};
 use std::alloc::Global;
 use std::process::Abort;

@@ -1,4 +1,5 @@
 //! Lines, comments, and octets that are no tokens.
+
 use super::{answer_to, expect_table};
 use std::alloc::Global;
 use std::process::Abort;

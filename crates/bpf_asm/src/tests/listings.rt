@@ -1,4 +1,5 @@
 //! Listings of codes.
+
 use super::{expect, octets_of, parts_of};
 use crate::listing;
 use bpf_code::{Instr, decode_one};

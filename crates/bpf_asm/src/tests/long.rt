@@ -1,4 +1,5 @@
 //! A source of many lines.
+
 use crate::{assemble, listing};
 use bpf_code::Instr;
 use std::test::Fail;

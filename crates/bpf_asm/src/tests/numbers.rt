@@ -1,4 +1,5 @@
 //! Numbers, and numbers below zero.
+
 use super::{expect, expect_table, parts_of};
 use std::alloc::Global;
 use std::process::Abort;

@@ -1,4 +1,5 @@
 //! The instruction table, spelled with any blanks.
+
 use super::{expect, expect_table, parts_of};
 use crate::{assemble, listing};
 use std::alloc::{AllocError, Global};

@@ -1,5 +1,5 @@
 use Rattle.std.proofs.Common.{arith}
-use Rattle.bpf_asm.specs.Lines.{source_lines}
+use Rattle.bpf_asm.specs.SourceLines.{source_lines}
 use Rattle.bpf_asm.proofs.Sources.{taken_more}
 use Rattle.bpf_asm.proofs.assembler.read_source.Goals as goal
 

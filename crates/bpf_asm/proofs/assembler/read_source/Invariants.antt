@@ -1,5 +1,5 @@
 use Rattle.std.proofs.Common.{◌+◌, ◌≤◌, length}
-use Rattle.bpf_asm.specs.Lines.{source_lines}
+use Rattle.bpf_asm.specs.SourceLines.{source_lines}
 use Rattle.bpf_asm.specs.inner.Drafts.{IsDraftTo}
 use Rattle.bpf_asm.proofs.assembler.read_source.Given as goal
 

@@ -1,6 +1,6 @@
 use Rattle.std.proofs.Common.{refl}
 use Rattle.bpf_asm.proofs.Cuts.{hash_found, mark_other}
-use Rattle.bpf_asm.specs.declared.token.Lexeme.TheVariants.{Mark}
+use Rattle.bpf_asm.specs.declared.token.LentToken.TheVariants.{Mark}
 use Rattle.bpf_asm.proofs.cutting.after_hash.Goals as goal
 
 pub returns-in_err-found : goal.returns-in_err-found

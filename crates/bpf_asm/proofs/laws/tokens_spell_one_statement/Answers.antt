@@ -1,5 +1,5 @@
 use Rattle.std.proofs.Common.{◌≡◌, Some, sym, ◌∙◌}
-use Rattle.bpf_asm.specs.Spelling.{Statement}
+use Rattle.bpf_asm.specs.StatementSpelling.{Statement}
 use Rattle.bpf_asm.proofs.ReadBack.{reads_back}
 use Rattle.bpf_asm.proofs.laws.tokens_spell_one_statement.Goals as goal
 

@@ -15,9 +15,9 @@ returns-then-word_octet-clause-tokens c =
     let first = word_first text c.word_len.result (not_zero _ c.is_empty.result c.is_empty.ensures c.if-is_empty.false) c.word_len.ensures.within (sym c.word_octet.ensures ∙ c.if-word_octet.true) c.word_len.ensures.word c.word_len.ensures.longest in
     let front = c.split_at.ensures.front in
     let back = c.split_at.ensures.back in
-    let seen = c.word_lexeme.ensures in
+    let seen = c.token_of_word.ensures in
     let skipped = c.skip_blanks-text.ensures.tokens in
-    let parts : word_token (take c.word_len.result text) ∷ tokens_of (drop c.word_len.result text) ≡ token_seen c.word_lexeme.result ∷ tokens_of c.split_at.result.1.now = cc in
+    let parts : word_token (take c.word_len.result text) ∷ tokens_of (drop c.word_len.result text) ≡ token_seen c.token_of_word.result ∷ tokens_of c.split_at.result.1.now = cc in
     sym skipped ∙ first ∙ parts
 
 pub returns-else-word_octet-clause-tokens : goal.returns-else-word_octet-clause-tokens

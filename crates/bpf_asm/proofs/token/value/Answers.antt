@@ -8,14 +8,14 @@ pub returns-then-digit-base : goal.returns-then-digit-base
 returns-then-digit-base c =
     value_stops c.args.base c.loop-octet.value c.args.digits.now c.loop-octet.octet-index (omega arith) (omega arith) c.loop-octet.invariant.behind
 
-pub returns-then-value-gt4294967295 : goal.returns-then-value-gt4294967295
-returns-then-value-gt4294967295 c =
+pub returns-then-value-gt-MOST_NUMBER : goal.returns-then-value-gt-MOST_NUMBER
+returns-then-value-gt-MOST_NUMBER c =
     let digits = c.args.digits.now in
     let at = c.loop-octet.octet-index in
     let next = value_more c.args.base c.loop-octet.value digits at (value_behind c.args.base 0 digits) (omega arith) (omega arith) c.loop-octet.invariant.behind in
     let same : c.loop-octet.value * c.from.result + c.from-in-loop-octet.result ≡ c.loop-octet.value * c.args.base + digit_of (get_or digits at 0) = cc in
     let some : 0 < length digits = omega arith in
-    let large : 2 ^ 32 ≤ c.loop-octet.value * c.args.base + digit_of (get_or digits at 0) = omega (arith, same, c.if-value-gt4294967295.true) in
+    let large : 2 ^ 32 ≤ c.loop-octet.value * c.args.base + digit_of (get_or digits at 0) = omega (arith, same, c.if-value-gt-MOST_NUMBER.true) in
     value_large c.args.base _ digits (drop (at + 1) digits) some c.requires.low large next
 
 pub loop-octet-preserved : goal.loop-octet-preserved

@@ -1,5 +1,5 @@
 use Rattle.std.proofs.Common.{◌≡◌, true, take}
-use Rattle.bpf_asm.specs.inner.Words.{all_word}
+use Rattle.bpf_asm.specs.inner.WordRuns.{all_word}
 use Rattle.bpf_asm.proofs.token.word_len.Given as goal
 
 abbrev pub invariant-loop-at : goal.invariant-loop-at

@@ -1,7 +1,7 @@
 use Rattle.std.proofs.Common.{rules, ◌≡◌, ℕ, ◌/◌, ◌%◌, ◌<◌, List, [], length, get_or, refl, sym, arith, inl}
 use Rattle.std.specs.Simd.{first_chunks}
 use Rattle.bpf_code.proofs.Fronts.{IsFront-none, IsFront-more, IsFront-all, chunk_at, SpellsCode-ragged, SpellsCode-known, IsFirstUnknown-place, IsFirstUnknown-code}
-use Rattle.bpf_code.specs.Spelling.{IsFirstUnknown, eight_at}
+use Rattle.bpf_code.specs.OctetSpelling.{IsFirstUnknown, eight_at}
 use Rattle.bpf_code.proofs.decoder.decode.Goals as goal
 use Rattle.bpf_code.proofs.decoder.decode.Goals.{After-drop-code}
 
@@ -15,11 +15,11 @@ loop-at-init c =
     let none : c.in_ok-code.code.items ≡ [] = search rules in
     record { front = rw none (IsFront-none c.args.octets.now); counted = search rules; room = search rules }
 
--- the eight octets at the place of the loop
+-- The eight octets at the place of the loop.
 chunk_here : (octets : List ℕ) (eights : List (List ℕ)) (at : ℕ) → eights ≡ first_chunks 8 (length octets / 8) octets → at < length octets / 8 → get_or eights at [] ≡ eight_at octets at
 chunk_here octets eights at e h = rw e (chunk_at (length octets / 8) at octets h)
 
--- the eight octets at the place of the loop, where they spell nothing
+-- The eight octets at the place of the loop, where they spell nothing.
 first_unknown : (c : After-drop-code) → IsFirstUnknown c.args.octets.now c.loop-at.at c.in-Err.unknown
 first_unknown c =
     let whole : length c.args.octets.now % 8 ≡ 0 = search rules in

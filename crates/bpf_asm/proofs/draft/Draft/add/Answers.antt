@@ -2,13 +2,13 @@ use Rattle.std.proofs.Common.{◌≡◌, ℕ, ◌+◌, [], ◌∷◌, ◌++◌, 
 use Rattle.std.specs.Option.{option_map}
 use Rattle.bpf_asm.specs.inner.Counts.{statement_count}
 use Rattle.bpf_asm.specs.inner.Pending.{IsPending}
-use Rattle.bpf_asm.specs.inner.Places.{place_of}
+use Rattle.bpf_asm.specs.inner.LabelPlaces.{place_of}
 use Rattle.bpf_asm.specs.inner.Seen.{line_seen, statement_seen}
 use Rattle.bpf_asm.specs.inner.Drafts.{AgreesWith, drafted}
 use Rattle.bpf_asm.proofs.DraftSteps.{draft_add, draft_skip}
 use Rattle.bpf_asm.proofs.draft.Draft.add.Goals as goal
 
--- what two clauses of a call tell of its mapped result
+-- What two clauses of a call tell of its mapped result.
 on_ok_both : {A B E F : Type 0} (m : Result A E) (r : Result B F) (P Q R : Type 0) → is_ok m ≡ is_ok r → (P → Q → R) → OnOk r P → OnOk r Q → OnOk m R
 on_ok_both (Err e) r P Q R same f p q = tt
 on_ok_both (Ok v) (Err e) P Q R same f p q = cc
@@ -40,11 +40,11 @@ returns-in-Some-clause-drafts c =
     let some = ap (option_map statement_seen) c.in-Some.is in
     let one_more : statement_count line.statement ≡ 1 = ap statement_count some in
     let same : length c.define.new.self.code.items ≡ length self.code.items = ap (λ v. length v.items) c.define.ensures.code in
-    let pushed = ap length code ∙ length-append c.define.new.self.code.items (drafted c.in-Some.command ∷ []) in
+    let pushed = ap length code ∙ length-append c.define.new.self.code.items (drafted c.in-Some.statement ∷ []) in
     let count : length self.code.items + statement_count line.statement ≡ length c.put.new.self.code.items = omega arith in
     record {
       agree = rw c.put.ensures.labels (subst (λ (m : ℕ). AgreesWith (lines ++ line ∷ []) (place_of c.define.new.self.labels) m) count (c.in-Ok-true.ensures.agree c.in-Ok-true.field-0-test lines drafts.agree));
       pending = rw c.put.ensures.dangling (c.pending_after-self.ensures lines n (subst (λ (p : Option ℕ). IsPending lines p) (sym c.define.ensures.dangling) drafts.pending));
-      code = draft_add lines line c.define.new.self.code.items c.put.new.self.code.items c.define.new.self.unresolved.items c.put.new.self.unresolved.items (c.args.at + 1) c.in-Some.command some (ap (λ (k : ℕ). k + 1) (sym n)) code unresolved (rw (c.define.ensures.code, c.define.ensures.unresolved) drafts.code);
+      code = draft_add lines line c.define.new.self.code.items c.put.new.self.code.items c.define.new.self.unresolved.items c.put.new.self.unresolved.items (c.args.at + 1) c.in-Some.statement some (ap (λ (k : ℕ). k + 1) (sym n)) code unresolved (rw (c.define.ensures.code, c.define.ensures.unresolved) drafts.code);
     })
     c.put.ensures.code c.put.ensures.unresolved

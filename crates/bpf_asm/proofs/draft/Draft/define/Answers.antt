@@ -3,7 +3,7 @@ use Rattle.std.specs.Option.{is_none, option_copied}
 use Rattle.std.specs.Str.{bytes_eq}
 use Rattle.bpf_asm.specs.Grammar.{Line}
 use Rattle.bpf_asm.specs.inner.Counts.{statement_count}
-use Rattle.bpf_asm.specs.inner.Places.{place_of}
+use Rattle.bpf_asm.specs.inner.LabelPlaces.{place_of}
 use Rattle.bpf_asm.specs.inner.Seen.{line_seen}
 use Rattle.bpf_asm.specs.inner.Drafts.{AgreesWith, IsTwice}
 use Rattle.bpf_asm.proofs.Agreement.{agrees_label, agrees_plain, if_ok, if_ok_both, none_is, twice_is}

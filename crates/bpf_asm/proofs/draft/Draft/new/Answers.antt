@@ -1,4 +1,4 @@
-use Rattle.bpf_asm.specs.inner.Places.{place_of}
+use Rattle.bpf_asm.specs.inner.LabelPlaces.{place_of}
 use Rattle.bpf_asm.proofs.Agreement.{agrees_none}
 use Rattle.bpf_asm.proofs.DraftSteps.{draft_empty}
 use Rattle.bpf_asm.proofs.PendingSteps.{label_within}

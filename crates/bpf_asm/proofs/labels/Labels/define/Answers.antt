@@ -1,6 +1,6 @@
 use Rattle.std.proofs.Common.{Bool, cond, Some, ap, ◌∙◌}
 use Rattle.std.proofs.lemmas.Map.Text.{is_eq-slice_cmp}
-use Rattle.bpf_asm.specs.inner.Places.{place_of}
+use Rattle.bpf_asm.specs.inner.LabelPlaces.{place_of}
 use Rattle.bpf_asm.proofs.labels.Labels.define.Goals as goal
 
 pub returns-clause-places : goal.returns-clause-places

@@ -1,6 +1,6 @@
 use Rattle.std.proofs.Common.{sym, ◌∙◌}
 use Rattle.bpf_asm.proofs.Reading.{faulty_word, name_word, number_word}
-use Rattle.bpf_asm.proofs.token.word_lexeme.Goals as goal
+use Rattle.bpf_asm.proofs.token.token_of_word.Goals as goal
 
 pub returns-in-Some : goal.returns-in-Some
 returns-in-Some c = number_word c.args.word.now c.in-Some.value c.requires (sym c.digit.ensures ∙ c.if-digit.true) (sym c.number.ensures ∙ c.in-Some.is)

@@ -1,6 +1,6 @@
 use Rattle.std.proofs.Common.{length, arith}
 use Rattle.bpf_asm.proofs.Searches.{searched_free}
-use Rattle.bpf_asm.proofs.lines.line_len.Goals as goal
+use Rattle.bpf_asm.proofs.source_lines.line_len.Goals as goal
 
 pub returns-in-Some-clause-line : goal.returns-in-Some-clause-line
 returns-in-Some-clause-line c = searched_free c.args.text.now c.in-Some.at (omega (arith, c.in-Some.ensures.0.high)) c.in-Some.ensures.0.before

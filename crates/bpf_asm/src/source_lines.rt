@@ -1,10 +1,10 @@
 //! The lines of a source.
 
 ghost use Rattle.std.specs.Prelude.{◌≡◌, ◌<◌, ◌≤◌, [], ◌∷◌, true, length, slice_index, take, IfSome, MatchOption};
-ghost use Rattle.bpf_asm.specs.Lines.{source_lines};
+ghost use Rattle.bpf_asm.specs.SourceLines.{source_lines};
 ghost use Rattle.bpf_asm.specs.inner.Feeds.{no_feed};
-ghost use Rattle.dialogue.specs.Lines.{without_return};
 
+use dialogue::before_return;
 use memchr::memchr;
 
 /// How many octets stand before the first line feed.
@@ -16,21 +16,6 @@ fn line_len(text: &[u8]) -> usize
     match memchr(b'\n', text) {
         Some(at) => at,
         None => text.len(),
-    }
-}
-
-/// A line without a carriage return at its end.
-fn before_return(line: &[u8]) -> &[u8]
-    ensures { result.now ≡ without_return line.now }
-{
-    if line.is_empty() {
-        return line;
-    }
-    let last = line.len() - 1;
-    if line[last] == 13 {
-        &line[..last]
-    } else {
-        line
     }
 }
 

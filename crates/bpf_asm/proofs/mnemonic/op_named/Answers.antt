@@ -1,0 +1,9 @@
+-- The table's rows are the definition's.
+use Rattle.std.proofs.Common.{rules, arith}
+use Rattle.std.proofs.lemmas.Grind.{common_steps}
+use Rattle.bpf_asm.specs.inner.Reading.{op_of}
+use Rattle.bpf_asm.proofs.mnemonic.op_named.Goals as goal
+
+pub returns : goal.returns
+unfolding op_of
+returns c = first_of (search rules, grind (arith, common_steps))
