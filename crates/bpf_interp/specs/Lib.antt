@@ -1,5 +1,5 @@
 pub mod Arithmetic
-pub mod Memory
+pub mod ScratchMemory
 pub mod Operand
 pub mod Packet
 pub mod Runs

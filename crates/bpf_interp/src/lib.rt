@@ -2,14 +2,14 @@
 #![tactic(auto)]
 
 mod arithmetic;
+mod interpreter;
 pub mod laws;
-mod machine;
 mod packet;
 mod registers;
 mod turn;
 mod twos;
 
-pub use machine::{Outcome, run};
+pub use interpreter::{Outcome, run};
 
 #[cfg(test)]
 mod tests;

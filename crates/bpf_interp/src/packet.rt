@@ -1,18 +1,32 @@
+//! Numbers in the octets of a packet.
+
 ghost use Rattle.std.specs.Prelude.{◌≡◌};
 ghost use Rattle.bpf_interp.specs.Packet.{number_at, octets_of};
 
 use bpf_code::Size;
 use byteorder::{BigEndian, ByteOrder};
+use upc_cell::CELL_OCTETS;
+
+/// The last offset at which a packet has four octets.
+const LAST_WORD: u64 = CELL_OCTETS as u64 - 4;
+
+/// The last offset at which a packet has two octets.
+const LAST_HALF: u64 = CELL_OCTETS as u64 - 2;
+
+/// The last offset at which a packet has an octet.
+const LAST_OCTET: u64 = CELL_OCTETS as u64 - 1;
 
 /// The big-endian number in the octets of the packet from an offset, where all of them lie in it.
 #[inline(always)]
-pub(crate) fn load(packet: &[u8; 52], offset: u64, size: Size) -> Option<u32>
+pub(crate) fn load(packet: &[u8; CELL_OCTETS], offset: u64, size: Size) -> Option<u32>
     ensures { result ≡ number_at packet.now offset (octets_of size) }
 {
     match size {
-        Size::Word if offset <= 48 => Some(BigEndian::read_u32(&packet[offset as usize..])),
-        Size::Half if offset <= 50 => Some(BigEndian::read_u16(&packet[offset as usize..]).into()),
-        Size::Octet if offset <= 51 => Some(packet[offset as usize].into()),
+        Size::Word if offset <= LAST_WORD => Some(BigEndian::read_u32(&packet[offset as usize..])),
+        Size::Half if offset <= LAST_HALF => Some(BigEndian::read_u16(
+            &packet[offset as usize..],
+        ).into()),
+        Size::Octet if offset <= LAST_OCTET => Some(packet[offset as usize].into()),
         _ => None,
     }
 }

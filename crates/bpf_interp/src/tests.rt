@@ -1,6 +1,8 @@
+//! Programs on cells, with their values and steps.
+
 use crate::{Outcome, run};
 use bpf_code::{By, Instr, Op, Size, Test};
-use bpf_verify::{MAX_LAID_OUT, verify};
+use bpf_verify::{MOST_LAID_OUT, verify};
 use std::alloc::Global;
 use std::test::Fail;
 use upc_cell::Cell;
@@ -159,7 +161,7 @@ fn the_longest_program_takes_a_step_an_instruction(rt: HostRuntime) -> Result<()
 /// it isn't laid out.
 fn both_ways(alloc: Global, code: &[Instr], header: [u8; 4]) -> Result<[(u32, u32); 2], Fail> {
     let mut longer = code.to_vec(alloc)?;
-    for _ in 0..MAX_LAID_OUT {
+    for _ in 0..MOST_LAID_OUT {
         longer.push(Instr::RetK(0))?;
     }
     Ok([
@@ -229,7 +231,7 @@ fn instructions_run_by_twos_do_what_each_does(rt: HostRuntime) -> Result<(), Fai
 
 #[test]
 fn the_longest_code_that_is_laid_out_runs_as_a_longer_one(rt: HostRuntime) -> Result<(), Fail> {
-    for length in [MAX_LAID_OUT, MAX_LAID_OUT + 1] {
+    for length in [MOST_LAID_OUT, MOST_LAID_OUT + 1] {
         let mut code = vec![in rt.alloc(); alu(Op::Add, By::Imm(2)); length]?;
         if let Some(last) = code.last_mut() {
             *last = Instr::RetA;

@@ -16,7 +16,7 @@ use Rattle.bpf_verify.proofs.Onward.{decide_leads, successor_forward}
 use Rattle.bpf_verify.proofs.Places.{any_here, any_later, any_none, any_split, one_stands}
 use Rattle.bpf_verify.proofs.Visit.{all_written}
 
--- of a fact that each number below a bound has or lacks, the first number that has it, where there is one
+-- Of a fact that each number below a bound has or lacks, the first number that has it, where there is one.
 first_below : (Has Lacks : ℕ → Type 0) (bound : ℕ) → ((n : ℕ) → n < bound → Has n ⊎ Lacks n)
     → ((n : ℕ) × Has n × ((m : ℕ) → m < n → Lacks m)) ⊎ ((n : ℕ) → n < bound → Lacks n)
 first_below Has Lacks zero decide = inr (λ n lt. absurd (omega arith))
@@ -42,11 +42,11 @@ sized_or_fault code =
       ]
     ]
 
--- what stands at the place has a fault
+-- What stands at the place has a fault.
 Breaks : List Instr → ℕ → Type 0
 Breaks code place = (fault : Fault) × ((i : Instr) × StandsAt code place i × IsFaultOf (length code) place i fault)
 
--- what stands at the place is sound
+-- What stands at the place is sound.
 Holds : List Instr → ℕ → Type 0
 Holds code place = (i : Instr) → StandsAt code place i → IsSound (length code) place i
 
@@ -61,7 +61,7 @@ breaks_or_holds code place =
       ]
     ]
 
--- each instruction is sound, or one of them breaks first
+-- Each instruction is sound, or one of them breaks first.
 sound_or_break : (code : List Instr) → IsSoundBelow code (length code) ⊎ ((place : ℕ) × (fault : Fault) × BreaksFirst code place fault)
 unfolding Breaks Holds
 sound_or_break code =
@@ -70,7 +70,7 @@ sound_or_break code =
       | inl first ↦ inr (first.0, first.1.0, ((λ place i lt stands. first.2 place lt i stands), first.1.1))
     ]
 
--- the code ends in a return or lacks it
+-- The code ends in a return or lacks it.
 ends_or_lacks : (code : List Instr) → 0 < length code → EndsInReturn code ⊎ LacksReturn code
 ends_or_lacks code some =
     let last = last_stands code some in
@@ -90,15 +90,15 @@ decide_successor code place next =
     ]
 
 module _ (code : List Instr) (word : ℕ) where
-  -- some path to the place has passed no store of the word
+  -- Some path to the place has passed no store of the word.
   Spares : ℕ → Type 0
   Spares place = (passed : List ℕ) × IsPath code passed place × (Any (Stores code word) passed → ⊥)
 
-  -- each path to the place has passed a store of the word
+  -- Each path to the place has passed a store of the word.
   Covers : ℕ → Type 0
   Covers place = (passed : List ℕ) → IsPath code passed place → Any (Stores code word) passed
 
-  -- each path to the next place that comes through this one has passed a store of the word
+  -- Each path to the next place that comes through this one has passed a store of the word.
   CoversThrough : ℕ → ℕ → Type 0
   CoversThrough next place = IsSuccessor code place next → (passed : List ℕ) → IsPath code passed place → Any (Stores code word) (place ∷ passed)
 
@@ -120,7 +120,7 @@ module _ (code : List Instr) (word : ℕ) where
         ]
       ]
 
-  -- every path to a place behind the first comes through a place before it
+  -- Every path to a place behind the first comes through a place before it.
   covers-from_each : (place : ℕ) → 0 < place → ((earlier : ℕ) → earlier < place → CoversThrough place earlier) → Covers place
   unfolding Covers CoversThrough
   covers-from_each place behind each [] path = absurd (omega (arith, path, behind))
@@ -138,13 +138,13 @@ module _ (code : List Instr) (word : ℕ) where
         | inr each ↦ inr (covers-from_each (suc place) (omega arith) each)
       ]
 
--- the word that an instruction reads, where it reads one
+-- The word that an instruction reads, where it reads one.
 reads_or_not : (i : Instr) → ((word : ℕ) × ReadsWord i word) ⊎ ((word : ℕ) → ReadsWord i word → ⊥)
 reads_or_not (LoadMem k) = inl (k, refl)
 reads_or_not (LdxMem k) = inl (k, refl)
 reads_or_not _ = inr (λ word h. h)
 
--- some path to a place's read doesn't cover it, or each does
+-- Some path to a place's read doesn't cover it, or each does.
 unwritten_or_written : (code : List Instr) (place : ℕ) → ((word : ℕ) × IsUnwrittenAt code place word) ⊎ IsWrittenAt code place
 unfolding Spares Covers
 unwritten_or_written code place =

@@ -17,7 +17,7 @@ use Rattle.bpf_verify.specs.Paths.{IsWrittenAt, Stores}
 use Rattle.bpf_verify.proofs.Masks.{decide_store}
 use Rattle.bpf_verify.proofs.Places.{decide_any, one_stands}
 
--- an instruction that has a fault isn't sound
+-- An instruction that has a fault isn't sound.
 unsound-from_fault : (size place : ℕ) (i : Instr) (fault : Fault) → IsFaultOf size place i fault → IsSound size place i → ⊥
 unsound-from_fault size place i (BadScratch at) breaks sound = omega (arith, sound.scratch breaks.1.0 breaks.1.1, breaks.1.2)
 unsound-from_fault size place i (ZeroDivisor at) breaks sound = omega (arith, sound.divisor 0 breaks.1)
@@ -28,7 +28,7 @@ unsound-from_fault size place i _ breaks sound = breaks
 neither : ⊥ ⊎ ⊥ → ⊥
 neither h = elim h [ inl a ↦ a | inr b ↦ b ]
 
--- which of the four faults an instruction can have: 0 a scratch word, 1 a divisor, 2 a shift, 3 a jump
+-- Which of the four faults an instruction can have: 0 a scratch word, 1 a divisor, 2 a shift, 3 a jump.
 abbrev kind_of : Instr → ℕ
 kind_of (LoadMem k) = 0
 kind_of (LdxMem k) = 0
@@ -67,7 +67,7 @@ kind-from_target place (Jump k) target h = refl
 kind-from_target place (Branch test by jt jf) target h = refl
 kind-from_target place _ target h = absurd h
 
--- the instruction and its place tell its fault
+-- The instruction and its place tell its fault.
 fault-from_kind : (size place : ℕ) (i : Instr) (fault : Fault) → IsFaultOf size place i fault → fault ≡ fault_of_kind (kind_of i) place
 fault-from_kind size place i (BadScratch at) h =
     ap BadScratch h.0 ∙ ap (λ kind. fault_of_kind kind place) (kind-from_word i h.1.0 h.1.1)
@@ -82,7 +82,7 @@ fault-from_kind size place i _ h = absurd h
 one_fault-of : (size place : ℕ) (i : Instr) (one other : Fault) → IsFaultOf size place i one → IsFaultOf size place i other → one ≡ other
 one_fault-of size place i one other p q = fault-from_kind size place i one p ∙ sym (fault-from_kind size place i other q)
 
--- the number of the part of the check that a fault stands for
+-- The number of the part of the check that a fault stands for.
 abbrev part_of : Fault → ℕ
 part_of Empty = 0
 part_of TooLong = 1
@@ -93,7 +93,7 @@ part_of (JumpOutside at) = 2
 part_of NoReturn = 3
 part_of (Unwritten at word) = 4
 
--- the code passes the part of this number
+-- The code passes the part of this number.
 abbrev Passes : List Instr → ℕ → Type 0
 Passes code zero = 0 < length code
 Passes code (suc zero) = length code ≤ 4096
@@ -113,7 +113,7 @@ passes-from_sized code sized zero lt = sized.least
 passes-from_sized code sized (suc zero) lt = sized.most
 passes-from_sized code sized (suc (suc part)) lt = absurd (omega arith)
 
--- a code passes each part before the one that fails first
+-- A code passes each part before the one that fails first.
 passes_earlier : (code : List Instr) (fault : Fault) → FailsFirst code fault → (part : ℕ) → part < part_of fault → Passes code part
 passes_earlier code Empty fails part lt = absurd (omega arith)
 passes_earlier code TooLong fails zero lt = omega (arith, fails)
@@ -132,19 +132,19 @@ passes_earlier code (Unwritten at word) fails (suc (suc zero)) lt = fails.1
 passes_earlier code (Unwritten at word) fails (suc (suc (suc zero))) lt = fails.2
 passes_earlier code (Unwritten at word) fails (suc (suc (suc (suc part)))) lt = absurd (omega arith)
 
--- what breaks first isn't sound
+-- What breaks first isn't sound.
 broken : (code : List Instr) (at : ℕ) (fault : Fault) → BreaksFirst code at fault → IsSoundBelow code (length code) → ⊥
 broken code at fault breaks sound =
     let here = breaks.1 in
     unsound-from_fault (length code) at here.0 fault here.2 (sound at here.0 (slice_get_within code at here.0 here.1) here.1)
 
--- a place isn't both written and unwritten
+-- A place isn't both written and unwritten.
 unwritten : (code : List Instr) (at word : ℕ) → IsUnwrittenAt code at word → IsWrittenAt code at → ⊥
 unwritten code at word lacks written =
     let path = lacks.1 in
     path.2 (written word path.0 path.1 lacks.0)
 
--- a code doesn't pass the part that fails
+-- A code doesn't pass the part that fails.
 fails_part : (code : List Instr) (fault : Fault) → FailsFirst code fault → Passes code (part_of fault) → ⊥
 fails_part code Empty fails passes = omega (arith, fails, passes)
 fails_part code TooLong fails passes = omega (arith, fails, passes)
@@ -158,7 +158,7 @@ fails_part code (Unwritten at word) fails passes = unwritten code at word fails.
 pub refused-from_fault : (code : List Instr) (fault : Fault) → FailsFirst code fault → IsAccepted code → ⊥
 refused-from_fault code fault fails accepted = fails_part code fault fails (passes-from_accepted code accepted (part_of fault))
 
--- at one place alone an instruction breaks first, by one fault
+-- At one place alone an instruction breaks first, by one fault.
 one_break : (code : List Instr) (a b : ℕ) (one other : Fault) → BreaksFirst code a one → BreaksFirst code b other → one ≡ other
 one_break code a b one other p q =
     let at_a = p.1 in
@@ -175,13 +175,13 @@ one_break code a b one other p q =
       ]
     ]
 
--- an instruction reads at most one word
+-- An instruction reads at most one word.
 pub one_read : (i : Instr) (v w : ℕ) → ReadsWord i v → ReadsWord i w → v ≡ w
 one_read (LoadMem k) v w p q = p ∙ sym q
 one_read (LdxMem k) v w p q = p ∙ sym q
 one_read _ v w p q = absurd p
 
--- at one place alone a read is the first that some path doesn't cover, and it reads one word
+-- At one place alone a read is the first that some path doesn't cover, and it reads one word.
 one_unwritten : (code : List Instr) (a b v w : ℕ) → FailsFirst code (Unwritten a v) → FailsFirst code (Unwritten b w) → Unwritten a v ≡ Unwritten b w
 one_unwritten code a b v w p q =
     let at_a = p.4.0 in
@@ -198,7 +198,7 @@ one_unwritten code a b v w p q =
       ]
     ]
 
--- a fault of the second part is what an instruction breaks first
+-- A fault of the second part is what an instruction breaks first.
 break_of_part : (code : List Instr) (fault : Fault) → 2 ≡ part_of fault → FailsFirst code fault → (at : ℕ) × BreaksFirst code at fault
 break_of_part code (BadScratch at) e fails = (at, fails.1)
 break_of_part code (ZeroDivisor at) e fails = (at, fails.1)
@@ -214,7 +214,7 @@ one_broken code at one other e breaks fails =
     let there = break_of_part code other e fails in
     one_break code at there.0 one other breaks there.1
 
--- two faults of one part are the same
+-- Two faults of one part are the same.
 one_of_part : (code : List Instr) (one other : Fault) → part_of one ≡ part_of other → FailsFirst code one → FailsFirst code other → one ≡ other
 one_of_part code (BadScratch a) other e p q = one_broken code a (BadScratch a) other e p.1 q
 one_of_part code (ZeroDivisor a) other e p q = one_broken code a (ZeroDivisor a) other e p.1 q
@@ -239,7 +239,7 @@ one_comes_first code one other p q =
       ]
     ]
 
--- whether the one scratch word of an instruction is one of the sixteen
+-- Whether the one scratch word of an instruction is one of the sixteen.
 lawful_word : (size place : ℕ) (i : Instr) (k : ℕ) → NamesWord i k → ((word : ℕ) → NamesWord i word → word ≡ k)
     → ((divisor : ℕ) → DividesBy i divisor → ⊥) → ((count : ℕ) → ShiftsBy i count → ⊥) → ((target : ℕ) → JumpsTo place i target → ⊥)
     → IsSound size place i ⊎ ((fault : Fault) × IsFaultOf size place i fault)
@@ -260,7 +260,7 @@ only_read word k h = elim h [ inl e ↦ e | inr no_store ↦ absurd no_store ]
 only_stored : (word k : ℕ) → ⊥ ⊎ (word ≡ k) → word ≡ k
 only_stored word k h = elim h [ inl no_read ↦ absurd no_read | inr e ↦ e ]
 
--- an instruction is sound, or has a fault
+-- An instruction is sound, or has a fault.
 pub sound_or_fault : (size place : ℕ) (i : Instr) → IsSound size place i ⊎ ((fault : Fault) × IsFaultOf size place i fault)
 sound_or_fault size place (LoadMem k) = lawful_word size place (LoadMem k) k (inl refl) (λ word h. only_read word k h) (λ _ h. h) (λ _ h. h) (λ _ h. h)
 sound_or_fault size place (LdxMem k) = lawful_word size place (LdxMem k) k (inl refl) (λ word h. only_read word k h) (λ _ h. h) (λ _ h. h) (λ _ h. h)
@@ -306,7 +306,7 @@ sound_or_fault size place (Branch test by jt jf) =
     ]
 sound_or_fault size place _ = inl (record { scratch = λ _ h. absurd (neither h); divisor = λ _ h. absurd h; shift = λ _ h. absurd h; targets = λ _ h. absurd h })
 
--- the fault of the first instruction that isn't sound comes first, in a code of lawful size
+-- The fault of the first instruction that isn't sound comes first, in a code of lawful size.
 pub fails-from_break : (code : List Instr) (at : ℕ) (fault : Fault) → IsSized code → BreaksFirst code at fault → FailsFirst code fault
 fails-from_break code at (BadScratch at') sized breaks =
     (sized, subst (λ place. BreaksFirst code place (BadScratch at')) (sym breaks.1.2.0) breaks)
@@ -333,7 +333,7 @@ decide_stores code word place =
       | inr past ↦ inr (λ h. omega (arith, past.0, slice_get_within code place h.0 h.1))
     ]
 
--- the last instruction of a code that has one
+-- The last instruction of a code that has one.
 pub last_stands : (code : List Instr) → 0 < length code → (i : Instr) × StandsAt code (length code - 1) i
 last_stands [] h = absurd (omega arith)
 last_stands (i ∷ code) h =

@@ -12,19 +12,19 @@ use Rattle.bpf_verify.specs.Paths.{IsPath, IsWrittenAt, Stores}
 use Rattle.bpf_verify.proofs.Onward.{decide_leads, decide_same, successor_forward}
 use Rattle.bpf_verify.proofs.Places.{any_here, any_later, any_none, any_split, one_stands}
 
--- the latest place of a path lies before the bound
+-- The latest place of a path lies before the bound.
 abbrev pub IsBefore : List ℕ → ℕ → Type 0
 IsBefore [] bound = Unit {0}
 IsBefore (latest ∷ passed) bound = latest < bound
 
--- the mask of each place has exactly the words that every path stores which comes from before the bound
+-- The mask of each place has exactly the words that every path stores which comes from before the bound.
 pub record AreWritten (code : List Instr) (masks : List ℕ) (bound : ℕ) : Type 0 where
   pub has : (place word : ℕ) → bit_at (get_or masks place 0) word ≡ 1
       → (passed : List ℕ) → IsPath code passed place → IsBefore passed bound → Any (Stores code word) passed
   pub lacks : (place word : ℕ) → place < length masks → word < 16 → bit_at (get_or masks place 0) word ≡ 0
       → (passed : List ℕ) × IsPath code passed place × IsBefore passed bound × (Any (Stores code word) passed → ⊥)
 
--- every path comes from before the place that it reaches
+-- Every path comes from before the place that it reaches.
 pub path_before : (code : List Instr) (passed : List ℕ) (place : ℕ) → IsPath code passed place → IsBefore passed place
 path_before code [] place path = tt
 path_before code (latest ∷ passed) place path = successor_forward code latest place path.1
@@ -33,7 +33,7 @@ before_more : (passed : List ℕ) (bound : ℕ) → IsBefore passed bound → Is
 before_more [] bound h = tt
 before_more (latest ∷ passed) bound h = omega (arith, h)
 
--- at first no path is known but the one that has passed nothing
+-- At first no path is known but the one that has passed nothing.
 pub written-at_first : (code : List Instr) (masks : List ℕ) → get_or masks 0 0 ≡ 0
     → ((place : ℕ) → 0 < place → place < length masks → get_or masks place 0 ≡ 65535) → AreWritten code masks 0
 written-at_first code masks first rest = record {
@@ -54,7 +54,7 @@ decide_store (Store k) word = decide_same word k
 decide_store (StoreX k) word = decide_same word k
 decide_store _ word = inr (λ h. h)
 
--- the least of two bits is 1 where both are, and 0 where one is
+-- The least of two bits is 1 where both are, and 0 where one is.
 least_one : (least a b : ℕ) → least ≡ min a b → a < 2 → b < 2 → least ≡ 1 → (a ≡ 1) × (b ≡ 1)
 least_one least a b is la lb one = (omega arith, omega arith)
 
@@ -62,7 +62,7 @@ least_zero : (least a b : ℕ) → least ≡ min a b → a < 2 → b < 2 → lea
 least_zero least zero b is la lb none = inl refl
 least_zero least (suc a) b is la lb none = inr (omega arith)
 
--- what one instruction does to the masks: its successors meet the mask behind it, all other places keep theirs
+-- What one instruction does to the masks: its successors meet the mask behind it, all other places keep theirs.
 pub record ArePassedOn (i : Instr) (place mask : ℕ) (old new : List ℕ) : Type 0 where
   pub stored : (word : ℕ) → StoresWord i word → bit_at mask word ≡ 1
   pub kept : (word : ℕ) → (StoresWord i word → ⊥) → bit_at mask word ≡ bit_at (get_or old place 0) word
@@ -73,7 +73,7 @@ pub record ArePassedOn (i : Instr) (place mask : ℕ) (old new : List ℕ) : Typ
 
 module _ (code : List Instr) (old new : List ℕ) (here mask : ℕ) (i : Instr) (stands : StandsAt code here i)
     (within : here < length old) (passes : ArePassedOn i here mask old new) (marks : AreWritten code old here) where
-  -- a word of the mask behind the instruction was stored on each path through the instruction
+  -- A word of the mask behind the instruction was stored on each path through the instruction.
   stored_through : (word : ℕ) → bit_at mask word ≡ 1 → (passed : List ℕ) → IsPath code passed here → Any (Stores code word) (here ∷ passed)
   stored_through word one passed path =
       elim (decide_store i word) [
@@ -81,7 +81,7 @@ module _ (code : List Instr) (old new : List ℕ) (here mask : ℕ) (i : Instr) 
         | inr keeps ↦ any_later (Stores code word) here passed (marks.has here word (sym (passes.kept word keeps) ∙ one) passed path (path_before code passed here path))
       ]
 
-  -- a word that the mask behind the instruction lacks wasn't stored on some path through the instruction
+  -- A word that the mask behind the instruction lacks wasn't stored on some path through the instruction.
   unstored_through : (word : ℕ) → word < 16 → bit_at mask word ≡ 0 → (passed : List ℕ) × IsPath code passed here × (Any (Stores code word) (here ∷ passed) → ⊥)
   unstored_through word lt none =
       elim (decide_store i word) [
@@ -105,7 +105,7 @@ module _ (code : List Instr) (old new : List ℕ) (here mask : ℕ) (i : Instr) 
   bits_zero next word leads none =
       least_zero (bit_at (get_or new next 0) word) (bit_at (get_or old next 0) word) (bit_at mask word) (passes.successors next word leads) (bit_at-lt (get_or old next 0) word) (bit_at-lt mask word) none
 
-  -- what a mask has now it had before
+  -- What a mask has now it had before.
   had : (place word : ℕ) → bit_at (get_or new place 0) word ≡ 1 → bit_at (get_or old place 0) word ≡ 1
   had place word one =
       elim (decide_leads here i place) [
@@ -149,7 +149,7 @@ module _ (code : List Instr) (old new : List ℕ) (here mask : ℕ) (i : Instr) 
   pub written_next : AreWritten code new (here + 1)
   written_next = record { has = has_next; lacks = lacks_next }
 
--- at the visit of a place its mask knows every path to it
+-- At the visit of a place its mask knows every path to it.
 pub written-from_mask : (code : List Instr) (masks : List ℕ) (here : ℕ) (i : Instr) → StandsAt code here i → AreWritten code masks here
     → ((word : ℕ) → ReadsWord i word → bit_at (get_or masks here 0) word ≡ 1) → IsWrittenAt code here
 written-from_mask code masks here i stands marks all word passed path reads =

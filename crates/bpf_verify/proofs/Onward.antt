@@ -7,7 +7,7 @@ use Rattle.bpf_code.specs.declared.instr.Instr.TheVariants.{Branch, Jump, RetA, 
 use Rattle.bpf_code.specs.declared.instr.Test.{Test}
 use Rattle.bpf_code.specs.Flow.{IsSuccessor, LeadsTo}
 
--- what neither jumps nor returns leads to the place behind it, and to no other
+-- What neither jumps nor returns leads to the place behind it, and to no other.
 pub falls_through : (place : ℕ) (i : Instr)
     → ((k : ℕ) → i ≡ Jump k → ⊥)
     → ((test : Test) (by : By) (jt jf : ℕ) → i ≡ Branch test by jt jf → ⊥)

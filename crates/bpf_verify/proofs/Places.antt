@@ -3,7 +3,7 @@ use Rattle.std.proofs.Common.{◌≡◌, ℕ, zero, suc, ◌<◌, ◌⊎◌, inl
 use Rattle.std.proofs.lemmas.Option.{same_Some}
 
 module _ {X : Type 0} where
-  -- two elements at one place are the same
+  -- Two elements at one place are the same.
   pub one_stands : (xs : List X) (k : ℕ) (x y : X) → slice_get xs k ≡ Some x → slice_get xs k ≡ Some y → x ≡ y
   one_stands xs k x y p q = same_Some x y (sym p ∙ q)
 
@@ -46,7 +46,7 @@ module _ {X : Type 0} where
   any_append_split P (x ∷ xs) y h =
       elim (any_split P x (xs ++ y ∷ []) h) [ inl p ↦ inr (any_here P x xs p) | inr q ↦ elim (any_append_split P xs y q) [ inl p ↦ inl p | inr r ↦ inr (any_later P x xs r) ] ]
 
-  -- a fact that can be decided of each element can be decided of some element
+  -- A fact that can be decided of each element can be decided of some element.
   pub decide_any : (P : X → Type 0) → ((x : X) → P x ⊎ (P x → ⊥)) → (xs : List X) → Any P xs ⊎ (Any P xs → ⊥)
   decide_any P d [] = inr (any_none P)
   decide_any P d (x ∷ xs) =

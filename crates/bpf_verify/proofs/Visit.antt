@@ -14,7 +14,7 @@ module _ (code : List Instr) (at : ℕ) (default : Instr) (within : at < length 
   pub stands_there : StandsAt code at (get_or code at default)
   stands_there = slice_get-get_or code at default within
 
-  -- one more place is sound
+  -- One more place is sound.
   pub one_sound : IsSoundBelow code at → IsSound (length code) at (get_or code at default) → IsSoundBelow code (at + 1)
   one_sound before here place i lt stands =
       elim (cases_lt place at) [
@@ -26,7 +26,7 @@ module _ (code : List Instr) (at : ℕ) (default : Instr) (within : at < length 
             subst (λ n. IsSound (length code) n i) e (subst (λ j. IsSound (length code) at j) same here)
       ]
 
--- what stands last decides whether the code ends in a return
+-- What stands last decides whether the code ends in a return.
 pub ends_there : (code : List Instr) (i : Instr) → StandsAt code (length code - 1) i → IsReturn i → EndsInReturn code
 ends_there code i stands returns = (i, stands, returns)
 
@@ -34,7 +34,7 @@ pub lacks_there : (code : List Instr) (i : Instr) → StandsAt code (length code
 lacks_there code i stands goes_on j there returns =
     goes_on (subst IsReturn (one_stands code (length code - 1) j i there stands) returns)
 
--- where a sound instruction leads is no further than behind the last place
+-- Where a sound instruction leads is no further than behind the last place.
 pub next_within : (code : List Instr) (at : ℕ) (i : Instr) → IsSized code → at < length code → IsSound (length code) at i
     → (next : ℕ) → LeadsTo at i next → next ≤ 4096
 next_within code at (Jump k) sized within sound next leads = omega (arith, sound.targets next leads, sized.most)
@@ -43,7 +43,7 @@ next_within code at (RetK k) sized within sound next leads = absurd leads
 next_within code at RetA sized within sound next leads = absurd leads
 next_within code at _ sized within sound next leads = omega (arith, leads, sized.most)
 
--- one more place is written
+-- One more place is written.
 pub one_more : (code : List Instr) (at : ℕ) → ((place : ℕ) → place < at → IsWrittenAt code place) → IsWrittenAt code at
     → (place : ℕ) → place < at + 1 → IsWrittenAt code place
 one_more code at before here place lt word passed path reads =
@@ -55,7 +55,7 @@ one_more code at before here place lt word passed path reads =
           there word passed path reads
     ]
 
--- beyond the code nothing is read
+-- Beyond the code nothing is read.
 pub all_written : (code : List Instr) → ((place : ℕ) → place < length code → IsWrittenAt code place) → (place : ℕ) → IsWrittenAt code place
 all_written code below place word passed path reads =
     below place (slice_get_within code place reads.0 reads.1) word passed path reads

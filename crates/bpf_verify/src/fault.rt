@@ -1,3 +1,5 @@
+//! Why a code is no program.
+
 use bpf_code::Instr;
 use thiserror::Error;
 

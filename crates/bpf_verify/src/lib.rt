@@ -1,7 +1,6 @@
 //! The static check of classic BPF programs, and the type of a program that passed it.
 #![tactic(auto)]
 
-mod check;
 mod fault;
 mod flat;
 pub mod laws;
@@ -9,12 +8,13 @@ mod layout;
 mod program;
 mod scratch;
 mod soundness;
+mod verifier;
 
-pub use check::{MAX_INSTRUCTIONS, verify};
 pub use fault::{Fault, Refused};
 pub use flat::{Flat, Row};
-pub use layout::{MAX_LAID_OUT, PLACES};
+pub use layout::{FLAT_PLACES, MOST_LAID_OUT};
 pub use program::Program;
+pub use verifier::{MOST_INSTRUCTIONS, verify};
 
 #[cfg(test)]
 mod tests;

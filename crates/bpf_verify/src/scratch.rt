@@ -8,11 +8,11 @@ ghost use Rattle.std.specs.Int.{bit_at};
 ghost use Rattle.bpf_code.specs.Flow.{LeadsTo};
 ghost use Rattle.bpf_code.specs.Scratch.{ReadsWord, StoresWord};
 
-use crate::check::MAX_INSTRUCTIONS;
+use crate::verifier::MOST_INSTRUCTIONS;
 use bpf_code::Instr;
 
 /// One place more than a program has, so that behind each there is another.
-pub(crate) const PLACES: usize = MAX_INSTRUCTIONS + 1;
+pub(crate) const MASK_PLACES: usize = MOST_INSTRUCTIONS + 1;
 
 /// The word that an instruction reads and a mask lacks.
 pub(crate) fn unwritten_word(instr: Instr, mask: u16) -> Option<u32>
@@ -41,9 +41,9 @@ pub(crate) fn with_stored(instr: Instr, mask: u16) -> u16
 /// Hands the mask behind an instruction on to its successors, of which a return has none, and answers the
 /// mask that the place behind it then has, since to read what was only just written takes a processor long.
 pub(crate) fn pass_on(written: &mut [u16], at: usize, instr: Instr, mask: u16) -> u16
-    requires size { length written.old ≡ PLACES }
-    requires place { at < MAX_INSTRUCTIONS }
-    requires within { (next : ℕ) → LeadsTo at instr next → next ≤ MAX_INSTRUCTIONS }
+    requires size { length written.old ≡ MASK_PLACES }
+    requires place { at < MOST_INSTRUCTIONS }
+    requires within { (next : ℕ) → LeadsTo at instr next → next ≤ MOST_INSTRUCTIONS }
     ensures successors { (next word : ℕ) → LeadsTo at instr next
         → bit_at (slice_index written.new next) word
         ≡ min (bit_at (slice_index written.old next) word) (bit_at mask word) }
@@ -73,8 +73,8 @@ pub(crate) fn pass_on(written: &mut [u16], at: usize, instr: Instr, mask: u16) -
 /// Leaves the place behind so many skipped instructions the words that a further path to it stores too,
 /// and answers them.
 fn narrow(written: &mut [u16], at: usize, skipped: u32, mask: u16) -> u16
-    requires size { length written.old ≡ PLACES }
-    requires within { at + 1 + skipped ≤ MAX_INSTRUCTIONS }
+    requires size { length written.old ≡ MASK_PLACES }
+    requires within { at + 1 + skipped ≤ MOST_INSTRUCTIONS }
     ensures place { (place word : ℕ) → place ≡ at + 1 + skipped
         → bit_at (slice_index written.new place) word
         ≡ min (bit_at (slice_index written.old place) word) (bit_at mask word) }

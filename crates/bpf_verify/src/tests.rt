@@ -1,3 +1,5 @@
+//! Codes at the limits of each rule, with their faults.
+
 use super::*;
 use bpf_code::{By, Instr, Op, Size, Test};
 use std::alloc::{AllocError, Global};

@@ -2,7 +2,7 @@ use Rattle.std.proofs.Common.{◌<◌, arith}
 use Rattle.bpf_verify.proofs.scratch.unwritten_word.Goals as goal
 use Rattle.bpf_verify.proofs.scratch.unwritten_word.Goals.{In-Some}
 
--- the word that the instruction reads is one of the sixteen
+-- The word that the instruction reads is one of the sixteen.
 word_within : (c : In-Some) → c.in-Some.word < 16
 word_within c = c.requires c.in-Some.word ((c.word_read.ensures c.in-Some.word).1 c.in-Some.is)
 

@@ -4,7 +4,7 @@ use Rattle.std.proofs.lemmas.Nat.Bits.{bit_at_set_same, bit_at_set_other}
 use Rattle.bpf_verify.proofs.scratch.with_stored.Goals as goal
 use Rattle.bpf_verify.proofs.scratch.with_stored.Goals.{In-Some}
 
--- the word that the instruction stores is one of the sixteen
+-- The word that the instruction stores is one of the sixteen.
 word_within : (c : In-Some) → c.in-Some.word < 16
 word_within c = c.requires c.in-Some.word ((c.word_stored.ensures c.in-Some.word).1 c.in-Some.is)
 

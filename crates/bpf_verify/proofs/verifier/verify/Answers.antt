@@ -1,7 +1,7 @@
 use Rattle.std.proofs.Common.{true≢false, subst, sym}
 use Rattle.bpf_verify.specs.Faults.{FailsFirst}
 use Rattle.bpf_verify.proofs.FirstFault.{refused-from_fault}
-use Rattle.bpf_verify.proofs.check.verify.Goals as goal
+use Rattle.bpf_verify.proofs.verifier.verify.Goals as goal
 
 pub returns-in-Some-clause-accepted : goal.returns-in-Some-clause-accepted
 returns-in-Some-clause-accepted c =

@@ -4,9 +4,9 @@ use Rattle.std.proofs.lemmas.Grind.{common_steps}
 use Rattle.std.proofs.lemmas.Option.{slice_get_within}
 use Rattle.bpf_verify.proofs.Masks.{unwritten-from_mask, written-at_first, written-from_mask, written_next}
 use Rattle.bpf_verify.proofs.Visit.{all_written, ends_there, lacks_there, next_within, one_more, one_sound, stands_there}
-use Rattle.bpf_verify.proofs.check.first_in_order.Goals as goal
+use Rattle.bpf_verify.proofs.verifier.first_in_order.Goals as goal
 
--- each place but the first begins with every word
+-- Each place but the first begins with every word.
 begins_full : (size all place : ℕ) → 0 < place → place < size → get_or (set (replicate size all) 0 0) place 0 ≡ all
 begins_full size all place gt lt = grind (arith, common_steps)
 

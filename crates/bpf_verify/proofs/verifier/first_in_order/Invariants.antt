@@ -2,7 +2,7 @@ use Rattle.std.proofs.Common.{◌≡◌, ℕ, ◌<◌, length, get_or}
 use Rattle.bpf_verify.specs.Faults.{IsSoundBelow}
 use Rattle.bpf_verify.specs.Paths.{IsWrittenAt}
 use Rattle.bpf_verify.proofs.Masks.{AreWritten}
-use Rattle.bpf_verify.proofs.check.first_in_order.Given as goal
+use Rattle.bpf_verify.proofs.verifier.first_in_order.Given as goal
 
 abbrev pub invariant-loop-at : goal.invariant-loop-at
 invariant-loop-at l = record {

@@ -1,3 +1,5 @@
+//! The check, in one pass.
+
 ghost use Rattle.std.specs.Prelude.{◌≡◌, ◌↔◌, ◌<◌, ℕ, IsOk, IsTrue, IfOk, IfErr, IfSome, IfNone};
 ghost use Rattle.bpf_code.specs.Flow.{IsReturn};
 ghost use Rattle.bpf_verify.specs.Accepted.{IsAccepted, IsSized};
@@ -6,12 +8,12 @@ ghost use Rattle.bpf_verify.specs.Paths.{IsWrittenAt};
 
 use crate::fault::{Fault, Refused};
 use crate::program::Program;
-use crate::scratch::{PLACES, pass_on, unwritten_word, with_stored};
+use crate::scratch::{MASK_PLACES, pass_on, unwritten_word, with_stored};
 use crate::soundness::{fault_of, first_unsound};
 use bpf_code::Instr;
 
 /// How many instructions a program has at most.
-pub const MAX_INSTRUCTIONS: usize = 4096;
+pub const MOST_INSTRUCTIONS: usize = 4096;
 
 /// Checks a code, in one pass over its instructions and without taking memory.
 ///
@@ -38,7 +40,7 @@ fn first_fault(code: &[Instr]) -> Option<Fault>
     if code.is_empty() {
         return Some(Fault::Empty);
     }
-    if code.len() > MAX_INSTRUCTIONS {
+    if code.len() > MOST_INSTRUCTIONS {
         return Some(Fault::TooLong);
     }
     first_in_order(code)
@@ -51,7 +53,7 @@ fn first_in_order(code: &[Instr]) -> Option<Fault>
     ensures none { IfNone result (IsAccepted code.now) }
     ensures some { IfSome result (FailsFirst code.now) }
 {
-    let mut written = [u16::MAX; PLACES];
+    let mut written = [u16::MAX; MASK_PLACES];
     written[0] = 0;
     let mut here = 0;
     for (at, instr) in code.iter().enumerate() {
