@@ -11,7 +11,7 @@ use Rattle.gen_arena.specs.Live.{live_value, IsLive}
 use Rattle.gen_arena.specs.Insert.{Inserts}
 use Rattle.gen_arena.specs.Remove.{Removes}
 use Rattle.gen_arena.specs.declared.id.Id.{Id}
-use Rattle.gen_arena.specs.inner.Places.{no_place, place_at, AreFresh}
+use Rattle.gen_arena.specs.inner.PlaceRow.{no_place, place_at, AreFresh}
 use Rattle.gen_arena.specs.inner.Chain.{slot_of, IsChain, IsSound}
 use Rattle.gen_arena.specs.declared.place.Place.{Place}
 use Rattle.gen_arena.proofs.SlotLemmas.{slot_of_live, value_of_live, is_free-parts, IsArena-set, is_free-empty_slot, is_free-worn}
@@ -22,14 +22,14 @@ module _ {T : Type 0} where
   abbrev free_at : List (Place T) → ℕ → Bool
   free_at places k = is_free (slot_of (place_at places k))
 
-  -- there is one way from a place to the end
+  -- There is one way from a place to the end.
   chain_once : (places : List (Place T)) (k m n : ℕ) → IsChain places k m → IsChain places k n → m ≡ n
   chain_once places k zero zero one other = refl
   chain_once places k zero (suc n) one other = absurd (omega (arith, one, other.0))
   chain_once places k (suc m) zero one other = absurd (omega (arith, one.0, other))
   chain_once places k (suc m) (suc n) one other = ap suc (chain_once places (place_at places k).next m n one.2 other.2)
 
-  -- a chain goes on as it went, where a place was written that is not one of its own
+  -- A chain goes on as it went, where a place was written that is not one of its own.
   chain_passes : (places : List (Place T)) (j k m : ℕ) (new : Place T) → j ≢ k → IsChain places j (suc m) → IsChain (set places k new) (place_at places j).next m → IsChain (set places k new) j (suc m)
   chain_passes places j k m new differs chain later =
       let same = get_or-set_other places k j new no_place differs in
@@ -40,7 +40,7 @@ module _ {T : Type 0} where
         subst P (sym same) later,
       )
 
-  -- the rest of a chain does not come back to a place before it
+  -- The rest of a chain does not come back to a place before it.
   chain-set_before : (places : List (Place T)) (j k m n : ℕ) (new : Place T) → m < n → IsChain places k n → IsChain places j m → IsChain (set places k new) j m
   chain-set_before places j k zero n new less before chain = chain ∙ sym (length-set places k new)
   chain-set_before places j k (suc m) n new less before chain =
@@ -52,7 +52,7 @@ module _ {T : Type 0} where
             chain_passes places j k m new differs chain (chain-set_before places (place_at places j).next k m n new (omega (arith, less)) before chain.2)
       ]
 
-  -- nor has it a place that is not free
+  -- Nor has it a place that is not free.
   chain-set_taken : (places : List (Place T)) (j k m : ℕ) (new : Place T) → free_at places k ≡ false → IsChain places j m → IsChain (set places k new) j m
   chain-set_taken places j k zero new taken chain = chain ∙ sym (length-set places k new)
   chain-set_taken places j k (suc m) new taken chain =
@@ -62,7 +62,7 @@ module _ {T : Type 0} where
             chain_passes places j k m new differs chain (chain-set_taken places (place_at places j).next k m new taken chain.2)
       ]
 
-  -- the first place of a chain, and the chain behind it
+  -- The first place of a chain, and the chain behind it.
   pub record StartsAt (places : List (Place T)) (first count : ℕ) : Type 0 where
     pub there : first < length places
     pub free : free_at places first ≡ true
@@ -75,7 +75,7 @@ module _ {T : Type 0} where
       let P : ℕ → Type 0 = λ n. IsChain places (place_at places first).next n in
       record { there = chain.0; free = chain.1; later = subst P (sym less) chain.2 }
 
-  -- a value goes into the first free place
+  -- A value goes into the first free place.
   pub IsSound-filled : (places : List (Place T)) (first count : ℕ) (new : Place T) (v : T) → 0 < count → IsSound places first count → slot_of new ≡ full_slot ((place_at places first).generation + 1) v → IsSound (set places first new) (place_at places first).next (count - 1)
   IsSound-filled places first count new v some sound filled =
       let start = starts_at places first count some sound.chained in
@@ -99,7 +99,7 @@ module _ {T : Type 0} where
         few = let same = length-set places first new in omega (arith, same, sound.few);
       }
 
-  -- what holds of a place that is emptied
+  -- What holds of a place that is emptied.
   pub record WasFull (places : List (Place T)) (k generation : ℕ) (v : T) : Type 0 where
     pub there : k < length places
     pub full : slot_of (place_at places k) ≡ full_slot generation v
@@ -130,7 +130,7 @@ module _ {T : Type 0} where
       let now : free_slots (map slot_of (set places k new)) ≡ free_slots (set slots k (empty_slot generation)) = ap free_slots after in
       omega (arith, moved, now)
 
-  -- an emptied place comes first, if it has a generation left
+  -- An emptied place comes first, if it has a generation left.
   pub IsSound-relisted : (places : List (Place T)) (first count k generation : ℕ) (v : T) (new : Place T) → IsSound places first count → WasFull places k generation v → slot_of new ≡ empty_slot generation → new.next ≡ first → generation < greatest_generation → IsSound (set places k new) k (suc count)
   IsSound-relisted places first count k generation v new sound was emptied names below =
       let now = is_free-empty_slot T generation below in
@@ -152,7 +152,7 @@ module _ {T : Type 0} where
         few = let long = length-set places k new in omega (arith, long, sound.few);
       }
 
-  -- and is left out otherwise
+  -- And is left out otherwise.
   pub IsSound-worn : (places : List (Place T)) (first count k generation : ℕ) (v : T) (new : Place T) → IsSound places first count → WasFull places k generation v → slot_of new ≡ empty_slot generation → greatest_generation ≤ generation → IsSound (set places k new) first count
   IsSound-worn places first count k generation v new sound was emptied above =
       record {
@@ -166,7 +166,7 @@ module _ {T : Type 0} where
         few = let long = length-set places k new in omega (arith, long, sound.few);
       }
 
-  -- fresh places name one another, from any on
+  -- Fresh places name one another, from any on.
   fresh_chain : (places : List (Place T)) (count used k n : ℕ) → used < greatest_generation → AreFresh places count used → k + n ≡ count → IsChain places k n
   fresh_chain places count used k zero below fresh long = omega (arith, long, fresh.0)
   fresh_chain places count used k (suc n) below fresh long =
@@ -194,7 +194,7 @@ module _ {T : Type 0} where
   fresh_count places count used fresh =
       ap free_slots (AreFresh-slots places count used fresh) ∙ sum_by-replicate (weight {T = T}) count (empty_slot used)
 
-  -- an arena of fresh places
+  -- An arena of fresh places.
   pub IsSound-fresh : (places : List (Place T)) (count used : ℕ) → count ≤ 65535 → AreFresh places count used → used < greatest_generation → IsSound places 0 count
   IsSound-fresh places count used few fresh below =
       record {
@@ -230,7 +230,7 @@ module _ {T : Type 0} where
         after = rw (map-set, filled);
       }
 
-  -- the id is live, and its place has its value
+  -- The id is live, and its place has its value.
   pub record IsHeld (places : List (Place T)) (id : Id) : Type 0 where
     pub value : T
     pub live : live_value (map slot_of places) id ≡ Some value
@@ -247,7 +247,7 @@ module _ {T : Type 0} where
   pub Removes-emptied : (places : List (Place T)) (id : Id) (new : Place T) (held : IsHeld places id) → slot_of new ≡ empty_slot id.generation → Removes (map slot_of places) (map slot_of (set places id.slot new)) id held.value
   Removes-emptied places id new held emptied = record { was = held.live; after = rw (map-set, emptied) }
 
-  -- the place of this number, emptied
+  -- The place of this number, emptied.
   abbrev pub emptied_place : List (Place T) → ℕ → ℕ → Place T
   emptied_place places k next = record { generation = (place_at places k).generation; next = next; value = None }
 

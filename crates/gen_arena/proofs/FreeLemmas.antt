@@ -17,14 +17,14 @@ module _ {T : Type 0} where
   abbrev pub weight : Slot T → ℕ
   weight slot = one_if (is_free slot)
 
-  -- how a write of one slot changes the number of free ones
+  -- How a write of one slot changes the number of free ones.
   pub free_slots-set : (slots : List (Slot T)) (k : ℕ) (old new : Slot T) → slice_get slots k ≡ Some old → free_slots (set slots k new) + weight old ≡ free_slots slots + weight new
   free_slots-set slots k old new stands =
       let moved = sum_by-set weight slots k new old (slice_get_within slots k old stands) in
       let read : weight (get_or slots k old) ≡ weight old = ap weight (get_or_from_slice_get slots k old old stands) in
       omega (arith, moved, read)
 
-  -- where some slot has a value, fewer are free than there are
+  -- Where some slot has a value, fewer are free than there are.
   pub not_all_free : (slots : List (Slot T)) (k generation : ℕ) (v : T) → slice_get slots k ≡ Some (full_slot generation v) → free_slots slots < length slots
   not_all_free slots k generation v stands =
       let new = empty_slot {T = T} 0 in
@@ -33,7 +33,7 @@ module _ {T : Type 0} where
       let same = length-set slots k new in
       omega (arith, moved, most, same)
 
-  -- no id of generation 0 is live
+  -- No id of generation 0 is live.
   pub never_used : (slots : List (Slot T)) (id : Id) → IsArena slots → id.generation ≡ 0 → live_value slots id ≡ None
   never_used slots id lawful unused =
       none_unless (live_value slots id) (λ v live.

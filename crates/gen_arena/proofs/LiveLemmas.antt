@@ -11,19 +11,19 @@ use Rattle.gen_arena.specs.declared.id.Id.{Id}
 use Rattle.gen_arena.proofs.SlotLemmas.{is_free-parts, slice_get-set_same, slice_get-set_other, slot_of_live, value_under-other, value_under-empty_slot}
 use Rattle.gen_arena.proofs.PastLemmas.{Inserts-within, Removes-within}
 
--- ids that are apart and have one slot have two generations
+-- Ids that are apart and have one slot have two generations.
 generations_differ : (one other : Id) → other ≢ one → other.slot ≡ one.slot → one.generation ≢ other.generation
 generations_differ one other apart same generations =
     apart (λ i. record { slot = same i; generation = sym generations i })
 
 module _ {T : Type 0} where
-  -- a slot without a value gives no id a value
+  -- A slot without a value gives no id a value.
   value_under-none : (slot : Slot T) (id : Id) → slot.value ≡ None → value_under id.generation (Some slot) ≡ None
   value_under-none slot id none =
       let with_value : Option T → Slot T = λ o. record { generation = slot.generation; value = o } in
       ap (λ o. value_under id.generation (Some (with_value o))) none ∙ value_under-empty_slot id.generation slot.generation
 
-  -- before an insert no id of its slot has a value
+  -- Before an insert no id of its slot has a value.
   Inserts-before : (old new : List (Slot T)) (id : Id) (v : T) → Inserts old new id v → (other : Id) → other.slot ≡ id.slot → live_value old other ≡ None
   Inserts-before old new id v insert other same =
       ap (value_under other.generation) (ap (slice_get old) same ∙ insert.stood) ∙ value_under-none insert.taken other (is_free-parts insert.taken insert.was_free).0

@@ -12,7 +12,7 @@ use Rattle.gen_arena.specs.declared.id.Id.{Id}
 use Rattle.gen_arena.proofs.SlotLemmas.{slice_get-set_same, slice_get-set_other, slot_of_live, live_of_slot, value_under-other, value_under-empty_slot, generation_at-there}
 
 module _ {T : Type 0} where
-  -- a write of one slot leaves an id past, if the slot's new state leaves the id past where it is the id's
+  -- A write of one slot leaves an id past, if the slot's new state leaves the id past where it is the id's.
   IsPast-set : (slots : List (Slot T)) (k : ℕ) (slot : Slot T) (id : Id) → k < length slots → (id.slot ≡ k → (value_under id.generation (Some slot) ≡ None) × (id.generation ≤ slot.generation)) → IsPast slots id → IsPast (set slots k slot) id
   IsPast-set slots k slot id within leaves past =
       elim (cases_eq id.slot k) [
@@ -33,7 +33,7 @@ module _ {T : Type 0} where
             }
       ]
 
-  -- an id past at the slot of this number has a generation that the slot used
+  -- An id past at the slot of this number has a generation that the slot used.
   past_below : (slots : List (Slot T)) (k : ℕ) (slot : Slot T) (id : Id) → slice_get slots k ≡ Some slot → IsPast slots id → id.slot ≡ k → id.generation ≤ slot.generation
   past_below slots k slot id stands past same =
       let at = generation_at-there slots k slot stands in
@@ -43,13 +43,13 @@ module _ {T : Type 0} where
   pub Inserts-within : (old new : List (Slot T)) (id : Id) (v : T) → Inserts old new id v → id.slot < length old
   Inserts-within old new id v insert = slice_get_within old id.slot insert.taken insert.stood
 
-  -- an id that an insert gave is live
+  -- An id that an insert gave is live.
   pub Inserts-live : (old new : List (Slot T)) (id : Id) (v : T) → Inserts old new id v → live_value new id ≡ Some v
   Inserts-live old new id v insert =
       let within = Inserts-within old new id v insert in
       live_of_slot new id v (ap (λ slots. slice_get slots id.slot) insert.after ∙ slice_get-set_same old id.slot _ within)
 
-  -- an insert leaves past ids past
+  -- An insert leaves past ids past.
   pub Inserts-past : (old new : List (Slot T)) (id : Id) (v : T) → Inserts old new id v → KeepsPast old new
   Inserts-past old new id v insert other past =
       let within = Inserts-within old new id v insert in
@@ -65,7 +65,7 @@ module _ {T : Type 0} where
   pub Removes-within : (old new : List (Slot T)) (id : Id) (v : T) → Removes old new id v → id.slot < length old
   Removes-within old new id v remove = slice_get_within old id.slot _ (slot_of_live old id v remove.was)
 
-  -- a removal leaves past ids past
+  -- A removal leaves past ids past.
   pub Removes-past : (old new : List (Slot T)) (id : Id) (v : T) → Removes old new id v → KeepsPast old new
   Removes-past old new id v remove other past =
       let within = Removes-within old new id v remove in
@@ -74,7 +74,7 @@ module _ {T : Type 0} where
       (λ same. (value_under-empty_slot other.generation id.generation, past_below old id.slot _ other (slot_of_live old id v remove.was) past same))
       past)
 
-  -- the id of a removal is past
+  -- The id of a removal is past.
   pub Removes-is_past : (old new : List (Slot T)) (id : Id) (v : T) → Removes old new id v → 1 ≤ id.generation → IsPast new id
   Removes-is_past old new id v remove given =
       let within = Removes-within old new id v remove in

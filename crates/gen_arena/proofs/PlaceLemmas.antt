@@ -5,7 +5,7 @@ use Rattle.std.proofs.lemmas.Bool.{cases_eq}
 use Rattle.std.proofs.lemmas.List.{length-map, length-replicate, map-set}
 use Rattle.gen_arena.specs.Slot.{empty_slot}
 use Rattle.gen_arena.specs.inner.Cells.{Holds, IsFull}
-use Rattle.gen_arena.specs.inner.Places.{place_in, places_in, place_at, fresh_place, AreFresh}
+use Rattle.gen_arena.specs.inner.PlaceRow.{place_in, places_in, place_at, fresh_place, AreFresh}
 use Rattle.gen_arena.specs.inner.Chain.{slot_of}
 use Rattle.gen_arena.specs.declared.place.Place.{Place}
 
@@ -23,7 +23,7 @@ module _ {X : Type 0} where
   get_or-set_other (y ∷ xs) (suc k) (suc j) x d apart = get_or-set_other xs k j x d (λ e. apart (ap suc e))
 
 module _ {X : Type 0} where
-  -- a cell that holds a value is written over by another
+  -- A cell that holds a value is written over by another.
   pub IsFull-set : (cells : List (Option X)) (count k : ℕ) (x : X) → k < count → IsFull cells count → IsFull (set cells k (Some x)) count
   IsFull-set cells count k x within full = (
     length-set cells k (Some x) ∙ full.0,
@@ -35,7 +35,7 @@ module _ {X : Type 0} where
     ],
   )
 
-  -- cells of which each is blank
+  -- Cells of which each is blank.
   pub all_blank : (cells : List (Option X)) (count : ℕ) → length cells ≡ count → ((k : ℕ) → k < count → get_or cells k None ≡ None) → cells ≡ replicate count None
   all_blank [] zero long blank = refl
   all_blank [] (suc count) long blank = absurd (omega (arith, long))
@@ -45,7 +45,7 @@ module _ {X : Type 0} where
       let rest : later ≡ replicate count None = all_blank later count (omega (arith, long)) (λ k below. blank (suc k) (omega (arith, below))) in
       ap (λ c. c ∷ later) first ∙ ap (λ cs. None ∷ cs) rest
 
-  -- the cells below k are blank, and the others hold values
+  -- The cells below k are blank, and the others hold values.
   pub record ClearedTo (cells : List (Option X)) (count k : ℕ) : Type 0 where
     pub long : length cells ≡ count
     pub blank : (j : ℕ) → j < k → get_or cells j None ≡ None
@@ -82,7 +82,7 @@ module _ {X : Type 0} where
   blank_row (suc count) (suc j) = blank_row count j
 
 module _ {T : Type 0} where
-  -- the place that a cell holds
+  -- The place that a cell holds.
   pub place_at-cell : (cells : List (Option (Place T))) (k : ℕ) → place_at (places_in cells) k ≡ place_in (get_or cells k None)
   place_at-cell [] k = refl
   place_at-cell (cell ∷ later) zero = refl
@@ -101,13 +101,13 @@ module _ {T : Type 0} where
   slice_get-past (place ∷ later) zero past = absurd (omega arith)
   slice_get-past (place ∷ later) (suc k) past = slice_get-past later k (omega arith)
 
-  -- the slot of a place
+  -- The slot of a place.
   pub slot_at : (places : List (Place T)) (k : ℕ) → k < length places → slice_get (map slot_of places) k ≡ Some (slot_of (place_at places k))
   slot_at [] k within = absurd (omega arith)
   slot_at (place ∷ later) zero within = refl
   slot_at (place ∷ later) (suc k) within = slot_at later k (omega arith)
 
-  -- fresh places are seen as unused slots
+  -- Fresh places are seen as unused slots.
   same_slots : (places : List (Place T)) (count used : ℕ) → length places ≡ count → ((k : ℕ) → k < count → slot_of (place_at places k) ≡ empty_slot used) → map slot_of places ≡ replicate count (empty_slot used)
   same_slots [] zero used long same = refl
   same_slots [] (suc count) used long same = absurd (omega (arith, long))
@@ -119,7 +119,7 @@ module _ {T : Type 0} where
   pub AreFresh-slots : (places : List (Place T)) (count used : ℕ) → AreFresh places count used → map slot_of places ≡ replicate count (empty_slot used)
   AreFresh-slots places count used fresh = same_slots places count used fresh.0 (λ k below. ap slot_of (fresh.1 k below))
 
-  -- the cells below k hold fresh places, and the others are blank
+  -- The cells below k hold fresh places, and the others are blank.
   pub record LaidTo (cells : List (Option (Place T))) (count used k : ℕ) : Type 0 where
     pub long : length cells ≡ count
     pub laid : (j : ℕ) → j < k → get_or cells j None ≡ Some (fresh_place used j)
@@ -155,13 +155,13 @@ module _ {T : Type 0} where
   LaidTo-fresh cells count used all =
       (length-map cells (place_in {T = T}) ∙ all.long, λ k below. place_at-held cells k (fresh_place used k) (all.laid k below))
 
-  -- a place that is written into a cell is written into the list of places
+  -- A place that is written into a cell is written into the list of places.
   pub written : (cells : List (Option (Place T))) (j k : ℕ) (places : List (Place T)) (new place : Place T) → places_in cells ≡ places → j ≡ k → new ≡ place → places_in (set cells j (Some new)) ≡ set places k place
   written cells j k places new place is at same =
       let mapped : places_in (set cells j (Some new)) ≡ set (places_in cells) j new = rw map-set in
       mapped ∙ (λ i. set (is i) (at i) (same i))
 
-  -- the place that the cells hold is that of the list of places
+  -- The place that the cells hold is that of the list of places.
   pub held_at : (cells : List (Option (Place T))) (j k : ℕ) (places : List (Place T)) (place : Place T) → places_in cells ≡ places → j ≡ k → get_or cells j None ≡ Some place → place_at places k ≡ place
   held_at cells j k places place is at held = (λ i. place_at (sym is i) (sym at i)) ∙ place_at-held cells j place held
 

@@ -33,7 +33,7 @@ module _ {T : Type 0} where
   free_parts None generation free = (refl, grind (arith, nat_tests))
   free_parts (Some v) generation free = absurd (cc)
 
-  -- a free slot is empty, and has a generation left
+  -- A free slot is empty, and has a generation left.
   pub is_free-parts : (slot : Slot T) → is_free slot ≡ true → (slot.value ≡ None) × (slot.generation < greatest_generation)
   is_free-parts slot free = free_parts slot.value slot.generation free
 
@@ -53,7 +53,7 @@ module _ {T : Type 0} where
       let parts = chosen (slot.generation == generation) slot.value v found in
       ap Some (slot_is slot generation v ((Decides-eqb slot.generation generation).0 parts.0) parts.1)
 
-  -- the slot of a live id has its generation and its value
+  -- The slot of a live id has its generation and its value.
   pub slot_of_live : (slots : List (Slot T)) (id : Id) (v : T) → live_value slots id ≡ Some v → slice_get slots id.slot ≡ Some (full_slot id.generation v)
   slot_of_live slots id v found = found_in_slot (slice_get slots id.slot) id.generation v found
 
@@ -65,7 +65,7 @@ module _ {T : Type 0} where
   live_of_slot slots id v stands =
       ap (value_under id.generation) stands ∙ value_under-full_slot id.generation v
 
-  -- a slot has no value under another generation than its own
+  -- A slot has no value under another generation than its own.
   pub value_under-other : (generation : ℕ) (slot : Slot T) → slot.generation ≢ generation → value_under generation (Some slot) ≡ None
   value_under-other generation slot differs = grind (arith, nat_tests)
 
@@ -79,7 +79,7 @@ module _ {T : Type 0} where
   pub generation_at-there : (slots : List (Slot T)) (k : ℕ) (slot : Slot T) → slice_get slots k ≡ Some slot → generation_at slots k ≡ slot.generation
   generation_at-there slots k slot stands = ap generation_or_zero stands
 
-  -- a write of one slot leaves an arena's slots those of an arena
+  -- A write of one slot leaves an arena's slots those of an arena.
   pub IsArena-set : (slots : List (Slot T)) (k : ℕ) (new : Slot T) → k < length slots → IsArena slots → new.generation ≤ greatest_generation → (IsSome new.value → 1 ≤ new.generation) → IsArena (set slots k new)
   IsArena-set slots k new within lawful most least j slot stands =
       elim (cases_eq j k) [
@@ -98,7 +98,7 @@ module _ {T : Type 0} where
   pub value_of_live : (slots : List (Slot T)) (id : Id) → IsLive slots id → (v : T) × (live_value slots id ≡ Some v)
   value_of_live slots id live = some_value (live_value slots id) live
 
-  -- a live id is that of one of the slots, and has its generation
+  -- A live id is that of one of the slots, and has its generation.
   pub live_within : (slots : List (Slot T)) (id : Id) → IsLive slots id → id.slot < length slots
   live_within slots id live =
       let some = value_of_live slots id live in

@@ -1,6 +1,6 @@
 -- What only private functions and proofs speak of. No public clause cites a module below this one.
 pub mod Cells
-pub mod Memory
+pub mod BlockMemory
 pub mod CellLends
-pub mod Places
+pub mod PlaceRow
 pub mod Chain

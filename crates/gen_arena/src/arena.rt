@@ -1,3 +1,5 @@
+//! The arena: values behind ids, and the list of free slots.
+
 ghost use Rattle.std.specs.Prelude.{◌≡◌, ◌+◌, ◌∷◌, ◌<◌, ◌≤◌, ◌↔◌, IsTrue, IsErr, IsErrOf, IsSome, IfOk, IfErr, OnOk, OnErr, IfSome, IfNone, OnSome, Some, None, option_copied};
 ghost use Rattle.gen_arena.specs.Slot.{unused_slots, greatest_generation, IsArena};
 ghost use Rattle.gen_arena.specs.Live.{live_value, IsLive};
@@ -6,7 +8,7 @@ ghost use Rattle.gen_arena.specs.Free.{free_slots, NoneIsFree};
 ghost use Rattle.gen_arena.specs.Insert.{Inserts};
 ghost use Rattle.gen_arena.specs.Remove.{Removes};
 
-use crate::place::Places;
+use crate::place::PlaceRow;
 use crate::{ArenaFault, Id};
 use std::alloc::Global;
 use std::marker::Model;
@@ -20,10 +22,10 @@ use std::marker::Model;
 /// list through the slots, so that no call walks them.
 #[derive(Drop)]
 pub struct Arena<T> {
-    places: Places<T>,
-    // The number of the first free slot, or the number of slots.
+    places: PlaceRow<T>,
+    /// The number of the first free slot, or the number of slots.
     first: u16,
-    // How many slots are free.
+    /// How many slots are free.
     free: u16,
 }
 
@@ -66,7 +68,7 @@ impl<T> Arena<T> {
         if slots == 0 {
             return Err(ArenaFault::NoSlots);
         }
-        let places = Places::new(alloc, slots, used)?;
+        let places = PlaceRow::new(alloc, slots, used)?;
         // The places name one another from the first on. Where none has a generation left, none is
         // in the list.
         let (first, free) = if used < u32::MAX {

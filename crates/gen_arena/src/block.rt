@@ -4,13 +4,14 @@
 //! that reads a cell asks that it holds a value, and one that writes to it that it is blank: no value
 //! is read twice, none is overwritten, and none is read before it was written. The functions of this
 //! file are the only ones of the crate that have a pointer.
+
 ghost use Rattle.std.specs.Prelude.{◌≡◌, ℕ, ◌<◌, List, Option, Some, None, length, replicate, get_or, slice_set, IfOk, ⊤};
 ghost use Rattle.std.specs.Borrow.{sem};
 ghost use Rattle.std.specs.Vec.Ownership.{FitsInBlock};
 ghost use base.Fml.{ftrue};
 ghost use denote.RawPtr.{Ptr};
 ghost use Rattle.gen_arena.specs.inner.Cells.{Holds};
-ghost use Rattle.gen_arena.specs.inner.Memory.{row_owned, row_lent, way_back};
+ghost use Rattle.gen_arena.specs.inner.BlockMemory.{row_owned, row_lent, way_back};
 
 use std::alloc::{AllocError, Allocator};
 use std::marker::{Model, PhantomData, Send, Sync};

@@ -1,3 +1,5 @@
+//! Why there is no arena.
+
 ghost use Rattle.std.specs.Prelude.{◌≡◌};
 ghost use Rattle.gen_arena.specs.declared.fault.ArenaFault.TheVariants.{NoMemory};
 

@@ -1,3 +1,5 @@
+//! The names of values in an arena.
+
 /// The name of a value in an arena: the number of its slot, from 0, and the generation that the
 /// slot got when the value came in.
 ///

@@ -2,6 +2,7 @@
 //!
 //! Each function here does nothing: its contract is a law over any slots, and over any calls that
 //! come one after another. A call is seen as the change that it made.
+
 ghost use Rattle.std.specs.Prelude.{◌≡◌, ◌≢◌, ◌⊎◌, ◌+◌, ◌<◌, ◌≤◌, ◌↔◌, IsTrue, List, Some, None, All, AllPairs, length, slice_get};
 ghost use Rattle.gen_arena.specs.SameId.{is_same_id};
 ghost use Rattle.gen_arena.specs.Slot.{Slot, IsArena, full_slot, generation_at};

@@ -1,8 +1,9 @@
 //! The places of an arena, side by side in one block.
+
 ghost use Rattle.std.specs.Prelude.{◌≡◌, ℕ, ◌+◌, ◌<◌, length, None, Some, IfOk, replicate, slice_get, slice_set, option_copied};
 ghost use Rattle.gen_arena.specs.Slot.{greatest_generation};
 ghost use Rattle.gen_arena.specs.inner.Cells.{IsFull};
-ghost use Rattle.gen_arena.specs.inner.Places.{place_at, places_in, AreFresh};
+ghost use Rattle.gen_arena.specs.inner.PlaceRow.{place_at, places_in, AreFresh};
 
 use crate::block::{Cells, Deed, Start, give_back, make};
 use std::alloc::{AllocError, Global};
@@ -35,7 +36,7 @@ impl<T> Place<T> {
 }
 
 /// A row of places, which owns its block.
-pub struct Places<T> {
+pub struct PlaceRow<T> {
     start: Start<Place<T>>,
     cells: Cells<Place<T>>,
     deed: Deed<Place<T>, Global>,
@@ -43,11 +44,11 @@ pub struct Places<T> {
     count: u16,
 }
 
-impl<T> Model for Places<T> {
+impl<T> Model for PlaceRow<T> {
     ghost use Rattle.std.specs.Prelude.{◌≡◌, List};
     ghost use Rattle.gen_arena.specs.declared.place.Place.{Place};
     ghost use Rattle.gen_arena.specs.inner.Cells.{IsFull};
-    ghost use Rattle.gen_arena.specs.inner.Places.{places_in};
+    ghost use Rattle.gen_arena.specs.inner.PlaceRow.{places_in};
 
     ghost Value = { List (Place T) };
 
@@ -56,7 +57,7 @@ impl<T> Model for Places<T> {
     ghost invariant = { λ p. (p.cells.start ≡ p.start.to) × (p.deed.start ≡ p.start.to) × (p.deed.count ≡ p.count) × (p.deed.from ≡ p.alloc) × IsFull p.cells.held p.count };
 }
 
-impl<T> Places<T> {
+impl<T> PlaceRow<T> {
     /// A row of `count` empty places that have used generation `used`, each with the number of the
     /// one behind it.
     pub(crate) fn new(alloc: Global, count: u16, used: u32) -> Result<Self, AllocError>
@@ -68,7 +69,7 @@ impl<T> Places<T> {
         }
         let (start, mut cells, deed) = make(&alloc, room)?;
         lay_out(&mut cells, start, count, used);
-        Ok(Places {
+        Ok(PlaceRow {
             start,
             cells,
             deed,
@@ -114,9 +115,9 @@ impl<T> Places<T> {
     }
 }
 
-impl<T: Drop> Drop for Places<T> {
+impl<T: Drop> Drop for PlaceRow<T> {
     fn drop(self) {
-        let Places {
+        let PlaceRow {
             start,
             mut cells,
             deed,

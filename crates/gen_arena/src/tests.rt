@@ -1,3 +1,5 @@
+//! Arenas that are filled, emptied and worn out.
+
 use super::*;
 use std::alloc::Global;
 use std::fmt::Debug;

@@ -8,12 +8,12 @@ use Rattle.leaky.specs.Contract.{Buckets, buckets_after}
 use Rattle.leaky.specs.Arrivals.{Arrival, buckets_left}
 use Rattle.leaky.specs.Laws.{LevelsStandForBuckets, LevelsFollowBuckets, ChargesKeepUp}
 
--- both buckets are full no later than a theoretical arrival time can be
+-- Both buckets are full no later than a theoretical arrival time can be.
 record AreBounded (buckets : Buckets) : Type 0 where
   first : buckets.first.level + buckets.first.charged ≤ 2 ^ 62 + 2 ^ 49
   second : buckets.second.level + buckets.second.charged ≤ 2 ^ 62 + 2 ^ 49
 
--- one cell
+-- One cell.
 AreBounded-after : (contract : Contract) (buckets : Buckets) (clp : Bool) (moment : ℕ)
     → moment ≤ 2 ^ 62 → AreBounded buckets → AreBounded (buckets_after contract buckets clp moment)
 AreBounded-after (Cbr1 peak) buckets clp moment h bounded = record {
@@ -41,7 +41,7 @@ AreBounded-after (Vbr3 peak sustained) buckets false moment h bounded = record {
   second = grind (arith, nat_tests);
 }
 
--- any number of cells
+-- Any number of cells.
 AreBounded-left : (contract : Contract) (buckets : Buckets) (arrivals : List Arrival)
     → AreBounded buckets → All (λ a. a.moment ≤ 2 ^ 62) arrivals
     → AreBounded (buckets_left contract buckets arrivals)
@@ -51,7 +51,7 @@ AreBounded-left contract buckets (arrival ∷ later) bounded moments =
     (AreBounded-after contract buckets arrival.clp arrival.moment (All-head (λ a. a.moment ≤ 2 ^ 62) arrival later moments) bounded)
     (All-tail (λ a. a.moment ≤ 2 ^ 62) arrival later moments)
 
--- so levels follow the buckets
+-- So levels follow the buckets.
 pub levels-follow : LevelsFollowBuckets
 levels-follow contract levels buckets arrivals agrees moments =
     let left = buckets_left contract buckets arrivals in
@@ -65,7 +65,7 @@ levels-follow contract levels buckets arrivals agrees moments =
       record { first = refl; second = refl },
     )
 
--- the whole of a theoretical arrival time can be the level of a bucket that was charged at 0
+-- The whole of a theoretical arrival time can be the level of a bucket that was charged at 0.
 pub levels-stand : LevelsStandForBuckets
 levels-stand levels = (
   record {
@@ -76,7 +76,7 @@ levels-stand levels = (
   record { first = omega arith; second = omega arith },
 )
 
--- a cell charges a bucket at its own moment or not at all
+-- A cell charges a bucket at its own moment or not at all.
 pub charges-keep_up : ChargesKeepUp
 charges-keep_up (Cbr1 peak) buckets clp moment h = record {
   first = grind (arith, nat_tests);

@@ -13,17 +13,17 @@ use Rattle.leaky.proofs.SchedulingLemmas.{GoesOn-earlier}
 
 -- Cells that all fill the bucket.
 
--- no more increments than that fit into the span and the limit together
+-- No more increments than that fit into the span and the limit together.
 abbrev IsMost : Gcra → ℕ → ℕ → Type 0
 IsMost gcra span most = (k : ℕ) → k * gcra.increment ≤ span + gcra.limit → k ≤ most
 
 module _ (gcra : Gcra) (first span most : ℕ) (few : IsMost gcra span most) where
-  -- after `done` cells of the span the bucket is empty at `first + done * T` at the earliest
+  -- After `done` cells of the span the bucket is empty at `first + done * T` at the earliest.
   record Holds (bucket : Bucket) (latest done : ℕ) : Type 0 where
     empties : first + done * gcra.increment ≤ bucket.level + bucket.charged
     charged : bucket.charged ≤ latest
 
-  -- a further cell leaves that as it is
+  -- A further cell leaves that as it is.
   Holds-filled : (bucket : Bucket) (latest done moment : ℕ) → latest ≤ moment
       → Holds bucket latest done → Holds (filled gcra bucket moment) moment done
   Holds-filled bucket latest done moment later holds = record {
@@ -31,12 +31,12 @@ module _ (gcra : Gcra) (first span most : ℕ) (few : IsMost gcra span most) whe
     charged = omega arith;
   }
 
-  -- the first cell of the span
+  -- The first cell of the span.
   Holds-first : (bucket : Bucket) (moment : ℕ) → first ≤ moment
       → Holds (filled gcra bucket moment) moment 1
   Holds-first bucket moment begun = record { empties = omega arith; charged = omega arith }
 
-  -- the next cell of the span
+  -- The next cell of the span.
   Holds-next : (bucket : Bucket) (latest done moment : ℕ) → latest ≤ moment
       → Holds bucket latest done → Holds (filled gcra bucket moment) moment (suc done)
   Holds-next bucket latest done moment later holds = record {
@@ -44,12 +44,12 @@ module _ (gcra : Gcra) (first span most : ℕ) (few : IsMost gcra span most) whe
     charged = omega arith;
   }
 
-  -- a bucket that conforms within the span was filled in it at most `most` times
+  -- A bucket that conforms within the span was filled in it at most `most` times.
   Holds-few : (bucket : Bucket) (latest done moment : ℕ) → latest ≤ moment → moment ≤ first + span
       → level_at bucket moment ≤ gcra.limit → Holds bucket latest done → done ≤ most
   Holds-few bucket latest done moment later within low holds = few done (omega arith)
 
-  -- once a cell of the span has come
+  -- Once a cell of the span has come.
   more_within : (bucket : Bucket) (latest : ℕ) (moments : List ℕ) (done : ℕ)
       → Holds bucket latest done → done ≤ 1 + most → GoesOn latest moments
       → AllFill gcra bucket moments → done + count_within first span moments ≤ 1 + most
@@ -74,7 +74,7 @@ module _ (gcra : Gcra) (first span most : ℕ) (few : IsMost gcra span most) whe
       ] in
       choice (is_within first span moment) refl
 
-  -- from the beginning
+  -- From the beginning.
   all_within : (bucket : Bucket) (latest : ℕ) (moments : List ℕ) → GoesOn latest moments
       → AllFill gcra bucket moments → count_within first span moments ≤ 1 + most
   all_within bucket latest [] goes fill = omega arith
@@ -102,13 +102,13 @@ fillings-bounded gcra bucket earliest moments goes fill first span =
 
 -- Cells of which some fill the bucket.
 
--- the cells that fill it go on as all do
+-- The cells that fill it go on as all do.
 pub GoesOn-some : (test : Bool) (earliest moment : ℕ) (later : List ℕ) → earliest ≤ moment
     → GoesOn moment later → GoesOn earliest (cond test (moment ∷ later) later)
 GoesOn-some true earliest moment later h goes = (h, goes)
 GoesOn-some false earliest moment later h goes = GoesOn-earlier earliest moment later h goes
 
--- and each of them finds what the one before left
+-- And each of them finds what the one before left.
 pub AllFill-some : (gcra : Gcra) (bucket after : Bucket) (moment : ℕ) (later : List ℕ) (test : Bool)
     → Fills gcra bucket after moment test → AllFill gcra after later
     → AllFill gcra bucket (cond test (moment ∷ later) later)
@@ -117,7 +117,7 @@ AllFill-some gcra bucket after moment later true here rest =
 AllFill-some gcra bucket after moment later false here rest =
     subst (λ b. AllFill gcra b later) (here.leaves refl) rest
 
--- a bucket alone is filled by the cells that conform
+-- A bucket alone is filled by the cells that conform.
 bucket_after-Fills : (gcra : Gcra) (bucket : Bucket) (moment : ℕ)
     → Fills gcra bucket (bucket_after gcra bucket moment) moment (conforms gcra bucket moment)
 bucket_after-Fills gcra bucket moment = record {

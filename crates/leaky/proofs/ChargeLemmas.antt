@@ -15,13 +15,13 @@ use Rattle.leaky.proofs.BurstLemmas.{fillings-bounded, GoesOn-some, AllFill-some
 
 -- Bucket 1.
 
--- a cell that charges bucket 1 conforms to it
+-- A cell that charges bucket 1 conforms to it.
 first-conforms : (b c : Bool) (excess : Verdict)
     → charges_first (cond b (cond c Pass excess) Discard) ≡ true → b ≡ true
 first-conforms true c excess e = refl
 first-conforms false c excess e = e
 
--- and fills it
+-- And fills it.
 first-filled : (verdict : Verdict) (peak : Gcra) (sustained : Option Gcra) (buckets : Buckets) (moment : ℕ)
     → charges_first verdict ≡ true
     → (charged_under verdict peak sustained buckets moment).first ≡ filled peak buckets.first moment
@@ -30,7 +30,7 @@ first-filled Tag peak sustained buckets moment e = refl
 first-filled Discard peak sustained buckets moment e = cc
 first-filled Refuse peak sustained buckets moment e = cc
 
--- any other leaves it
+-- Any other leaves it.
 first-left : (verdict : Verdict) (peak : Gcra) (sustained : Option Gcra) (buckets : Buckets) (moment : ℕ)
     → charges_first verdict ≡ false
     → (charged_under verdict peak sustained buckets moment).first ≡ buckets.first
@@ -87,7 +87,7 @@ first-bounded contract buckets earliest arrivals goes first span =
 
 -- Bucket 2.
 
--- a cell that meets bucket 2 and passes conformed to it and fills it, any other leaves it
+-- A cell that meets bucket 2 and passes conformed to it and fills it, any other leaves it.
 met : (b c : Bool) (excess : Verdict) → excess ≢ Pass → (peak sustained : Gcra) (buckets : Buckets) (moment : ℕ)
     → conforms sustained buckets.second moment ≡ c
     → let verdict = cond b (cond c Pass excess) Discard in
@@ -114,19 +114,19 @@ met false c excess other peak sustained buckets moment is = record {
   leaves = λ e. refl;
 }
 
--- a cell that does not meet it leaves it
+-- A cell that does not meet it leaves it.
 unmet : (b : Bool) (peak sustained : Gcra) (buckets : Buckets) (moment : ℕ)
     → Fills sustained buckets.second (charged_under (cond b Pass Discard) peak None buckets moment).second moment false
 unmet true peak sustained buckets moment = record { fills = λ e. cc; leaves = λ e. refl }
 unmet false peak sustained buckets moment = record { fills = λ e. cc; leaves = λ e. refl }
 
--- nor does a cell of a contract without it
+-- Nor does a cell of a contract without it.
 second-kept : (b : Bool) (peak : Gcra) (buckets : Buckets) (moment : ℕ)
     → (charged_under (cond b Pass Discard) peak None buckets moment).second ≡ buckets.second
 second-kept true peak buckets moment = refl
 second-kept false peak buckets moment = refl
 
--- what a contract does to bucket 2, whose rate this is
+-- What a contract does to bucket 2, whose rate this is.
 abbrev FillsSecond : Contract → Gcra → Type 0
 FillsSecond contract sustained = (buckets : Buckets) (clp : Bool) (moment : ℕ)
     → Fills sustained buckets.second (buckets_after contract buckets clp moment).second moment
@@ -239,7 +239,7 @@ fillings-show gcra bucket moment same =
 
 -- Tagging.
 
--- where the excess verdict is no tag, none is given
+-- Where the excess verdict is no tag, none is given.
 never-tagged : (b c : Bool) (excess : Verdict) → excess ≢ Tag → cond b (cond c Pass excess) Discard ≢ Tag
 never-tagged true true excess other = λ e. cc
 never-tagged true false excess other = other

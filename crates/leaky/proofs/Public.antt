@@ -30,11 +30,11 @@ levels_follow_buckets = levels-follow
 pub charges_keep_up : ChargesKeepUp
 charges_keep_up = charges-keep_up
 
--- moments that go on from one moment go on from an earlier one too
+-- Moments that go on from one moment go on from an earlier one too.
 pub goes_on_from_earlier : (earlier earliest : ℕ) (moments : List ℕ) → earlier ≤ earliest
     → GoesOn earliest moments → GoesOn earlier moments
 goes_on_from_earlier = GoesOn-earlier
 
--- rates with equal numbers are equal
+-- Rates with equal numbers are equal.
 pub equal_numbers_make_equal_rates : (one other : Gcra) → one.increment ≡ other.increment → one.limit ≡ other.limit → one ≡ other
 equal_numbers_make_equal_rates = gcra_same

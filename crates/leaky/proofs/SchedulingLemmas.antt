@@ -7,29 +7,29 @@ use Rattle.leaky.specs.Bucket.{Bucket, conforms, bucket_after}
 use Rattle.leaky.specs.Scheduling.{is_due, due_after}
 use Rattle.leaky.specs.Laws.{SchedulingGivesTheBucketsVerdicts}
 
--- moments that go on from one moment go on from an earlier one too
+-- Moments that go on from one moment go on from an earlier one too.
 pub GoesOn-earlier : (earlier earliest : ℕ) (moments : List ℕ) → earlier ≤ earliest
     → GoesOn earliest moments → GoesOn earlier moments
 GoesOn-earlier earlier earliest [] h goes = tt
 GoesOn-earlier earlier earliest (moment ∷ moments) h goes = (omega (arith, goes.0), goes.1)
 
--- both forms agree on one cell
+-- Both forms agree on one cell.
 pub is_due-conforms : (gcra : Gcra) (bucket : Bucket) (moment : ℕ) → bucket.charged ≤ moment
     → is_due gcra (bucket.level + bucket.charged) moment ≡ conforms gcra bucket moment
 is_due-conforms gcra bucket moment h = grind (arith, nat_tests)
 
--- and on the state that it leaves
+-- And on the state that it leaves.
 pub due_after-agrees : (gcra : Gcra) (bucket : Bucket) (moment : ℕ) → bucket.charged ≤ moment
     → due_after gcra (bucket.level + bucket.charged) moment
     ≡ (bucket_after gcra bucket moment).level + (bucket_after gcra bucket moment).charged
 due_after-agrees gcra bucket moment h = grind (arith, nat_tests)
 
--- a cell charges the bucket at its own moment or not at all
+-- A cell charges the bucket at its own moment or not at all.
 pub bucket_after-charged_by : (gcra : Gcra) (bucket : Bucket) (moment : ℕ) → bucket.charged ≤ moment
     → (bucket_after gcra bucket moment).charged ≤ moment
 bucket_after-charged_by gcra bucket moment h = grind (arith, nat_tests)
 
--- so both forms agree on every list of moments
+-- So both forms agree on every list of moments.
 pub scheduled-conformances : SchedulingGivesTheBucketsVerdicts
 scheduled-conformances gcra bucket [] goes = refl
 scheduled-conformances gcra bucket (moment ∷ moments) goes =

@@ -7,7 +7,7 @@ use Rattle.leaky.specs.Bursts.{AllFill}
 use Rattle.leaky.specs.Tolerance.{spaced}
 use Rattle.leaky.specs.Laws.{TolerancesAreExact}
 
--- where `done` cells have come and n + 1 are to come
+-- Where `done` cells have come and n + 1 are to come.
 AllFill-spaced : (gcra : Gcra) (tp excess : ℕ) → gcra.increment ≡ tp + excess
     → (n done first : ℕ) (bucket : Bucket) → level_at bucket first ≡ done * excess
     → AllFill gcra bucket (spaced (suc n) tp first) ↔ ((done + n) * excess ≤ gcra.limit)

@@ -11,7 +11,7 @@ use Rattle.leaky.specs.Tolerance.{tolerance_of, spaced}
 use Rattle.leaky.specs.Bursts.{count_within, burst_bound, AllFill, Fills}
 use Rattle.leaky.specs.Contract.{Buckets, peak_of, second_of, verdict_of, buckets_after}
 use Rattle.leaky.specs.Arrivals.{Arrival, buckets_left, charges_first, charges_second, first_charges, second_charges}
-use Rattle.leaky.specs.Agreement.{Agrees, IsChargedBy}
+use Rattle.leaky.specs.KeptState.{Agrees, IsChargedBy}
 
 -- Virtual scheduling begun at TAT = X + LCT gives the leaky bucket's verdicts on every list of
 -- moments that begin at or after LCT and don't go back.

@@ -5,7 +5,7 @@ pub mod Scheduling
 pub mod Bursts
 pub mod Contract
 pub mod Arrivals
-pub mod Agreement
+pub mod KeptState
 pub mod Tolerance
 pub mod Equality
 pub mod Faults

@@ -1,3 +1,5 @@
+//! The four kinds of contract.
+
 use crate::gcra::Gcra;
 
 /// A traffic contract, under the names of ATM Forum AF-TM-0121; the rules are this project's own.

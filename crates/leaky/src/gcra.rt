@@ -1,3 +1,5 @@
+//! Rates: the increment and the limit of a bucket.
+
 ghost use Rattle.std.specs.Prelude.{◌≡◌, ◌+◌, ◌^◌, ◌<◌, ◌≤◌, ◌⊎◌, ◌↔◌, max, IsTrue, IsOk, IfOk, IsErrOf};
 
 use std::error::Error;

@@ -1,3 +1,5 @@
+//! What is kept of the two buckets of a contract.
+
 ghost use Rattle.std.specs.Prelude.{◌≡◌, ◌+◌, ◌^◌, ◌≤◌};
 
 /// The state of one contract: for each of its two buckets the theoretical arrival time, the moment
@@ -15,7 +17,7 @@ pub struct Levels {
 
 impl Levels {
     ghost use Rattle.leaky.specs.Contract.{opening_buckets};
-    ghost use Rattle.leaky.specs.Agreement.{Agrees};
+    ghost use Rattle.leaky.specs.KeptState.{Agrees};
 
     /// The state before the first cell: both theoretical arrival times are 0.
     #[inline]

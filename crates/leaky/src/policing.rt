@@ -1,6 +1,8 @@
+//! The verdict on a cell.
+
 ghost use Rattle.std.specs.Prelude.{◌≡◌, ◌≢◌, ◌^◌, ◌≤◌, Some, None};
 ghost use Rattle.leaky.specs.Contract.{Buckets, verdict_under, verdict_of, charged_under, buckets_after};
-ghost use Rattle.leaky.specs.Agreement.{Agrees, IsChargedBy};
+ghost use Rattle.leaky.specs.KeptState.{Agrees, IsChargedBy};
 
 use crate::contract::Contract;
 use crate::gcra::Gcra;
@@ -13,7 +15,7 @@ pub const LAST_MOMENT: u64 = 4611686018427387904;
 /// The verdict on a cell of this cell loss priority at `moment`, in ticks. The levels become those
 /// that the cell leaves. The cells of one `Levels` come in the order of their moments. Takes no
 /// memory.
-#[inline]
+#[inline(always)]
 pub fn judge(contract: &Contract, levels: &mut Levels, clp: bool, moment: u64) -> Verdict
     requires { moment ≤ 2 ^ 62 }
 

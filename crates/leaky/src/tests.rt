@@ -1,3 +1,5 @@
+//! Cells at the limits of each contract, with their verdicts.
+
 use super::*;
 use std::process::Abort;
 use std::test::Fail;

@@ -1,3 +1,5 @@
+//! Burst tolerances.
+
 ghost use Rattle.std.specs.Prelude.{◌≡◌, ◌-◌, ◌*◌, ◌^◌, ◌<◌, ◌≤◌, ◌↔◌, IsOk, IfOk, IsErrOf};
 ghost use Rattle.leaky.specs.Tolerance.{tolerance_of};
 

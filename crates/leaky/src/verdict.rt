@@ -1,3 +1,5 @@
+//! Verdicts.
+
 /// What becomes of a cell.
 #[derive(Clone, Copy, Debug, PartialEq, Eq)]
 pub enum Verdict {

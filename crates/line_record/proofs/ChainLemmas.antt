@@ -4,11 +4,11 @@ use Rattle.std.specs.Prelude.{slice_get}
 use Rattle.std.proofs.lemmas.List.{append-nil}
 use Rattle.leaky.specs.declared.contract.Contract.{Contract}
 use Rattle.line_record.specs.declared.state.State.{State}
-use Rattle.line_record.specs.Run.{IsRun}
+use Rattle.line_record.specs.JournalRun.{IsRun}
 use Rattle.line_record.specs.Piece.{PieceView, IsPiece, IsChain, entries_in, end_of, AreOneRun}
 use Rattle.line_record.proofs.RunLemmas.{IsRun-append}
 
--- every one of these is a piece
+-- Every one of these is a piece.
 abbrev pub ArePieces : List PieceView → Type 0
 ArePieces pieces = (k : ℕ) (piece : PieceView) → slice_get pieces k ≡ Some piece → IsPiece piece
 

@@ -14,7 +14,7 @@ use Rattle.line_record.specs.History.{NamedCell, moments_of, numbered, arrivals_
 use Rattle.line_record.specs.Laws.{HistoriesBoundBursts}
 use Rattle.line_record.proofs.HistoryLemmas.{arrivals_at-append, arrivals_at-named, arrivals_at-skips, buckets_left-append}
 
--- the moments of the cells at which a test of their verdict and priority holds
+-- The moments of the cells at which a test of their verdict and priority holds.
 abbrev charges_by : (Verdict → Bool → Bool) → Contract → Buckets → List Arrival → List ℕ
 charges_by test contract buckets [] = []
 charges_by test contract buckets (arrival ∷ later) =
@@ -38,7 +38,7 @@ second-by contract buckets (arrival ∷ later) =
     ap (λ rest. cond (charges_second verdict contract arrival.clp) (arrival.moment ∷ rest) rest)
     (second-by contract (after_cell contract buckets arrival.clp arrival.moment) later)
 
--- the same of entries
+-- The same of entries.
 abbrev charges_in : (Verdict → Bool → Bool) → ℕ → List Entry → List ℕ
 charges_in test number entries =
     map (λ entry. entry.moment) (filter (λ entry. (entry.value == number) && test entry.verdict entry.clp) entries)
@@ -49,7 +49,7 @@ map_cond : (b : Bool) (entry : Entry) (later : List Entry)
 map_cond true entry later = refl
 map_cond false entry later = refl
 
--- an entry that names the contract, and one that does not
+-- An entry that names the contract, and one that does not.
 charges_in-named : (test : Verdict → Bool → Bool) (number : ℕ) (cell : NamedCell) (verdict : Verdict) (entries : List Entry)
     → (cell.value == number) ≡ true
     → charges_in test number (entry_of cell verdict ∷ entries)
@@ -69,7 +69,7 @@ charges_in-other test number cell verdict entries differs =
 
 module _ (test : Verdict → Bool → Bool) (contracts : List Contract) (opening : ℕ → Buckets)
     (number : ℕ) (contract : Contract) (named : numbered contracts number ≡ Some contract) where
-  -- the contract's buckets after the cells so far
+  -- The contract's buckets after the cells so far.
   abbrev here : List NamedCell → Buckets
   here history = buckets_left contract (opening number) (arrivals_at number history)
 
@@ -116,7 +116,7 @@ module _ (test : Verdict → Bool → Bool) (contracts : List Contract) (opening
       ] in
       choice (cell.value == number) refl
 
--- the cells that name a contract go on as all do
+-- The cells that name a contract go on as all do.
 GoesOn-arrivals : (number : ℕ) (earliest : ℕ) (history : List NamedCell) → GoesOn earliest (moments_of history)
     → GoesOn earliest (map (λ (a : Arrival). a.moment) (arrivals_at number history))
 GoesOn-arrivals number earliest [] goes = tt

@@ -8,19 +8,19 @@ use Rattle.leaky.specs.declared.levels.Levels.{Levels}
 use Rattle.leaky.specs.declared.verdict.Verdict.{Verdict}
 use Rattle.leaky.specs.declared.verdict.Verdict.TheVariants.{Refuse}
 use Rattle.leaky.specs.Contract.{Buckets, verdict_of, buckets_after as after_cell}
-use Rattle.leaky.specs.Agreement.{Agrees, IsChargedBy}
+use Rattle.leaky.specs.KeptState.{Agrees, IsChargedBy}
 use Rattle.leaky.proofs.Public.{charges_keep_up}
 use Rattle.line_record.specs.declared.state.State.{State}
 use Rattle.line_record.specs.History.{NamedCell, numbered, arrivals_at, arrival_of, buckets_under, buckets_after, verdict_under, verdict_after}
-use Rattle.line_record.specs.Run.{StandsFor}
+use Rattle.line_record.specs.JournalRun.{StandsFor}
 use Rattle.line_record.proofs.NumberLemmas.{numbered-both}
 use Rattle.line_record.proofs.HistoryLemmas.{buckets_under-nil}
 
--- later moments
+-- Later moments.
 pub charged_later : (buckets : Buckets) (earlier later : ℕ) → earlier ≤ later → IsChargedBy buckets earlier → IsChargedBy buckets later
 charged_later buckets earlier later h charged = record { first = omega (arith, charged.first); second = omega (arith, charged.second) }
 
--- the cells of one
+-- The cells of one.
 arrivals_at-own : (cell : NamedCell) → arrivals_at cell.value (cell ∷ []) ≡ arrival_of cell ∷ []
 arrivals_at-own cell = rw ((Decides-eqb cell.value cell.value).1 refl) refl
 
@@ -28,7 +28,7 @@ arrivals_at-other : (cell : NamedCell) (number : ℕ) → number ≢ cell.value 
 arrivals_at-other cell number apart =
     let differs : (cell.value == number) ≡ false = grind (arith, nat_tests) in rw differs refl
 
--- what judging one cell does to levels
+-- What judging one cell does to levels.
 pub record Judges (contracts : List Contract) (before after : State) (cell : NamedCell) (given : Verdict) : Type 0 where
   pub one_each : length before.levels.items ≡ length contracts
   pub sized : length after.levels.items ≡ length before.levels.items
@@ -57,7 +57,7 @@ module _ (contracts : List Contract) (before after : State) (cell : NamedCell) (
       let charged = charged_later (opening cell.value) before.last cell.moment judges.later (stands.charged cell.value old.0 old.1) in
       judges.verdict contract old.0 (opening cell.value) is old.1 (stands.agrees cell.value old.0 old.1) charged
 
-  -- its verdict
+  -- Its verdict.
   pub Judges-verdict : given ≡ verdict_after contracts opening [] cell
   Judges-verdict = verdict_is (numbered contracts cell.value) refl
 
@@ -98,7 +98,7 @@ module _ (contracts : List Contract) (before after : State) (cell : NamedCell) (
         rw (kept, judges.last) (stands.agrees number new stood, bounded)
   ]
 
-  -- and the levels that it leaves
+  -- And the levels that it leaves.
   pub Judges-levels : StandsFor after (buckets_after contracts opening (cell ∷ []))
   Judges-levels = record {
     agrees = λ number new at. (agrees_at number new at).0;

@@ -14,12 +14,12 @@ use Rattle.line_record.specs.History.{NamedCell, numbered, arrivals_at, buckets_
 use Rattle.line_record.specs.Laws.{CountedCellsFill}
 use Rattle.line_record.proofs.HistoryLemmas.{arrivals_at-named, arrivals_at-skips, buckets_after-append}
 
--- what both buckets of a contract show of a cell that is counted for them or not
+-- What both buckets of a contract show of a cell that is counted for them or not.
 record Told (contract : Contract) (before after : Buckets) (moment : ℕ) (charged charged_too : Bool) : Type 0 where
   first : Fills (peak_of contract) before.first after.first moment charged
   second : IfSome (second_of contract) (λ sustained. Fills sustained before.second after.second moment charged_too)
 
--- a cell that is counted for neither leaves both
+-- A cell that is counted for neither leaves both.
 leaves : (gcra : Gcra) (bucket : Bucket) (moment : ℕ) → Fills gcra bucket bucket moment false
 leaves gcra bucket moment = record { fills = λ e. cc; leaves = λ e. refl }
 
@@ -39,7 +39,7 @@ module _ (contracts : List Contract) (opening : ℕ → Buckets) (history : List
   abbrev verdict : Verdict
   verdict = verdict_after contracts opening history cell
 
-  -- the contract's own cells among one
+  -- The contract's own cells among one.
   after-is : after ≡ buckets_left contract before (arrivals_at number (cell ∷ []))
   after-is =
       buckets_after-append contracts opening history (cell ∷ []) number

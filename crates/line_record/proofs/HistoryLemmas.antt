@@ -7,13 +7,13 @@ use Rattle.leaky.specs.declared.contract.Contract.{Contract}
 use Rattle.leaky.specs.Moments.{GoesOn}
 use Rattle.leaky.specs.Contract.{Buckets, buckets_after as after_cell}
 use Rattle.leaky.specs.Arrivals.{Arrival, buckets_left}
-use Rattle.leaky.specs.Agreement.{Agrees, IsChargedBy}
+use Rattle.leaky.specs.KeptState.{Agrees, IsChargedBy}
 use Rattle.line_record.specs.declared.entry.Entry.{Entry}
 use Rattle.line_record.specs.declared.state.State.{State}
 use Rattle.line_record.specs.declared.tally.Tally.{Tally}
 use Rattle.line_record.specs.Tally.{counted}
 use Rattle.line_record.specs.History.{NamedCell, numbered, moments_of, last_moment, arrival_of, arrivals_at, buckets_under, buckets_after, verdict_under, verdict_after, entry_of, cell_of, cells_of, judged}
-use Rattle.line_record.specs.Run.{tallied, StandsFor}
+use Rattle.line_record.specs.JournalRun.{tallied, StandsFor}
 use Rattle.line_record.specs.Laws.{EachCellIsJudged}
 
 -- Buckets.
@@ -40,7 +40,7 @@ arrivals_at-append number xs ys =
     ap (map arrival_of) (filter-append named xs ys)
     ∙ map-append arrival_of (filter named xs) (filter named ys)
 
--- a cell that names the contract, and one that does not
+-- A cell that names the contract, and one that does not.
 pub arrivals_at-named : (number : ℕ) (cell : NamedCell) (later : List NamedCell) → (cell.value == number) ≡ true
     → arrivals_at number (cell ∷ later) ≡ arrival_of cell ∷ arrivals_at number later
 arrivals_at-named number cell later same = rw same refl
@@ -49,7 +49,7 @@ pub arrivals_at-skips : (number : ℕ) (cell : NamedCell) (later : List NamedCel
     → arrivals_at number (cell ∷ later) ≡ arrivals_at number later
 arrivals_at-skips number cell later differs = rw differs refl
 
--- what two histories one after the other leave
+-- What two histories one after the other leave.
 pub buckets_after-append : (contracts : List Contract) (opening : ℕ → Buckets) (xs ys : List NamedCell) (number : ℕ)
     → buckets_after contracts opening (xs ++ ys) number
     ≡ buckets_after contracts (buckets_after contracts opening xs) ys number
@@ -66,7 +66,7 @@ verdict_after-append contracts opening xs ys cell =
     ap (λ buckets. verdict_under (numbered contracts cell.value) buckets cell)
     (sym (buckets_after-append contracts opening xs ys cell.value))
 
--- cells judged from the buckets that a history left are judged after it
+-- Cells judged from the buckets that a history left are judged after it.
 pub judged-after : (contracts : List Contract) (opening : ℕ → Buckets) (before history cells : List NamedCell)
     → judged contracts (buckets_after contracts opening before) history cells
     ≡ judged contracts opening (before ++ history) cells
@@ -90,7 +90,7 @@ judged-append contracts opening history (cell ∷ xs) ys =
     ap (λ entries. entry_of cell (verdict_after contracts opening history cell) ∷ entries)
     (rest ∙ ap (λ whole. judged contracts opening (history ++ cell ∷ []) xs ++ judged contracts opening whole ys) joined)
 
--- each cell has one entry, which is the cell but for its verdict
+-- Each cell has one entry, which is the cell but for its verdict.
 pub length-judged : (contracts : List Contract) (opening : ℕ → Buckets) (history cells : List NamedCell)
     → length (judged contracts opening history cells) ≡ length cells
 length-judged contracts opening history [] = refl
@@ -127,7 +127,7 @@ tallied-append counts (x ∷ xs) ys = tallied-append (counted counts x.verdict) 
 pub cells_of-append : (xs ys : List Entry) → cells_of (xs ++ ys) ≡ cells_of xs ++ cells_of ys
 cells_of-append xs ys = map-append cell_of xs ys
 
--- a state stands for buckets, however they are written
+-- A state stands for buckets, however they are written.
 pub StandsFor-same : (state : State) (one other : ℕ → Buckets)
     → ((number : ℕ) → one number ≡ other number) → StandsFor state one → StandsFor state other
 StandsFor-same state one other same stands = record {

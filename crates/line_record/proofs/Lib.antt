@@ -5,7 +5,7 @@ pub mod EntryLemmas
 pub mod RunLemmas
 pub mod LineLemmas
 pub mod ChainLemmas
-pub mod SeatLemmas
+pub mod SeatingLemmas
 pub mod HeldLemmas
 pub mod StateLemmas
 pub mod ChargeLemmas

@@ -7,14 +7,14 @@ use Rattle.leaky.specs.declared.levels.Levels.{Levels}
 use Rattle.leaky.specs.declared.verdict.Verdict.{Verdict}
 use Rattle.leaky.specs.declared.verdict.Verdict.TheVariants.{Pass, Tag, Discard, Refuse}
 use Rattle.leaky.specs.Contract.{opening_buckets}
-use Rattle.leaky.specs.Agreement.{Agrees, IsChargedBy}
+use Rattle.leaky.specs.KeptState.{Agrees, IsChargedBy}
 use Rattle.line_record.specs.declared.entry.Entry.{Entry}
 use Rattle.line_record.specs.declared.owner.Owner.{Owner}
 use Rattle.line_record.specs.declared.state.State.{State}
 use Rattle.line_record.specs.declared.tally.Tally.{Tally}
 use Rattle.line_record.specs.Tally.{counted, cells_in}
 use Rattle.line_record.specs.History.{numbered, buckets_after, empty_buckets}
-use Rattle.line_record.specs.Run.{IsRun}
+use Rattle.line_record.specs.JournalRun.{IsRun}
 use Rattle.line_record.specs.StateAfter.{IsStateAfter}
 use Rattle.line_record.specs.Line.{LineView, view_of, line_refusal, IsOpening, IsSound}
 use Rattle.line_record.proofs.NumberLemmas.{numbered-All}
@@ -27,7 +27,7 @@ cells_in-counted tally Tag = omega arith
 cells_in-counted tally Discard = omega arith
 cells_in-counted tally Refuse = omega arith
 
--- a cell that the line has no reason to refuse
+-- A cell that the line has no reason to refuse.
 pub record IsAdmitted (line : LineView) (moment : ℕ) : Type 0 where
   pub in_time : moment ≤ 2 ^ 62
   pub later : line.state.last ≤ moment
@@ -42,7 +42,7 @@ IsAdmitted-refusal line moment none = record {
   cells = grind (arith, nat_tests);
 }
 
--- a line that gained a cell
+-- A line that gained a cell.
 pub IsSound-gains : (owner : Option Owner) (contracts : List Contract) (journal : ℕ) (start : State) (entries : List Entry) (state : State) (capacity : ℕ)
     → (entry : Entry) (next : State)
     → IsSound (view_of owner contracts journal start entries state capacity) capacity
@@ -68,7 +68,7 @@ IsSound-gains owner contracts journal start entries state capacity entry next so
       room = sound.room;
     }
 
--- the opening state is after no cell
+-- The opening state is after no cell.
 pub IsStateAfter-opening : (contracts : List Contract) (before : Tally) (state : State)
     → IsOpening contracts before state → IsStateAfter contracts [] state
 IsStateAfter-opening contracts before state opening =

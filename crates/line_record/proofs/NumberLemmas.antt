@@ -18,7 +18,7 @@ module _ {X : Type 0} where
   slice_get-set_other (y ∷ xs) (suc k) zero x apart = refl
   slice_get-set_other (y ∷ xs) (suc k) (suc j) x apart = slice_get-set_other xs k j x (λ e. apart (ap suc e))
 
-  -- numbers begin at 1
+  -- Numbers begin at 1.
   pub numbered-zero : (xs : List X) (n : ℕ) → n ≡ 0 → numbered xs n ≡ None
   numbered-zero xs n none = grind (arith, nat_tests)
 
@@ -37,7 +37,7 @@ module _ {X : Type 0} where
   numbered-set_other xs n zero x some apart = refl
   numbered-set_other xs n (suc m) x some apart = numbered-set_above xs n (suc m) x some (omega arith) apart
 
-  -- lists of one length have the same numbers
+  -- Lists of one length have the same numbers.
   pub numbered-within : (xs : List X) (n : ℕ) (x : X) → numbered xs n ≡ Some x → (n ≢ 0) × (n - 1 < length xs)
   numbered-within xs zero x found = cc
   numbered-within xs (suc n) x found =
@@ -59,7 +59,7 @@ numbered-both xs ys n x same found =
     let other = slice_get-both xs ys (n - 1) x same at in
     (other.0, numbered-above ys n within.0 ∙ other.1)
 
--- what holds of all holds of what has a number
+-- What holds of all holds of what has a number.
 pub numbered-All : {X : Type 0} (P : X → Type 0) (xs : List X) (n : ℕ) (x : X) → All P xs → numbered xs n ≡ Some x → P x
 numbered-All P xs n x all found =
     let within = numbered-within xs n x found in

@@ -7,10 +7,10 @@ use Rattle.line_record.specs.declared.entry.Entry.{Entry}
 use Rattle.line_record.specs.declared.state.State.{State}
 use Rattle.line_record.specs.History.{NamedCell, numbered, moments_of, last_moment, buckets_after, empty_buckets, cells_of, judged}
 use Rattle.line_record.specs.StateAfter.{IsStateAfter}
-use Rattle.line_record.specs.Run.{tallied, IsRun}
+use Rattle.line_record.specs.JournalRun.{tallied, IsRun}
 use Rattle.line_record.proofs.HistoryLemmas.{buckets_under-nil, buckets_after-append, judged-after, judged-append, last_moment-append, GoesOn-append, tallied-append, cells_of-append, StandsFor-same}
 
--- no entry is a run that stays
+-- No entry is a run that stays.
 pub IsRun-nil : (contracts : List Contract) (state : State) → length state.levels.items ≡ length contracts
     → IsRun contracts state [] state
 IsRun-nil contracts state one_each = record {
@@ -25,7 +25,7 @@ IsRun-nil contracts state one_each = record {
   counts = refl;
 }
 
--- two runs, the second from the end of the first
+-- Two runs, the second from the end of the first.
 pub IsRun-append : (contracts : List Contract) (start middle end : State) (xs ys : List Entry)
     → IsRun contracts start xs middle → IsRun contracts middle ys end
     → IsRun contracts start (xs ++ ys) end
@@ -60,8 +60,8 @@ IsRun-append contracts start middle end xs ys first second =
           ∙ sym (tallied-append start.counts xs ys);
     }
 
--- a run from a state after a history leads to a state after the longer history, and its verdicts
--- are the history's
+-- A run from a state after a history leads to a state after the longer history, and its verdicts
+-- are the history's.
 pub IsStateAfter-run : (contracts : List Contract) (history : List NamedCell) (start end : State) (entries : List Entry)
     → IsStateAfter contracts history start → IsRun contracts start entries end
     → (entries ≡ judged contracts empty_buckets history (cells_of entries))

@@ -8,7 +8,7 @@ use Rattle.leaky.specs.declared.levels.Levels.{Levels}
 use Rattle.leaky.specs.Moments.{GoesOn}
 use Rattle.leaky.specs.Contract.{Buckets, opening_buckets, buckets_after as after_cell}
 use Rattle.leaky.specs.Arrivals.{Arrival, buckets_left}
-use Rattle.leaky.specs.Agreement.{Agrees, IsChargedBy}
+use Rattle.leaky.specs.KeptState.{Agrees, IsChargedBy}
 use Rattle.leaky.proofs.Public.{levels_stand_for_buckets, levels_follow_buckets, charges_keep_up}
 use Rattle.line_record.specs.declared.state.State.{State}
 use Rattle.line_record.specs.History.{NamedCell, moments_of, last_moment, numbered, arrival_of, arrivals_at, empty_buckets, buckets_under, buckets_after}
@@ -17,7 +17,7 @@ use Rattle.line_record.proofs.HistoryLemmas.{arrivals_at-named, arrivals_at-skip
 use Rattle.line_record.proofs.EntryLemmas.{charged_later}
 use Rattle.line_record.specs.Laws.{StatesStandForBuckets, HistoriesHaveStates}
 
--- the buckets that levels stand for
+-- The buckets that levels stand for.
 some_buckets : Option Levels → Buckets
 some_buckets None = opening_buckets
 some_buckets (Some levels) = (levels_stand_for_buckets levels).0
@@ -61,7 +61,7 @@ charged-after contract number buckets earlier (cell ∷ later) goes charged =
     ] in
     choice (cell.value == number) refl
 
--- the cells that name a contract are in time where all are
+-- The cells that name a contract are in time where all are.
 All-arrivals : (number : ℕ) (history : List NamedCell) → All (λ (c : NamedCell). c.moment ≤ 2 ^ 62) history
     → All (λ (a : Arrival). a.moment ≤ 2 ^ 62) (arrivals_at number history)
 All-arrivals number [] all = All-nil (λ (a : Arrival). a.moment ≤ 2 ^ 62)
@@ -77,7 +77,7 @@ All-arrivals number (cell ∷ later) all =
     ] in
     choice (cell.value == number) refl
 
--- levels for the contracts from a number on
+-- Levels for the contracts from a number on.
 levels-built : (history : List NamedCell) → All (λ (c : NamedCell). c.moment ≤ 2 ^ 62) history
     → (contracts : List Contract) (from : ℕ)
     → (levels : List Levels) × (length levels ≡ length contracts)

@@ -12,9 +12,9 @@ use Rattle.line_record.specs.declared.state.State.{State}
 use Rattle.line_record.specs.declared.tally.Tally.{Tally}
 use Rattle.line_record.specs.Tally.{counted, cells_in, tally_of, plus, total, IsPart}
 use Rattle.line_record.specs.History.{NamedCell, IsHistory, moments_of, numbered, empty_buckets, cells_of, buckets_after, verdict_after, judged}
-use Rattle.line_record.specs.Run.{tallied, StandsFor, IsRun}
+use Rattle.line_record.specs.JournalRun.{tallied, StandsFor, IsRun}
 use Rattle.line_record.specs.StateAfter.{IsStateAfter}
-use Rattle.line_record.specs.Bursts.{peak_charges, sustained_charges}
+use Rattle.line_record.specs.Charges.{peak_charges, sustained_charges}
 
 -- Every history up to the last moment has a state that agrees with it, with whatever counts.
 abbrev pub HistoriesHaveStates : Type 0

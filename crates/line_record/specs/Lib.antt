@@ -2,12 +2,12 @@
 -- connection.
 pub mod Tally
 pub mod History
-pub mod Run
+pub mod JournalRun
 pub mod StateAfter
 pub mod Line
 pub mod Piece
-pub mod Seats
+pub mod Seatings
 pub mod Directory
-pub mod Bursts
+pub mod Charges
 pub mod Laws
 pub mod inner

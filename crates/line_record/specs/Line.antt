@@ -8,7 +8,7 @@ use Rattle.line_record.specs.declared.tally.Tally.{Tally}
 use Rattle.line_record.specs.declared.fault.LineFault.{LineFault}
 use Rattle.line_record.specs.declared.fault.LineFault.TheVariants.{TooLate, Back, Full}
 use Rattle.line_record.specs.Tally.{cells_in}
-use Rattle.line_record.specs.Run.{IsRun}
+use Rattle.line_record.specs.JournalRun.{IsRun}
 
 -- The owner (none where the line is free) and its contracts, how many entries a journal may have,
 -- the state at the journal's beginning, the journal's entries, the present state, and whether a free

@@ -4,7 +4,7 @@ use Rattle.leaky.specs.declared.contract.Contract.{Contract}
 use Rattle.line_record.specs.declared.entry.Entry.{Entry}
 use Rattle.line_record.specs.declared.state.State.{State}
 use Rattle.line_record.specs.declared.owner.Owner.{Owner}
-use Rattle.line_record.specs.Run.{IsRun}
+use Rattle.line_record.specs.JournalRun.{IsRun}
 use Rattle.line_record.specs.Line.{LineView}
 
 -- Whose journal it was and under which contracts, the state at its beginning, its entries, and the

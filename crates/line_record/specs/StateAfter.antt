@@ -3,7 +3,7 @@ use Rattle.std.specs.Prelude.{◌≡◌, List, length}
 use Rattle.leaky.specs.declared.contract.Contract.{Contract}
 use Rattle.line_record.specs.declared.state.State.{State}
 use Rattle.line_record.specs.History.{NamedCell, last_moment, empty_buckets, buckets_after}
-use Rattle.line_record.specs.Run.{StandsFor}
+use Rattle.line_record.specs.JournalRun.{StandsFor}
 
 -- The state is one after this history, which began with empty buckets: it has levels for each
 -- contract, they stand for the buckets that the history left, and its last moment is the history's.

@@ -21,11 +21,11 @@ tally_of [] = nothing
 tally_of (verdict ∷ later) = counted (tally_of later) verdict
 
 -- The number of the cells with this verdict.
-abbrev pub number_of : Tally → Verdict → ℕ
-number_of tally Pass = tally.passed
-number_of tally Tag = tally.tagged
-number_of tally Discard = tally.discarded
-number_of tally Refuse = tally.refused
+abbrev pub count_of : Tally → Verdict → ℕ
+count_of tally Pass = tally.passed
+count_of tally Tag = tally.tagged
+count_of tally Discard = tally.discarded
+count_of tally Refuse = tally.refused
 
 -- The number of all cells.
 abbrev pub cells_in : Tally → ℕ

@@ -1,2 +1,2 @@
 -- What only private functions and proofs need.
-pub mod SeatChanges
+pub mod SeatingChanges

@@ -1,8 +1,10 @@
+//! Which line serves which connection.
+
 ghost use Rattle.std.specs.Prelude.{◌≡◌, ◌==◌, Some, IfSome, IfNone, option_map};
 ghost use Rattle.std.specs.List.{list_any};
 ghost use Rattle.std.specs.HashMap.{values};
-ghost use Rattle.line_record.specs.Seats.{seat_in};
-ghost use Rattle.line_record.specs.inner.SeatChanges.{ChangesAt, HasEntries};
+ghost use Rattle.line_record.specs.Seatings.{seating_in};
+ghost use Rattle.line_record.specs.inner.SeatingChanges.{ChangesAt, HasEntries};
 ghost use Rattle.gen_arena.specs.SameId.{is_same_id};
 
 use crate::fault::DirFault;
@@ -31,14 +33,14 @@ pub struct Seating {
 /// incarnation is given twice.
 #[derive(Debug, Drop)]
 pub struct Directory {
-    // Every cell is looked up here. An ordered map compares on the way down with jumps that no
-    // processor foretells; a hash finds the place at once. There is room for a connection on each
-    // line from the start.
-    seats: HashMap<Vc, Seating>,
+    /// Every cell is looked up here. An ordered map compares on the way down with jumps that no
+    /// processor foretells; a hash finds the place at once. There is room for a connection on each
+    /// line from the start.
+    seatings: HashMap<Vc, Seating>,
     lines: u16,
-    // How many incarnations were given.
+    /// How many incarnations were given.
     used: u64,
-    // Of each line, whether it is some connection's.
+    /// Of each line, whether it is some connection's.
     held: Vec<bool>,
 }
 
@@ -47,16 +49,16 @@ impl Model for Directory {
 
     ghost Value = { DirectoryView };
 
-    ghost view = { λ d. record { seats = d.seats.entries; lines = d.lines; used = d.used } };
+    ghost view = { λ d. record { seatings = d.seatings.entries; lines = d.lines; used = d.used } };
 
     ghost invariant = { λ d. IsSoundDirectory
-        (record { seats = d.seats.entries; lines = d.lines; used = d.used })
+        (record { seatings = d.seatings.entries; lines = d.lines; used = d.used })
         d.held.items };
 }
 
 impl Directory {
     ghost use Rattle.std.specs.Prelude.{◌≡◌, ℕ, ◌+◌, ◌^◌, ◌<◌, ◌≤◌, ◌⊎◌, ◌↔◌, Some, None, IsTrue, IsErrOf, IfOk, IfErr, IfSome, OnOk, OnErr, IfNone, MatchOption, option_map};
-    ghost use Rattle.line_record.specs.Directory.{seat_of, IsOpenLine, IsTakenLine, IsNamed, Sits, IsEmpty, IsDirectory};
+    ghost use Rattle.line_record.specs.Directory.{seating_at, IsOpenLine, IsTakenLine, IsNamed, Sits, IsEmpty, IsDirectory};
 
     /// A directory of `lines` lines without connections, which gives the incarnation `first` next.
     ///
@@ -79,11 +81,11 @@ impl Directory {
         let Ok(held) = vec![in alloc; false; usize::from(lines)] else {
             return Err(DirFault::NoMemory);
         };
-        let Ok(seats) = HashMap::with_capacity(alloc, usize::from(lines)) else {
+        let Ok(seatings) = HashMap::with_capacity(alloc, usize::from(lines)) else {
             return Err(DirFault::NoMemory);
         };
         Ok(Directory {
-            seats,
+            seatings,
             lines,
             used: first - 1,
             held,
@@ -93,10 +95,10 @@ impl Directory {
     /// The place of the connection, if it has one. Takes no memory.
     #[inline]
     pub fn find(&self, vc: Vc) -> Option<Seating>
-        ensures seat { result ≡ seat_of self.now vc }
+        ensures seating { result ≡ seating_at self.now vc }
         ensures directory { IsDirectory self.now }
     {
-        self.seats.get(&vc).copied()
+        self.seatings.get(&vc).copied()
     }
 
     /// Gives the connection a free line and the next incarnation, which is answered.
@@ -105,12 +107,12 @@ impl Directory {
     ///
     /// `NoMemory`, where the memory is refused.
     pub fn put(&mut self, vc: Vc, line: u16, program: Id) -> Result<u64, DirFault>
-        requires absent { seat_of self.old vc ≡ None }
+        requires absent { seating_at self.old vc ≡ None }
         requires line { line < self.old.lines }
         requires free { IsOpenLine self.old line }
         requires unworn { self.old.used < 2 ^ 62 }
         ensures incarnation { IfOk result (λ incarnation. incarnation ≡ self.old.used + 1) }
-        ensures seat { IfOk result (λ incarnation. Sits self.old vc
+        ensures seating { IfOk result (λ incarnation. Sits self.old vc
             (Some (record { line = line; incarnation = incarnation; program = program })) self.new) }
         ensures used { OnOk result (self.new.used ≡ self.old.used + 1) }
         ensures lines { self.new.lines ≡ self.old.lines }
@@ -118,12 +120,12 @@ impl Directory {
         ensures unchanged { OnErr result (self.new ≡ self.old) }
     {
         let incarnation = self.used + 1;
-        let seat = Seating {
+        let seating = Seating {
             line,
             incarnation,
             program,
         };
-        match self.seats.insert(vc, seat) {
+        match self.seatings.insert(vc, seating) {
             Ok(_) => {
                 self.used = incarnation;
                 self.held[usize::from(line)] = true;
@@ -136,34 +138,34 @@ impl Directory {
     /// Gives the connection another program, and answers the one that it had. Where there is no
     /// such connection nothing changes. Takes no memory.
     pub fn move_to(&mut self, vc: Vc, program: Id) -> Option<Id>
-        ensures before { result ≡ option_map (λ seat. seat.program) (seat_of self.old vc) }
-        ensures moved { IfSome (seat_of self.old vc)
-            (λ seat. Sits self.old vc (Some (record seat { program = program })) self.new) }
+        ensures before { result ≡ option_map (λ seating. seating.program) (seating_at self.old vc) }
+        ensures moved { IfSome (seating_at self.old vc)
+            (λ seating. Sits self.old vc (Some (record seating { program = program })) self.new) }
         ensures unchanged { IfNone result (self.new ≡ self.old) }
         ensures used { self.new.used ≡ self.old.used }
         ensures lines { self.new.lines ≡ self.old.lines }
     {
-        reprogram(&mut self.seats, vc, program)
+        reprogram(&mut self.seatings, vc, program)
     }
 
     /// Takes the connection out, and answers its place. Takes no memory.
     pub fn take(&mut self, vc: Vc) -> Option<Seating>
-        ensures before { result ≡ seat_of self.old vc }
+        ensures before { result ≡ seating_at self.old vc }
         ensures gone { Sits self.old vc None self.new }
         ensures used { self.new.used ≡ self.old.used }
         ensures lines { self.new.lines ≡ self.old.lines }
         ensures unchanged { IfNone result (self.new ≡ self.old) }
     {
-        let seat = self.seats.remove(&vc)?;
-        self.held[usize::from(seat.line)] = false;
-        Some(seat)
+        let seating = self.seatings.remove(&vc)?;
+        self.held[usize::from(seating.line)] = false;
+        Some(seating)
     }
 
     /// Whether some connection names the program. Takes no memory.
     pub fn names(&self, program: Id) -> bool
         ensures { IsTrue result ↔ IsNamed self.now program }
     {
-        any_names(&self.seats, program)
+        any_names(&self.seatings, program)
     }
 
     /// The number of a line that is no connection's, if there is one. Which of them is open. Takes
@@ -191,20 +193,20 @@ impl Directory {
 }
 
 /// Writes another program into the place of the connection.
-fn reprogram(seats: &mut HashMap<Vc, Seating>, vc: Vc, program: Id) -> Option<Id>
-    ensures before { result ≡ option_map (λ seat. seat.program) (seat_in seats.old.entries vc) }
-    ensures moved { IfSome (seat_in seats.old.entries vc) (λ seat.
-        ChangesAt seats.old.entries seats.new.entries vc (Some (record seat { program = program }))) }
-    ensures unchanged { IfNone result (seats.new.entries ≡ seats.old.entries) }
+fn reprogram(seatings: &mut HashMap<Vc, Seating>, vc: Vc, program: Id) -> Option<Id>
+    ensures before { result ≡ option_map (λ seating. seating.program) (seating_in seatings.old.entries vc) }
+    ensures moved { IfSome (seating_in seatings.old.entries vc) (λ seating.
+        ChangesAt seatings.old.entries seatings.new.entries vc (Some (record seating { program = program }))) }
+    ensures unchanged { IfNone result (seatings.new.entries ≡ seatings.old.entries) }
 {
-    let seat = seats.get_mut(&vc)?;
-    Some(mem::replace(&mut seat.program, program))
+    let seating = seatings.get_mut(&vc)?;
+    Some(mem::replace(&mut seating.program, program))
 }
 
 /// Whether some connection names the program.
-fn any_names(seats: &HashMap<Vc, Seating>, program: Id) -> bool
-    ensures any { result ≡ list_any (λ seat. is_same_id seat.program program) (values seats.now) }
-    ensures apart { HasEntries seats.now.entries }
+fn any_names(seatings: &HashMap<Vc, Seating>, program: Id) -> bool
+    ensures any { result ≡ list_any (λ seating. is_same_id seating.program program) (values seatings.now) }
+    ensures apart { HasEntries seatings.now.entries }
 {
-    seats.values().any(|seat| seat.program == program)
+    seatings.values().any(|seating| seating.program == program)
 }

@@ -1,17 +1,20 @@
+//! The entries of a journal.
+
 use gen_arena::Id;
 use leaky::Verdict;
 
-/// A judged cell in a journal.
+/// A judged cell in a journal. In this order its fields take 24 octets; with the small ones in between they
+/// would take 32.
 #[derive(Clone, Copy, Debug, PartialEq, Eq)]
 pub struct Entry {
     /// When the cell came, in ticks.
     pub moment: u64,
-    /// Its cell loss priority, before it was judged.
-    pub clp: bool,
+    /// The program that gave the number.
+    pub program: Id,
     /// The number that the program gave for it: that of a contract, counted from 1, or any other,
     /// which names none.
     pub value: u32,
-    /// The program that gave the number.
-    pub program: Id,
+    /// Its cell loss priority, before it was judged.
+    pub clp: bool,
     pub verdict: Verdict,
 }

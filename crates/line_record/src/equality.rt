@@ -1,10 +1,10 @@
+//! Comparisons whose contracts say that they find equal what is equal.
+
 ghost use Rattle.std.specs.Prelude.{◌≡◌, ◌↔◌, IsTrue};
 
 use crate::owner::Owner;
 use leaky::{Contract, Levels};
 use upc_cell::same_vc;
-
-// Comparisons whose contracts say that they find equal what is equal.
 
 /// Whether both are the same connection in the same incarnation.
 pub fn same_owner(one: Owner, other: Owner) -> bool

@@ -1,3 +1,5 @@
+//! Why a line or a directory refuses.
+
 use thiserror::Error;
 
 /// Why a line refuses. It is printed as its number and its name.

@@ -8,7 +8,7 @@ mod equality;
 mod fault;
 pub mod laws;
 mod line;
-mod naming;
+mod named_contract;
 mod owner;
 mod piece;
 mod state;

@@ -1,3 +1,5 @@
+//! A line of the card: its connection, its journal, and the judging of cells.
+
 ghost use Rattle.std.specs.Prelude.{◌≡◌};
 
 use crate::entry::Entry;
@@ -29,7 +31,7 @@ pub struct Line {
     // What every cell touches comes first and lies together.
     owner: Option<Owner>,
     journal: u32,
-    // There is room for the whole journal while the line serves a connection.
+    /// There is room for the whole journal while the line serves a connection.
     entries: Vec<Entry>,
     state: State,
     contracts: ArrayVec<Contract, 4>,
@@ -76,7 +78,7 @@ impl Line {
     /// A free line with these counts.
     fn free(alloc: Global, journal: u32, counts: Tally) -> Self
         requires some { 1 ≤ journal }
-        requires most { journal ≤ 65536 }
+        requires most { journal ≤ MOST_ENTRIES }
         requires cells { cells_in counts ≤ 2 ^ 62 }
         ensures { result ≡ free_line journal counts false }
     {
@@ -204,7 +206,7 @@ impl Line {
     }
 
     /// Why a cell of this moment is not judged.
-    #[inline]
+    #[inline(always)]
     fn refusal(&self, moment: u64) -> Option<LineFault>
         ensures { result ≡ line_refusal self.now moment }
     {

@@ -1,3 +1,5 @@
+//! Whom a line serves.
+
 use upc_cell::Vc;
 
 /// The connection that a line serves: its virtual connection, and the number, from 1, of this

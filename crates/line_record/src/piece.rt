@@ -1,3 +1,5 @@
+//! Journals that were handed out, and how they go on from one another.
+
 ghost use Rattle.std.specs.Prelude.{◌≡◌, ◌↔◌, IsOk, IfErr, OnOk};
 ghost use Rattle.line_record.specs.Piece.{IsChain, BreaksAt, AreOneRun};
 
@@ -22,7 +24,7 @@ pub struct Piece {
 
 impl Model for Piece {
     ghost use Rattle.line_record.specs.Piece.{PieceView};
-    ghost use Rattle.line_record.specs.Run.{IsRun};
+    ghost use Rattle.line_record.specs.JournalRun.{IsRun};
 
     ghost Value = { PieceView };
 
@@ -39,7 +41,7 @@ impl Model for Piece {
 
 impl Piece {
     ghost use Rattle.std.specs.Prelude.{◌≡◌, ◌↔◌, IsTrue};
-    ghost use Rattle.line_record.specs.Run.{IsRun};
+    ghost use Rattle.line_record.specs.JournalRun.{IsRun};
     ghost use Rattle.line_record.specs.Piece.{IsPiece, GoesOnFrom};
 
     /// The piece of these parts.

@@ -1,6 +1,8 @@
+//! What a line knows of its connection between two cells.
+
 use crate::entry::Entry;
 use crate::equality::same_levels;
-use crate::naming::judge_named;
+use crate::named_contract::judge_named;
 use crate::tally::Tally;
 use arrayvec::ArrayVec;
 use gen_arena::Id;
@@ -21,7 +23,7 @@ impl State {
     ghost use Rattle.std.specs.Prelude.{◌≡◌, ◌↔◌, ◌^◌, ◌<◌, ◌≤◌, [], ◌∷◌, length, IsTrue};
     ghost use Rattle.line_record.specs.Tally.{cells_in};
     ghost use Rattle.line_record.specs.History.{cell_of};
-    ghost use Rattle.line_record.specs.Run.{IsRun};
+    ghost use Rattle.line_record.specs.JournalRun.{IsRun};
     ghost use Rattle.line_record.specs.Line.{resting, IsOpening};
 
     /// The state of no contract.
@@ -75,7 +77,7 @@ impl State {
     }
 
     /// Judges a cell, and goes on to the state after it.
-    #[inline]
+    #[inline(always)]
     pub(crate) fn judge(
         &mut self,
         contracts: &[Contract],

@@ -1,3 +1,5 @@
+//! The counts of verdicts.
+
 use crate::line::MOST_CELLS;
 use leaky::Verdict;
 
@@ -12,7 +14,7 @@ pub struct Tally {
 
 impl Tally {
     ghost use Rattle.std.specs.Prelude.{◌≡◌, ◌+◌, ◌^◌, ◌<◌, ◌↔◌, IsTrue};
-    ghost use Rattle.line_record.specs.Tally.{nothing, counted, number_of, cells_in, plus, total, HasRoom, FitsWords};
+    ghost use Rattle.line_record.specs.Tally.{nothing, counted, count_of, cells_in, plus, total, HasRoom, FitsWords};
 
     /// The tally of no cell.
     #[inline]
@@ -30,7 +32,7 @@ impl Tally {
     /// How many cells got this verdict.
     #[inline]
     pub fn of(&self, verdict: Verdict) -> u64
-        ensures { result ≡ number_of self.now verdict }
+        ensures { result ≡ count_of self.now verdict }
     {
         match verdict {
             Verdict::Pass => self.passed,
@@ -41,9 +43,9 @@ impl Tally {
     }
 
     /// Counts one more cell of this verdict.
-    #[inline]
+    #[inline(always)]
     pub fn count(&mut self, verdict: Verdict)
-        requires { number_of self.old verdict + 1 < 2 ^ 64 }
+        requires { count_of self.old verdict + 1 < 2 ^ 64 }
         ensures { self.new ≡ counted self.old verdict }
     {
         match verdict {

@@ -1,3 +1,5 @@
+//! Connections that are policed, cut and released, and directories.
+
 ghost use Rattle.std.specs.Prelude.{ℕ, ◌≡◌, ◌≤◌, IfOk, IsTrue};
 ghost use Rattle.line_record.specs.Line.{IsHeld};
 
@@ -148,7 +150,10 @@ fn a_directory_gives_incarnations_up_to_the_last(rt: HostRuntime) -> Result<(), 
     assert_eq!(rt; directory.put(vc, 0, program(0)), Ok(last));
     assert!(rt; directory.worn());
     assert_eq!(rt; directory.free_line(), None);
-    assert_eq!(rt; directory.take(vc).map(|seat| seat.incarnation), Some(last));
+    assert_eq!(rt;
+        directory.take(vc).map(|seating| seating.incarnation),
+        Some(last)
+    );
     assert!(rt; directory.worn() && directory.free_line() == Some(0));
     Ok(())
 }
@@ -165,13 +170,13 @@ fn connections_are_found_moved_and_taken(rt: HostRuntime) -> Result<(), Fail> {
     assert_eq!(rt; directory.move_to(other, program(1)), None);
     assert_eq!(rt; directory.move_to(one, program(1)), Some(program(0)));
     assert!(rt; directory.names(program(1)) && !directory.names(program(0)));
-    let seat = Seating {
+    let seating = Seating {
         line: 1,
         incarnation: 1,
         program: program(1),
     };
-    assert_eq!(rt; directory.find(one), Some(seat));
-    assert_eq!(rt; directory.take(one), Some(seat));
+    assert_eq!(rt; directory.find(one), Some(seating));
+    assert_eq!(rt; directory.take(one), Some(seating));
     assert_eq!(rt; directory.take(one), None);
     assert!(rt; !directory.names(program(1)));
     Ok(())
@@ -256,8 +261,8 @@ fn connections_between_nodes_are_found_by_their_whole_path(rt: HostRuntime) -> R
     assert_eq!(rt; directory.put(node, 0, program(0)), Ok(1));
     assert_eq!(rt; directory.find(user), None);
     assert_eq!(rt; directory.put(user, 1, program(0)), Ok(2));
-    assert_eq!(rt; directory.find(node).map(|seat| seat.line), Some(0));
-    assert_eq!(rt; directory.take(user).map(|seat| seat.line), Some(1));
+    assert_eq!(rt; directory.find(node).map(|seating| seating.line), Some(0));
+    assert_eq!(rt; directory.take(user).map(|seating| seating.line), Some(1));
     let one = Owner {
         vc: node,
         incarnation: 1,
@@ -330,10 +335,10 @@ fn a_directory_of_4096_lines_is_filled(rt: HostRuntime) -> Result<(), Fail> {
     }
     assert_eq!(rt; directory.free_line(), None);
     for number in 0..4096u16 {
-        let seat = directory
+        let seating = directory
             .take(Vc::new_at(Side::Nni, number, 100)?)
-            .ok_or("a seat")?;
-        assert_eq!(rt; seat.incarnation, u64::from(number) + 1);
+            .ok_or("a seating")?;
+        assert_eq!(rt; seating.incarnation, u64::from(number) + 1);
     }
     assert_eq!(rt; directory.free_line(), Some(0));
     assert!(rt; Directory::new(rt.alloc(), u16::MAX, 1).is_ok());

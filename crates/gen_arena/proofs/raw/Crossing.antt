@@ -10,7 +10,7 @@ use denote.Struct.Owning.{shape, fields, to}
 use denote.Param.Send.{IsSend, IsSync, Common, AllSend, part_keyless, owning_send, struct_send, struct_sync, sendable}
 use Rattle.core.specs.declared.alloc.Allocator.{Ghosts}
 use Rattle.std_alloc.proofs.SendSync.{FreesAnywhere, quiet}
-use Rattle.gen_arena.specs.inner.Memory.{cells_owned, cells_lent, row_owned, row_lent}
+use Rattle.gen_arena.specs.inner.BlockMemory.{cells_owned, cells_lent, row_owned, row_lent}
 use Rattle.gen_arena.specs.contracts.block.Cells as Cells
 use Rattle.gen_arena.specs.contracts.block.Deed as Deed
 

@@ -12,9 +12,9 @@ use denote.Sharing.{ShrLaws, said}
 use denote.SharingLaws.{beside_shr_laws, nothing_shr_laws, said_shr_laws}
 use denote.Shares.{Shares-less}
 use denote.Struct.Lending.{Lends, Lends-both, Lends-nothing, Lends-said, Lends-false}
-use Rattle.gen_arena.specs.inner.Memory.{cell_owned, cells_owned, cell_lent, cells_lent, in_bounds, row_owned, row_lent}
+use Rattle.gen_arena.specs.inner.BlockMemory.{cell_owned, cells_owned, cell_lent, cells_lent, in_bounds, row_owned, row_lent}
 
--- what is lent can be copied, and used at a shorter lifetime
+-- What is lent can be copied, and used at a shorter lifetime.
 module _ (R : RattleType) (L : RowLaws R) where
   cell_copies : (b o : ℕ) (cell : Option R.Denot) → ShrLaws (cell_lent R b o cell)
   cell_copies b o None = nothing_shr_laws
@@ -28,7 +28,7 @@ module _ (R : RattleType) (L : RowLaws R) where
   row_copies null_ptr cells = said_shr_laws ffalse tt
   row_copies (block_ptr b o) cells = beside_shr_laws _ _ (said_shr_laws (in_bounds R cells) tt) (cells_copy cells b o)
 
--- what is owned can be lent
+-- What is owned can be lent.
 module _ {M : Type 1} {𝓤 : Ura M} (𝓛 : Logic 𝓤) (l : Lft) (R : RattleType) (L : Laws R) (within : Incl l R.lives) where
   cell_lends : (b o : ℕ) (cell : Option R.Denot) → Lends 𝓛 (cell_owned R b o cell) (cell_lent R b o cell) l
   cell_lends b o None = Lends-nothing 𝓛 (cell_owned R b o None) l

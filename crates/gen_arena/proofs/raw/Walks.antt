@@ -32,14 +32,14 @@ module _ (E : El) where
   abbrev pub Begin : RattleType
   Begin = start.the_row (R E)
 
-  -- the one field of `Cells`, which takes no octets
+  -- The one field of `Cells`, which takes no octets.
   abbrev pub Mark : RattleType
   Mark = Struct (shape (cells.the_type (R E)))
 
 abbrev pub mark : Val
 mark = vstruct (vcons (vstruct vnil) vnil)
 
--- a struct of one pointer
+-- A struct of one pointer.
 abbrev pub of_a_pointer : Shape
 of_a_pointer = record { name = []; args = []; types = []; fields = RawPtr ∷ [] }
 
@@ -51,7 +51,7 @@ mark_made E 𝓛 =
     makes_shadow 𝓛 ((Mark E).own_val (tt, tt) (mark ∷ [])) (λ vss. (tt, ((λ uss. (tt, tt)), tt)))
     ((vstruct vnil ∷ [], tt), (refl, ((tt, (refl, tt)), tt)))
 
--- how three values are stored that go out together
+-- How three values are stored that go out together.
 abbrev pub trio : Val → Val → Val → Val
 trio u v w = vstruct (vcons u (vcons v (vcons w vnil)))
 
@@ -65,7 +65,7 @@ trio_made 𝓛 R S T x y z u v w =
     fpack ! parts (within (Declared.shape (tuple_type (R ∷ S ∷ T ∷ []))) (x, (y, (z, tt))) (trio u v w ∷ [])) (u ∷ [], (v ∷ [], (w ∷ [], tt))) $ done !
 
 module _ {M : Type 1} {𝓤 : Ura M} {𝓛 : Logic 𝓤} {K : Type 0} {Γ : List (Item 𝓤)} {G : Goal 𝓤 𝓛.H} where
-  -- how a struct of one pointer is stored, and that such a one is owned
+  -- How a struct of one pointer is stored, and that such a one is owned.
   pub pointer_had : K → (p : Ptr) (vs : List Val) → (vs ≡ word p ∷ [] → Seq K 𝓛 Γ G) → Seq K 𝓛 (‵ (Pointer.own_val (p, tt) vs) ∷ Γ) G
   pointer_had t p vs k =
       fpick t (λ parts. fsplit t $ feq_l t (λ whole. fsplit t $ feq_l t (λ part. drop t $
@@ -77,13 +77,13 @@ module _ {M : Type 1} {𝓤 : Ura M} {𝓛 : Logic 𝓤} {K : Type 0} {Γ : List
       feq_i t (List Val) (word p ∷ []) (word p ∷ []) refl $ fjoin t $
       fpack t (Valss (RawPtr ∷ [])) (within of_a_pointer (p, tt) (word p ∷ [])) (ptr_val p ∷ [], tt) $ rest)
 
-  -- how the mark is stored
+  -- How the mark is stored.
   pub mark_had : K → (E : El) (vs : List Val) → (vs ≡ mark ∷ [] → Seq K 𝓛 Γ G) → Seq K 𝓛 (‵ ((Mark E).own_val (tt, tt) vs) ∷ Γ) G
   mark_had t E vs k =
       fpick t (λ parts. fsplit t $ feq_l t (λ whole. fsplit t $ fpick t (λ none. fsplit t $ feq_l t (λ part. drop t $ drop t $
       k (subst (λ (ws : List Val). vs ≡ vstruct (of_list (ws ++ [])) ∷ []) part whole)))))
 
-  -- a value in memory is a machine value of its type, and what the value owns
+  -- A value in memory is a machine value of its type, and what the value owns.
   pub value_out : K → (E : El) (x : el_x E) (b o : ℕ)
       → ((v : Val) → Good (elτ E) v → Seq K 𝓛 (‵ (fat full_share (elτ E) b o v) ∷ ‵ (E.row.own_val x (v ∷ [])) ∷ Γ) G)
       → Seq K 𝓛 (‵ (part_at (R E) full_share x b o) ∷ Γ) G
@@ -92,7 +92,7 @@ module _ {M : Type 1} {𝓤 : Ura M} {𝓛 : Logic 𝓤} {K : Type 0} {Γ : List
       pick t (λ v. split t $ move t (1 ∷ []) $ peeks t (R E) (Is (R E)) (shows 𝓛 (R E)) x (v ∷ []) (λ is. move t (1 ∷ []) $
       k v ((lawful E 𝓛).typed x (v ∷ []) is).0))
 
-  -- what a value owns, by value, goes with one machine value of its type
+  -- What a value owns, by value, goes with one machine value of its type.
   pub value_had : K → (E : El) (x : el_x E) (vs : List Val)
       → ((v : Val) → vs ≡ v ∷ [] → Good (elτ E) v → Seq K 𝓛 (‵ (E.row.own_val x (v ∷ [])) ∷ Γ) G)
       → Seq K 𝓛 (‵ (E.row.own_val x vs) ∷ Γ) G

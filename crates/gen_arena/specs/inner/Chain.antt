@@ -2,7 +2,7 @@
 use Rattle.std.specs.Prelude.{◌≡◌, ℕ, zero, suc, ◌<◌, ◌≤◌, true, List, map, length}
 use Rattle.gen_arena.specs.Slot.{Slot, IsArena}
 use Rattle.gen_arena.specs.Free.{is_free, free_slots}
-use Rattle.gen_arena.specs.inner.Places.{place_at}
+use Rattle.gen_arena.specs.inner.PlaceRow.{place_at}
 use Rattle.gen_arena.specs.declared.place.Place.{Place}
 
 module _ {T : Type 0} where

@@ -36,7 +36,7 @@ use Rattle.core.proofs.slots.Leases.{uncapped, block_ty, block_size, block_align
 use Rattle.std.proofs.raw_atomic.Walks.{proved_at, leaves}
 use Rattle.std_alloc.proofs.RawLayout.{as_raw}
 use Rattle.std_alloc.proofs.RcSteps.{word, word-Good}
-use Rattle.gen_arena.specs.inner.Memory.{row_owned, way_back}
+use Rattle.gen_arena.specs.inner.BlockMemory.{row_owned, way_back}
 use Rattle.gen_arena.proofs.raw.Rows.{width, Cell, to_room}
 use Rattle.gen_arena.proofs.raw.Walks.{Owner, Begin, mark, mark_had, pointer_had}
 use Rattle.gen_arena.specs.contracts.block.Deed as deeds

@@ -33,7 +33,7 @@ use Rattle.core.proofs.ptr.Rows.{times_below, one_below}
 use Rattle.std.proofs.raw_atomic.Walks.{proved_at, leaves}
 use Rattle.std_alloc.proofs.RcSteps.{word, word-Good}
 use Rattle.gen_arena.specs.inner.Cells.{Holds}
-use Rattle.gen_arena.specs.inner.Memory.{cell_lent, row_lent}
+use Rattle.gen_arena.specs.inner.BlockMemory.{cell_lent, row_lent}
 use Rattle.gen_arena.proofs.raw.Rows.{width, Cell, held_within, cell_seen}
 use Rattle.gen_arena.proofs.raw.Walks.{Owner, Begin, pointer_had}
 use Rattle.gen_arena.specs.contracts.block.Cells.lend.{ended, clauses}

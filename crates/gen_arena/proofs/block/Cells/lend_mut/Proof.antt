@@ -38,7 +38,7 @@ use Rattle.std.proofs.raw_atomic.Walks.{proved_at, leaves}
 use Rattle.std_alloc.proofs.RcSteps.{word, word-Good}
 use Rattle.gen_arena.specs.inner.Cells.{Holds}
 use Rattle.gen_arena.specs.inner.CellLends.{with_held}
-use Rattle.gen_arena.specs.inner.Memory.{cell_owned, cells_owned, row_owned}
+use Rattle.gen_arena.specs.inner.BlockMemory.{cell_owned, cells_owned, row_owned}
 use Rattle.gen_arena.proofs.raw.Rows.{width, Cell, held_within, gap, cell_out, cell_in}
 use Rattle.gen_arena.proofs.raw.Walks.{Owner, Begin, Mark, pointer_had}
 use Rattle.gen_arena.specs.contracts.block.Cells.lend_mut.{ended, clauses}
@@ -47,12 +47,12 @@ use Rattle.gen_arena.proofs.block.Cells.lend_mut.Statement.{statement}
 use Rattle.gen_arena.proofs.block.Cells.lend_mut.Code as code
 
 module _ (E : El) {M : Type 1} {𝓤 : Ura M} (𝓛 : Logic 𝓤) (rb ro : ℕ) (d : (Owner E).Denot) (k : ℕ) where
-  -- the owner, once this was written last
+  -- The owner, once this was written last.
   abbrev written : el_x E → (Owner E).Denot
   written w = with_held d (set d.held k (Some w))
 
   module _ (vs : List Val) (b o : ℕ) where
-    -- the owner but for the value that is lent
+    -- The owner but for the value that is lent.
     abbrev Rest : Fml
     Rest = fsep (gap E 𝓛 b o d.held k) (fsep ((Mark E).own_val (tt, tt) vs) (cell_at full_share (Owner E).mir vs rb ro))
 

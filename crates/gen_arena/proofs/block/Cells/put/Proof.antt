@@ -33,7 +33,7 @@ use Rattle.std.proofs.raw_atomic.Walks.{proved_at, leaves}
 use Rattle.std_alloc.proofs.RawLayout.{as_written}
 use Rattle.std_alloc.proofs.RcSteps.{word, word-Good}
 use borrow.Table.OneValue.{part_in}
-use Rattle.gen_arena.specs.inner.Memory.{cell_owned, cells_owned, row_owned}
+use Rattle.gen_arena.specs.inner.BlockMemory.{cell_owned, cells_owned, row_owned}
 use Rattle.gen_arena.proofs.raw.Rows.{width, Cell, gap, cell_out, cell_in}
 use Rattle.gen_arena.proofs.raw.Walks.{Owner, Begin, pointer_had, value_had}
 use Rattle.gen_arena.specs.contracts.block.Cells.put.{ended, clauses}
@@ -80,7 +80,7 @@ put_spec 𝓤 𝓛 𝓜 𝓡 wired X LX =
     rewrite ! 0 (λ (cell : Cell E). ‵ (cell_owned (R E) b at cell)) asked.2 refl $ as_written ! (elτ E) b at $
     sets ! (of_opd ! (get ! refl)) refl good $ assigns_last ! (of_opd ! (get ! refl)) (through ! refl (stop !)) (init ! 0 refl good) $
     exec ! 𝓣.C 𝓣.Λ En (after 1 fn.body) (at_ret En Post) $ sets ! (of_opd ! (unit_lit !)) refl (tt, tt) $
-    -- the cell has the value, and goes back among the others
+    -- The cell has the value, and goes back among the others.
     move ! (0 ∷ 7 ∷ []) $ use2 𝓛 (‵ (cell_owned (R E) b at (Some value))) (part_in 𝓛 (R E) refl full_share value b at v) $
     use2 𝓛 (‵ (cells_owned (R E) b o left)) (cell_in E 𝓛 b d.held k o there (Some value)) $
     flt_i ! (length left * s) (2 ^ 63) (subst (λ n. n * s < 2 ^ 63) (sym (length-set d.held k (Some value))) small) $ fjoin ! $

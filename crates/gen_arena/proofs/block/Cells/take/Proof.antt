@@ -33,7 +33,7 @@ use Rattle.std.proofs.raw_atomic.Walks.{proved_at, leaves}
 use Rattle.std_alloc.proofs.RawLayout.{as_raw}
 use Rattle.std_alloc.proofs.RcSteps.{word, word-Good}
 use Rattle.gen_arena.specs.inner.Cells.{Holds}
-use Rattle.gen_arena.specs.inner.Memory.{cell_owned, cells_owned, row_owned}
+use Rattle.gen_arena.specs.inner.BlockMemory.{cell_owned, cells_owned, row_owned}
 use Rattle.gen_arena.proofs.raw.Rows.{width, Cell, held_within, gap, cell_out, cell_in}
 use Rattle.gen_arena.proofs.raw.Walks.{Owner, Begin, pointer_had, value_out}
 use Rattle.gen_arena.specs.contracts.block.Cells.take.{ended, clauses}
@@ -82,7 +82,7 @@ take_spec 𝓤 𝓛 𝓜 𝓡 wired X LX =
     value_out ! E x b at (λ v good.
     sets_last ! (of_opd ! (load ! (through ! refl (stop !)) (look ! 0 refl))) refl good $
     exec ! 𝓣.C 𝓣.Λ En (after 1 fn.body) (at_ret En Post) $ sets ! (of_opd ! (get ! refl)) refl good $
-    -- the cell is room again, and goes back among the others
+    -- The cell is room again, and goes back among the others.
     use1 𝓛 (‵ (froom (elτ E) b at)) (𝓛.laws.at_room (elτ E) b at v) $ as_raw ! (elτ E) b at $
     move ! (0 ∷ 2 ∷ 3 ∷ 4 ∷ 5 ∷ 6 ∷ 7 ∷ []) $ use2 𝓛 (‵ (cells_owned (R E) b o left)) (cell_in E 𝓛 b d.held k o there None) $
     flt_i ! (length left * s) (2 ^ 63) (subst (λ n. n * s < 2 ^ 63) (sym (length-set d.held k None)) small) $ fjoin ! $

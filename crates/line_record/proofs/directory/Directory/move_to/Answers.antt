@@ -9,10 +9,10 @@ use Rattle.line_record.proofs.directory.Directory.move_to.Goals as goal
 pub invariant_of-self : goal.invariant_of-self
 invariant_of-self c =
     let l = c.self.inside in
-    let old : DirectoryView = record { seats = l.seats.entries; lines = l.lines; used = l.used } in
-    IsSoundDirectory-moved old l.held.items c.self.invariant c.reprogram.new.seats.entries c.args.vc c.args.program c.reprogram.ensures.moved
+    let old : DirectoryView = record { seatings = l.seatings.entries; lines = l.lines; used = l.used } in
+    IsSoundDirectory-moved old l.held.items c.self.invariant c.reprogram.new.seatings.entries c.args.vc c.args.program c.reprogram.ensures.moved
     (λ none.
     let gone : c.reprogram.result ≡ None =
-    c.reprogram.ensures.before ∙ ap (option_map (λ (seat : Seating). seat.program)) none in
-    let Same : Option Id → Type 0 = λ (o : Option Id). IfNone o (c.reprogram.new.seats.entries ≡ l.seats.entries) in
+    c.reprogram.ensures.before ∙ ap (option_map (λ (seating : Seating). seating.program)) none in
+    let Same : Option Id → Type 0 = λ (o : Option Id). IfNone o (c.reprogram.new.seatings.entries ≡ l.seatings.entries) in
     subst Same gone c.reprogram.ensures.unchanged)

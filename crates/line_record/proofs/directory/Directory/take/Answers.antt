@@ -1,54 +1,54 @@
 use Rattle.std.proofs.Common.{◌≡◌, ℕ, Some, None, false, set, refl, ap, sym, subst, ◌∙◌, arith}
-use Rattle.line_record.specs.Seats.{seat_in}
-use Rattle.line_record.specs.Directory.{DirectoryView, IsSoundDirectory, seat_of, Sits}
-use Rattle.line_record.proofs.SeatLemmas.{ChangesAt-updates, lookup-seat}
+use Rattle.line_record.specs.Seatings.{seating_in}
+use Rattle.line_record.specs.Directory.{DirectoryView, IsSoundDirectory, seating_at, Sits}
+use Rattle.line_record.proofs.SeatingLemmas.{ChangesAt-updates, lookup-seating}
 use Rattle.line_record.proofs.HeldLemmas.{IsSoundDirectory-take}
 use Rattle.line_record.proofs.directory.Directory.take.Goals as goal
 
-pub returns-in_err-seat-clause-before : goal.returns-in_err-seat-clause-before
-returns-in_err-seat-clause-before c =
-    c.from_residual.ensures ∙ c.in_err-seat.ensures.value
-    ∙ lookup-seat c.self.inside.seats.entries c.args.vc
-    ∙ ap (λ (view : DirectoryView). seat_of view c.args.vc) c.self.view_is
+pub returns-in_err-seating-clause-before : goal.returns-in_err-seating-clause-before
+returns-in_err-seating-clause-before c =
+    c.from_residual.ensures ∙ c.in_err-seating.ensures.value
+    ∙ lookup-seating c.self.inside.seatings.entries c.args.vc
+    ∙ ap (λ (view : DirectoryView). seating_at view c.args.vc) c.self.view_is
 
-pub returns-in_err-seat-clause-gone : goal.returns-in_err-seat-clause-gone
-returns-in_err-seat-clause-gone c =
+pub returns-in_err-seating-clause-gone : goal.returns-in_err-seating-clause-gone
+returns-in_err-seating-clause-gone c =
     let l = c.self.inside in
-    let changes = ChangesAt-updates l.seats c.remove.new.self c.args.vc None c.remove.ensures.updates in
-    let after : DirectoryView = record { seats = c.remove.new.self.entries; lines = l.lines; used = l.used } in
+    let changes = ChangesAt-updates l.seatings c.remove.new.self c.args.vc None c.remove.ensures.updates in
+    let after : DirectoryView = record { seatings = c.remove.new.self.entries; lines = l.lines; used = l.used } in
     subst (λ (view : DirectoryView). Sits view c.args.vc None after) c.self.view_is
     (record { here = changes.here; others = changes.others; same_lines = refl })
 
 pub index_mut-requires : goal.index_mut-requires
 index_mut-requires c =
     let l = c.self.inside in
-    let there : seat_in l.seats.entries c.args.vc ≡ Some c.in_ok-seat.seat =
-    sym (lookup-seat l.seats.entries c.args.vc) ∙ sym c.in_ok-seat.ensures.value in
-    let within = c.self.invariant.kept.within c.args.vc c.in_ok-seat.seat there in
+    let there : seating_in l.seatings.entries c.args.vc ≡ Some c.in_ok-seating.seating =
+    sym (lookup-seating l.seatings.entries c.args.vc) ∙ sym c.in_ok-seating.ensures.value in
+    let within = c.self.invariant.kept.within c.args.vc c.in_ok-seating.seating there in
     omega (arith, within, c.from.ensures, c.self.invariant.sized, l.held.ok.0)
 
 pub invariant_of-self-2 : goal.invariant_of-self-2
 invariant_of-self-2 c =
     let l = c.self.inside in
-    let old : DirectoryView = record { seats = l.seats.entries; lines = l.lines; used = l.used } in
-    let seat = c.in_ok-seat.seat in
-    let there : seat_in l.seats.entries c.args.vc ≡ Some seat =
-    sym (lookup-seat l.seats.entries c.args.vc) ∙ sym c.in_ok-seat.ensures.value in
-    let changes = ChangesAt-updates l.seats c.remove.new.self c.args.vc None c.remove.ensures.updates in
+    let old : DirectoryView = record { seatings = l.seatings.entries; lines = l.lines; used = l.used } in
+    let seating = c.in_ok-seating.seating in
+    let there : seating_in l.seatings.entries c.args.vc ≡ Some seating =
+    sym (lookup-seating l.seatings.entries c.args.vc) ∙ sym c.in_ok-seating.ensures.value in
+    let changes = ChangesAt-updates l.seatings c.remove.new.self c.args.vc None c.remove.ensures.updates in
     let new = c.remove.new.self.entries in
-    let after : DirectoryView = record { seats = new; lines = l.lines; used = l.used } in
+    let after : DirectoryView = record { seatings = new; lines = l.lines; used = l.used } in
     subst (λ (line : ℕ). IsSoundDirectory after (set l.held.items line false)) (sym c.from.ensures)
-    (IsSoundDirectory-take old l.held.items c.self.invariant new c.args.vc l.used seat there changes refl)
+    (IsSoundDirectory-take old l.held.items c.self.invariant new c.args.vc l.used seating there changes refl)
 
 pub returns-clause-before : goal.returns-clause-before
 returns-clause-before c =
-    c.in_ok-seat.ensures.value ∙ lookup-seat c.self.inside.seats.entries c.args.vc
-    ∙ ap (λ (view : DirectoryView). seat_of view c.args.vc) c.self.view_is
+    c.in_ok-seating.ensures.value ∙ lookup-seating c.self.inside.seatings.entries c.args.vc
+    ∙ ap (λ (view : DirectoryView). seating_at view c.args.vc) c.self.view_is
 
 pub returns-clause-gone : goal.returns-clause-gone
 returns-clause-gone c =
     let l = c.self.inside in
-    let changes = ChangesAt-updates l.seats c.remove.new.self c.args.vc None c.remove.ensures.updates in
-    let after : DirectoryView = record { seats = c.remove.new.self.entries; lines = l.lines; used = l.used } in
+    let changes = ChangesAt-updates l.seatings c.remove.new.self c.args.vc None c.remove.ensures.updates in
+    let after : DirectoryView = record { seatings = c.remove.new.self.entries; lines = l.lines; used = l.used } in
     subst (λ (view : DirectoryView). Sits view c.args.vc None after) c.self.view_is
     (record { here = changes.here; others = changes.others; same_lines = refl })

@@ -2,7 +2,7 @@ use Rattle.std.proofs.Common.{◌≡◌, ℕ, [], ◌∷◌, ◌++◌, List, Non
 use Rattle.leaky.specs.declared.contract.Contract.{Contract}
 use Rattle.line_record.specs.declared.entry.Entry.{Entry}
 use Rattle.line_record.specs.History.{NamedCell}
-use Rattle.line_record.specs.Run.{IsRun}
+use Rattle.line_record.specs.JournalRun.{IsRun}
 use Rattle.line_record.specs.Line.{LineView, view_of, line_refusal, IsSound}
 use Rattle.line_record.specs.StateAfter.{IsStateAfter}
 use Rattle.line_record.proofs.RunLemmas.{IsStateAfter-run}

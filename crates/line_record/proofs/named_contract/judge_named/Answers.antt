@@ -3,10 +3,10 @@ use Rattle.std.proofs.lemmas.Option.{same_Some, get_or_from_slice_get}
 use Rattle.leaky.specs.declared.contract.Contract.{Contract}
 use Rattle.leaky.specs.declared.levels.Levels.{Levels}
 use Rattle.leaky.specs.Contract.{buckets_after}
-use Rattle.leaky.specs.Agreement.{Agrees}
+use Rattle.leaky.specs.KeptState.{Agrees}
 use Rattle.line_record.specs.History.{numbered}
 use Rattle.line_record.proofs.NumberLemmas.{numbered-above, numbered-set_same, numbered-within}
-use Rattle.line_record.proofs.naming.judge_named.Goals as goal
+use Rattle.line_record.proofs.named_contract.judge_named.Goals as goal
 
 pub returns-clause-levels : goal.returns-clause-levels
 returns-clause-levels c contract before after buckets named stood stands agrees charged =

@@ -4,7 +4,7 @@ use Rattle.leaky.specs.declared.contract.Contract.{Contract}
 use Rattle.leaky.specs.declared.levels.Levels.{Levels}
 use Rattle.leaky.specs.Moments.{GoesOn}
 use Rattle.leaky.specs.Contract.{Buckets}
-use Rattle.leaky.specs.Agreement.{Agrees, IsChargedBy}
+use Rattle.leaky.specs.KeptState.{Agrees, IsChargedBy}
 use Rattle.line_record.specs.declared.entry.Entry.{Entry}
 use Rattle.line_record.specs.declared.state.State.{State}
 use Rattle.line_record.specs.declared.tally.Tally.{Tally}

@@ -5,6 +5,6 @@ use Rattle.upc_cell.specs.Connection.{is_same_vc}
 use Rattle.line_record.specs.declared.directory.Seating.{Seating}
 
 -- The seating that the list has for this connection.
-abbrev pub seat_in : List (Vc × Seating) → Vc → Option Seating
-seat_in [] vc = None
-seat_in (seat ∷ later) vc = if is_same_vc vc seat.0 then Some seat.1 else seat_in later vc
+abbrev pub seating_in : List (Vc × Seating) → Vc → Option Seating
+seating_in [] vc = None
+seating_in (seating ∷ later) vc = if is_same_vc vc seating.0 then Some seating.1 else seating_in later vc

@@ -1,6 +1,6 @@
 use Rattle.std.proofs.Common.{◌<◌, arith}
 use Rattle.gen_arena.proofs.PlaceLemmas.{IsFull-set, written, count_of}
-use Rattle.gen_arena.proofs.place.Places.fill.Goals as goal
+use Rattle.gen_arena.proofs.place.PlaceRow.fill.Goals as goal
 
 pub invariant_of-self : goal.invariant_of-self
 invariant_of-self g c =

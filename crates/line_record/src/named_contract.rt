@@ -1,6 +1,8 @@
+//! The verdict of the contract that a program names.
+
 ghost use Rattle.std.specs.Prelude.{◌≡◌, ◌≢◌, ℕ, ◌^◌, ◌<◌, ◌≤◌, Some, None, length, slice_set};
 ghost use Rattle.leaky.specs.Contract.{Buckets, verdict_of, buckets_after};
-ghost use Rattle.leaky.specs.Agreement.{Agrees, IsChargedBy};
+ghost use Rattle.leaky.specs.KeptState.{Agrees, IsChargedBy};
 ghost use Rattle.line_record.specs.History.{numbered};
 ghost use Rattle.leaky.specs.declared.contract.Contract.{Contract as AContract};
 ghost use Rattle.leaky.specs.declared.levels.Levels.{Levels as SomeLevels};
@@ -10,7 +12,7 @@ use leaky::{Contract, Levels, Verdict};
 
 /// The verdict of the contract of this number, counted from 1, whose levels go on. Where there is no
 /// such contract, the verdict is Refuse and nothing changes.
-#[inline]
+#[inline(always)]
 pub(crate) fn judge_named(
     contracts: &[Contract],
     levels: &mut ArrayVec<Levels, 4>,

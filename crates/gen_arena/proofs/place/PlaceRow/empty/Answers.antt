@@ -1,6 +1,6 @@
 use Rattle.std.proofs.Common.{◌<◌, sym, arith}
 use Rattle.gen_arena.proofs.PlaceLemmas.{IsFull-set, written, held_at, count_of}
-use Rattle.gen_arena.proofs.place.Places.empty.Goals as goal
+use Rattle.gen_arena.proofs.place.PlaceRow.empty.Goals as goal
 
 pub invariant_of-self : goal.invariant_of-self
 invariant_of-self g c =
