@@ -13,7 +13,8 @@ use Rattle.card_core.specs.declared.step.Step.TheVariants.{Judge, Retire, Setup}
 use Rattle.card_core.specs.World.{World, Connection, Picking, PortState, picked, is_outside, code_in, kept_cells, connection_in, is_busy, any_below, is_named, is_open_line}
 use Rattle.card_core.specs.Refusals.{refusal, judge_refusal, picking_refusal, cell_refusal, retire_fault, setup_fault}
 use Rattle.card_core.specs.Steps.{Succeeds, FindsNoMemory, IsRefused, WorldStep}
-use Rattle.card_core.proofs.LookUps.{same_some, passed_on, unmapped, is_there, is_missing, IsSome-of, connection_passes}
+use Rattle.card_core.proofs.LookUps.{same_some, passed_on, unmapped, is_there, is_missing, IsSome-of}
+use Rattle.card_core.proofs.ConnectionLemmas.{connection_passes}
 
 -- What a step that led somewhere did: it succeeded, found no memory, or was refused.
 pub data StepCase (before : World) (step : Step) (reply : Reply) (after : World) : Type 0 where
@@ -36,8 +37,6 @@ step-case before step reply after w =
       | Some refused ↦ λ e w. rejected refused e w
     ] in
     choice (refusal before step) refl w
-
--- Cells.
 
 -- What a cell that isn't refused is.
 pub record IsAllowed (world : World) (connection : Connection) (moment : ℕ) : Type 0 where
@@ -82,8 +81,6 @@ picking-allowed world port picking connection had found e =
       | false ↦ λ differs rest. absurd (cc)
     ] in
     choice (connection.incarnation == picking.incarnation) refl at_picking
-
--- The desk.
 
 -- What a connection needs that isn't refused.
 pub record MaySetUp (before : World) (ask : Ask) : Type 0 where

@@ -20,7 +20,7 @@ use Rattle.card_core.specs.declared.ask.Ask.{Ask}
 use Rattle.card_core.specs.World.{World, Connection, handed_cells}
 use Rattle.card_core.specs.Steps.{IsPieceOf, new_connection}
 use Rattle.card_core.specs.Agreement.{Serves, owner_of}
-use Rattle.card_core.proofs.ConnectionLemmas.{is_same_Some}
+use Rattle.card_core.proofs.LookUps.{same_some}
 
 take-all : {X : Type 0} (xs : List X) → take (length xs) xs ≡ xs
 take-all [] = refl
@@ -38,7 +38,7 @@ pub piece-is : (world : World) (vc : Vc) (connection : Connection) (line : LineV
     → Serves line vc connection (world.judged connection.line) → line.state.counts ≡ tally_of (world.judged connection.line)
     → IsJournalOf line piece → IsPieceOf world vc connection piece
 piece-is world vc connection line piece serves counts journal = record {
-  owner = is_same_Some piece.owner (owner_of vc connection) (sym journal.owner ∙ serves.owner);
+  owner = same_some piece.owner (owner_of vc connection) (sym journal.owner ∙ serves.owner);
   contracts = journal.contracts ∙ serves.contracts;
   entries = journal.entries ∙ serves.entries;
   start = subst (λ (state : State). IsStateAfter connection.contracts (handed_cells connection) state) (sym journal.start) serves.start;
@@ -79,13 +79,13 @@ open-serves ask number incarnation line next owner verdicts given opens history 
 }
 
 -- What a release on lent parts did, in one match.
-pub releases : (old new : DirectoryView) (vc : Vc) (seat : Seating) (line next : LineView) (result : Result PieceView DeskFault)
-    → MatchResult result (λ piece. line.owner ≡ Some (holder vc seat)) (λ fault. (fault ≡ Stale) × (line.owner ≢ Some (holder vc seat)))
+pub releases : (old new : DirectoryView) (vc : Vc) (seating : Seating) (line next : LineView) (result : Result PieceView DeskFault)
+    → MatchResult result (λ piece. line.owner ≡ Some (holder vc seating)) (λ fault. (fault ≡ Stale) × (line.owner ≢ Some (holder vc seating)))
     → IfOk result (λ piece. IsJournalOf line piece) → OnOk result (Sits old vc None new)
     → OnOk result (next ≡ free_line line.journal line.state.counts false)
     → OnErr result (new ≡ old) → OnErr result (next ≡ line) → new.used ≡ old.used
-    → ReleasesOrRefuses old new vc seat result line next
-releases old new vc seat line next (Ok piece) served journal gone freed same_directory same_line used =
+    → ReleasesOrRefuses old new vc seating result line next
+releases old new vc seating line next (Ok piece) served journal gone freed same_directory same_line used =
     record { journal = journal; gone = gone; used = used; freed = freed }
-releases old new vc seat line next (Err fault) served journal gone freed same_directory same_line used =
+releases old new vc seating line next (Err fault) served journal gone freed same_directory same_line used =
     (served.0, served.1, same_directory, same_line)

@@ -8,7 +8,7 @@ use Rattle.upc_cell.specs.declared.vc.Vc.{Vc}
 use Rattle.bpf_code.specs.declared.instr.Instr.{Instr}
 use Rattle.line_record.specs.declared.owner.Owner.{Owner}
 use Rattle.line_record.specs.declared.directory.Seating.{Seating}
-use Rattle.line_record.specs.Directory.{DirectoryView, seat_of, Sits}
+use Rattle.line_record.specs.Directory.{DirectoryView, seating_at, Sits}
 use Rattle.line_record.specs.Line.{LineView}
 use Rattle.line_record.specs.Piece.{PieceView}
 use Rattle.card_core.specs.declared.fault.DeskFault.{DeskFault}
@@ -20,12 +20,12 @@ use Rattle.card_core.specs.declared.shape.Shape.{Shape}
 use Rattle.card_core.specs.World.{World, Connection, code_in, connection_in, with_connection, without_connection}
 use Rattle.card_core.specs.Refusals.{reload_fault, missing_fault}
 use Rattle.card_core.specs.Steps.{WorldStep}
-use Rattle.card_core.specs.Agreement.{CoreView, Agrees, Follows, Serves, LinesAgree, seating_of}
+use Rattle.card_core.specs.Agreement.{CoreView, CoreAgrees, Follows, Serves, LinesAgree, seating_of}
 use Rattle.card_core.specs.Sections.{holder, IsUncut}
 use Rattle.card_core.specs.inner.Parts.{ChangesLine, ReleasesOrRefuses, CutsOrRefuses, IsReleased}
 use Rattle.card_core.proofs.Follow.{follows, step-refused, step-taken, step-without_memory}
-use Rattle.card_core.proofs.ConnectionLemmas.{map_some, map_none, is_same_Some}
-use Rattle.card_core.proofs.LineLemmas.{Change, set-again, lines-with, lines-without, seats-with, seats-kept, seats-without}
+use Rattle.card_core.proofs.LookUps.{mapped, unmapped, same_some}
+use Rattle.card_core.proofs.LineLemmas.{Change, set-again, lines-with, lines-without, seatings-with, seatings-kept, seatings-without}
 use Rattle.card_core.proofs.DeskLemmas.{piece-is, cut-serves}
 use Rattle.card_core.proofs.PortLemmas.{core_of}
 
@@ -33,63 +33,64 @@ module _ (shape : Shape) (store : List (Slot (List Instr))) (directory : Directo
   abbrev Old : CoreView
   Old = core_of shape store directory lines ports
 
-  -- Without a seat there is no connection.
-  missing : (before : World) → Agrees Old before → (vc : Vc) → seat_of directory vc ≡ None → connection_in before.connections vc ≡ None
+  -- Without a seating there is no connection.
+  missing : (before : World) → CoreAgrees Old before → (vc : Vc) → seating_at directory vc ≡ None → connection_in before.connections vc ≡ None
   missing before agrees vc none =
-      map_none seating_of (connection_in before.connections vc) (sym (agrees.seats.seats vc) ∙ none)
+      unmapped seating_of (connection_in before.connections vc) (sym (agrees.seatings.seatings vc) ∙ none)
 
   -- And with one there is.
-  seated : (before : World) → Agrees Old before → (vc : Vc) (seat : Seating) → seat_of directory vc ≡ Some seat
-      → (connection : Connection) × (connection_in before.connections vc ≡ Some connection) × (seating_of connection ≡ seat)
-  seated before agrees vc seat sits =
-      map_some seating_of (connection_in before.connections vc) seat (sym (agrees.seats.seats vc) ∙ sits)
+  seated : (before : World) → CoreAgrees Old before → (vc : Vc) (seating : Seating) → seating_at directory vc ≡ Some seating
+      → (connection : Connection) × (connection_in before.connections vc ≡ Some connection) × (seating_of connection ≡ seating)
+  seated before agrees vc seating sits =
+      let known = mapped seating_of (connection_in before.connections vc) seating (sym (agrees.seatings.seatings vc) ∙ sits) in
+      (known.0, known.1, sym known.2)
 
   missing-is : (before : World) (vc : Vc) (o : Option Connection) → connection_in before.connections vc ≡ o
       → missing_fault before vc ≡ cond (is_none o) (Some NoConnection) None
   missing-is before vc o e = ap (λ (p : Option Connection). cond (is_none p) (Some NoConnection) (let none : Option DeskFault = None in none)) e
 
-  pub release-missing : (vc : Vc) → seat_of directory vc ≡ None → Follows Old (Release vc) (Refused NoConnection) Old
+  pub release-missing : (vc : Vc) → seating_at directory vc ≡ None → Follows Old (Release vc) (Refused NoConnection) Old
   release-missing vc none = follows Old Old (Release vc) (Refused NoConnection) (λ before sound agrees.
       let fault = missing-is before vc None (missing before agrees vc none) in
       (before, step-refused before (Release vc) (Refused NoConnection) (ap (option_map Refused) fault), agrees))
 
-  pub cut-missing : (vc : Vc) → seat_of directory vc ≡ None → Follows Old (Cut vc) (Refused NoConnection) Old
+  pub cut-missing : (vc : Vc) → seating_at directory vc ≡ None → Follows Old (Cut vc) (Refused NoConnection) Old
   cut-missing vc none = follows Old Old (Cut vc) (Refused NoConnection) (λ before sound agrees.
       let fault = missing-is before vc None (missing before agrees vc none) in
       (before, step-refused before (Cut vc) (Refused NoConnection) (ap (option_map Refused) fault), agrees))
 
   -- The line of a connection.
-  line-serves : (before : World) → Agrees Old before → (vc : Vc) (seat : Seating) (connection : Connection) (line : LineView)
-      → connection_in before.connections vc ≡ Some connection → seating_of connection ≡ seat → slice_get lines seat.line ≡ Some line
+  line-serves : (before : World) → CoreAgrees Old before → (vc : Vc) (seating : Seating) (connection : Connection) (line : LineView)
+      → connection_in before.connections vc ≡ Some connection → seating_of connection ≡ seating → slice_get lines seating.line ≡ Some line
       → Serves line vc connection (before.judged connection.line)
-  line-serves before agrees vc seat connection line known seats there =
+  line-serves before agrees vc seating connection line known seatings there =
       let serving = agrees.lines.serving vc connection known in
-      let at : slice_get lines seat.line ≡ Some serving.0 =
-      subst (λ (s : Seating). slice_get lines s.line ≡ Some serving.0) seats serving.1 in
+      let at : slice_get lines seating.line ≡ Some serving.0 =
+      subst (λ (s : Seating). slice_get lines s.line ≡ Some serving.0) seatings serving.1 in
       subst (λ (l : LineView). Serves l vc connection (before.judged connection.line))
-      (is_same_Some serving.0 line (sym at ∙ there)) serving.2
+      (same_some serving.0 line (sym at ∙ there)) serving.2
 
-  holds : (before : World) (vc : Vc) (seat : Seating) (connection : Connection) (line : LineView)
-      → seating_of connection ≡ seat → Serves line vc connection (before.judged connection.line) → line.owner ≡ Some (holder vc seat)
-  holds before vc seat connection line seats serves =
-      serves.owner ∙ ap (λ (s : Seating). Some (holder vc s)) seats
+  holds : (before : World) (vc : Vc) (seating : Seating) (connection : Connection) (line : LineView)
+      → seating_of connection ≡ seating → Serves line vc connection (before.judged connection.line) → line.owner ≡ Some (holder vc seating)
+  holds before vc seating connection line seatings serves =
+      serves.owner ∙ ap (λ (s : Seating). Some (holder vc s)) seatings
 
-  pub release-goes : (vc : Vc) (seat : Seating) (new : DirectoryView) (result : Result PieceView DeskFault) (after : List LineView)
-      → seat_of directory vc ≡ Some seat
-      → ChangesLine lines seat.line (ReleasesOrRefuses directory new vc seat result) after
+  pub release-goes : (vc : Vc) (seating : Seating) (new : DirectoryView) (result : Result PieceView DeskFault) (after : List LineView)
+      → seating_at directory vc ≡ Some seating
+      → ChangesLine lines seating.line (ReleasesOrRefuses directory new vc seating result) after
       → (piece : PieceView) → result ≡ Ok piece → Follows Old (Release vc) (Released piece) (core_of shape store new after ports)
-  release-goes vc seat new result after sits change piece is = follows Old _ (Release vc) (Released piece) (λ before sound agrees.
-      let known = seated before agrees vc seat sits in
+  release-goes vc seating new result after sits change piece is = follows Old _ (Release vc) (Released piece) (λ before sound agrees.
+      let known = seated before agrees vc seating sits in
       let connection : Connection = known.0 in
       let number = connection.line in
-      let on : number ≡ seat.line = ap (λ (s : Seating). s.line) known.2 in
+      let on : number ≡ seating.line = ap (λ (s : Seating). s.line) known.2 in
       let line = change.line in
       let next = change.next in
       let there : slice_get lines number ≡ Some line = subst (λ (n : ℕ). slice_get lines n ≡ Some line) (sym on) change.there in
-      let serves = line-serves before agrees vc seat connection line known.1 known.2 change.there in
+      let serves = line-serves before agrees vc seating connection line known.1 known.2 change.there in
       let counts = agrees.lines.counts number line there in
       let did : IsReleased directory new vc piece line next =
-      subst (λ (r : Result PieceView DeskFault). ReleasesOrRefuses directory new vc seat r line next) is change.did in
+      subst (λ (r : Result PieceView DeskFault). ReleasesOrRefuses directory new vc seating r line next) is change.did in
       let changed : Change before.shape lines before.connections before.judged agrees.lines number line next before.judged = record {
         there = there;
         journal = ap (λ (l : LineView). l.journal) did.freed;
@@ -99,7 +100,7 @@ module _ (shape : Shape) (store : List (Slot (List Instr))) (directory : Directo
       let lines_after = lines-without before.shape lines before.connections before.judged agrees.lines number line next before.judged changed
       vc (ap (λ (l : LineView). l.owner) did.freed)
       (λ other another apart found same. apart (sound.connections.lines_apart other vc another connection found known.1 same))
-      (λ old found. ap (λ (c : Connection). c.line) (is_same_Some old connection (sym found ∙ known.1))) in
+      (λ old found. ap (λ (c : Connection). c.line) (same_some old connection (sym found ∙ known.1))) in
       let fault = missing-is before vc (Some connection) known.1 in
       let world : World = record before { connections = without_connection before.connections vc } in
       let lines_new : LinesAgree before.shape after (without_connection before.connections vc) before.judged =
@@ -117,37 +118,37 @@ module _ (shape : Shape) (store : List (Slot (List Instr))) (directory : Directo
         record {
           shape = agrees.shape;
           store = agrees.store;
-          seats = seats-without before.shape directory before.connections before.used agrees.seats vc new did.gone did.used;
+          seatings = seatings-without before.shape directory before.connections before.used agrees.seatings vc new did.gone did.used;
           lines = lines_new;
           ports = agrees.ports;
         },
       ))
 
   -- The core's line is always the directory's.
-  pub release-never : (vc : Vc) (seat : Seating) (new : DirectoryView) (result : Result PieceView DeskFault) (after : List LineView)
-      → seat_of directory vc ≡ Some seat
-      → ChangesLine lines seat.line (ReleasesOrRefuses directory new vc seat result) after
+  pub release-never : (vc : Vc) (seating : Seating) (new : DirectoryView) (result : Result PieceView DeskFault) (after : List LineView)
+      → seating_at directory vc ≡ Some seating
+      → ChangesLine lines seating.line (ReleasesOrRefuses directory new vc seating result) after
       → (fault : DeskFault) → result ≡ Err fault → Follows Old (Release vc) (Refused fault) (core_of shape store new after ports)
-  release-never vc seat new result after sits change fault is = follows Old _ (Release vc) (Refused fault) (λ before sound agrees.
-      let known = seated before agrees vc seat sits in
-      let serves = line-serves before agrees vc seat known.0 change.line known.1 known.2 change.there in
-      let did = subst (λ (r : Result PieceView DeskFault). ReleasesOrRefuses directory new vc seat r change.line change.next) is change.did in
-      absurd (did.1 (holds before vc seat known.0 change.line known.2 serves)))
+  release-never vc seating new result after sits change fault is = follows Old _ (Release vc) (Refused fault) (λ before sound agrees.
+      let known = seated before agrees vc seating sits in
+      let serves = line-serves before agrees vc seating known.0 change.line known.1 known.2 change.there in
+      let did = subst (λ (r : Result PieceView DeskFault). ReleasesOrRefuses directory new vc seating r change.line change.next) is change.did in
+      absurd (did.1 (holds before vc seating known.0 change.line known.2 serves)))
 
-  pub cut-goes : (vc : Vc) (seat : Seating) (result : Result PieceView DeskFault) (after : List LineView)
-      → seat_of directory vc ≡ Some seat → ChangesLine lines seat.line (CutsOrRefuses vc seat result) after
+  pub cut-goes : (vc : Vc) (seating : Seating) (result : Result PieceView DeskFault) (after : List LineView)
+      → seating_at directory vc ≡ Some seating → ChangesLine lines seating.line (CutsOrRefuses vc seating result) after
       → (piece : PieceView) → result ≡ Ok piece → Follows Old (Cut vc) (CutOff piece) (core_of shape store directory after ports)
-  cut-goes vc seat result after sits change piece is = follows Old _ (Cut vc) (CutOff piece) (λ before sound agrees.
-      let known = seated before agrees vc seat sits in
+  cut-goes vc seating result after sits change piece is = follows Old _ (Cut vc) (CutOff piece) (λ before sound agrees.
+      let known = seated before agrees vc seating sits in
       let connection : Connection = known.0 in
       let number = connection.line in
-      let on : number ≡ seat.line = ap (λ (s : Seating). s.line) known.2 in
+      let on : number ≡ seating.line = ap (λ (s : Seating). s.line) known.2 in
       let line = change.line in
       let next = change.next in
       let there : slice_get lines number ≡ Some line = subst (λ (n : ℕ). slice_get lines n ≡ Some line) (sym on) change.there in
-      let serves = line-serves before agrees vc seat connection line known.1 known.2 change.there in
+      let serves = line-serves before agrees vc seating connection line known.1 known.2 change.there in
       let counts = agrees.lines.counts number line there in
-      let did = subst (λ (r : Result PieceView DeskFault). CutsOrRefuses vc seat r line next) is change.did in
+      let did = subst (λ (r : Result PieceView DeskFault). CutsOrRefuses vc seating r line next) is change.did in
       let changed : Change before.shape lines before.connections before.judged agrees.lines number line next before.judged = record {
         there = there;
         journal = ap (λ (l : LineView). l.journal) did.1;
@@ -161,7 +162,7 @@ module _ (shape : Shape) (store : List (Slot (List Instr))) (directory : Directo
       let lines_after = lines-with before.shape lines before.connections before.judged agrees.lines number line next before.judged changed
       vc later refl served
       (λ other another apart found same. apart (sound.connections.lines_apart other vc another connection found known.1 same))
-      (λ old found. ap (λ (c : Connection). c.line) (is_same_Some old connection (sym found ∙ known.1))) in
+      (λ old found. ap (λ (c : Connection). c.line) (same_some old connection (sym found ∙ known.1))) in
       let fault = missing-is before vc (Some connection) known.1 in
       let world : World = record before { connections = with_connection before.connections vc later } in
       let lines_new : LinesAgree before.shape after (with_connection before.connections vc later) before.judged =
@@ -179,8 +180,8 @@ module _ (shape : Shape) (store : List (Slot (List Instr))) (directory : Directo
         record {
           shape = agrees.shape;
           store = agrees.store;
-          seats = seats-kept before.shape directory before.connections before.used agrees.seats vc later
-              (agrees.seats.seats vc ∙ ap (option_map seating_of) known.1);
+          seatings = seatings-kept before.shape directory before.connections before.used agrees.seatings vc later
+              (agrees.seatings.seatings vc ∙ ap (option_map seating_of) known.1);
           lines = lines_new;
           ports = agrees.ports;
         },
@@ -200,22 +201,22 @@ module _ (shape : Shape) (store : List (Slot (List Instr))) (directory : Directo
   only-memory line owner NoMemory own why = refl
   only-memory line owner Stale own why = absurd (why own)
 
-  pub cut-refused : (vc : Vc) (seat : Seating) (result : Result PieceView DeskFault) (after : List LineView)
-      → seat_of directory vc ≡ Some seat → ChangesLine lines seat.line (CutsOrRefuses vc seat result) after
+  pub cut-refused : (vc : Vc) (seating : Seating) (result : Result PieceView DeskFault) (after : List LineView)
+      → seating_at directory vc ≡ Some seating → ChangesLine lines seating.line (CutsOrRefuses vc seating result) after
       → (fault : DeskFault) → result ≡ Err fault → Follows Old (Cut vc) (Refused fault) (core_of shape store directory after ports)
-  cut-refused vc seat result after sits change fault is = follows Old _ (Cut vc) (Refused fault) (λ before sound agrees.
-      let known = seated before agrees vc seat sits in
-      let serves = line-serves before agrees vc seat known.0 change.line known.1 known.2 change.there in
-      let did = subst (λ (r : Result PieceView DeskFault). CutsOrRefuses vc seat r change.line change.next) is change.did in
+  cut-refused vc seating result after sits change fault is = follows Old _ (Cut vc) (Refused fault) (λ before sound agrees.
+      let known = seated before agrees vc seating sits in
+      let serves = line-serves before agrees vc seating known.0 change.line known.1 known.2 change.there in
+      let did = subst (λ (r : Result PieceView DeskFault). CutsOrRefuses vc seating r change.line change.next) is change.did in
       let memory : fault ≡ NoMemory =
-      only-memory change.line (holder vc seat) fault (holds before vc seat known.0 change.line known.2 serves) did.0 in
+      only-memory change.line (holder vc seating) fault (holds before vc seating known.0 change.line known.2 serves) did.0 in
       let free = missing-is before vc (Some known.0) known.1 in
       let same : after ≡ lines =
-      change.after ∙ ap (set lines seat.line) did.1 ∙ set-again lines seat.line change.line change.there in (
+      change.after ∙ ap (set lines seating.line) did.1 ∙ set-again lines seating.line change.line change.there in (
         before,
         subst (λ (f : DeskFault). WorldStep before (Cut vc) (Refused f) before) (sym memory)
             (step-without_memory before (Cut vc) (Refused NoMemory) (ap (option_map Refused) free) refl),
-        subst (λ (list : List LineView). Agrees (core_of shape store directory list ports) before) (sym same) agrees,
+        subst (λ (list : List LineView). CoreAgrees (core_of shape store directory list ports) before) (sym same) agrees,
       ))
 
   -- Why a Reload is refused.
@@ -226,11 +227,11 @@ module _ (shape : Shape) (store : List (Slot (List Instr))) (directory : Directo
       ap (λ (p : Option (List Instr)). cond (is_none p) (Some NoProgram) (cond (is_none (connection_in before.connections vc)) (Some NoConnection) None)) codes
       ∙ ap (λ (p : Option Connection). cond (is_none code) (Some NoProgram) (cond (is_none p) (Some NoConnection) (let none : Option DeskFault = None in none))) known
 
-  pub reload-goes : (vc : Vc) (program : Id) (new : DirectoryView) (seat : Seating) (gone : Id) → seat_of directory vc ≡ Some seat
-      → IsLive store program → gone ≡ seat.program → Sits directory vc (Some (record seat { program = program })) new → new.used ≡ directory.used
+  pub reload-goes : (vc : Vc) (program : Id) (new : DirectoryView) (seating : Seating) (gone : Id) → seating_at directory vc ≡ Some seating
+      → IsLive store program → gone ≡ seating.program → Sits directory vc (Some (record seating { program = program })) new → new.used ≡ directory.used
       → Follows Old (Reload vc program) (Reloaded gone) (core_of shape store new lines ports)
-  reload-goes vc program new seat gone sits live was moved used = follows Old _ (Reload vc program) (Reloaded gone) (λ before sound agrees.
-      let known = seated before agrees vc seat sits in
+  reload-goes vc program new seating gone sits live was moved used = follows Old _ (Reload vc program) (Reloaded gone) (λ before sound agrees.
+      let known = seated before agrees vc seating sits in
       let connection : Connection = known.0 in
       let later : Connection = record connection { program = program } in
       let number = connection.line in
@@ -253,11 +254,11 @@ module _ (shape : Shape) (store : List (Slot (List Instr))) (directory : Directo
       let lines_after = lines-with before.shape lines before.connections before.judged agrees.lines number line line before.judged changed
       vc later refl served
       (λ other another apart found same. apart (sound.connections.lines_apart other vc another connection found known.1 same))
-      (λ old found. ap (λ (c : Connection). c.line) (is_same_Some old connection (sym found ∙ known.1))) in
+      (λ old found. ap (λ (c : Connection). c.line) (same_some old connection (sym found ∙ known.1))) in
       let there = some_code (code_in before.live program) (subst (λ (o : Option (List Instr)). IsSome o) (agrees.store.values program) live) in
       let free = reload-is before vc program (Some there.0) (Some connection) there.1 known.1 in
       let world : World = record before { connections = with_connection before.connections vc later } in
-      let seats : Some (record seat { program = program }) ≡ Some (seating_of later) =
+      let seatings : Some (record seating { program = program }) ≡ Some (seating_of later) =
       ap (λ (s : Seating). Some (record s { program = program })) (sym known.2) in (
         world,
         step-taken before world (Reload vc program) (Reloaded gone) (ap (option_map Refused) free) (record {
@@ -269,8 +270,8 @@ module _ (shape : Shape) (store : List (Slot (List Instr))) (directory : Directo
         record {
           shape = agrees.shape;
           store = agrees.store;
-          seats = seats-with before.shape directory before.connections before.used agrees.seats vc later new before.used
-              (subst (λ (s : Option Seating). Sits directory vc s new) seats moved) (used ∙ agrees.seats.used_up);
+          seatings = seatings-with before.shape directory before.connections before.used agrees.seatings vc later new before.used
+              (subst (λ (s : Option Seating). Sits directory vc s new) seatings moved) (used ∙ agrees.seatings.used_up);
           lines = subst (λ (list : List LineView). LinesAgree before.shape list (with_connection before.connections vc later) before.judged)
               (set-again lines number line serving.1) lines_after;
           ports = agrees.ports;
@@ -283,8 +284,8 @@ module _ (shape : Shape) (store : List (Slot (List Instr))) (directory : Directo
 
   pub reload-refused : (vc : Vc) (program : Id) (fault : DeskFault)
       → (IsErrOf {T = Id} (Err fault) NoProgram ↔ (live_value store program ≡ None))
-      → (IsErrOf {T = Id} (Err fault) NoConnection ↔ (IsLive store program × (seat_of directory vc ≡ None)))
-      → ((IsLive store program × IsSome (seat_of directory vc)) → ⊥)
+      → (IsErrOf {T = Id} (Err fault) NoConnection ↔ (IsLive store program × (seating_at directory vc ≡ None)))
+      → ((IsLive store program × IsSome (seating_at directory vc)) → ⊥)
       → Follows Old (Reload vc program) (Refused fault) Old
   reload-refused vc program fault gone away none = follows Old Old (Reload vc program) (Refused fault) (λ before sound agrees.
       let Why : Type 0 = reload_fault before vc program ≡ Some fault in
@@ -298,13 +299,13 @@ module _ (shape : Shape) (store : List (Slot (List Instr))) (directory : Directo
         | Some code ↦ λ codes. elim [
           | None ↦ λ known.
               let live : IsLive store program = subst (λ (o : Option (List Instr)). IsSome o) (sym (agrees.store.values program ∙ codes)) refl in
-              let missed : seat_of directory vc ≡ None = agrees.seats.seats vc ∙ ap (option_map seating_of) known in
+              let missed : seating_at directory vc ≡ None = agrees.seatings.seatings vc ∙ ap (option_map seating_of) known in
               let is : Err fault ≡ Err NoConnection = away.1 (live, missed) in
               let same : fault ≡ NoConnection = cc in
               reload-is before vc program (Some code) None codes known ∙ ap Some (sym same)
           | Some connection ↦ λ known.
               let live : IsLive store program = subst (λ (o : Option (List Instr)). IsSome o) (sym (agrees.store.values program ∙ codes)) refl in
-              let there : seat_of directory vc ≡ Some (seating_of connection) = agrees.seats.seats vc ∙ ap (option_map seating_of) known in
+              let there : seating_at directory vc ≡ Some (seating_of connection) = agrees.seatings.seatings vc ∙ ap (option_map seating_of) known in
               absurd (none (live, subst (λ (o : Option Seating). IsSome o) (sym there) refl))
         ]
       ] in

@@ -6,7 +6,7 @@ use Rattle.card_core.specs.World.{World}
 use Rattle.card_core.specs.Refusals.{refusal}
 use Rattle.card_core.specs.Steps.{WorldStep, Succeeds, without_memory, left_by}
 use Rattle.card_core.specs.Log.{Event, Run}
-use Rattle.card_core.specs.Agreement.{CoreView, Agrees, Follows}
+use Rattle.card_core.specs.Agreement.{CoreView, CoreAgrees, Follows}
 use Rattle.card_core.proofs.Sound.{IsSound}
 use Rattle.card_core.proofs.SoundSteps.{reached-sound}
 
@@ -37,8 +37,8 @@ step-without_memory before step reply e lacks = rw e (inr (record { answer = lac
 -- From every sound world that the old core agrees with, the step leads with the reply to one that the
 -- new core agrees with.
 abbrev pub GoesOn : CoreView → Step → Reply → CoreView → Type 0
-GoesOn old step reply new = (before : World) → IsSound before → Agrees old before
-    → (after : World) × WorldStep before step reply after × Agrees new after
+GoesOn old step reply new = (before : World) → IsSound before → CoreAgrees old before
+    → (after : World) × WorldStep before step reply after × CoreAgrees new after
 
 pub follows : (old new : CoreView) (step : Step) (reply : Reply) → GoesOn old step reply new → Follows old step reply new
 follows old new step reply goes shape log before leads agrees =

@@ -14,7 +14,8 @@ use Rattle.card_core.specs.Steps.{Succeeds, WorldStep, left_by, with_answered}
 use Rattle.card_core.specs.Log.{Event, Run}
 use Rattle.card_core.specs.Laws.{IdsAreGivenOnce, IdsNameOneCode}
 use Rattle.card_core.proofs.Sound.{IsSound}
-use Rattle.card_core.proofs.LookUps.{same_some, code-first, code-later}
+use Rattle.card_core.proofs.LookUps.{same_some}
+use Rattle.card_core.proofs.CodeLemmas.{code-first, code-later}
 use Rattle.card_core.proofs.Allowed.{succeeded, starved, rejected, step-case}
 use Rattle.card_core.proofs.SoundChanges.{opening-sound}
 use Rattle.card_core.proofs.SoundSteps.{sound-step, reached-sound}

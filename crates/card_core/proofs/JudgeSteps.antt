@@ -14,7 +14,7 @@ use Rattle.line_record.specs.Directory.{DirectoryView}
 use Rattle.line_record.specs.History.{NamedCell, cell_of, empty_buckets, verdict_after}
 use Rattle.line_record.specs.Line.{LineView, line_refusal}
 use Rattle.line_record.specs.StateAfter.{IsStateAfter}
-use Rattle.line_record.specs.Tally.{tally_of, counted, number_of, cells_in}
+use Rattle.line_record.specs.Tally.{tally_of, counted, count_of, cells_in}
 use Rattle.line_record.proofs.Public.{each_cell_is_judged, verdicts_count}
 use Rattle.card_core.specs.declared.answer.Answer.{Answer}
 use Rattle.card_core.specs.declared.answer.Answer.TheVariants.{Judged, Released}
@@ -27,16 +27,16 @@ use Rattle.card_core.specs.declared.shape.Shape.{Shape}
 use Rattle.card_core.specs.World.{World, Connection, Picking, outside, picked, with_port, connection_in, kept_cells, handed_cells}
 use Rattle.card_core.specs.Refusals.{refusal, judge_refusal, picking_refusal, cell_refusal}
 use Rattle.card_core.specs.Steps.{WorldStep, cell_of_picking, cell_after, verdict_on, with_cell, judged_world, number_with}
-use Rattle.card_core.specs.Agreement.{CoreView, Agrees, Follows, Serves, LinesAgree, seating_of}
+use Rattle.card_core.specs.Agreement.{CoreView, CoreAgrees, Follows, Serves, LinesAgree, seating_of}
 use Rattle.card_core.specs.Sections.{holder, is_owned_by, answer_for, judging_refusal, JudgesAt}
 use Rattle.card_core.specs.inner.Ports.{found_in, picking_of}
 use Rattle.card_core.specs.inner.Parts.{ChangesLine, JudgesOrRefuses}
 use Rattle.card_core.proofs.Sound.{IsSound}
 use Rattle.card_core.proofs.Follow.{follows, step-refused, step-taken}
-use Rattle.card_core.proofs.ConnectionLemmas.{is_same_Some}
-use Rattle.card_core.proofs.LineLemmas.{Change, set-again, lines-with, seats-kept}
+use Rattle.card_core.proofs.LookUps.{same_some}
+use Rattle.card_core.proofs.LineLemmas.{Change, set-again, lines-with, seatings-kept}
 use Rattle.card_core.proofs.OwnerLemmas.{owned, owned-itself}
-use Rattle.card_core.proofs.PortLemmas.{core_of, found_there, moved, Agrees-moved}
+use Rattle.card_core.proofs.PortLemmas.{core_of, found_there, moved, CoreAgrees-moved}
 use Rattle.card_core.proofs.PortSteps.{at-port}
 use Rattle.card_core.proofs.JudgeLemmas.{match_some, match_none, refusals_agree, judged-with_cell, handed-with_cell, with_verdict-here, with_verdict-other, verdicts_before-with_cell}
 
@@ -90,9 +90,9 @@ module _ (line next : LineView) (vc : Vc) (connection : Connection) (verdicts : 
       let Told : ℕ → ℕ → Verdict → Answer = λ number many verdict.
       Judged number many found.moment found.named.value found.named.program verdict (cell_after verdict found.named.cell) in
       judges.answered
-      ∙ ap (λ (number : ℕ). Told number (number_of line.state.counts judges.entry.verdict + 1) judges.entry.verdict) on
-      ∙ ap (λ tally. Told connection.line (number_of tally judges.entry.verdict + 1) judges.entry.verdict) counts
-      ∙ ap (λ (verdict : Verdict). Told connection.line (number_of (tally_of verdicts) verdict + 1) verdict) judged-verdict
+      ∙ ap (λ (number : ℕ). Told number (count_of line.state.counts judges.entry.verdict + 1) judges.entry.verdict) on
+      ∙ ap (λ tally. Told connection.line (count_of tally judges.entry.verdict + 1) judges.entry.verdict) counts
+      ∙ ap (λ (verdict : Verdict). Told connection.line (count_of (tally_of verdicts) verdict + 1) verdict) judged-verdict
 
 -- The refusal of a picked cell, by what the world has of its connection.
 refused-as : (world : World) (port : ℕ) (picking : Picking) → slice_get world.ports port ≡ Some (picked picking)
@@ -113,28 +113,28 @@ module _ (shape : Shape) (store : List (Slot (List Instr))) (directory : Directo
   abbrev New : List LineView → CoreView
   New after = core_of shape store directory after (slice_set ports port Outside)
 
-  had : (before : World) → Agrees Old before → slice_get before.ports port ≡ Some (picked (picking_of found))
+  had : (before : World) → CoreAgrees Old before → slice_get before.ports port ≡ Some (picked (picking_of found))
   had before agrees = at-port shape store directory lines ports port before agrees ∙ found_there (slice_get ports port) found there
 
   -- A picked cell that is refused leaves the port outside, and nothing else changes.
-  refused : (before : World) → Agrees Old before → (answer : Answer) (after : List LineView) → after ≡ lines
+  refused : (before : World) → CoreAgrees Old before → (answer : Answer) (after : List LineView) → after ≡ lines
       → refusal before (Judge port) ≡ Some (Answered answer)
-      → (world : World) × WorldStep before (Judge port) (Answered answer) world × Agrees (New after) world
+      → (world : World) × WorldStep before (Judge port) (Answered answer) world × CoreAgrees (New after) world
   refused before agrees answer after same refusing = (
     with_port before port outside,
     step-refused before (Judge port) (Answered answer) refusing,
-    subst (λ (list : List LineView). Agrees (New list) (with_port before port outside)) (sym same)
-        (Agrees-moved shape store directory lines ports before port Outside outside refl agrees),
+    subst (λ (list : List LineView). CoreAgrees (New list) (with_port before port outside)) (sym same)
+        (CoreAgrees-moved shape store directory lines ports before port Outside outside refl agrees),
   )
 
   -- The line serves the picked connection, and judges the cell.
-  taken : (before : World) → IsSound before → Agrees Old before → (answer : Answer) (line next : LineView) (connection : Connection)
+  taken : (before : World) → IsSound before → CoreAgrees Old before → (answer : Answer) (line next : LineView) (connection : Connection)
       → slice_get lines found.seating.line ≡ Some line
       → connection_in before.connections found.vc ≡ Some connection → connection.line ≡ found.seating.line
       → Serves line found.vc connection (before.judged connection.line)
       → JudgesAt line found.seating found.named found.moment answer next
       → refusal before (Judge port) ≡ None
-      → (world : World) × WorldStep before (Judge port) (Answered answer) world × Agrees (New (set lines found.seating.line next)) world
+      → (world : World) × WorldStep before (Judge port) (Answered answer) world × CoreAgrees (New (set lines found.seating.line next)) world
   taken before sound agrees answer line next connection at known on serves judges free =
       let number = connection.line in
       let verdicts = before.judged number in
@@ -159,7 +159,7 @@ module _ (shape : Shape) (store : List (Slot (List Instr))) (directory : Directo
       lines-with before.shape lines before.connections before.judged agrees.lines number line next after.judged change
       vc (with_cell connection cell) refl served
       (λ other another apart is same. apart (sound.connections.lines_apart other vc another connection is known same))
-      (λ old is. ap (λ (c : Connection). c.line) (is_same_Some old connection (sym is ∙ known))) in (
+      (λ old is. ap (λ (c : Connection). c.line) (same_some old connection (sym is ∙ known))) in (
         after,
         step-taken before after (Judge port) (Answered answer) free (record {
           picking = picking_of found;
@@ -172,8 +172,8 @@ module _ (shape : Shape) (store : List (Slot (List Instr))) (directory : Directo
         record {
           shape = agrees.shape;
           store = agrees.store;
-          seats = seats-kept before.shape directory before.connections before.used agrees.seats vc (with_cell connection cell)
-              (agrees.seats.seats vc ∙ ap (option_map seating_of) known);
+          seatings = seatings-kept before.shape directory before.connections before.used agrees.seatings vc (with_cell connection cell)
+              (agrees.seatings.seatings vc ∙ ap (option_map seating_of) known);
           lines = subst (λ (n : ℕ). LinesAgree before.shape (set lines n next) after.connections after.judged) on lines_after;
           ports = moved ports before.ports port Outside agrees.ports;
         },
@@ -181,7 +181,7 @@ module _ (shape : Shape) (store : List (Slot (List Instr))) (directory : Directo
 
   module _ (answer : Answer) (after : List LineView) (change : ChangesLine lines found.seating.line (JudgesOrRefuses found answer) after) where
     abbrev Result : World → Type 0
-    Result before = (world : World) × WorldStep before (Judge port) (Answered answer) world × Agrees (New after) world
+    Result before = (world : World) × WorldStep before (Judge port) (Answered answer) world × CoreAgrees (New after) world
 
     abbrev Holder : Owner
     Holder = holder found.vc found.seating
@@ -192,7 +192,7 @@ module _ (shape : Shape) (store : List (Slot (List Instr))) (directory : Directo
         change.after ∙ ap (set lines found.seating.line) same ∙ set-again lines found.seating.line change.line change.there
 
     -- The line of a connection that has the picked incarnation is the one that was found.
-    line-of : (before : World) → Agrees Old before → (connection : Connection)
+    line-of : (before : World) → CoreAgrees Old before → (connection : Connection)
         → connection_in before.connections found.vc ≡ Some connection → connection.line ≡ found.seating.line
         → Serves change.line found.vc connection (before.judged connection.line)
     line-of before agrees connection known on =
@@ -200,10 +200,10 @@ module _ (shape : Shape) (store : List (Slot (List Instr))) (directory : Directo
         let at : slice_get lines found.seating.line ≡ Some serving.0 =
         subst (λ (n : ℕ). slice_get lines n ≡ Some serving.0) on serving.1 in
         subst (λ (l : LineView). Serves l found.vc connection (before.judged connection.line))
-        (is_same_Some serving.0 change.line (sym at ∙ change.there)) serving.2
+        (same_some serving.0 change.line (sym at ∙ change.there)) serving.2
 
     -- The line isn't the picked connection's.
-    gone : (before : World) → IsSound before → Agrees Old before → is_owned_by change.line.owner Holder ≡ false
+    gone : (before : World) → IsSound before → CoreAgrees Old before → is_owned_by change.line.owner Holder ≡ false
         → (now : Option Connection) → connection_in before.connections found.vc ≡ now
         → picking_refusal before (picking_of found) now ≡ Some Released
     gone before sound agrees other None known = refl
@@ -225,7 +225,7 @@ module _ (shape : Shape) (store : List (Slot (List Instr))) (directory : Directo
         ] in
         choice (connection.incarnation == found.seating.incarnation) refl
 
-    released : (before : World) → IsSound before → Agrees Old before → is_owned_by change.line.owner Holder ≡ false → Result before
+    released : (before : World) → IsSound before → CoreAgrees Old before → is_owned_by change.line.owner Holder ≡ false → Result before
     released before sound agrees other =
         let core : judging_refusal change.line found.vc found.seating found.moment ≡ Some Released =
         ap (λ (b : Bool). cond b (option_map answer_for (line_refusal change.line found.moment)) (Some Released)) other in
@@ -238,7 +238,7 @@ module _ (shape : Shape) (store : List (Slot (List Instr))) (directory : Directo
         ∙ ap (λ (a : Answer). Some (Answered a)) (sym did.0))
 
     -- The line is the picked connection's.
-    held : (before : World) → IsSound before → Agrees Old before → is_owned_by change.line.owner Holder ≡ true → Result before
+    held : (before : World) → IsSound before → CoreAgrees Old before → is_owned_by change.line.owner Holder ≡ true → Result before
     held before sound agrees own =
         let owner : change.line.owner ≡ Some Holder = owned change.line.owner Holder own in
         let of = agrees.lines.owned found.seating.line change.line Holder change.there owner in
@@ -267,7 +267,7 @@ module _ (shape : Shape) (store : List (Slot (List Instr))) (directory : Directo
               let judges = match_none (judging_refusal change.line found.vc found.seating found.moment) Judges Refuses (core ∙ e) change.did in
               let on = taken before sound agrees answer change.line change.next connection change.there of.found of.line serves judges
               (world ∙ ap (option_map Answered) e) in
-              (on.0, on.1, subst (λ (list : List LineView). Agrees (New list) on.0) (sym change.after) on.2)
+              (on.0, on.1, subst (λ (list : List LineView). CoreAgrees (New list) on.0) (sym change.after) on.2)
           | Some why ↦ λ e.
               let did = match_some (judging_refusal change.line found.vc found.seating found.moment) Judges Refuses why (core ∙ e) change.did in
               refused before agrees answer after (unchanged did.1)

@@ -15,14 +15,12 @@ use Rattle.card_core.specs.Log.{Event, Run, Leads}
 use Rattle.card_core.specs.Headline.{codes_loaded, only_of, connection_changed, program_named, programs_named, latest, judgement_told, verdicts_on, verdicts_given, on_line, cells_on, on_connection, cells_of, only_port, port_moved, moves_of, entering, picking, setting_up, HasEntered, StandsSince}
 use Rattle.card_core.proofs.Sound.{IsSound}
 use Rattle.card_core.proofs.GivenOnce.{given-step, code-kept}
-use Rattle.card_core.proofs.Told.{Kept, IsFresh, kept, fresh, IsPickedNow, Tells}
+use Rattle.card_core.proofs.Told.{Kept, IsFresh, kept, fresh, IsPickedNow, StepTold}
 use Rattle.card_core.proofs.Telling.{step-tells}
 use Rattle.card_core.proofs.LookUps.{same_some, replicated}
 use Rattle.card_core.proofs.SoundChanges.{opening-sound}
 use Rattle.card_core.proofs.SoundSteps.{sound-step}
 use Rattle.card_core.proofs.KnowsCodes.{told-more, told-none, latest-append, cut-more, event_of, KnowsCodes, codes-step}
-
--- Connections.
 
 -- A connection was set up, and what was told since then is what it has; but for its program.
 pub record Stood (shape : Shape) (log : List Event) (vc : Vc) (connection : Connection) (ask : Ask) (since : List Event) : Type 0 where
@@ -100,8 +98,6 @@ connection-fresh shape log used vc connection step reply new =
     subst (λ (s : Step). KnowsConnection shape (log ++ event_of s reply ∷ []) vc connection) (sym new.step_is)
     (subst (λ (r : Reply). KnowsConnection shape (log ++ event_of (Setup new.ask) r ∷ []) vc connection) (sym new.reply_is) now)
 
--- Ports.
-
 -- A cell entered, and its port hasn't moved since.
 entered-more : (log : List Event) (port : ℕ) (cell : List ℕ) (moment : ℕ) (step : Step) (reply : Reply)
     → only_port port (port_moved reply step) ≡ [] → HasEntered log port cell moment
@@ -148,7 +144,7 @@ pub record KnowsPick (shape : Shape) (log : List Event) (given : List Loading) (
 
 -- One more event, in which the port doesn't move.
 pick-more : (shape : Shape) (log : List Event) (before after : World) (step : Step) (reply : Reply) (port : ℕ) (pick : Picking)
-    → IsSound before → Tells shape before step reply after
+    → IsSound before → StepTold shape before step reply after
     → ((id : Id) (code : List Instr) → code_in before.given id ≡ Some code → code_in after.given id ≡ Some code)
     → slice_get before.ports port ≡ Some (picked pick) → only_port port (port_moved reply step) ≡ []
     → KnowsPick shape log before.given before.connections port pick
@@ -182,7 +178,7 @@ pick-more shape log before after step reply port pick sound tells keeps_codes ha
 
 -- The event in which the cell is picked.
 pick-now : (shape : Shape) (log : List Event) (before after : World) (step : Step) (reply : Reply) (port : ℕ) (pick : Picking)
-    → Tells shape before step reply after
+    → StepTold shape before step reply after
     → ((id : Id) (code : List Instr) → code_in before.given id ≡ Some code → code_in after.given id ≡ Some code)
     → KnowsCodes log before.given before.live
     → ((vc : Vc) (connection : Connection) → connection_in before.connections vc ≡ Some connection → KnowsConnection shape log vc connection)
@@ -223,8 +219,7 @@ pick-now shape log before after step reply port pick tells keeps_codes codes con
       ];
     }
 
--- All of it.
-
+-- What a log tells of all parts of the world that it leads to.
 pub record Knows (shape : Shape) (log : List Event) (world : World) : Type 0 where
   pub shape_is : world.shape ≡ shape
   pub codes : KnowsCodes log world.given world.live

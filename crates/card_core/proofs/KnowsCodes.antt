@@ -13,9 +13,9 @@ use Rattle.card_core.specs.Log.{Event}
 use Rattle.card_core.specs.Headline.{code_loaded, codes_loaded, code_retired, codes_retired, latest}
 use Rattle.card_core.proofs.Sound.{IsSound}
 use Rattle.card_core.proofs.Told.{StoreTold, store_same, store_loaded, store_retired}
-use Rattle.card_core.proofs.LookUps.{code-cases, without_code-was}
+use Rattle.card_core.proofs.CodeLemmas.{code-cases, without_code-was}
 
--- One after another.
+-- What two logs tell one after the other, their joined log tells.
 
 module _ {X : Type 0} (told : Event → List X) where
   pub told-append : (log later : List Event) → flat_map told (log ++ later) ≡ flat_map told log ++ flat_map told later
@@ -46,8 +46,7 @@ cut-more log earlier later at event cut =
 abbrev pub event_of : Step → Reply → Event
 event_of step reply = record { step = step; reply = reply }
 
--- Codes.
-
+-- What a log tells of the codes that were given and of those that are live.
 pub record KnowsCodes (log : List Event) (given live : List Loading) : Type 0 where
   pub loaded : (id : Id) → codes_loaded id log ≡ option_to_list (code_in given id)
   pub kept : (id : Id) (code : List Instr) → code_in live id ≡ Some code → codes_retired id log ≡ []

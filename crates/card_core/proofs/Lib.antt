@@ -1,6 +1,7 @@
 pub mod Allowed
 pub mod ArrivalSteps
 pub mod CellLemmas
+pub mod CodeLemmas
 pub mod ConnectionLemmas
 pub mod DeskLemmas
 pub mod DeskSteps
@@ -28,7 +29,6 @@ pub mod Sound
 pub mod SoundChanges
 pub mod SoundSteps
 pub mod Spares
-pub mod StaleLemmas
 pub mod Standing
 pub mod StoreLemmas
 pub mod StoreSteps

@@ -1,4 +1,4 @@
--- The agreement of lines and of seats with the connections, after one connection changed.
+-- The agreement of lines and of seatings with the connections, after one connection changed.
 use Rattle.std.proofs.Common.{◌≡◌, ◌≢◌, ℕ, zero, suc, ◌<◌, Bool, Some, None, List, [], ◌∷◌, length, set, refl, sym, ap, subst, ◌∙◌, inl, inr, arith}
 use Rattle.std.specs.Prelude.{slice_get, option_map}
 use Rattle.std.proofs.lemmas.Bool.{cases_eq}
@@ -8,13 +8,14 @@ use Rattle.upc_cell.specs.declared.vc.Vc.{Vc}
 use Rattle.upc_cell.proofs.Public.{vc_cases}
 use Rattle.leaky.specs.declared.verdict.Verdict.{Verdict}
 use Rattle.line_record.specs.declared.owner.Owner.{Owner}
-use Rattle.line_record.specs.Directory.{DirectoryView, seat_of, Sits}
+use Rattle.line_record.specs.Directory.{DirectoryView, seating_at, Sits}
 use Rattle.line_record.specs.Line.{LineView}
 use Rattle.line_record.specs.Tally.{tally_of}
 use Rattle.card_core.specs.declared.shape.Shape.{Shape}
 use Rattle.card_core.specs.World.{Connection, connection_in, without_connection, with_connection}
-use Rattle.card_core.specs.Agreement.{SeatsAgree, LinesAgree, Serves, IsLineOf, seating_of, owner_of}
-use Rattle.card_core.proofs.ConnectionLemmas.{with-here, with-other, without-here, without-other, is_same_Some}
+use Rattle.card_core.specs.Agreement.{SeatingsAgree, LinesAgree, Serves, IsLineOf, seating_of, owner_of}
+use Rattle.card_core.proofs.LookUps.{same_some}
+use Rattle.card_core.proofs.ConnectionLemmas.{with-here, with-others, without-here, without-others}
 
 module _ {X : Type 0} where
   set_there : (xs : List X) (k : ℕ) (x : X) → k < length xs → slice_get (set xs k x) k ≡ Some x
@@ -52,7 +53,7 @@ module _ (shape : Shape) (lines : List LineView) (connections : List (Vc × Conn
     -- What stands at the number now.
     now_there : (k : ℕ) (l : LineView) → slice_get (set lines number next) k ≡ Some l → k ≡ number → next ≡ l
     now_there k l at e =
-        is_same_Some next l (sym here ∙ subst (λ (n : ℕ). slice_get (set lines number next) n ≡ Some l) e at)
+        same_some next l (sym here ∙ subst (λ (n : ℕ). slice_get (set lines number next) n ≡ Some l) e at)
 
     was_there : (k : ℕ) (l : LineView) → slice_get (set lines number next) k ≡ Some l → k ≢ number → slice_get lines k ≡ Some l
     was_there k l at apart = sym (get-set_other lines number k next apart) ∙ at
@@ -91,7 +92,7 @@ module _ (shape : Shape) (lines : List LineView) (connections : List (Vc × Conn
         | inl e ↦
             let Goal : Vc → Connection → Type 0 = λ v x.
             (l : LineView) × (slice_get (set lines number next) x.line ≡ Some l) × Serves l v x (after x.line) in
-            let is : connection ≡ another = is_same_Some connection another (sym (with-here connections vc connection)
+            let is : connection ≡ another = same_some connection another (sym (with-here connections vc connection)
             ∙ subst (λ (v : Vc). connection_in (with_connection connections vc connection) v ≡ Some another) e at) in
             let there : slice_get (set lines number next) connection.line ≡ Some next =
             subst (λ (n : ℕ). slice_get (set lines number next) n ≡ Some next) (sym on) here in
@@ -99,12 +100,12 @@ module _ (shape : Shape) (lines : List LineView) (connections : List (Vc × Conn
             subst (λ (n : ℕ). Serves next vc connection (after n)) (sym on) serves in
             subst (λ (v : Vc). Goal v another) (sym e) (subst (λ (x : Connection). Goal vc x) is (next, there, served))
         | inr away ↦
-            let was = sym (with-other connections vc other connection away) ∙ at in
+            let was = sym (with-others connections vc connection other away) ∙ at in
             serving-other other another was (apart other another away was)
       ];
       owned = λ k l owner at has. elim (cases_eq k number) [
         | inl e ↦
-            let same : owner_of vc connection ≡ owner = is_same_Some (owner_of vc connection) owner
+            let same : owner_of vc connection ≡ owner = same_some (owner_of vc connection) owner
             (sym serves.owner ∙ ap (λ (x : LineView). x.owner) (now_there k l at e) ∙ has) in
             subst (λ (o : Owner). IsLineOf (with_connection connections vc connection) k o) same (record {
               connection = connection;
@@ -119,7 +120,7 @@ module _ (shape : Shape) (lines : List LineView) (connections : List (Vc × Conn
                   (subst (λ (v : Vc). connection_in connections v ≡ Some was.connection) e was.found)))
               | inr away ↦ record {
                 connection = was.connection;
-                found = with-other connections vc owner.vc connection away ∙ was.found;
+                found = with-others connections vc connection owner.vc away ∙ was.found;
                 incarnation = was.incarnation;
                 line = was.line;
               }
@@ -142,7 +143,7 @@ module _ (shape : Shape) (lines : List LineView) (connections : List (Vc × Conn
             ∙ subst (λ (v : Vc). connection_in (without_connection connections vc) v ≡ Some another) e at in
             absurd (cc)
         | inr away ↦
-            let was = sym (without-other connections vc other away) ∙ at in
+            let was = sym (without-others connections vc other away) ∙ at in
             serving-other other another was (apart other another away was)
       ];
       owned = λ k l owner at has. elim (cases_eq k number) [
@@ -156,7 +157,7 @@ module _ (shape : Shape) (lines : List LineView) (connections : List (Vc × Conn
                   (subst (λ (v : Vc). connection_in connections v ≡ Some was.connection) e was.found)))
               | inr away ↦ record {
                 connection = was.connection;
-                found = without-other connections vc owner.vc away ∙ was.found;
+                found = without-others connections vc owner.vc away ∙ was.found;
                 incarnation = was.incarnation;
                 line = was.line;
               }
@@ -195,7 +196,7 @@ lines-ready shape lines connections verdicts agrees number line next there same 
       serving = λ vc connection found. elim (cases_eq connection.line number) [
         | inl on ↦
             let old = agrees.serving vc connection found in
-            let is : old.0 ≡ line = is_same_Some old.0 line (sym old.1 ∙ ap (slice_get lines) on ∙ there) in
+            let is : old.0 ≡ line = same_some old.0 line (sym old.1 ∙ ap (slice_get lines) on ∙ there) in
             let serves : Serves line vc connection (verdicts connection.line) =
             subst (λ (l : LineView). Serves l vc connection (verdicts connection.line)) is old.2 in (
               next,
@@ -216,36 +217,36 @@ lines-ready shape lines connections verdicts agrees number line next there same 
     }
 
 module _ (shape : Shape) (directory : DirectoryView) (connections : List (Vc × Connection)) (used : ℕ)
-    (agrees : SeatsAgree shape directory connections used) where
-  pub seats-with : (vc : Vc) (connection : Connection) (new : DirectoryView) (then : ℕ)
+    (agrees : SeatingsAgree shape directory connections used) where
+  pub seatings-with : (vc : Vc) (connection : Connection) (new : DirectoryView) (then : ℕ)
       → Sits directory vc (Some (seating_of connection)) new → new.used ≡ then
-      → SeatsAgree shape new (with_connection connections vc connection) then
-  seats-with vc connection new then sits used_then = record {
+      → SeatingsAgree shape new (with_connection connections vc connection) then
+  seatings-with vc connection new then sits used_then = record {
     lines = sits.same_lines ∙ agrees.lines;
     used_up = used_then;
-    seats = λ other. elim (vc_cases other vc) [
-      | inl e ↦ subst (λ (v : Vc). seat_of new v ≡ option_map seating_of (connection_in (with_connection connections vc connection) v)) (sym e)
+    seatings = λ other. elim (vc_cases other vc) [
+      | inl e ↦ subst (λ (v : Vc). seating_at new v ≡ option_map seating_of (connection_in (with_connection connections vc connection) v)) (sym e)
           (sits.here ∙ sym (ap (option_map seating_of) (with-here connections vc connection)))
-      | inr away ↦ sits.others other away ∙ agrees.seats other
-          ∙ ap (option_map seating_of) (sym (with-other connections vc other connection away))
+      | inr away ↦ sits.others other away ∙ agrees.seatings other
+          ∙ ap (option_map seating_of) (sym (with-others connections vc connection other away))
     ];
   }
 
-  -- A connection that changed nothing of its seat.
-  pub seats-kept : (vc : Vc) (connection : Connection) → seat_of directory vc ≡ Some (seating_of connection)
-      → SeatsAgree shape directory (with_connection connections vc connection) used
-  seats-kept vc connection sits = seats-with vc connection directory used
+  -- A connection that changed nothing of its seating.
+  pub seatings-kept : (vc : Vc) (connection : Connection) → seating_at directory vc ≡ Some (seating_of connection)
+      → SeatingsAgree shape directory (with_connection connections vc connection) used
+  seatings-kept vc connection sits = seatings-with vc connection directory used
       (record { here = sits; others = λ other away. refl; same_lines = refl }) agrees.used_up
 
-  pub seats-without : (vc : Vc) (new : DirectoryView) → Sits directory vc None new → new.used ≡ directory.used
-      → SeatsAgree shape new (without_connection connections vc) used
-  seats-without vc new sits same = record {
+  pub seatings-without : (vc : Vc) (new : DirectoryView) → Sits directory vc None new → new.used ≡ directory.used
+      → SeatingsAgree shape new (without_connection connections vc) used
+  seatings-without vc new sits same = record {
     lines = sits.same_lines ∙ agrees.lines;
     used_up = same ∙ agrees.used_up;
-    seats = λ other. elim (vc_cases other vc) [
-      | inl e ↦ subst (λ (v : Vc). seat_of new v ≡ option_map seating_of (connection_in (without_connection connections vc) v)) (sym e)
+    seatings = λ other. elim (vc_cases other vc) [
+      | inl e ↦ subst (λ (v : Vc). seating_at new v ≡ option_map seating_of (connection_in (without_connection connections vc) v)) (sym e)
           (sits.here ∙ sym (ap (option_map seating_of) (without-here connections vc)))
-      | inr away ↦ sits.others other away ∙ agrees.seats other
-          ∙ ap (option_map seating_of) (sym (without-other connections vc other away))
+      | inr away ↦ sits.others other away ∙ agrees.seatings other
+          ∙ ap (option_map seating_of) (sym (without-others connections vc other away))
     ];
   }

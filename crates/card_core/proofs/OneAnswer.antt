@@ -135,8 +135,6 @@ one-standing log vc ask other since later one another =
     one.standing another.standing (sym one.cut ∙ another.cut) in
     (one_ask ask other one.incarnation another.incarnation cut.events, cut.ends)
 
--- One answer.
-
 code_in_list : List Instr → List (List Instr) → List Instr
 code_in_list default [] = default
 code_in_list default (code ∷ later) = code

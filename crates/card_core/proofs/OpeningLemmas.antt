@@ -12,7 +12,7 @@ use Rattle.card_core.specs.declared.port.Port.{Port}
 use Rattle.card_core.specs.declared.port.Port.TheVariants.{Outside}
 use Rattle.card_core.specs.declared.shape.Shape.{Shape}
 use Rattle.card_core.specs.World.{opening_world, outside, PortState}
-use Rattle.card_core.specs.Agreement.{Agrees}
+use Rattle.card_core.specs.Agreement.{CoreAgrees}
 use Rattle.card_core.specs.inner.Ports.{states_of, found_in, IsCore}
 use Rattle.card_core.proofs.PortLemmas.{core_of}
 
@@ -52,7 +52,7 @@ no-value n id =
 pub opening-agrees : (shape : Shape) (store : List (Slot (List Instr))) (directory : DirectoryView) (lines : List LineView) (ports : List Port)
     → store ≡ unused_slots shape.programs 0 → IsEmpty directory shape.lines 1
     → lines ≡ replicate shape.lines (free_line shape.journal nothing false) → ports ≡ replicate shape.ports Outside
-    → Agrees (core_of shape store directory lines ports) (opening_world shape)
+    → CoreAgrees (core_of shape store directory lines ports) (opening_world shape)
 opening-agrees shape store directory lines ports stored empty free idle =
     let line : LineView = free_line shape.journal nothing false in
     let is : (k : ℕ) (l : LineView) → slice_get lines k ≡ Some l → line ≡ l =
@@ -64,10 +64,10 @@ opening-agrees shape store directory lines ports stored empty free idle =
         generations = λ slot. ap (λ (slots : List (Slot (List Instr))). generation_at slots slot) stored ∙ no-generation shape.programs slot;
         values = λ id. ap (λ (slots : List (Slot (List Instr))). live_value slots id) stored ∙ no-value shape.programs id;
       };
-      seats = record {
+      seatings = record {
         lines = empty.lines;
         used_up = let next = empty.used in omega (arith, next);
-        seats = empty.empty;
+        seatings = empty.empty;
       };
       lines = record {
         sized = ap length free ∙ length_replicated shape.lines line;

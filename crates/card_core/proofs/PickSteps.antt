@@ -7,7 +7,7 @@ use Rattle.upc_cell.specs.declared.vc.Vc.{Vc}
 use Rattle.upc_cell.specs.Connection.{vc_of}
 use Rattle.bpf_code.specs.declared.instr.Instr.{Instr}
 use Rattle.line_record.specs.declared.directory.Seating.{Seating}
-use Rattle.line_record.specs.Directory.{DirectoryView, seat_of}
+use Rattle.line_record.specs.Directory.{DirectoryView, seating_at}
 use Rattle.line_record.specs.Line.{LineView}
 use Rattle.card_core.specs.declared.answer.Answer.{Answer}
 use Rattle.card_core.specs.declared.answer.Answer.TheVariants.{Judged, NoConnection, Released, Stale, MomentBack, MomentTooLate, JournalFull, NoMemory}
@@ -21,12 +21,12 @@ use Rattle.card_core.specs.declared.shape.Shape.{Shape}
 use Rattle.card_core.specs.World.{World, Connection, Picking, PortState, outside, entered, picked, with_port, connection_in, code_in}
 use Rattle.card_core.specs.Refusals.{refusal, pick_refusal}
 use Rattle.card_core.specs.Steps.{picking_of as picking_at}
-use Rattle.card_core.specs.Agreement.{CoreView, Agrees, Follows, seating_of}
+use Rattle.card_core.specs.Agreement.{CoreView, CoreAgrees, Follows, seating_of}
 use Rattle.card_core.specs.inner.Ports.{came_in, picking_of}
 use Rattle.card_core.specs.inner.Parts.{IsFound, IsMissed}
 use Rattle.card_core.proofs.Follow.{follows, step-refused, step-taken}
-use Rattle.card_core.proofs.ConnectionLemmas.{map_some, map_none}
-use Rattle.card_core.proofs.PortLemmas.{core_of, came, Agrees-moved}
+use Rattle.card_core.proofs.LookUps.{mapped, unmapped}
+use Rattle.card_core.proofs.PortLemmas.{core_of, came, CoreAgrees-moved}
 use Rattle.card_core.proofs.PortSteps.{at-port}
 
 -- An entered cell whose connection is there isn't refused.
@@ -50,14 +50,14 @@ same-picking : (found : Found) (cell : List ℕ) (moment : ℕ) (vc : Vc) (conne
     → found.named.cell ≡ cell → found.moment ≡ moment → found.vc ≡ vc → seating_of connection ≡ found.seating
     → found.named.program ≡ found.seating.program
     → picking_of found ≡ picking_at cell moment vc connection found.named.value
-same-picking found cell moment vc connection cells moments vcs seats programs =
-    let Of : Seating → Picking = λ seat. record {
+same-picking found cell moment vc connection cells moments vcs seatings programs =
+    let Of : Seating → Picking = λ seating. record {
       cell = cell;
       moment = moment;
       vc = vc;
-      incarnation = seat.incarnation;
-      line = seat.line;
-      program = seat.program;
+      incarnation = seating.incarnation;
+      line = seating.line;
+      program = seating.program;
       value = found.named.value;
     } in
     let first : picking_of found ≡ Of found.seating = λ i. record {
@@ -69,14 +69,14 @@ same-picking found cell moment vc connection cells moments vcs seats programs =
       program = programs i;
       value = found.named.value;
     } in
-    first ∙ ap Of (sym seats)
+    first ∙ ap Of (sym seatings)
 
 module _ (shape : Shape) (store : List (Slot (List Instr))) (directory : DirectoryView) (lines : List LineView) (ports : List Port) (port : ℕ)
     (here : Came) (there : came_in (slice_get ports port) ≡ Some here) where
   abbrev Old : CoreView
   Old = core_of shape store directory lines ports
 
-  had : (before : World) → Agrees Old before → slice_get before.ports port ≡ Some (entered here.cell here.moment)
+  had : (before : World) → CoreAgrees Old before → slice_get before.ports port ≡ Some (entered here.cell here.moment)
   had before agrees = at-port shape store directory lines ports port before agrees ∙ came (slice_get ports port) here there
 
   pub pick-goes : (found : Found) → IsFound store directory shape.side here found
@@ -85,15 +85,15 @@ module _ (shape : Shape) (store : List (Slot (List Instr))) (directory : Directo
       let vc : Vc = vc_of before.shape.side here.cell in
       let same_vc : found.vc ≡ vc = is.own ∙ ap (λ (s : Shape). vc_of s.side here.cell) agrees.shape in
       let sits : option_map seating_of (connection_in before.connections vc) ≡ Some found.seating =
-      sym (agrees.seats.seats vc) ∙ subst (λ (v : Vc). seat_of directory v ≡ Some found.seating) same_vc is.sits in
-      let known = map_some seating_of (connection_in before.connections vc) found.seating sits in
+      sym (agrees.seatings.seatings vc) ∙ subst (λ (v : Vc). seating_at directory v ≡ Some found.seating) same_vc is.sits in
+      let known = mapped seating_of (connection_in before.connections vc) found.seating sits in
       let connection : Connection = known.0 in
-      let same_program : found.seating.program ≡ connection.program = ap (λ (s : Seating). s.program) (sym known.2) in
+      let same_program : found.seating.program ≡ connection.program = ap (λ (s : Seating). s.program) known.2 in
       let live : code_in before.live connection.program ≡ Some is.naming.code =
       subst (λ (id : Id). code_in before.live id ≡ Some is.naming.code) same_program
       (sym (agrees.store.values found.seating.program) ∙ is.naming.live) in
       let same : picking_of found ≡ picking_at here.cell here.moment vc connection found.named.value =
-      same-picking found here.cell here.moment vc connection is.naming.same is.moment same_vc known.2 is.naming.program in
+      same-picking found here.cell here.moment vc connection is.naming.same is.moment same_vc (sym known.2) is.naming.program in
       let taken : refusal before (Pick port) ≡ None =
       found-not_refused before (slice_get before.ports port) here.cell here.moment connection (had before agrees) known.1 in
       let state : PortState = picked (picking_at here.cell here.moment vc connection found.named.value) in
@@ -112,7 +112,7 @@ module _ (shape : Shape) (store : List (Slot (List Instr))) (directory : Directo
           answer = refl;
           world = refl;
         }),
-        Agrees-moved shape store directory lines ports before port (PickedPort found) state (ap picked same) agrees,
+        CoreAgrees-moved shape store directory lines ports before port (PickedPort found) state (ap picked same) agrees,
       ))
 
   pub pick-missed : (answer : Answer) → IsMissed store directory (vc_of shape.side here.cell) answer
@@ -120,24 +120,24 @@ module _ (shape : Shape) (store : List (Slot (List Instr))) (directory : Directo
   pick-missed (Judged line number moment value program verdict cell) missed = absurd missed
   pick-missed NoConnection missed = follows Old _ (Pick port) (Answered NoConnection) (λ before sound agrees.
       let none : connection_in before.connections (vc_of before.shape.side here.cell) ≡ None =
-      map_none seating_of (connection_in before.connections (vc_of before.shape.side here.cell))
-      (sym (agrees.seats.seats (vc_of before.shape.side here.cell))
-      ∙ subst (λ (s : Shape). seat_of directory (vc_of s.side here.cell) ≡ None) agrees.shape missed) in
+      unmapped seating_of (connection_in before.connections (vc_of before.shape.side here.cell))
+      (sym (agrees.seatings.seatings (vc_of before.shape.side here.cell))
+      ∙ subst (λ (s : Shape). seating_at directory (vc_of s.side here.cell) ≡ None) agrees.shape missed) in
       let refused : refusal before (Pick port) ≡ Some (Answered NoConnection) =
       missed-refused before (slice_get before.ports port) here.cell here.moment (had before agrees) none in (
         with_port before port outside,
         step-refused before (Pick port) (Answered NoConnection) refused,
-        Agrees-moved shape store directory lines ports before port Outside outside refl agrees,
+        CoreAgrees-moved shape store directory lines ports before port Outside outside refl agrees,
       ))
   pick-missed Released missed = absurd missed
   pick-missed Stale missed = follows Old _ (Pick port) (Answered Stale) (λ before sound agrees.
       let vc : Vc = vc_of before.shape.side here.cell in
-      let at : seat_of directory vc ≡ Some missed.0 =
-      subst (λ (s : Shape). seat_of directory (vc_of s.side here.cell) ≡ Some missed.0) agrees.shape missed.1 in
-      let known = map_some seating_of (connection_in before.connections vc) missed.0 (sym (agrees.seats.seats vc) ∙ at) in
+      let at : seating_at directory vc ≡ Some missed.0 =
+      subst (λ (s : Shape). seating_at directory (vc_of s.side here.cell) ≡ Some missed.0) agrees.shape missed.1 in
+      let known = mapped seating_of (connection_in before.connections vc) missed.0 (sym (agrees.seatings.seatings vc) ∙ at) in
       let live : IsSome (code_in before.live known.0.program) = (sound.connections.each vc known.0 known.1).named_live in
       let none : code_in before.live known.0.program ≡ None =
-      ap (code_in before.live) (ap (λ (s : Seating). s.program) known.2)
+      ap (code_in before.live) (ap (λ (s : Seating). s.program) (sym known.2))
       ∙ sym (agrees.store.values missed.0.program) ∙ missed.2 in
       absurd (cc))
   pick-missed (MomentBack last) missed = absurd missed

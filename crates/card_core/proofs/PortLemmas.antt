@@ -16,7 +16,7 @@ use Rattle.card_core.specs.declared.reply.Reply.TheVariants.{NotNow}
 use Rattle.card_core.specs.declared.shape.Shape.{Shape}
 use Rattle.card_core.specs.World.{World, PortState, outside, entered, picked, with_port}
 use Rattle.card_core.specs.Refusals.{enter_refusal, pick_refusal, judge_refusal}
-use Rattle.card_core.specs.Agreement.{CoreView, Agrees}
+use Rattle.card_core.specs.Agreement.{CoreView, CoreAgrees}
 use Rattle.card_core.proofs.LineLemmas.{get-set_other}
 use Rattle.card_core.specs.inner.Ports.{state_of, states_of, picking_of, is_idle, came_in, found_in, IsCore}
 
@@ -83,13 +83,13 @@ pub moved : (ports : List Port) (states : List PortState) (port : ℕ) (next : P
 moved ports states port next e =
     map-set state_of ports port next ∙ ap (λ (s : List PortState). slice_set s port (state_of next)) e
 
-pub Agrees-moved : (shape : Shape) (store : List (Slot (List Instr))) (directory : DirectoryView) (lines : List LineView) (ports : List Port) (world : World)
-    (port : ℕ) (next : Port) (state : PortState) → state_of next ≡ state → Agrees (core_of shape store directory lines ports) world
-    → Agrees (core_of shape store directory lines (slice_set ports port next)) (with_port world port state)
-Agrees-moved shape store directory lines ports world port next state same agrees = record {
+pub CoreAgrees-moved : (shape : Shape) (store : List (Slot (List Instr))) (directory : DirectoryView) (lines : List LineView) (ports : List Port) (world : World)
+    (port : ℕ) (next : Port) (state : PortState) → state_of next ≡ state → CoreAgrees (core_of shape store directory lines ports) world
+    → CoreAgrees (core_of shape store directory lines (slice_set ports port next)) (with_port world port state)
+CoreAgrees-moved shape store directory lines ports world port next state same agrees = record {
   shape = agrees.shape;
   store = agrees.store;
-  seats = agrees.seats;
+  seatings = agrees.seatings;
   lines = agrees.lines;
   ports = moved ports world.ports port next agrees.ports ∙ ap (slice_set world.ports port) same;
 }

@@ -13,17 +13,17 @@ use Rattle.card_core.specs.declared.step.Step.TheVariants.{Enter, Pick, Judge}
 use Rattle.card_core.specs.declared.shape.Shape.{Shape}
 use Rattle.card_core.specs.World.{World, PortState, outside, entered, with_port}
 use Rattle.card_core.specs.Refusals.{refusal, enter_refusal, pick_refusal, judge_refusal}
-use Rattle.card_core.specs.Agreement.{CoreView, Agrees, Follows}
+use Rattle.card_core.specs.Agreement.{CoreView, CoreAgrees, Follows}
 use Rattle.card_core.specs.inner.Ports.{state_of, is_idle, came_in, found_in}
 use Rattle.card_core.proofs.Follow.{follows, step-refused, step-taken}
-use Rattle.card_core.proofs.PortLemmas.{core_of, state-at, idle, not_idle, not_came, not_found, Agrees-moved}
+use Rattle.card_core.proofs.PortLemmas.{core_of, state-at, idle, not_idle, not_came, not_found, CoreAgrees-moved}
 
 module _ (shape : Shape) (store : List (Slot (List Instr))) (directory : DirectoryView) (lines : List LineView) (ports : List Port) (port : ℕ) where
   abbrev Old : CoreView
   Old = core_of shape store directory lines ports
 
   -- What the world has of the port.
-  pub at-port : (before : World) → Agrees Old before → slice_get before.ports port ≡ option_map state_of (slice_get ports port)
+  pub at-port : (before : World) → CoreAgrees Old before → slice_get before.ports port ≡ option_map state_of (slice_get ports port)
   at-port before agrees = ap (λ (states : List PortState). slice_get states port) (sym agrees.ports) ∙ state-at ports port
 
   pub enter-not : (cell : List ℕ) (moment : ℕ) → is_idle (slice_get ports port) ≡ false → Follows Old (Enter port cell moment) NotNow Old
@@ -52,5 +52,5 @@ module _ (shape : Shape) (store : List (Slot (List Instr))) (directory : Directo
       let after : World = with_port before port (entered here.cell here.moment) in (
         after,
         step-taken before after (Enter port here.cell here.moment) Entered taken (record { answer = refl; world = refl }),
-        Agrees-moved shape store directory lines ports before port (EnteredPort here) (entered here.cell here.moment) refl agrees,
+        CoreAgrees-moved shape store directory lines ports before port (EnteredPort here) (entered here.cell here.moment) refl agrees,
       ))

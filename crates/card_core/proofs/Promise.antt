@@ -26,7 +26,7 @@ use Rattle.card_core.proofs.TellingRefusals.{CellRefused, at_no_time, with_answe
 use Rattle.card_core.proofs.KnowsCodes.{told-append}
 use Rattle.card_core.proofs.Knows.{Knows, KnowsPick, leads-knows}
 
--- Runs in two parts.
+-- A run along two logs passes through a world between them.
 
 pub run-parts : (before : World) (log further : List Event) (after : World) → Run before (log ++ further) after
     → (world : World) × Run before log world × Run world further after
@@ -34,8 +34,6 @@ run-parts before [] further after run = (before, refl, run)
 run-parts before (event ∷ log) further after run =
     let rest = run-parts run.0 log further after run.2 in
     (rest.0, (run.0, run.1, rest.1), rest.2)
-
--- Live throughout.
 
 nothing-joined : {X : Type 0} (xs ys : List X) → xs ++ ys ≡ [] → xs ≡ []
 nothing-joined [] ys e = refl

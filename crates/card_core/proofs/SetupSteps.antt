@@ -9,7 +9,7 @@ use Rattle.upc_cell.specs.declared.vc.Vc.{Vc}
 use Rattle.bpf_code.specs.declared.instr.Instr.{Instr}
 use Rattle.line_record.specs.declared.owner.Owner.{Owner}
 use Rattle.line_record.specs.declared.directory.Seating.{Seating}
-use Rattle.line_record.specs.Directory.{DirectoryView, seat_of, Sits, IsOpenLine, IsTakenLine}
+use Rattle.line_record.specs.Directory.{DirectoryView, seating_at, Sits, IsOpenLine, IsTakenLine}
 use Rattle.line_record.specs.Line.{LineView}
 use Rattle.line_record.specs.Tally.{tally_of}
 use Rattle.card_core.specs.declared.ask.Ask.{Ask}
@@ -23,14 +23,14 @@ use Rattle.card_core.specs.declared.shape.Shape.{Shape}
 use Rattle.card_core.specs.World.{World, Connection, code_in, connection_in, with_connection, any_below, is_open_line}
 use Rattle.card_core.specs.Refusals.{setup_fault}
 use Rattle.card_core.specs.Steps.{WorldStep, new_connection}
-use Rattle.card_core.specs.Agreement.{CoreView, Agrees, Follows, LinesAgree, SeatsAgree, seating_of}
+use Rattle.card_core.specs.Agreement.{CoreView, CoreAgrees, Follows, LinesAgree, SeatingsAgree, seating_of}
 use Rattle.card_core.specs.Sections.{Admits, IsUnfit, IsUnready}
 use Rattle.card_core.specs.inner.Parts.{ChangesLine, SetsUpOrRefuses, IsSetUp}
 use Rattle.card_core.proofs.Sound.{IsSound}
 use Rattle.card_core.proofs.Follow.{follows, step-refused, step-taken, step-without_memory}
-use Rattle.card_core.proofs.ConnectionLemmas.{map_some, map_none}
-use Rattle.card_core.proofs.LookUps.{connection_passes, there_is}
-use Rattle.card_core.proofs.LineLemmas.{Change, lines-with, lines-ready, seats-with}
+use Rattle.card_core.proofs.LookUps.{mapped, unmapped, there_is}
+use Rattle.card_core.proofs.ConnectionLemmas.{connection_passes}
+use Rattle.card_core.proofs.LineLemmas.{Change, lines-with, lines-ready, seatings-with}
 use Rattle.card_core.proofs.StoreLemmas.{below-passes, below-fails}
 use Rattle.card_core.proofs.StoreSteps.{tested-connection}
 use Rattle.card_core.proofs.DeskLemmas.{open-serves}
@@ -62,25 +62,25 @@ module _ (shape : Shape) (store : List (Slot (List Instr))) (directory : Directo
       ∙ ap (λ t. fault_by dead taken empty room t) e
 
   -- What the tests say of what the core has.
-  is-dead : (before : World) → Agrees Old before → live_value store ask.program ≡ None → is_none (code_in before.live ask.program) ≡ true
+  is-dead : (before : World) → CoreAgrees Old before → live_value store ask.program ≡ None → is_none (code_in before.live ask.program) ≡ true
   is-dead before agrees gone = ap is_none (sym (agrees.store.values ask.program) ∙ gone)
 
-  is-live : (before : World) → Agrees Old before → IsLive store ask.program → is_none (code_in before.live ask.program) ≡ false
+  is-live : (before : World) → CoreAgrees Old before → IsLive store ask.program → is_none (code_in before.live ask.program) ≡ false
   is-live before agrees live =
       let there = there_is (live_value store ask.program) live in
       ap is_none (sym (agrees.store.values ask.program) ∙ there.1)
 
-  is-taken : (before : World) → Agrees Old before → IsSome (seat_of directory ask.vc) → is_some (connection_in before.connections ask.vc) ≡ true
+  is-taken : (before : World) → CoreAgrees Old before → IsSome (seating_at directory ask.vc) → is_some (connection_in before.connections ask.vc) ≡ true
   is-taken before agrees has =
-      let there = there_is (seat_of directory ask.vc) has in
-      let known = map_some seating_of (connection_in before.connections ask.vc) there.0 (sym (agrees.seats.seats ask.vc) ∙ there.1) in
+      let there = there_is (seating_at directory ask.vc) has in
+      let known = mapped seating_of (connection_in before.connections ask.vc) there.0 (sym (agrees.seatings.seatings ask.vc) ∙ there.1) in
       ap is_some known.1
 
-  absent : (before : World) → Agrees Old before → seat_of directory ask.vc ≡ None → connection_in before.connections ask.vc ≡ None
+  absent : (before : World) → CoreAgrees Old before → seating_at directory ask.vc ≡ None → connection_in before.connections ask.vc ≡ None
   absent before agrees none =
-      map_none seating_of (connection_in before.connections ask.vc) (sym (agrees.seats.seats ask.vc) ∙ none)
+      unmapped seating_of (connection_in before.connections ask.vc) (sym (agrees.seatings.seatings ask.vc) ∙ none)
 
-  line-open : (before : World) → IsSound before → Agrees Old before → (line : ℕ) → IsOpenLine directory line → is_open_line before line ≡ true
+  line-open : (before : World) → IsSound before → CoreAgrees Old before → (line : ℕ) → IsOpenLine directory line → is_open_line before line ≡ true
   line-open before sound agrees line free =
       let test : (Vc × Connection) → Bool = λ here. here.1.line == line in
       let choice : (b : Bool) → list_any test before.connections ≡ b → not b ≡ true = elim [
@@ -88,16 +88,16 @@ module _ (shape : Shape) (store : List (Slot (List Instr))) (directory : Directo
             let found = tested-connection before.connections test e in
             let known = sound.connections.once found.0 found.1 in
             let at : found.0.1.line ≡ line = (Decides-eqb found.0.1.line line).0 found.2 in
-            absurd (free found.0.0 (seating_of found.0.1) (agrees.seats.seats found.0.0 ∙ ap (option_map seating_of) known) at)
+            absurd (free found.0.0 (seating_of found.0.1) (agrees.seatings.seatings found.0.0 ∙ ap (option_map seating_of) known) at)
         | false ↦ λ e. refl
       ] in
       ap not refl ∙ choice (list_any test before.connections) refl
 
-  line-taken : (before : World) → Agrees Old before → (line : ℕ) → IsTakenLine directory line → is_open_line before line ≡ false
+  line-taken : (before : World) → CoreAgrees Old before → (line : ℕ) → IsTakenLine directory line → is_open_line before line ≡ false
   line-taken before agrees line taken =
-      let known = map_some seating_of (connection_in before.connections taken.vc) taken.seat
-      (sym (agrees.seats.seats taken.vc) ∙ taken.sits) in
-      let at : known.0.line ≡ line = ap (λ (seat : Seating). seat.line) known.2 ∙ taken.there in
+      let known = mapped seating_of (connection_in before.connections taken.vc) taken.seating
+      (sym (agrees.seatings.seatings taken.vc) ∙ taken.sits) in
+      let at : known.0.line ≡ line = ap (λ (seating : Seating). seating.line) (sym known.2) ∙ taken.there in
       ap not (connection_passes (λ (here : Vc × Connection). here.1.line == line) before.connections taken.vc known.0 known.1
       (λ other. (Decides-eqb known.0.line line).1 at))
 
@@ -113,19 +113,19 @@ module _ (shape : Shape) (store : List (Slot (List Instr))) (directory : Directo
   unworn-is : (n : ℕ) → n < 2 ^ 62 → nat_le (2 ^ 62) n ≡ false
   unworn-is n e = grind (arith, nat_tests)
 
-  no-room : (before : World) → Agrees Old before → ((line : ℕ) → line < directory.lines → IsTakenLine directory line)
+  no-room : (before : World) → CoreAgrees Old before → ((line : ℕ) → line < directory.lines → IsTakenLine directory line)
       → any_below before.shape.lines (is_open_line before) ≡ false
   no-room before agrees all =
       below-fails before.shape.lines (is_open_line before)
-      (λ line within. line-taken before agrees line (all line (omega (arith, within, agrees.seats.lines))))
+      (λ line within. line-taken before agrees line (all line (omega (arith, within, agrees.seatings.lines))))
 
-  some-room : (before : World) → IsSound before → Agrees Old before → (line : ℕ) → line < directory.lines → IsOpenLine directory line
+  some-room : (before : World) → IsSound before → CoreAgrees Old before → (line : ℕ) → line < directory.lines → IsOpenLine directory line
       → any_below before.shape.lines (is_open_line before) ≡ true
   some-room before sound agrees line within free =
-      below-passes before.shape.lines (is_open_line before) line (omega (arith, within, agrees.seats.lines))
+      below-passes before.shape.lines (is_open_line before) line (omega (arith, within, agrees.seatings.lines))
       (line-open before sound agrees line free)
 
-  unfit-is : (before : World) → IsSound before → Agrees Old before → (fault : DeskFault) → IsUnfit store directory ask fault
+  unfit-is : (before : World) → IsSound before → CoreAgrees Old before → (fault : DeskFault) → IsUnfit store directory ask fault
       → setup_fault before ask ≡ Some fault
   unfit-is before sound agrees NoProgram why =
       tests-are before true (is_some (connection_in before.connections ask.vc)) (length ask.contracts.items == 0)
@@ -145,7 +145,7 @@ module _ (shape : Shape) (store : List (Slot (List Instr))) (directory : Directo
   unfit-is before sound agrees Exhausted why =
       tests-are before false false false true true
       (is-live before agrees why.0) (ap is_some (absent before agrees why.1)) (some-is (length ask.contracts.items) why.2)
-      (some-room before sound agrees why.3.0 why.3.1 why.3.2) (worn-is before.used (sym agrees.seats.used_up ∙ why.4))
+      (some-room before sound agrees why.3.0 why.3.1 why.3.2) (worn-is before.used (sym agrees.seatings.used_up ∙ why.4))
   unfit-is before sound agrees BadContracts why =
       tests-are before false false true
       (any_below before.shape.lines (is_open_line before)) (nat_le (2 ^ 62) before.used)
@@ -161,12 +161,12 @@ module _ (shape : Shape) (store : List (Slot (List Instr))) (directory : Directo
     agrees,
   ))
 
-  fit-is : (before : World) → IsSound before → Agrees Old before → (line : ℕ) → Admits store directory ask line → setup_fault before ask ≡ None
+  fit-is : (before : World) → IsSound before → CoreAgrees Old before → (line : ℕ) → Admits store directory ask line → setup_fault before ask ≡ None
   fit-is before sound agrees line admits =
       tests-are before false false false true false
       (is-live before agrees admits.live) (ap is_some (absent before agrees admits.new)) (some-is (length ask.contracts.items) admits.some)
       (some-room before sound agrees line admits.within admits.free)
-      (unworn-is before.used (omega (arith, agrees.seats.used_up, admits.unworn)))
+      (unworn-is before.used (omega (arith, agrees.seatings.used_up, admits.unworn)))
 
   module _ (number : ℕ) (admits : Admits store directory ask number) (new : DirectoryView) (result : Result Owner (DeskFault × Ask))
       (after : List LineView) (change : ChangesLine lines number (SetsUpOrRefuses directory new number ask result) after) where
@@ -178,7 +178,7 @@ module _ (shape : Shape) (store : List (Slot (List Instr))) (directory : Directo
         subst (λ (r : Result Owner (DeskFault × Ask)). SetsUpOrRefuses directory new number ask r line next) is change.did in
         let connection : Connection = new_connection ask number (before.used + 1) in
         let given : owner ≡ record { vc = ask.vc; incarnation = before.used + 1 } =
-        did.given ∙ ap (λ (n : ℕ). record { vc = ask.vc; incarnation = n + 1 }) agrees.seats.used_up in
+        did.given ∙ ap (λ (n : ℕ). record { vc = ask.vc; incarnation = n + 1 }) agrees.seatings.used_up in
         let counts : line.state.counts ≡ tally_of (before.judged number) = agrees.lines.counts number line change.there in
         let none = absent before agrees admits.new in
         let changed : Change before.shape lines before.connections before.judged agrees.lines number line next before.judged = record {
@@ -189,20 +189,20 @@ module _ (shape : Shape) (store : List (Slot (List Instr))) (directory : Directo
         } in
         let lines_after = lines-with before.shape lines before.connections before.judged agrees.lines number line next before.judged changed
         ask.vc connection refl (open-serves ask number (before.used + 1) line next owner (before.judged number) given did.opened did.history counts)
-        (λ other another apart found. admits.free other (seating_of another) (agrees.seats.seats other ∙ ap (option_map seating_of) found))
+        (λ other another apart found. admits.free other (seating_of another) (agrees.seatings.seatings other ∙ ap (option_map seating_of) found))
         (λ old found. let is_none : None ≡ Some old = sym none ∙ found in absurd (cc)) in
         let world : World = record before {
           connections = with_connection before.connections ask.vc connection;
           used = before.used + 1;
         } in
-        let seat : Sits directory ask.vc (Some (seating_of connection)) new =
+        let seating : Sits directory ask.vc (Some (seating_of connection)) new =
         subst (λ (n : ℕ). Sits directory ask.vc (Some (record { line = number; incarnation = n + 1; program = ask.program })) new)
-        agrees.seats.used_up did.seat in (
+        agrees.seatings.used_up did.seating in (
           world,
           step-taken before world (Setup ask) (SetUp owner)
               (ap (option_map (λ f. NotSetUp f ask)) (fit-is before sound agrees number admits)) (record {
                 line = number;
-                within = omega (arith, admits.within, agrees.seats.lines);
+                within = omega (arith, admits.within, agrees.seatings.lines);
                 open_line = line-open before sound agrees number admits.free;
                 answer = ap SetUp given;
                 world = refl;
@@ -210,8 +210,8 @@ module _ (shape : Shape) (store : List (Slot (List Instr))) (directory : Directo
           record {
             shape = agrees.shape;
             store = agrees.store;
-            seats = seats-with before.shape directory before.connections before.used agrees.seats ask.vc connection new (before.used + 1)
-                seat (did.used ∙ ap (λ (n : ℕ). n + 1) agrees.seats.used_up);
+            seatings = seatings-with before.shape directory before.connections before.used agrees.seatings ask.vc connection new (before.used + 1)
+                seating (did.used ∙ ap (λ (n : ℕ). n + 1) agrees.seatings.used_up);
             lines = subst (λ (list : List LineView). LinesAgree before.shape list (with_connection before.connections ask.vc connection) before.judged)
                 (sym change.after) lines_after;
             ports = agrees.ports;
@@ -219,7 +219,7 @@ module _ (shape : Shape) (store : List (Slot (List Instr))) (directory : Directo
         ))
 
     -- A line that is no connection's is free.
-    only-memory : (before : World) → Agrees Old before → (fault : DeskFault) → IsUnready change.line fault → fault ≡ NoMemory
+    only-memory : (before : World) → CoreAgrees Old before → (fault : DeskFault) → IsUnready change.line fault → fault ≡ NoMemory
     only-memory before agrees NoProgram why = absurd why
     only-memory before agrees NoConnection why = absurd why
     only-memory before agrees Taken why = absurd why
@@ -233,7 +233,7 @@ module _ (shape : Shape) (store : List (Slot (List Instr))) (directory : Directo
     only-memory before agrees Stale why =
         let held = there_is change.line.owner why in
         let of = agrees.lines.owned number change.line held.0 change.there held.1 in
-        absurd (admits.free held.0.vc (seating_of of.connection) (agrees.seats.seats held.0.vc ∙ ap (option_map seating_of) of.found) of.line)
+        absurd (admits.free held.0.vc (seating_of of.connection) (agrees.seatings.seatings held.0.vc ∙ ap (option_map seating_of) of.found) of.line)
 
     pub setup-refused : (fault : DeskFault) (returned : Ask) → result ≡ Err (fault, returned)
         → Follows Old (Setup ask) (NotSetUp fault returned) (core_of shape store new after ports)
@@ -249,7 +249,7 @@ module _ (shape : Shape) (store : List (Slot (List Instr))) (directory : Directo
           record {
             shape = agrees.shape;
             store = agrees.store;
-            seats = subst (λ (d : DirectoryView). SeatsAgree before.shape d before.connections before.used) (sym did.2) agrees.seats;
+            seatings = subst (λ (d : DirectoryView). SeatingsAgree before.shape d before.connections before.used) (sym did.2) agrees.seatings;
             lines = subst (λ (list : List LineView). LinesAgree before.shape list before.connections before.judged) (sym change.after)
                 (lines-ready before.shape lines before.connections before.judged agrees.lines number change.line change.next change.there did.3);
             ports = agrees.ports;

@@ -9,7 +9,8 @@ use Rattle.leaky.specs.declared.verdict.Verdict.{Verdict}
 use Rattle.card_core.specs.declared.shape.Shape.{Shape}
 use Rattle.card_core.specs.World.{World, Loading, Connection, Picking, PortState, outside, entered, picked, code_in, connection_in, with_connection, opening_world, with_port}
 use Rattle.card_core.proofs.Sound.{SoundPrograms, SoundConnection, SoundPicking, IsSound}
-use Rattle.card_core.proofs.LookUps.{same_some, ConnectionChanges, changes-with, replicated, slice_get-set, IsOnce, once-with}
+use Rattle.card_core.proofs.LookUps.{same_some, replicated, slice_get-set}
+use Rattle.card_core.proofs.ConnectionLemmas.{ConnectionChanges, changes-with, IsOnce, once-with}
 
 pub opening-sound : (shape : Shape) → IsSound (opening_world shape)
 opening-sound shape = record {
@@ -30,7 +31,7 @@ opening-sound shape = record {
   used = omega arith;
 }
 
--- The ports alone.
+-- A change of the ports alone.
 
 picking_in : PortState → Picking → Picking
 picking_in outside default = default
@@ -91,8 +92,6 @@ pub sound-port : (before : World) (port : ℕ) (state : PortState) → IsSound b
 sound-port before port state sound new =
     sound-ported before (set before.ports port state) sound (length-set before.ports port state ∙ sound.sized)
     (picks-set before port state sound new)
-
--- One connection.
 
 -- The connection is new, on a line of no connection; or it has its incarnation and line from before.
 abbrev pub IsNewOrKept : World → Vc → Connection → Type 0
@@ -252,7 +251,7 @@ sound-rewritten before vc connection new sound found same_incarnation same_line 
           (inr (connection, found, same_incarnation, same_line));
     })
 
--- The programs.
+-- A program more leaves each live program live.
 
 pub some-more : (loading : Loading) (later : List Loading) (id : Id) → IsSome (code_in later id) → IsSome (code_in (loading ∷ later) id)
 some-more loading later id there =

@@ -22,11 +22,13 @@ use Rattle.card_core.specs.Refusals.{refusal, reload_fault}
 use Rattle.card_core.specs.Steps.{Enters, Picks, Judges, Loads, Retires, SetsUp, Reloads, Releases, Cuts, Succeeds, WorldStep, left_by, with_answered, picking_of, cell_of_picking, with_cell, verdict_on, new_connection}
 use Rattle.card_core.specs.Log.{Event, Run}
 use Rattle.card_core.proofs.Sound.{SoundPrograms, SoundConnection, SoundPicking, IsSound, ReachedWorldsAreSound}
-use Rattle.card_core.proofs.LookUps.{same_some, passed_on, unmapped, is_there, IsSome-of, changes-with, changes-without, connection_passes, code-first, code-later, code-cases, without_code-was, without_code-others, times-same, times-grow, once-with, once-without}
+use Rattle.card_core.proofs.LookUps.{same_some, passed_on, unmapped, is_there, IsSome-of}
+use Rattle.card_core.proofs.ConnectionLemmas.{changes-with, changes-without, connection_passes, once-with, once-without}
+use Rattle.card_core.proofs.CodeLemmas.{code-first, code-later, code-cases, without_code-was, without_code-others, times-same, times-grow}
 use Rattle.card_core.proofs.SoundChanges.{opening-sound, picked_same, picks-set, sound-port, IsNewOrKept, changed, sound-changed, sound-rewritten, some-more, sound-programs}
 use Rattle.card_core.proofs.Allowed.{succeeded, starved, rejected, step-case, picking-allowed, setup-allowed, line-held, none_picked, retire-allowed}
 
--- Cells.
+-- The steps of a port keep it.
 
 sound-enters : (before : World) (port : ℕ) (cell : List ℕ) (moment : ℕ) (reply : Reply) (after : World) → IsSound before
     → Enters before port cell moment reply after → IsSound after
@@ -108,7 +110,7 @@ sound-judges before port reply after sound allowed w =
           (inr (connection, w.found, refl, refl));
     }))
 
--- The desk.
+-- The steps of the desk keep it.
 
 -- Another program, or more cells handed out, change nothing of that.
 sound-reloads : (before : World) (vc : Vc) (program : Id) (reply : Reply) (after : World) → IsSound before
@@ -254,7 +256,7 @@ sound-retires before id reply after sound allowed w =
     ∙ (sound.connections.each vc connection e).named_live)
     (λ port picking e. absurd (none_picked before.ports may.idle port picking e)))
 
--- All steps.
+-- Whatever step is taken and however it is answered, it is kept.
 
 sound-answered : (before : World) (port : ℕ) (reply : Reply) → IsSound before → IsSound (with_answered before port reply)
 sound-answered before port (Answered answer) sound = sound-port before port outside sound (λ picking e. absurd (cc))

@@ -16,15 +16,15 @@ use Rattle.card_core.specs.declared.step.Step.TheVariants.{Enter, Pick, Judge, L
 use Rattle.card_core.specs.World.{World, Connection, Picking, PortState, outside, entered, picked, code_in, kept_cells, connection_in, is_busy, any_below, is_open_slot, is_open_line, is_named}
 use Rattle.card_core.specs.Refusals.{refusal, enter_refusal, pick_refusal, judge_refusal, picking_refusal, cell_refusal, load_fault, retire_fault, setup_fault, reload_fault, missing_fault}
 use Rattle.card_core.specs.Steps.{Succeeds, WorldStep}
-use Rattle.card_core.specs.Laws.{is_of_memory, is_stale, AnswersAsItMay, SomeAnswersNeverCome}
+use Rattle.card_core.specs.Stale.{is_stale, IsNeverStale}
+use Rattle.card_core.specs.Agreement.{CoreView, Follows}
+use Rattle.card_core.specs.Laws.{is_of_memory, AnswersAsItMay, SomeAnswersNeverCome}
 use Rattle.card_core.proofs.LookUps.{same_some, refused_by, mapped}
 use Rattle.card_core.specs.declared.fault.DeskFault.TheVariants.{NoMemory}
 use Rattle.card_core.specs.World.{opening_world}
 use Rattle.card_core.specs.Steps.{without_memory}
 use Rattle.card_core.proofs.Allowed.{succeeded, starved, rejected, step-case}
 use Rattle.card_core.proofs.Promise.{run-parts}
-
--- Refusals.
 
 -- A reply that says neither that memory was refused nor that what was lent is stale.
 abbrev pub Spares : Reply → Type 0
@@ -139,7 +139,7 @@ refused-spares before (Cut vc) refused e =
     let found = mapped Refused (missing_fault before vc) refused e in
     subst Spares (sym found.2) (missing-spares Refused (refl, refl) (refl, refl) (refl, refl) (refl, refl) (refl, refl) (refl, refl) (refl, refl) (refl, refl) (refl, refl) before vc found.0 found.1)
 
--- All steps.
+-- Whatever step is taken and however it is answered, its reply is one that may come.
 
 success-spares : (before : World) (step : Step) (reply : Reply) (after : World) → Succeeds before step reply after → Spares reply
 success-spares before (Enter port cell moment) reply after w = subst Spares (sym w.answer) (refl, refl)
@@ -180,3 +180,8 @@ pub some-never : SomeAnswersNeverCome
 some-never shape before after event is =
     let parts = run-parts (opening_world shape) before (event ∷ after) is.0 is.1 in
     step-spares parts.0 event.step event.reply parts.2.0 parts.2.1
+
+pub never-stale : (old new : CoreView) (step : Step) (reply : Reply) → Follows old step reply new → IsNeverStale old reply
+never-stale old new step reply goes shape log before leads agrees =
+    let on = goes shape log before leads agrees in
+    (step-spares before step reply on.after on.stepped).never_stale

@@ -17,7 +17,8 @@ use Rattle.card_core.specs.Steps.{Succeeds, WorldStep, left_by, with_answered, n
 use Rattle.card_core.specs.Log.{Event, Run, Leads}
 use Rattle.card_core.specs.Headline.{connection_changed, only_of, changes_of, setting_up, StandsSince}
 use Rattle.card_core.specs.Laws.{IsAsTold, ConnectionsAreAsTold}
-use Rattle.card_core.proofs.LookUps.{mapped, with-here, with-others, without-others}
+use Rattle.card_core.proofs.LookUps.{mapped}
+use Rattle.card_core.proofs.ConnectionLemmas.{with-here, with-others, without-others}
 use Rattle.card_core.proofs.Allowed.{succeeded, starved, rejected, step-case}
 use Rattle.card_core.proofs.Knows.{KnowsConnection, leads-knows}
 use Rattle.card_core.proofs.Promise.{run-parts}

@@ -17,7 +17,7 @@ use Rattle.bpf_code.specs.declared.instr.Instr.{Instr}
 use Rattle.card_core.specs.declared.shape.Shape.{Shape}
 use Rattle.card_core.specs.World.{World, Loading, code_in, without_code, times_given, is_open_slot, any_below}
 use Rattle.card_core.specs.Agreement.{StoreAgrees}
-use Rattle.card_core.proofs.LookUps.{code-first, code-later, without_code-here, without_code-others, times-same}
+use Rattle.card_core.proofs.CodeLemmas.{code-first, code-later, without_code-here, without_code-others, times-same}
 use Rattle.card_core.proofs.LineLemmas.{get-set_same, get-set_other}
 
 or_right : (a b : Bool) → b ≡ true → (a || b) ≡ true

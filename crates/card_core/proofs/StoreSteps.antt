@@ -25,12 +25,12 @@ use Rattle.card_core.specs.declared.step.Step.TheVariants.{Load, Retire}
 use Rattle.card_core.specs.declared.shape.Shape.{Shape}
 use Rattle.card_core.specs.World.{World, Loading, Connection, PortState, is_outside, is_busy, is_named, any_below, is_open_slot, code_in, without_code, connection_in}
 use Rattle.card_core.specs.Refusals.{load_fault, retire_fault}
-use Rattle.card_core.specs.Agreement.{CoreView, Agrees, Follows, seating_of}
+use Rattle.card_core.specs.Agreement.{CoreView, CoreAgrees, Follows, seating_of}
 use Rattle.card_core.specs.inner.Ports.{states_of, is_free_port}
 use Rattle.card_core.proofs.Sound.{IsSound}
 use Rattle.card_core.proofs.Follow.{follows, step-refused, step-taken}
-use Rattle.card_core.proofs.ConnectionLemmas.{map_some}
-use Rattle.card_core.proofs.LookUps.{connection_passes}
+use Rattle.card_core.proofs.LookUps.{mapped}
+use Rattle.card_core.proofs.ConnectionLemmas.{connection_passes}
 use Rattle.card_core.proofs.PortLemmas.{core_of}
 use Rattle.card_core.proofs.StoreLemmas.{below-passes, below-fails, inserted-open, inserted-within, inserted-next, full-closed, store-inserted, store-removed}
 
@@ -61,7 +61,7 @@ module _ (shape : Shape) (store : List (Slot (List Instr))) (directory : Directo
   abbrev Old : CoreView
   Old = core_of shape store directory lines ports
 
-  busy-is : (before : World) → Agrees Old before → (b : Bool) → list_all is_free_port ports ≡ b → is_busy before ≡ not b
+  busy-is : (before : World) → CoreAgrees Old before → (b : Bool) → list_all is_free_port ports ≡ b → is_busy before ≡ not b
   busy-is before agrees b e =
       ap (λ (states : List PortState). not (list_all is_outside states)) (sym agrees.ports)
       ∙ ap not (all-outside ports ∙ e)
@@ -109,7 +109,7 @@ module _ (shape : Shape) (store : List (Slot (List Instr))) (directory : Directo
           answer = refl;
           world = refl;
         }),
-        record { shape = agrees.shape; store = stored; seats = agrees.seats; lines = agrees.lines; ports = agrees.ports },
+        record { shape = agrees.shape; store = stored; seatings = agrees.seatings; lines = agrees.lines; ports = agrees.ports },
       ))
 
   pub retire-busy : (id : Id) → list_all is_free_port ports ≡ false → Follows Old (Retire id) (Refused Busy) Old
@@ -120,27 +120,27 @@ module _ (shape : Shape) (store : List (Slot (List Instr))) (directory : Directo
       (before, step-refused before (Retire id) (Refused Busy) (ap (option_map Refused) fault), agrees))
 
   -- Some connection of the directory names a program exactly where some connection of the world does.
-  named-there : (before : World) → IsSound before → Agrees Old before → (id : Id) → is_named before id ≡ true → IsNamed directory id
+  named-there : (before : World) → IsSound before → CoreAgrees Old before → (id : Id) → is_named before id ≡ true → IsNamed directory id
   named-there before sound agrees id e =
       let found = tested-connection before.connections (λ (here : Vc × Connection). is_same_id here.1.program id) e in
       let known = sound.connections.once found.0 found.1 in
       record {
         vc = found.0.0;
-        seat = seating_of found.0.1;
-        sits = agrees.seats.seats found.0.0 ∙ ap (option_map seating_of) known;
+        seating = seating_of found.0.1;
+        sits = agrees.seatings.seatings found.0.0 ∙ ap (option_map seating_of) known;
         names = id_same found.0.1.program id found.2;
       }
 
-  named-here : (before : World) → Agrees Old before → (id : Id) → IsNamed directory id → is_named before id ≡ true
+  named-here : (before : World) → CoreAgrees Old before → (id : Id) → IsNamed directory id → is_named before id ≡ true
   named-here before agrees id named =
-      let known = map_some seating_of (connection_in before.connections named.vc) named.seat
-      (sym (agrees.seats.seats named.vc) ∙ named.sits) in
-      let same : known.0.program ≡ id = ap (λ (seat : Seating). seat.program) known.2 ∙ named.names in
+      let known = mapped seating_of (connection_in before.connections named.vc) named.seating
+      (sym (agrees.seatings.seatings named.vc) ∙ named.sits) in
+      let same : known.0.program ≡ id = ap (λ (seating : Seating). seating.program) (sym known.2) ∙ named.names in
       connection_passes (λ (here : Vc × Connection). is_same_id here.1.program id) before.connections named.vc known.0 known.1
       (λ other. subst (λ (i : Id). is_same_id known.0.program i ≡ true) same (id_itself known.0.program))
 
   -- Why a Retire is refused while the ports are outside.
-  retire-fault-is : (before : World) → Agrees Old before → (id : Id) → list_all is_free_port ports ≡ true
+  retire-fault-is : (before : World) → CoreAgrees Old before → (id : Id) → list_all is_free_port ports ≡ true
       → (o : Option (List Instr)) → code_in before.live id ≡ o → (b : Bool) → is_named before id ≡ b
       → retire_fault before id ≡ cond (is_none o) (Some NoProgram) (cond b (Some InUse) None)
   retire-fault-is before agrees id free o codes b names =
@@ -170,7 +170,7 @@ module _ (shape : Shape) (store : List (Slot (List Instr))) (directory : Directo
         record {
           shape = agrees.shape;
           store = store-removed before.shape store before.given before.live agrees.store new id code remove;
-          seats = agrees.seats;
+          seatings = agrees.seatings;
           lines = agrees.lines;
           ports = agrees.ports;
         },

@@ -15,16 +15,16 @@ use Rattle.card_core.specs.Steps.{Loads, Retires, SetsUp, Reloads, Releases, Cut
 use Rattle.card_core.specs.Headline.{only_of, program_named, latest}
 use Rattle.card_core.proofs.Sound.{IsSound}
 use Rattle.card_core.proofs.GivenOnce.{new-id}
-use Rattle.card_core.proofs.Told.{store_same, store_loaded, store_retired, Kept, IsFresh, kept, fresh, IsSilent, kept-silent, same-silent, connections-same, connections-with, ports-same, Tells}
-use Rattle.card_core.proofs.LookUps.{without-here, without-others}
+use Rattle.card_core.proofs.Told.{store_same, store_loaded, store_retired, Kept, IsFresh, kept, fresh, IsSilent, kept-silent, same-silent, connections-same, connections-with, ports-same, StepTold}
+use Rattle.card_core.proofs.ConnectionLemmas.{without-here, without-others}
 use Rattle.card_core.proofs.Allowed.{succeeded, starved, rejected, step-case}
 use Rattle.card_core.proofs.TellingCells.{no-verdicts, tells-at, tells-enters, tells-picks, tells-judges}
 use Rattle.card_core.proofs.TellingRefusals.{tells-refused, tells-starved}
 
--- The desk.
+-- Each step of the desk tells what it does.
 
 tells-loads : (shape : Shape) (before : World) (code : List Instr) (reply : Reply) (after : World) → IsSound before
-    → Loads before code reply after → Tells shape before (Load code) reply after
+    → Loads before code reply after → StepTold shape before (Load code) reply after
 tells-loads shape before code reply after sound w =
     let later : World = record before {
       given = record { id = w.id; code = code } ∷ before.given;
@@ -40,7 +40,7 @@ tells-loads shape before code reply after sound w =
     })
 
 tells-retires : (shape : Shape) (before : World) (id : Id) (reply : Reply) (after : World)
-    → Retires before id reply after → Tells shape before (Retire id) reply after
+    → Retires before id reply after → StepTold shape before (Retire id) reply after
 tells-retires shape before id reply after w =
     let later : World = record before { live = without_code before.live id } in
     tells-at shape before (Retire id) reply (Retired w.code) after later w.answer w.world (record {
@@ -56,7 +56,7 @@ not-of : (other vc : Vc) → other ≢ vc → only_of other (vc ∷ []) ≡ []
 not-of other vc apart = ap (λ b. cond b (vc ∷ []) []) (vc_differs other vc apart)
 
 tells-sets_up : (shape : Shape) (before : World) (ask : Ask) (reply : Reply) (after : World)
-    → SetsUp before ask reply after → Tells shape before (Setup ask) reply after
+    → SetsUp before ask reply after → StepTold shape before (Setup ask) reply after
 tells-sets_up shape before ask reply after w =
     let new : Connection = new_connection ask w.line (before.used + 1) in
     let told : Reply = SetUp (record { vc = ask.vc; incarnation = before.used + 1 }) in
@@ -85,7 +85,7 @@ tells-sets_up shape before ask reply after w =
     })
 
 tells-reloads : (shape : Shape) (before : World) (vc : Vc) (program : Id) (reply : Reply) (after : World)
-    → Reloads before vc program reply after → Tells shape before (Reload vc program) reply after
+    → Reloads before vc program reply after → StepTold shape before (Reload vc program) reply after
 tells-reloads shape before vc program reply after w =
     let connection : Connection = w.connection in
     let new : Connection = record connection { program = program } in
@@ -113,7 +113,7 @@ tells-reloads shape before vc program reply after w =
     })
 
 tells-releases : (shape : Shape) (before : World) (vc : Vc) (reply : Reply) (after : World)
-    → Releases before vc reply after → Tells shape before (Release vc) reply after
+    → Releases before vc reply after → StepTold shape before (Release vc) reply after
 tells-releases shape before vc reply after w =
     let told : Reply = Released w.piece in
     let later : World = record before { connections = without_connection before.connections vc } in
@@ -136,7 +136,7 @@ tells-releases shape before vc reply after w =
     })
 
 tells-cuts : (shape : Shape) (before : World) (vc : Vc) (reply : Reply) (after : World)
-    → Cuts before vc reply after → Tells shape before (Cut vc) reply after
+    → Cuts before vc reply after → StepTold shape before (Cut vc) reply after
 tells-cuts shape before vc reply after w =
     let connection : Connection = w.connection in
     let new : Connection = record connection { handed = length connection.history } in
@@ -153,10 +153,10 @@ tells-cuts shape before vc reply after w =
       verdicts = λ line. no-verdicts (before.judged line) line told refl;
     })
 
--- All steps.
+-- Whatever step is taken and however it is answered, it tells what it does.
 
 tells-success : (shape : Shape) (before : World) (step : Step) (reply : Reply) (after : World) → IsSound before → before.shape ≡ shape
-    → Succeeds before step reply after → Tells shape before step reply after
+    → Succeeds before step reply after → StepTold shape before step reply after
 tells-success shape before (Enter port cell moment) reply after sound same w = tells-enters shape before port cell moment reply after w
 tells-success shape before (Pick port) reply after sound same w = tells-picks shape before port reply after w
 tells-success shape before (Judge port) reply after sound same w = tells-judges shape before port reply after sound same w
@@ -168,11 +168,11 @@ tells-success shape before (Release vc) reply after sound same w = tells-release
 tells-success shape before (Cut vc) reply after sound same w = tells-cuts shape before vc reply after w
 
 pub step-tells : (shape : Shape) (before : World) (step : Step) (reply : Reply) (after : World) → IsSound before → before.shape ≡ shape
-    → WorldStep before step reply after → Tells shape before step reply after
+    → WorldStep before step reply after → StepTold shape before step reply after
 step-tells shape before step reply after sound same w = elim (step-case before step reply after w) [
   | succeeded allowed success ↦ tells-success shape before step reply after sound same success
   | starved memory ↦
-      subst (λ (v : World). Tells shape before step reply v) (sym memory.world) (tells-starved shape before step reply memory.answer)
+      subst (λ (v : World). StepTold shape before step reply v) (sym memory.world) (tells-starved shape before step reply memory.answer)
   | rejected refused e refusing ↦
       tells-at shape before step reply refused after (left_by before step refused) refusing.answer refusing.world
       (tells-refused shape before step refused e)

@@ -18,10 +18,10 @@ use Rattle.card_core.specs.declared.step.Step.{Step}
 use Rattle.card_core.specs.declared.step.Step.TheVariants.{Enter, Pick, Judge}
 use Rattle.card_core.specs.World.{World, Connection, Picking, PortState, outside, entered, picked, connection_in, with_port, with_verdict}
 use Rattle.card_core.specs.Steps.{Enters, Picks, Judges, cell_after, cell_of_picking, with_cell, verdict_on, judgement_of, picking_of, judged_world}
-use Rattle.card_core.specs.Headline.{code_loaded, code_retired, connection_changed, only_of, program_named, Judgement, came_with, judgement_told, verdicts_on, on_line, on_connection}
+use Rattle.card_core.specs.Headline.{code_loaded, code_retired, connection_changed, only_of, program_named, JudgedCell, came_with, judgement_told, verdicts_on, on_line, on_connection}
 use Rattle.card_core.proofs.Sound.{IsSound}
 use Rattle.card_core.proofs.CellLemmas.{vc-after, came}
-use Rattle.card_core.proofs.Told.{store_same, Kept, kept, IsSilent, connections-same, connections-with, IsPickedNow, PortsTold, ports-moved, Tells}
+use Rattle.card_core.proofs.Told.{store_same, Kept, kept, IsSilent, connections-same, connections-with, IsPickedNow, PortsTold, ports-moved, StepTold}
 use Rattle.card_core.proofs.SoundChanges.{picked_same}
 
 -- Some answers tell nothing.
@@ -91,7 +91,7 @@ no-verdicts judged line reply none = sym (ap (λ told. judged ++ verdicts_on lin
 
 pub tells-quiet : (shape : Shape) (before : World) (step : Step) (reply : Reply) (ports : List PortState) → IsQuiet reply
     → PortsTold before (record before { ports = ports }) step reply
-    → Tells shape before step reply (record before { ports = ports })
+    → StepTold shape before step reply (record before { ports = ports })
 tells-quiet shape before step reply ports quiet moves = record {
   shape_same = refl;
   store = store_same refl refl (λ id. quiet.no_code id step) (λ id. quiet.none_retired id step);
@@ -102,12 +102,12 @@ tells-quiet shape before step reply ports quiet moves = record {
 
 -- The reply and the world that a step led to are those that are known.
 pub tells-at : (shape : Shape) (before : World) (step : Step) (one other : Reply) (after later : World)
-    → one ≡ other → after ≡ later → Tells shape before step other later → Tells shape before step one after
+    → one ≡ other → after ≡ later → StepTold shape before step other later → StepTold shape before step one after
 tells-at shape before step one other after later same leads tells =
-    subst (λ (r : Reply). Tells shape before step r after) (sym same)
-    (subst (λ (w : World). Tells shape before step other w) (sym leads) tells)
+    subst (λ (r : Reply). StepTold shape before step r after) (sym same)
+    (subst (λ (w : World). StepTold shape before step other w) (sym leads) tells)
 
--- Cells.
+-- What an Enter and a Pick tell: whose cell is at the port, and since when.
 
 enter_of : ℕ → PortState → Step
 enter_of port outside = Enter port [] 0
@@ -120,7 +120,7 @@ unfolding enter_of
 enter_same port one other moment another e = ap (enter_of port) e
 
 pub tells-enters : (shape : Shape) (before : World) (port : ℕ) (cell : List ℕ) (moment : ℕ) (reply : Reply) (after : World)
-    → Enters before port cell moment reply after → Tells shape before (Enter port cell moment) reply after
+    → Enters before port cell moment reply after → StepTold shape before (Enter port cell moment) reply after
 tells-enters shape before port cell moment reply after w =
     let step : Step = Enter port cell moment in
     let later : World = with_port before port (entered cell moment) in
@@ -135,7 +135,7 @@ tells-enters shape before port cell moment reply after w =
     })
 
 pub tells-picks : (shape : Shape) (before : World) (port : ℕ) (reply : Reply) (after : World)
-    → Picks before port reply after → Tells shape before (Pick port) reply after
+    → Picks before port reply after → StepTold shape before (Pick port) reply after
 tells-picks shape before port reply after w =
     let step : Step = Pick port in
     let vc : Vc = vc_of before.shape.side w.cell in
@@ -164,7 +164,7 @@ tells-picks shape before port reply after w =
     })
 
 -- What the answer to a judged cell tells.
-abbrev pub judgement_on : World → Picking → Connection → Judgement
+abbrev pub judgement_on : World → Picking → Connection → JudgedCell
 judgement_on before picking connection = record {
   line = connection.line;
   verdict = verdict_on connection (cell_of_picking picking);
@@ -262,7 +262,7 @@ module _ (shape : Shape) (before : World) (sound : IsSound before) (same_shape :
             ∙ ap (λ b. before.judged line ++ cond b (verdict ∷ []) []) (sym (ne_eqb connection.line line (λ same. apart (sym same))))
       ]
 
-  judged-tells : Tells shape before (Judge port) judged_reply (judged_world before port picking connection)
+  judged-tells : StepTold shape before (Judge port) judged_reply (judged_world before port picking connection)
   unfolding judged_reply
   judged-tells = record {
     shape_same = refl;
@@ -275,7 +275,7 @@ module _ (shape : Shape) (before : World) (sound : IsSound before) (same_shape :
   }
 
 pub tells-judges : (shape : Shape) (before : World) (port : ℕ) (reply : Reply) (after : World) → IsSound before → before.shape ≡ shape
-    → Judges before port reply after → Tells shape before (Judge port) reply after
+    → Judges before port reply after → StepTold shape before (Judge port) reply after
 unfolding judged_reply
 tells-judges shape before port reply after sound same_shape w =
     tells-at shape before (Judge port) reply (Answered (judgement_of before w.picking w.connection)) after

@@ -14,7 +14,7 @@ use Rattle.card_core.specs.World.{World, Connection, Picking, PortState, outside
 use Rattle.card_core.specs.Refusals.{refusal, enter_refusal, pick_refusal, judge_refusal, picking_refusal, cell_refusal, load_fault, retire_fault, setup_fault, reload_fault, missing_fault}
 use Rattle.card_core.specs.Steps.{without_memory, left_by, with_answered}
 use Rattle.card_core.specs.Headline.{judgement_told, port_of, port_moved}
-use Rattle.card_core.proofs.Told.{ports-same, ports-moved, Tells}
+use Rattle.card_core.proofs.Told.{ports-same, ports-moved, StepTold}
 use Rattle.card_core.proofs.LookUps.{same_some, refused_by, mapped}
 use Rattle.card_core.proofs.TellingCells.{IsQuiet, quiet-not_now, quiet-answered, quiet-refused, quiet-not_loaded, quiet-not_set_up, tells-quiet}
 
@@ -70,26 +70,26 @@ judge-refused before (Some (picked picking)) refused e =
 
 -- A step that leaves the world as it was, with an answer that tells nothing.
 tells-nothing : (shape : Shape) (before : World) (step : Step) (reply : Reply) → IsQuiet reply → port_moved reply step ≡ []
-    → Tells shape before step reply before
+    → StepTold shape before step reply before
 tells-nothing shape before step reply quiet still =
     tells-quiet shape before step reply before.ports quiet (ports-same before before step reply refl still)
 
 -- A Pick or a Judge that is refused.
 tells-cell_refused : (shape : Shape) (before : World) (step : Step) (port : ℕ) (refused : Reply) → port_of step ≡ port ∷ []
-    → CellRefused refused → Tells shape before step refused (with_answered before port refused)
+    → CellRefused refused → StepTold shape before step refused (with_answered before port refused)
 tells-cell_refused shape before step port refused at (at_no_time is) =
-    subst (λ (r : Reply). Tells shape before step r (with_answered before port r)) (sym is)
+    subst (λ (r : Reply). StepTold shape before step r (with_answered before port r)) (sym is)
     (tells-nothing shape before step NotNow quiet-not_now refl)
 tells-cell_refused shape before step port refused at (with_answer answer is unjudged) =
-    subst (λ (r : Reply). Tells shape before step r (with_answered before port r)) (sym is)
+    subst (λ (r : Reply). StepTold shape before step r (with_answered before port r)) (sym is)
     (tells-quiet shape before step (Answered answer) (set before.ports port outside) (quiet-answered answer unjudged)
     (ports-moved before (with_port before port outside) step (Answered answer) port outside refl at
     (λ cell moment e. absurd (cc)) (λ picking e. absurd (cc))))
 
 pub tells-refused : (shape : Shape) (before : World) (step : Step) (refused : Reply) → refusal before step ≡ Some refused
-    → Tells shape before step refused (left_by before step refused)
+    → StepTold shape before step refused (left_by before step refused)
 tells-refused shape before (Enter port cell moment) refused e =
-    subst (λ (r : Reply). Tells shape before (Enter port cell moment) r before)
+    subst (λ (r : Reply). StepTold shape before (Enter port cell moment) r before)
     (sym (enter-refused (slice_get before.ports port) refused e))
     (tells-nothing shape before (Enter port cell moment) NotNow quiet-not_now refl)
 tells-refused shape before (Pick port) refused e =
@@ -98,35 +98,35 @@ tells-refused shape before (Judge port) refused e =
     tells-cell_refused shape before (Judge port) port refused refl (judge-refused before (slice_get before.ports port) refused e)
 tells-refused shape before (Load code) refused e =
     let found = mapped (λ fault. NotLoaded fault code) (load_fault before) refused e in
-    subst (λ (r : Reply). Tells shape before (Load code) r before) (sym found.2)
+    subst (λ (r : Reply). StepTold shape before (Load code) r before) (sym found.2)
     (tells-nothing shape before (Load code) (NotLoaded found.0 code) (quiet-not_loaded found.0 code) refl)
 tells-refused shape before (Retire id) refused e =
     let found = mapped Refused (retire_fault before id) refused e in
-    subst (λ (r : Reply). Tells shape before (Retire id) r before) (sym found.2)
+    subst (λ (r : Reply). StepTold shape before (Retire id) r before) (sym found.2)
     (tells-nothing shape before (Retire id) (Refused found.0) (quiet-refused found.0) refl)
 tells-refused shape before (Setup ask) refused e =
     let found = mapped (λ fault. NotSetUp fault ask) (setup_fault before ask) refused e in
-    subst (λ (r : Reply). Tells shape before (Setup ask) r before) (sym found.2)
+    subst (λ (r : Reply). StepTold shape before (Setup ask) r before) (sym found.2)
     (tells-nothing shape before (Setup ask) (NotSetUp found.0 ask) (quiet-not_set_up found.0 ask) refl)
 tells-refused shape before (Reload vc program) refused e =
     let found = mapped Refused (reload_fault before vc program) refused e in
-    subst (λ (r : Reply). Tells shape before (Reload vc program) r before) (sym found.2)
+    subst (λ (r : Reply). StepTold shape before (Reload vc program) r before) (sym found.2)
     (tells-nothing shape before (Reload vc program) (Refused found.0) (quiet-refused found.0) refl)
 tells-refused shape before (Release vc) refused e =
     let found = mapped Refused (missing_fault before vc) refused e in
-    subst (λ (r : Reply). Tells shape before (Release vc) r before) (sym found.2)
+    subst (λ (r : Reply). StepTold shape before (Release vc) r before) (sym found.2)
     (tells-nothing shape before (Release vc) (Refused found.0) (quiet-refused found.0) refl)
 tells-refused shape before (Cut vc) refused e =
     let found = mapped Refused (missing_fault before vc) refused e in
-    subst (λ (r : Reply). Tells shape before (Cut vc) r before) (sym found.2)
+    subst (λ (r : Reply). StepTold shape before (Cut vc) r before) (sym found.2)
     (tells-nothing shape before (Cut vc) (Refused found.0) (quiet-refused found.0) refl)
 
 pub tells-starved : (shape : Shape) (before : World) (step : Step) (reply : Reply) → without_memory step ≡ Some reply
-    → Tells shape before step reply before
+    → StepTold shape before step reply before
 tells-starved shape before (Setup ask) reply e =
-    subst (λ (r : Reply). Tells shape before (Setup ask) r before) (same_some (NotSetUp NoMemory ask) reply e)
+    subst (λ (r : Reply). StepTold shape before (Setup ask) r before) (same_some (NotSetUp NoMemory ask) reply e)
     (tells-nothing shape before (Setup ask) (NotSetUp NoMemory ask) (quiet-not_set_up NoMemory ask) refl)
 tells-starved shape before (Cut vc) reply e =
-    subst (λ (r : Reply). Tells shape before (Cut vc) r before) (same_some (Refused NoMemory) reply e)
+    subst (λ (r : Reply). StepTold shape before (Cut vc) r before) (same_some (Refused NoMemory) reply e)
     (tells-nothing shape before (Cut vc) (Refused NoMemory) (quiet-refused NoMemory) refl)
 tells-starved shape before _ reply e = absurd (cc)

@@ -14,10 +14,10 @@ use Rattle.card_core.specs.declared.step.Step.TheVariants.{Enter, Pick, Load, Re
 use Rattle.card_core.specs.World.{World, Connection, Picking, PortState, entered, picked, code_in, without_code, connection_in, with_connection}
 use Rattle.card_core.specs.Steps.{Gives}
 use Rattle.card_core.specs.Headline.{code_loaded, code_retired, connection_changed, only_of, program_named, latest, judgement_told, verdicts_on, on_line, on_connection, only_port, port_moved}
-use Rattle.card_core.proofs.LookUps.{same_some, with-here, with-others, slice_get-set}
+use Rattle.card_core.proofs.LookUps.{same_some, slice_get-set}
+use Rattle.card_core.proofs.ConnectionLemmas.{with-here, with-others}
 
--- Codes.
-
+-- What is told of the codes: nothing, or that one was put in, or that one was retired.
 pub data StoreTold (before after : World) (step : Step) (reply : Reply) : Type 0 where
   store_same : after.given ≡ before.given → after.live ≡ before.live
       → ((id : Id) → code_loaded id reply step ≡ []) → ((id : Id) → code_retired id reply step ≡ [])
@@ -31,8 +31,6 @@ pub data StoreTold (before after : World) (step : Step) (reply : Reply) : Type 0
       → after.given ≡ before.given → after.live ≡ without_code before.live id
       → code_in before.live id ≡ Some code
       → StoreTold before after step reply
-
--- Connections.
 
 -- A connection that was there before, and what was told of it.
 pub record Kept (shape : Shape) (old connection : Connection) (vc : Vc) (step : Step) (reply : Reply) : Type 0 where
@@ -119,8 +117,6 @@ connections-with shape before after step reply vc new same here others other con
           kept connection old (others other apart connection old)
     ]
 
--- Ports.
-
 -- A port keeps its state, and didn't move.
 abbrev pub PortStays : World → ℕ → PortState → Step → Reply → Type 0
 PortStays before port state step reply =
@@ -181,9 +177,8 @@ ports-moved before after step reply port state same moved enters picks = record 
       ];
 }
 
--- All of it.
-
-pub record Tells (shape : Shape) (before : World) (step : Step) (reply : Reply) (after : World) : Type 0 where
+-- What a step tells of all parts of the world.
+pub record StepTold (shape : Shape) (before : World) (step : Step) (reply : Reply) (after : World) : Type 0 where
   pub shape_same : after.shape ≡ before.shape
   pub store : StoreTold before after step reply
   pub connections : ConnectionsTold shape before after step reply

@@ -9,7 +9,7 @@ use Rattle.gen_arena.specs.Live.{live_value}
 use Rattle.leaky.specs.declared.verdict.Verdict.{Verdict}
 use Rattle.line_record.specs.declared.owner.Owner.{Owner}
 use Rattle.line_record.specs.declared.directory.Seating.{Seating}
-use Rattle.line_record.specs.Directory.{DirectoryView, seat_of}
+use Rattle.line_record.specs.Directory.{DirectoryView, seating_at}
 use Rattle.line_record.specs.History.{empty_buckets, judged}
 use Rattle.line_record.specs.Line.{LineView}
 use Rattle.line_record.specs.StateAfter.{IsStateAfter}
@@ -47,10 +47,10 @@ seating_of connection = record {
 
 -- The directory has each connection's line, incarnation and program, no other connection, and has
 -- given as many incarnations.
-pub record SeatsAgree (shape : Shape) (directory : DirectoryView) (connections : List (Vc × Connection)) (used : ℕ) : Type 0 where
+pub record SeatingsAgree (shape : Shape) (directory : DirectoryView) (connections : List (Vc × Connection)) (used : ℕ) : Type 0 where
   pub lines : directory.lines ≡ shape.lines
   pub used_up : directory.used ≡ used
-  pub seats : (vc : Vc) → seat_of directory vc ≡ option_map seating_of (connection_in connections vc)
+  pub seatings : (vc : Vc) → seating_at directory vc ≡ option_map seating_of (connection_in connections vc)
 
 -- Who holds the line of a connection.
 abbrev pub owner_of : Vc → Connection → Owner
@@ -87,10 +87,10 @@ pub record LinesAgree (shape : Shape) (lines : List LineView) (connections : Lis
       → line.state.counts ≡ tally_of (verdicts number)
 
 -- The core agrees with the world in each part.
-pub record Agrees (core : CoreView) (world : World) : Type 0 where
+pub record CoreAgrees (core : CoreView) (world : World) : Type 0 where
   pub shape : core.shape ≡ world.shape
   pub store : StoreAgrees world.shape core.store world.given world.live
-  pub seats : SeatsAgree world.shape core.directory world.connections world.used
+  pub seatings : SeatingsAgree world.shape core.directory world.connections world.used
   pub lines : LinesAgree world.shape core.lines world.connections world.judged
   pub ports : core.ports ≡ world.ports
 
@@ -100,12 +100,12 @@ pub record GoneOn (shape : Shape) (log : List Event) (before : World) (step : St
   pub after : World
   pub stepped : WorldStep before step reply after
   pub leads : Leads shape (log ++ record { step = step; reply = reply } ∷ []) after
-  pub agrees : Agrees new after
+  pub agrees : CoreAgrees new after
 
 -- The core goes on by this event, from whatever world it agrees with, if a log has led there.
 abbrev pub Follows : CoreView → Step → Reply → CoreView → Type 0
 Follows old step reply new = (shape : Shape) (log : List Event) (before : World)
-    → Leads shape log before → Agrees old before → GoneOn shape log before step reply new
+    → Leads shape log before → CoreAgrees old before → GoneOn shape log before step reply new
 
 -- The steps with their replies, in order.
 abbrev pub events_of : List Step → List Reply → List Event
@@ -119,9 +119,9 @@ pub record GoneAll (shape : Shape) (log : List Event) (before : World) (events :
   pub after : World
   pub stepped : Run before events after
   pub leads : Leads shape (log ++ events) after
-  pub agrees : Agrees new after
+  pub agrees : CoreAgrees new after
 
 -- The core goes on by all these events, from whatever world it agrees with, if a log has led there.
 abbrev pub FollowsAll : CoreView → List Step → List Reply → CoreView → Type 0
 FollowsAll old steps replies new = (shape : Shape) (log : List Event) (before : World)
-    → Leads shape log before → Agrees old before → GoneAll shape log before (events_of steps replies) new
+    → Leads shape log before → CoreAgrees old before → GoneAll shape log before (events_of steps replies) new

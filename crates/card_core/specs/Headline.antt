@@ -70,7 +70,7 @@ latest program [] = program
 latest program (next ∷ later) = latest next later
 
 -- What an answer tells of a judged cell.
-pub record Judgement : Type 0 where
+pub record JudgedCell : Type 0 where
   pub line : ℕ
   pub verdict : Verdict
   pub leaving : List ℕ
@@ -84,7 +84,7 @@ came_with Discard leaving = has_low_priority leaving
 came_with Refuse leaving = has_low_priority leaving
 
 -- The judged cell of which a reply tells, if it tells of one.
-abbrev pub judgement_told : Reply → List Judgement
+abbrev pub judgement_told : Reply → List JudgedCell
 judgement_told (Answered (Judged line number moment value program verdict leaving)) = record {
   line = line;
   verdict = verdict;
@@ -94,7 +94,7 @@ judgement_told (Answered (Judged line number moment value program verdict leavin
 judgement_told _ = []
 
 -- The verdicts given on this line.
-abbrev pub verdicts_on : ℕ → List Judgement → List Verdict
+abbrev pub verdicts_on : ℕ → List JudgedCell → List Verdict
 verdicts_on line [] = []
 verdicts_on line (judgement ∷ later) =
     if judgement.line == line then judgement.verdict ∷ verdicts_on line later else verdicts_on line later
@@ -104,7 +104,7 @@ abbrev pub verdicts_given : ℕ → List Event → List Verdict
 verdicts_given line log = flat_map (λ event. verdicts_on line (judgement_told event.reply)) log
 
 -- The cells that came on this line.
-abbrev pub on_line : ℕ → List Judgement → List NamedCell
+abbrev pub on_line : ℕ → List JudgedCell → List NamedCell
 on_line line [] = []
 on_line line (judgement ∷ later) =
     if judgement.line == line then judgement.cell ∷ on_line line later else on_line line later
@@ -114,7 +114,7 @@ abbrev pub cells_on : ℕ → List Event → List NamedCell
 cells_on line log = flat_map (λ event. on_line line (judgement_told event.reply)) log
 
 -- The cells that came on this virtual connection, on a card of this shape.
-abbrev pub on_connection : Shape → Vc → List Judgement → List NamedCell
+abbrev pub on_connection : Shape → Vc → List JudgedCell → List NamedCell
 on_connection shape vc [] = []
 on_connection shape vc (judgement ∷ later) =
     if is_same_vc vc (vc_of shape.side judgement.leaving)

@@ -9,10 +9,10 @@ use Rattle.leaky.specs.declared.verdict.Verdict.{Verdict}
 use Rattle.leaky.specs.Contract.{peak_of}
 use Rattle.leaky.specs.Laws.{IsBounded}
 use Rattle.line_record.specs.History.{numbered, empty_buckets, judged}
-use Rattle.line_record.specs.Bursts.{peak_charges}
-use Rattle.card_core.specs.declared.answer.Answer.TheVariants.{NoMemory as CellMemory, Stale as CellStale}
+use Rattle.line_record.specs.Charges.{peak_charges}
+use Rattle.card_core.specs.declared.answer.Answer.TheVariants.{NoMemory as CellMemory}
 use Rattle.card_core.specs.declared.ask.Ask.{Ask}
-use Rattle.card_core.specs.declared.fault.DeskFault.TheVariants.{NoMemory, Stale}
+use Rattle.card_core.specs.declared.fault.DeskFault.TheVariants.{NoMemory}
 use Rattle.card_core.specs.declared.reply.Reply.{Reply}
 use Rattle.card_core.specs.declared.reply.Reply.TheVariants.{Answered, NotLoaded, NotSetUp, Refused}
 use Rattle.card_core.specs.declared.shape.Shape.{Shape}
@@ -21,6 +21,7 @@ use Rattle.card_core.specs.declared.step.Step.TheVariants.{Load, Setup, Cut}
 use Rattle.card_core.specs.World.{World, Loading, Connection, Picking, picked, code_in, connection_in}
 use Rattle.card_core.specs.Steps.{WorldStep}
 use Rattle.card_core.specs.Log.{Event, Run, Leads, IsLog}
+use Rattle.card_core.specs.Stale.{is_stale}
 use Rattle.card_core.specs.Headline.{latest, programs_named, cells_of, cells_on, StandsSince, IsPromised}
 
 -- The program of each connection is live, and so is that of each port's picked cell, although its
@@ -95,14 +96,6 @@ abbrev pub StepsHaveReplies : Type 0
 StepsHaveReplies = (shape : Shape) (log : List Event) (world : World) → Leads shape log world
     → (step : Step) → LoadsAccepted step
     → (reply : Reply) × (after : World) × WorldStep world step reply after × (is_of_memory reply ≡ false)
-
--- The reply says that what was lent isn't what it was taken for.
-abbrev pub is_stale : Reply → Bool
-is_stale (Answered CellStale) = true
-is_stale (NotLoaded Stale code) = true
-is_stale (NotSetUp Stale ask) = true
-is_stale (Refused Stale) = true
-is_stale _ = false
 
 -- The step takes memory: that of the journal which a connection begins, or goes on with after a cut.
 abbrev pub takes_memory : Step → Bool

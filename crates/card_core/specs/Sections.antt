@@ -12,14 +12,16 @@ use Rattle.line_record.specs.declared.entry.Entry.{Entry}
 use Rattle.line_record.specs.declared.owner.Owner.{Owner}
 use Rattle.line_record.specs.declared.fault.LineFault.{LineFault}
 use Rattle.line_record.specs.declared.fault.LineFault.TheVariants.{TooLate, Back, Full, NoMemory as LineNoMemory}
-use Rattle.line_record.specs.Directory.{DirectoryView, seat_of, IsOpenLine, IsTakenLine}
+use Rattle.line_record.specs.Directory.{DirectoryView, seating_at, IsOpenLine, IsTakenLine}
 use Rattle.line_record.specs.History.{NamedCell, cell_of, empty_buckets, verdict_after}
 use Rattle.line_record.specs.Line.{LineView, line_refusal, Gains}
 use Rattle.line_record.specs.StateAfter.{IsStateAfter}
-use Rattle.line_record.specs.Tally.{number_of}
+use Rattle.line_record.specs.Tally.{count_of}
 use Rattle.card_core.specs.declared.answer.Answer.{Answer}
 use Rattle.card_core.specs.declared.answer.Judgement.{Judgement}
-use Rattle.card_core.specs.declared.answer.Answer.TheVariants.{Judged, Released, MomentTooLate, MomentBack, JournalFull, NoMemory}
+use Rattle.card_core.specs.declared.answer.Unjudged.{Unjudged}
+use Rattle.card_core.specs.declared.answer.Unjudged.TheVariants as unjudged
+use Rattle.card_core.specs.declared.answer.Answer.TheVariants.{Judged, NoConnection, Released, Stale as StaleAnswer, MomentTooLate, MomentBack, JournalFull, NoMemory}
 use Rattle.card_core.specs.declared.ask.Ask.{Ask}
 use Rattle.card_core.specs.declared.fault.DeskFault.{DeskFault}
 use Rattle.card_core.specs.declared.fault.DeskFault.TheVariants.{NoProgram, Taken, BadContracts, NoLine, Exhausted, Stale, NoMemory as DeskNoMemory}
@@ -73,7 +75,7 @@ pub record JudgesAt (old : LineView) (seating : Seating) (named : NamedView) (mo
       → entry.verdict ≡ verdict_after old.contracts empty_buckets history (cell_of entry)
   pub history : (history : List NamedCell) → IsStateAfter old.contracts history old.state
       → IsStateAfter new.contracts (history ++ cell_of entry ∷ []) new.state
-  pub answered : answer ≡ Judged seating.line (number_of old.state.counts entry.verdict + 1)
+  pub answered : answer ≡ Judged seating.line (count_of old.state.counts entry.verdict + 1)
       moment named.value named.program entry.verdict (cell_after entry.verdict named.cell)
 
 -- What is told of a judged cell.
@@ -99,18 +101,25 @@ told (Judged line number moment value program verdict cell) = Some (record {
 })
 told _ = None
 
--- The answer to a cell of which this is told: it was judged, and leaves as its verdict says; or this is its
--- answer.
-abbrev pub answer_to : List ℕ → Result Judgement Answer → Answer
+-- What a cell that isn't judged is answered.
+abbrev pub unjudged_answer : Unjudged → Answer
+unjudged_answer unjudged.NoConnection = NoConnection
+unjudged_answer unjudged.Released = Released
+unjudged_answer unjudged.Stale = StaleAnswer
+unjudged_answer (unjudged.Refused fault) = answer_for fault
+
+-- The answer to a cell of which this is told: it was judged, and leaves as its verdict says; or it wasn't, for
+-- this reason.
+abbrev pub answer_to : List ℕ → Result Judgement Unjudged → Answer
 answer_to cell (Ok judgement) =
     Judged judgement.line judgement.number judgement.moment judgement.value judgement.program judgement.verdict
     (cell_after judgement.verdict cell)
-answer_to cell (Err answer) = answer
+answer_to cell (Err reason) = unjudged_answer reason
 
 -- What is asked may be set up on this line.
 pub record Admits (store : List (Slot (List Instr))) (directory : DirectoryView) (ask : Ask) (line : ℕ) : Type 0 where
   pub live : IsLive store ask.program
-  pub new : seat_of directory ask.vc ≡ None
+  pub new : seating_at directory ask.vc ≡ None
   pub some : 0 < length ask.contracts.items
   pub within : line < directory.lines
   pub free : IsOpenLine directory line
@@ -122,14 +131,14 @@ pub record Admits (store : List (Slot (List Instr))) (directory : DirectoryView)
 abbrev pub IsUnfit : List (Slot (List Instr)) → DirectoryView → Ask → DeskFault → Type 0
 IsUnfit store directory ask NoProgram = live_value store ask.program ≡ None
 IsUnfit store directory ask Taken =
-    IsLive store ask.program × IsSome (seat_of directory ask.vc)
+    IsLive store ask.program × IsSome (seating_at directory ask.vc)
 IsUnfit store directory ask BadContracts =
-    IsLive store ask.program × (seat_of directory ask.vc ≡ None) × (length ask.contracts.items ≡ 0)
+    IsLive store ask.program × (seating_at directory ask.vc ≡ None) × (length ask.contracts.items ≡ 0)
 IsUnfit store directory ask NoLine =
-    IsLive store ask.program × (seat_of directory ask.vc ≡ None) × (0 < length ask.contracts.items)
+    IsLive store ask.program × (seating_at directory ask.vc ≡ None) × (0 < length ask.contracts.items)
     × ((line : ℕ) → line < directory.lines → IsTakenLine directory line)
 IsUnfit store directory ask Exhausted =
-    IsLive store ask.program × (seat_of directory ask.vc ≡ None) × (0 < length ask.contracts.items)
+    IsLive store ask.program × (seating_at directory ask.vc ≡ None) × (0 < length ask.contracts.items)
     × ((line : ℕ) × (line < directory.lines) × IsOpenLine directory line) × (directory.used ≡ 2 ^ 62)
 IsUnfit store directory ask _ = ⊥
 

@@ -7,7 +7,7 @@ use Rattle.card_core.specs.declared.reply.Reply.TheVariants.{Answered, NotLoaded
 use Rattle.card_core.specs.declared.shape.Shape.{Shape}
 use Rattle.card_core.specs.World.{World}
 use Rattle.card_core.specs.Log.{Event, Leads}
-use Rattle.card_core.specs.Agreement.{CoreView, Agrees}
+use Rattle.card_core.specs.Agreement.{CoreView, CoreAgrees}
 
 -- The reply is that a program or a line isn't what it was found to be.
 abbrev pub is_stale : Reply → Bool
@@ -20,4 +20,4 @@ is_stale _ = false
 -- From a core that agrees with a world to which some log leads, the reply isn't stale.
 abbrev pub IsNeverStale : CoreView → Reply → Type 0
 IsNeverStale core reply = (shape : Shape) (log : List Event) (before : World)
-    → Leads shape log before → Agrees core before → is_stale reply ≡ false
+    → Leads shape log before → CoreAgrees core before → is_stale reply ≡ false

@@ -8,7 +8,7 @@ use Rattle.bpf_interp.specs.Value.{Value}
 use Rattle.gen_arena.specs.declared.id.Id.{Id}
 use Rattle.leaky.specs.declared.verdict.Verdict.{Verdict}
 use Rattle.leaky.specs.declared.verdict.Verdict.TheVariants.{Pass, Tag, Discard, Refuse}
-use Rattle.line_record.specs.Tally.{number_of}
+use Rattle.line_record.specs.Tally.{count_of}
 use Rattle.line_record.specs.History.{NamedCell, empty_buckets, verdict_after, judged}
 use Rattle.line_record.specs.StateAfter.{IsStateAfter}
 use Rattle.line_record.specs.Piece.{PieceView}
@@ -102,7 +102,7 @@ judged_world before port picking connection = record before {
 
 -- How many verdicts of this kind there are among these and one more.
 abbrev pub number_with : List Verdict → Verdict → ℕ
-number_with verdicts verdict = number_of (tally_of verdicts) verdict + 1
+number_with verdicts verdict = count_of (tally_of verdicts) verdict + 1
 
 -- The answer to a picked cell that is judged on its connection.
 abbrev pub judgement_of : World → Picking → Connection → Answer

@@ -1,5 +1,11 @@
+//! What becomes of a cell that arrived.
+
+ghost use Rattle.std.specs.Prelude.{◌≡◌};
+ghost use Rattle.card_core.specs.Sections.{answer_for, unjudged_answer};
+
 use gen_arena::Id;
 use leaky::Verdict;
+use line_record::LineFault;
 use upc_cell::Cell;
 
 /// What becomes of a cell that arrived. Only `Judged` changes anything but the port.
@@ -44,16 +50,54 @@ pub enum Answer {
 /// What is told of a judged cell, but for the cell itself, which whoever lent it has.
 #[derive(Clone, Copy, Debug, PartialEq, Eq)]
 pub struct Judgement {
-    /// The number of the line, from 0.
-    pub line: u16,
     /// How many cells with this verdict were judged on the line, this one included.
     pub number: u64,
     /// When the cell came, in ticks.
     pub moment: u64,
-    /// The number that the program gave for it: that of a contract, counted from 1, or any other,
-    /// which names none.
-    pub value: u32,
-    /// The program that gave it.
+    /// The program that gave the number of the contract.
     pub program: Id,
+    /// The number that it gave: that of a contract, counted from 1, or any other, which names none.
+    pub value: u32,
+    /// The number of the line, from 0.
+    pub line: u16,
     pub verdict: Verdict,
+}
+
+/// Why a cell that arrived isn't judged. It is small, where an [`Answer`] has room for a cell.
+#[derive(Clone, Copy, Debug, PartialEq, Eq)]
+pub enum Unjudged {
+    /// The cell belongs to no connection.
+    NoConnection,
+    /// The connection that was picked is gone.
+    Released,
+    /// The program that was picked isn't live. The core never answers it.
+    Stale,
+    /// The line refuses the cell.
+    Refused(LineFault),
+}
+
+impl Unjudged {
+    /// What the cell is answered.
+    pub fn answer(self) -> Answer
+        ensures { result ≡ unjudged_answer self }
+    {
+        match self {
+            Unjudged::NoConnection => Answer::NoConnection,
+            Unjudged::Released => Answer::Released,
+            Unjudged::Stale => Answer::Stale,
+            Unjudged::Refused(fault) => refusal_of(fault),
+        }
+    }
+}
+
+/// What a line's refusal is answered as.
+fn refusal_of(fault: LineFault) -> Answer
+    ensures { result ≡ answer_for fault }
+{
+    match fault {
+        LineFault::TooLate => Answer::MomentTooLate,
+        LineFault::Back(last) => Answer::MomentBack { last },
+        LineFault::Full => Answer::JournalFull,
+        LineFault::NoMemory => Answer::NoMemory,
+    }
 }

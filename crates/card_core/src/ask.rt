@@ -1,3 +1,5 @@
+//! What the desk asks for when it sets a connection up.
+
 use arrayvec::ArrayVec;
 use gen_arena::Id;
 use leaky::Contract;

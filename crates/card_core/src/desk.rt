@@ -1,3 +1,5 @@
+//! The sections of the desk: what changes programs and connections, on the parts that are lent.
+
 ghost use Rattle.std.specs.Prelude.{◌≡◌, ◌≢◌, ◌+◌, ◌<◌, ◌^◌, ◌↔◌, length, IsOk, IsErr, IsErrOf, IsSome, IfOk, IfErr, OnOk, OnErr, MatchResult, Some, None, false, []};
 ghost use Rattle.bpf_verify.specs.Accepted.{IsAccepted};
 ghost use Rattle.gen_arena.specs.Free.{free_slots, NoneIsFree};
@@ -5,7 +7,7 @@ ghost use Rattle.gen_arena.specs.Insert.{Inserts};
 ghost use Rattle.gen_arena.specs.Live.{live_value, IsLive};
 ghost use Rattle.gen_arena.specs.Past.{KeepsPast};
 ghost use Rattle.gen_arena.specs.Remove.{Removes};
-ghost use Rattle.line_record.specs.Directory.{seat_of, IsNamed, IsOpenLine, Sits};
+ghost use Rattle.line_record.specs.Directory.{seating_at, IsNamed, IsOpenLine, Sits};
 ghost use Rattle.line_record.specs.Line.{Opens, free_line};
 ghost use Rattle.line_record.specs.Piece.{IsJournalOf, IsPiece};
 ghost use Rattle.line_record.specs.StateAfter.{IsStateAfter};
@@ -15,7 +17,7 @@ ghost use Rattle.card_core.specs.Sections.{holder, Admits, IsUnfit, IsUnready, I
 use crate::ask::Ask;
 use crate::fault::DeskFault;
 use crate::judging::serves;
-use crate::naming::Store;
+use crate::picking::Store;
 use bpf_verify::Program;
 use gen_arena::Id;
 use line_record::{Directory, Line, Owner, Piece, Seating};
@@ -38,7 +40,7 @@ pub fn load(store: &mut Store, program: Program) -> Result<Id, (DeskFault, Progr
     ensures unchanged { OnErr result (store.new ≡ store.old) }
     ensures past { KeepsPast store.old store.new }
 {
-    // What the card holds is accepted.
+    // That the code is accepted, as the contract says, is what this call promises.
     let _ = program.code();
     match store.insert(program) {
         Ok(id) => Ok(id),
@@ -113,17 +115,17 @@ pub fn setup(
     number: u16,
     ask: Ask,
 ) -> Result<Owner, (DeskFault, Ask)>
-    requires absent { seat_of directory.old ask.vc ≡ None }
+    requires absent { seating_at directory.old ask.vc ≡ None }
     requires within { number < directory.old.lines }
     requires open { IsOpenLine directory.old number }
     requires some { 0 < length ask.contracts.items }
     requires unworn { directory.old.used < 2 ^ 62 }
 
-    // The connection has its seat and its line, without a cell.
+    // The connection has its seating and its line, without a cell.
     ensures owner { IfOk result (λ owner.
         owner ≡ record { vc = ask.vc; incarnation = directory.old.used + 1 }) }
     ensures free { OnOk result (line.old.owner ≡ None) }
-    ensures seat { OnOk result (Sits directory.old ask.vc
+    ensures seating { OnOk result (Sits directory.old ask.vc
         (Some (record { line = number; incarnation = directory.old.used + 1; program = ask.program }))
         directory.new) }
     ensures used { OnOk result (directory.new.used ≡ directory.old.used + 1) }
@@ -172,11 +174,11 @@ pub fn reload(
 ) -> Result<Id, DeskFault>
     ensures no_program { IsErrOf result DeskFault.NoProgram ↔ (live_value store.now program ≡ None) }
     ensures no_connection { IsErrOf result DeskFault.NoConnection
-        ↔ (IsLive store.now program × (seat_of directory.old vc ≡ None)) }
-    ensures ok { IsOk result ↔ (IsLive store.now program × IsSome (seat_of directory.old vc)) }
-    ensures reloaded { IfOk result (λ before. (seat : Seating) → seat_of directory.old vc ≡ Some seat
-        → (before ≡ seat.program)
-        × Sits directory.old vc (Some (record seat { program = program })) directory.new) }
+        ↔ (IsLive store.now program × (seating_at directory.old vc ≡ None)) }
+    ensures ok { IsOk result ↔ (IsLive store.now program × IsSome (seating_at directory.old vc)) }
+    ensures reloaded { IfOk result (λ before. (seating : Seating) → seating_at directory.old vc ≡ Some seating
+        → (before ≡ seating.program)
+        × Sits directory.old vc (Some (record seating { program = program })) directory.new) }
     ensures unchanged { OnErr result (directory.new ≡ directory.old) }
     ensures used { directory.new.used ≡ directory.old.used }
     ensures lines { directory.new.lines ≡ directory.old.lines }
@@ -195,10 +197,10 @@ pub fn reload(
 ///
 /// `Stale`, exactly where the line doesn't serve this connection; nothing changes.
 pub fn release(directory: &mut Directory, line: &mut Line, vc: Vc) -> Result<Piece, DeskFault>
-    requires { IsSome (seat_of directory.old vc) }
-    ensures served { (seat : Seating) → seat_of directory.old vc ≡ Some seat → MatchResult result
-        (λ _. line.old.owner ≡ Some (holder vc seat))
-        (λ fault. (fault ≡ DeskFault.Stale) × (line.old.owner ≢ Some (holder vc seat))) }
+    requires { IsSome (seating_at directory.old vc) }
+    ensures served { (seating : Seating) → seating_at directory.old vc ≡ Some seating → MatchResult result
+        (λ _. line.old.owner ≡ Some (holder vc seating))
+        (λ fault. (fault ≡ DeskFault.Stale) × (line.old.owner ≢ Some (holder vc seating))) }
     ensures piece { IfOk result (λ piece. IsJournalOf line.old piece) }
     ensures run { IfOk result (λ piece. IsPiece piece) }
     ensures gone { OnOk result (Sits directory.old vc None directory.new) }

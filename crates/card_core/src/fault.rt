@@ -1,3 +1,5 @@
+//! Why a card can't be made, and why the desk is refused.
+
 use thiserror::Error;
 
 /// Why a card can't be made. It is printed as its number and its name.

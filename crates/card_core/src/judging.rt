@@ -1,12 +1,14 @@
-ghost use Rattle.std.specs.Prelude.{◌≡◌, ◌≢◌, ◌+◌, ◌↔◌, IsTrue, IfSome, IfNone, IfOk, IfErr, OnErr, MatchOption, Some, None, Err};
-ghost use Rattle.line_record.specs.Tally.{counted, number_of};
-ghost use Rattle.card_core.specs.Steps.{cell_after};
-ghost use Rattle.card_core.specs.Sections.{holder, is_owned_by, answer_for, answer_to, judging_refusal, JudgesAt, told};
+//! The judging of a named cell, on the line that is lent.
 
-use crate::answer::{Answer, Judgement};
-use crate::naming::Named;
+ghost use Rattle.std.specs.Prelude.{◌≡◌, ◌≢◌, ◌+◌, ◌↔◌, IsTrue, IfSome, IfNone, IfOk, IfErr, OnErr, MatchOption, Some, None, Err};
+ghost use Rattle.line_record.specs.Tally.{counted, count_of};
+ghost use Rattle.card_core.specs.Steps.{cell_after};
+ghost use Rattle.card_core.specs.Sections.{holder, is_owned_by, answer_to, judging_refusal, JudgesAt, told};
+
+use crate::answer::{Answer, Judgement, Unjudged};
+use crate::picking::Named;
 use leaky::Verdict;
-use line_record::{Line, LineFault, Seating};
+use line_record::{Line, Seating};
 use upc_cell::{Cell, Vc, same_vc};
 
 /// Judges a named cell on the line of its connection by the contract whose number was named. Takes
@@ -24,7 +26,7 @@ pub fn judge_at(line: &mut Line, vc: Vc, seating: &Seating, named: &Named, momen
     // What is told of a judged cell.
     ensures line { IfSome (told result) (λ judged. judged.line ≡ seating.now.line) }
     ensures number { IfSome (told result) (λ judged.
-        judged.number ≡ number_of line.old.state.counts judged.verdict + 1) }
+        judged.number ≡ count_of line.old.state.counts judged.verdict + 1) }
     ensures moment { IfSome (told result) (λ judged. judged.moment ≡ moment) }
     ensures value { IfSome (told result) (λ judged. judged.value ≡ named.now.value) }
     ensures program { IfSome (told result) (λ judged. judged.program ≡ named.now.program) }
@@ -52,12 +54,12 @@ pub fn judge_at(line: &mut Line, vc: Vc, seating: &Seating, named: &Named, momen
             verdict: judged.verdict,
             cell: leaving(judged.verdict, &cell),
         },
-        Err(answer) => answer,
+        Err(reason) => reason.answer(),
     }
 }
 
-/// Judges a named cell as [`judge_at`] does, and tells all of it but the cell as it leaves: it is not copied
-/// on the path of each cell.
+/// Judges a named cell as [`judge_at`] does, and tells all of it but the cell as it leaves, so that no cell is
+/// copied on the path of each.
 #[inline(always)]
 pub(crate) fn tell_at(
     line: &mut Line,
@@ -65,13 +67,13 @@ pub(crate) fn tell_at(
     seating: &Seating,
     named: &Named,
     moment: u64,
-) -> Result<Judgement, Answer>
+) -> Result<Judgement, Unjudged>
     ensures judged { MatchOption (judging_refusal line.old vc seating.now moment)
         (JudgesAt line.old seating.now named.now moment (answer_to named.now.cell result) line.new)
         (λ refused. (answer_to named.now.cell result ≡ refused) × (line.new ≡ line.old)) }
     ensures line { IfOk result (λ judged. judged.line ≡ seating.now.line) }
     ensures number { IfOk result (λ judged.
-        judged.number ≡ number_of line.old.state.counts judged.verdict + 1) }
+        judged.number ≡ count_of line.old.state.counts judged.verdict + 1) }
     ensures moment { IfOk result (λ judged. judged.moment ≡ moment) }
     ensures value { IfOk result (λ judged. judged.value ≡ named.now.value) }
     ensures program { IfOk result (λ judged. judged.program ≡ named.now.program) }
@@ -79,13 +81,12 @@ pub(crate) fn tell_at(
     ensures counts { IfOk result (λ judged.
         line.new.state.counts ≡ counted line.old.state.counts judged.verdict) }
     ensures unchanged { OnErr result (line.new ≡ line.old) }
-    ensures refused { IfErr result (λ answer. told answer ≡ None) }
-    ensures memory { result ≢ Err Answer.NoMemory }
-    ensures program_live { result ≢ Err Answer.Stale }
-    ensures connection { result ≢ Err Answer.NoConnection }
+    ensures memory { answer_to named.now.cell result ≢ Answer.NoMemory }
+    ensures program_live { answer_to named.now.cell result ≢ Answer.Stale }
+    ensures connection { answer_to named.now.cell result ≢ Answer.NoConnection }
 {
     if !serves(line, vc, seating) {
-        return Err(Answer::Released);
+        return Err(Unjudged::Released);
     }
     match line.judge(moment, named.cell().clp(), named.value(), named.program()) {
         Ok(entry) => Ok(Judgement {
@@ -96,7 +97,7 @@ pub(crate) fn tell_at(
             program: entry.program,
             verdict: entry.verdict,
         }),
-        Err(fault) => Err(refusal_of(fault)),
+        Err(fault) => Err(Unjudged::Refused(fault)),
     }
 }
 
@@ -111,24 +112,12 @@ pub(crate) fn serves(line: &Line, vc: Vc, seating: &Seating) -> bool
     }
 }
 
-// The cell as it leaves: tagged where the verdict is Tag, else as it came.
+/// The cell as it leaves: tagged where the verdict is Tag, else as it came.
 fn leaving(verdict: Verdict, cell: &Cell) -> Cell
     ensures { result ≡ cell_after verdict cell.now }
 {
     match verdict {
         Verdict::Tag => cell.tagged(),
         Verdict::Pass | Verdict::Discard | Verdict::Refuse => *cell,
-    }
-}
-
-// What a line's refusal is answered as.
-fn refusal_of(fault: LineFault) -> Answer
-    ensures { result ≡ answer_for fault }
-{
-    match fault {
-        LineFault::TooLate => Answer::MomentTooLate,
-        LineFault::Back(last) => Answer::MomentBack { last },
-        LineFault::Full => Answer::JournalFull,
-        LineFault::NoMemory => Answer::NoMemory,
     }
 }

@@ -8,22 +8,22 @@ mod desk;
 mod fault;
 mod judging;
 pub mod laws;
-mod naming;
+mod picking;
 mod port;
 mod reply;
 mod serial;
 mod shape;
 mod step;
 
-pub use answer::{Answer, Judgement};
+pub use answer::{Answer, Judgement, Unjudged};
 pub use ask::Ask;
 pub use desk::{admit, cut, load, release, reload, retire, setup};
 pub use fault::{CardFault, DeskFault};
 pub use judging::judge_at;
-pub use naming::{Named, Store, name, pick};
+pub use picking::{Named, Store, name, pick};
 pub use reply::{PortReply, Reply};
 pub use serial::Core;
-pub use shape::Shape;
+pub use shape::{MOST_LINES, MOST_PORTS, MOST_PROGRAMS, Shape};
 pub use step::Step;
 
 #[cfg(test)]

@@ -1,8 +1,10 @@
+//! The ports of the core, and what state each is in.
+
 ghost use Rattle.std.specs.Prelude.{◌≡◌, IfSome, replicate, slice_get, slice_set};
 ghost use Rattle.std.specs.List.{list_all};
 ghost use Rattle.card_core.specs.inner.Ports.{is_free_port, is_idle, came_in, found_in};
 
-use crate::naming::Named;
+use crate::picking::Named;
 use line_record::Seating;
 use std::alloc::Global;
 use upc_cell::{Cell, Vc};

@@ -1,3 +1,5 @@
+//! What the core answers to each step.
+
 ghost use Rattle.std.specs.Prelude.{◌≡◌};
 ghost use Rattle.card_core.specs.PortReplies.{reply_of};
 

@@ -1,11 +1,13 @@
+//! The core: a card that takes its steps one at a time.
+
 ghost use Rattle.std.specs.Prelude.{◌≡◌, ℕ};
 
-use crate::answer::{Answer, Judgement};
+use crate::answer::{Answer, Judgement, Unjudged};
 use crate::ask::Ask;
 use crate::desk;
 use crate::fault::{CardFault, DeskFault};
 use crate::judging::{judge_at, tell_at};
-use crate::naming::{Store, name, pick};
+use crate::picking::{Store, name, pick};
 use crate::port::{
     Came, Found, Port, are_outside, entered_at, is_idle_at, move_port, outside_ports, picked_at,
 };
@@ -14,7 +16,7 @@ use crate::shape::{Shape, refusal};
 use crate::step::Step;
 use bpf_verify::Program;
 use gen_arena::{Arena, Id};
-use line_record::{Directory, Line, Owner, Piece, Seating};
+use line_record::{Directory, Line, MOST_ENTRIES, Owner, Piece, Seating};
 use std::alloc::Global;
 use std::marker::Model;
 use upc_cell::{Cell, Side, Vc};
@@ -51,7 +53,7 @@ impl Core {
     ghost use Rattle.card_core.specs.World.{opening_world};
     ghost use Rattle.card_core.specs.Shapes.{shape_fault};
     ghost use Rattle.card_core.specs.declared.step.Step.TheVariants.{Enter, Pick, Judge, Load, Retire, Setup, Reload, Release, Cut};
-    ghost use Rattle.card_core.specs.Agreement.{Agrees, Follows, FollowsAll};
+    ghost use Rattle.card_core.specs.Agreement.{CoreAgrees, Follows, FollowsAll};
     ghost use Rattle.card_core.specs.Arrival.{Answers};
     ghost use Rattle.card_core.specs.Sections.{answer_to};
     ghost use Rattle.card_core.specs.PortReplies.{reply_of};
@@ -64,7 +66,7 @@ impl Core {
     /// `Programs`, `Lines`, `Ports`, `Journal`: the first number of the shape that is out of its
     /// limits. Then `NoMemory`, where memory is refused.
     pub fn new(alloc: Global, shape: Shape) -> Result<Self, CardFault>
-        ensures agrees { IfOk result (λ core. Agrees core (opening_world shape)) }
+        ensures agrees { IfOk result (λ core. CoreAgrees core (opening_world shape)) }
         ensures refused { MatchResult result
             (λ _. shape_fault shape ≡ None)
             (λ fault. (shape_fault shape ≡ Some fault)
@@ -101,18 +103,18 @@ impl Core {
         self.shape
     }
 
-    /// Takes one step.
+    /// Takes one step of a port or of the desk, and answers it.
     pub fn step(&mut self, step: Step) -> Reply
         ensures follows { Follows self.old step result self.new }
 
-        // No cell takes memory; and what was found stays what it was found to be.
+        // No cell takes memory, and what a pick found stays what it was found to be.
         ensures judged { (port : ℕ) → step ≡ Judge port → result ≢ Reply.Answered Answer.NoMemory }
         ensures fresh { IsNeverStale self.old result }
     {
         self.take(step)
     }
 
-    // Takes one step.
+    /// The step. That its reply is never stale follows from what this promises, and [`Core::step`] says it.
     fn take(&mut self, step: Step) -> Reply
         ensures follows { Follows self.old step result self.new }
         ensures judged { (port : ℕ) → step ≡ Judge port → result ≢ Reply.Answered Answer.NoMemory }
@@ -169,14 +171,15 @@ impl Core {
         let Some(came) = entered_at(&self.ports, port) else {
             return PortReply::NotNow;
         };
-        match find_and_name(&self.store, &self.directory, self.shape.side, &came) {
+        let side = self.shape.side;
+        match find_and_name(&self.store, &self.directory, side, &came.cell, came.moment) {
             Ok(found) => {
                 move_port(&mut self.ports, port, Port::Picked(found));
                 PortReply::Picked
             }
-            Err(answer) => {
+            Err(reason) => {
                 move_port(&mut self.ports, port, Port::Outside);
-                PortReply::Answered(answer)
+                PortReply::Answered(reason.answer())
             }
         }
     }
@@ -204,29 +207,27 @@ impl Core {
         port: u8,
         cell: &Cell,
         moment: u64,
-    ) -> Option<Result<Judgement, Answer>>
+    ) -> Option<Result<Judgement, Unjudged>>
         ensures answered { IfSome result (λ told.
             Answers self.old port cell.now moment (answer_to cell.now told) self.new) }
         ensures not_now { IfNone result (Follows self.old (Enter port cell.now moment) Reply.NotNow self.new) }
         ensures unchanged { IfNone result (self.new ≡ self.old) }
-        ensures memory { result ≢ Some (Err Answer.NoMemory) }
+        ensures memory { IfSome result (λ told. answer_to cell.now told ≢ Answer.NoMemory) }
     {
         if !is_idle_at(&self.ports, port) {
             return None;
         }
         // The port is outside before and afterwards, and nobody looks at it in between.
-        let came = Came {
-            cell: *cell,
-            moment,
-        };
-        let picked = find_and_name(&self.store, &self.directory, self.shape.side, &came);
+        let side = self.shape.side;
+        let picked = find_and_name(&self.store, &self.directory, side, cell, moment);
         match picked {
             Ok(found) => Some(tell_line(&mut self.lines, &found)),
-            Err(answer) => Some(Err(answer)),
+            Err(reason) => Some(Err(reason)),
         }
     }
 
-    // A program is put into the store.
+    /// The step `Load`. Programs come and go only while every port is outside, so that a cell on its way is
+    /// judged by programs that are there all the time.
     fn load(&mut self, program: Program) -> Reply
         ensures { Follows self.old (Load program) result self.new }
     {
@@ -239,7 +240,7 @@ impl Core {
         }
     }
 
-    // A program is taken out of the store.
+    /// The step `Retire`, to be taken while every port is outside, as `Load` is.
     fn retire(&mut self, id: Id) -> Reply
         ensures { Follows self.old (Retire id) result self.new }
     {
@@ -252,7 +253,7 @@ impl Core {
         }
     }
 
-    // A connection is set up.
+    /// The step `Setup`. What has no reason to be refused may still find no memory.
     fn setup(&mut self, ask: Ask) -> Reply
         ensures { Follows self.old (Setup ask) result self.new }
     {
@@ -266,7 +267,7 @@ impl Core {
         }
     }
 
-    // A connection gets another program.
+    /// The step `Reload`.
     fn reload(&mut self, vc: Vc, program: Id) -> Reply
         ensures { Follows self.old (Reload vc program) result self.new }
     {
@@ -276,7 +277,7 @@ impl Core {
         }
     }
 
-    // A connection ends.
+    /// The step `Release`.
     fn release(&mut self, vc: Vc) -> Reply
         ensures { Follows self.old (Release vc) result self.new }
     {
@@ -289,7 +290,7 @@ impl Core {
         }
     }
 
-    // A connection's journal is handed out.
+    /// The step `Cut`.
     fn cut(&mut self, vc: Vc) -> Reply
         ensures { Follows self.old (Cut vc) result self.new }
     {
@@ -304,17 +305,17 @@ impl Core {
 }
 
 ghost use Rattle.std.specs.Prelude.{◌<◌, ◌≤◌, ◌≢◌, ◌^◌, false, length, replicate, None, Some, Err, IfSome, IfOk, MatchResult};
-ghost use Rattle.card_core.specs.Sections.{answer_to};
+ghost use Rattle.card_core.specs.Sections.{answer_to, unjudged_answer};
 ghost use Rattle.line_record.specs.Tally.{nothing};
 ghost use Rattle.line_record.specs.Line.{free_line};
-ghost use Rattle.line_record.specs.Directory.{seat_of, IsOpenLine};
+ghost use Rattle.line_record.specs.Directory.{seating_at, IsOpenLine};
 ghost use Rattle.upc_cell.specs.Connection.{vc_of};
 ghost use Rattle.card_core.specs.inner.Parts.{IsFound, IsMissed, ChangesLine, JudgesOrRefuses, SetsUpOrRefuses, ReleasesOrRefuses, CutsOrRefuses};
 
-// So many free lines, with journals of so many entries.
+/// So many free lines, with journals of so many entries.
 fn free_lines(alloc: Global, many: usize, journal: u32) -> Option<Vec<Line>>
     requires some { 1 ≤ journal }
-    requires most { journal ≤ 65536 }
+    requires most { journal ≤ MOST_ENTRIES }
     ensures { IfSome result (λ lines. lines.items ≡ replicate many (free_line journal nothing false)) }
 {
     let Ok(mut lines) = Vec::with_capacity(alloc, many) else {
@@ -329,48 +330,49 @@ fn free_lines(alloc: Global, many: usize, journal: u32) -> Option<Vec<Line>>
     Some(lines)
 }
 
-// Where the cell's connection is, and the contract that its program names for it. It is part of the path of
-// each cell, as is the next: called, they would hand the cell over by copies.
+/// Where the cell's connection is, and the contract that its program names for it.
+/// On the path of each cell, as is the next: called, they would hand the cell over by copies.
 #[inline(always)]
 fn find_and_name(
     store: &Store,
     directory: &Directory,
     side: Side,
-    came: &Came,
-) -> Result<Found, Answer>
+    cell: &Cell,
+    moment: u64,
+) -> Result<Found, Unjudged>
     ensures found { MatchResult result
-        (λ found. IsFound store.now directory.now side came.now found)
-        (λ missed. IsMissed store.now directory.now (vc_of side came.now.cell) missed) }
+        (λ found. IsFound store.now directory.now side (record { cell = cell.now; moment = moment }) found)
+        (λ reason. IsMissed store.now directory.now (vc_of side cell.now) (unjudged_answer reason)) }
     ensures within { IfOk result (λ found. found.seating.line < directory.now.lines) }
 {
-    let vc = came.cell.vc_at(side);
+    let vc = cell.vc_at(side);
     let Some(seating) = pick(directory, vc) else {
-        return Err(Answer::NoConnection);
+        return Err(Unjudged::NoConnection);
     };
-    let Some(named) = name(store, seating.program, &came.cell) else {
-        return Err(Answer::Stale);
+    let Some(named) = name(store, seating.program, cell) else {
+        return Err(Unjudged::Stale);
     };
     Ok(Found {
-        moment: came.moment,
+        moment,
         vc,
         seating,
         named,
     })
 }
 
-// Judges a picked cell on its line, which is one of these, and tells all of it but the cell as it leaves.
+/// Judges a picked cell on its line, which is one of these, and tells all of it but the cell as it leaves.
 #[inline(always)]
-fn tell_line(lines: &mut Vec<Line>, found: &Found) -> Result<Judgement, Answer>
+fn tell_line(lines: &mut Vec<Line>, found: &Found) -> Result<Judgement, Unjudged>
     requires { found.now.seating.line < length lines.old.items }
     ensures line { ChangesLine lines.old.items found.now.seating.line
         (JudgesOrRefuses found.now (answer_to found.now.named.cell result)) lines.new.items }
-    ensures memory { result ≢ Err Answer.NoMemory }
+    ensures memory { answer_to found.now.named.cell result ≢ Answer.NoMemory }
 {
     let line = &mut lines[usize::from(found.seating.line)];
     tell_at(line, found.vc, &found.seating, &found.named, found.moment)
 }
 
-// Judges a picked cell on its line, which is one of these.
+/// Judges a picked cell on its line, which is one of these.
 fn judge_line(lines: &mut Vec<Line>, found: &Found) -> Answer
     requires { found.now.seating.line < length lines.old.items }
     ensures line { ChangesLine lines.old.items found.now.seating.line
@@ -381,7 +383,7 @@ fn judge_line(lines: &mut Vec<Line>, found: &Found) -> Answer
     judge_at(line, found.vc, &found.seating, &found.named, found.moment)
 }
 
-// Sets up a connection on the line of this number.
+/// Sets up a connection on the line of this number.
 fn setup_line(
     directory: &mut Directory,
     lines: &mut Vec<Line>,
@@ -389,7 +391,7 @@ fn setup_line(
     ask: Ask,
 ) -> Result<Owner, (DeskFault, Ask)>
     requires there { number < length lines.old.items }
-    requires absent { seat_of directory.old ask.vc ≡ None }
+    requires absent { seating_at directory.old ask.vc ≡ None }
     requires within { number < directory.old.lines }
     requires open { IsOpenLine directory.old number }
     requires some { 0 < length ask.contracts.items }
@@ -402,7 +404,7 @@ fn setup_line(
     desk::setup(directory, line, number, ask)
 }
 
-// Releases a connection from its line.
+/// Releases a connection from its line.
 fn release_line(
     directory: &mut Directory,
     lines: &mut Vec<Line>,
@@ -410,7 +412,7 @@ fn release_line(
     seating: &Seating,
 ) -> Result<Piece, DeskFault>
     requires there { seating.now.line < length lines.old.items }
-    requires sits { seat_of directory.old vc ≡ Some seating.now }
+    requires sits { seating_at directory.old vc ≡ Some seating.now }
     ensures line { ChangesLine lines.old.items seating.now.line
         (ReleasesOrRefuses directory.old directory.new vc seating.now result) lines.new.items }
     ensures lines { directory.new.lines ≡ directory.old.lines }
@@ -419,7 +421,7 @@ fn release_line(
     desk::release(directory, line, vc)
 }
 
-// Hands out the journal of a connection's line.
+/// Hands out the journal of a connection's line.
 fn cut_line(lines: &mut Vec<Line>, vc: Vc, seating: &Seating) -> Result<Piece, DeskFault>
     requires { seating.now.line < length lines.old.items }
     ensures { ChangesLine lines.old.items seating.now.line

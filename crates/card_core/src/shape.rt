@@ -1,7 +1,10 @@
+//! How large a card is, and the limits of that.
+
 ghost use Rattle.std.specs.Prelude.{◌≡◌, IfNone};
 ghost use Rattle.card_core.specs.Shapes.{is_beyond, shape_fault, IsShape};
 
 use crate::fault::CardFault;
+use line_record::MOST_ENTRIES;
 use upc_cell::Side;
 
 /// How many programs a card holds at most.
@@ -12,9 +15,6 @@ pub const MOST_LINES: u64 = 4096;
 
 /// How many ports a card has at most.
 pub const MOST_PORTS: u64 = 16;
-
-/// How many entries a journal holds at most.
-pub const MOST_JOURNAL: u64 = 65536;
 
 /// How large a card is.
 #[derive(Clone, Copy, Debug, PartialEq, Eq)]
@@ -52,14 +52,14 @@ pub(crate) fn refusal(shape: &Shape) -> Option<CardFault>
         Some(CardFault::Lines)
     } else if is_beyond(shape.ports, MOST_PORTS) {
         Some(CardFault::Ports)
-    } else if is_beyond(shape.journal, MOST_JOURNAL) {
+    } else if is_beyond(shape.journal, u64::from(MOST_ENTRIES)) {
         Some(CardFault::Journal)
     } else {
         None
     }
 }
 
-// Whether the number isn't 1 to this one.
+/// Whether the number isn't 1 to this one.
 fn is_beyond(number: u64, most: u64) -> bool
     ensures { result ≡ is_beyond number most }
 {

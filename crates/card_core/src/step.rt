@@ -1,3 +1,5 @@
+//! The steps of the core.
+
 use crate::ask::Ask;
 use bpf_verify::Program;
 use gen_arena::Id;

@@ -1,3 +1,5 @@
+//! Whole cards, step by step.
+
 mod interleaving;
 
 use super::*;

@@ -10,7 +10,7 @@ use Rattle.gen_arena.specs.Slot.{Slot}
 use Rattle.gen_arena.specs.Live.{live_value}
 use Rattle.line_record.specs.declared.directory.Seating.{Seating}
 use Rattle.line_record.specs.declared.owner.Owner.{Owner}
-use Rattle.line_record.specs.Directory.{DirectoryView, seat_of, Sits}
+use Rattle.line_record.specs.Directory.{DirectoryView, seating_at, Sits}
 use Rattle.line_record.specs.Line.{LineView, Opens, free_line}
 use Rattle.line_record.specs.Piece.{PieceView, IsJournalOf}
 use Rattle.line_record.specs.StateAfter.{IsStateAfter}
@@ -21,17 +21,17 @@ use Rattle.card_core.specs.declared.fault.DeskFault.{DeskFault}
 use Rattle.card_core.specs.declared.fault.DeskFault.TheVariants.{Stale as DeskStale}
 use Rattle.card_core.specs.Sections.{IsNaming, judging_refusal, JudgesAt, holder, IsUnready, IsUncut}
 
--- The directory has a seat for the cell's connection, and its program names a contract for the cell.
+-- The directory has a seating for the cell's connection, and its program names a contract for the cell.
 pub record IsFound (store : List (Slot (List Instr))) (directory : DirectoryView) (side : Side) (came : Came) (found : Found) : Type 0 where
   pub moment : found.moment ≡ came.moment
   pub own : found.vc ≡ vc_of side came.cell
-  pub sits : seat_of directory found.vc ≡ Some found.seating
+  pub sits : seating_at directory found.vc ≡ Some found.seating
   pub naming : IsNaming store found.seating.program came.cell found.named
 
 -- The directory has no such connection, or its program isn't live.
 abbrev pub IsMissed : List (Slot (List Instr)) → DirectoryView → Vc → Answer → Type 0
-IsMissed store directory vc NoConnection = seat_of directory vc ≡ None
-IsMissed store directory vc Stale = (seat : Seating) × (seat_of directory vc ≡ Some seat) × (live_value store seat.program ≡ None)
+IsMissed store directory vc NoConnection = seating_at directory vc ≡ None
+IsMissed store directory vc Stale = (seating : Seating) × (seating_at directory vc ≡ Some seating) × (live_value store seating.program ≡ None)
 IsMissed store directory vc _ = ⊥
 
 -- One line of these was lent to a section that did this to it, and all others are as before.
@@ -51,7 +51,7 @@ JudgesOrRefuses found answer old new = MatchOption (judging_refusal old found.vc
 -- A connection was set up on a line.
 pub record IsSetUp (old new : DirectoryView) (number : ℕ) (ask : Ask) (owner : Owner) (line next : LineView) : Type 0 where
   pub given : owner ≡ record { vc = ask.vc; incarnation = old.used + 1 }
-  pub seat : Sits old ask.vc (Some (record { line = number; incarnation = old.used + 1; program = ask.program })) new
+  pub seating : Sits old ask.vc (Some (record { line = number; incarnation = old.used + 1; program = ask.program })) new
   pub used : new.used ≡ old.used + 1
   pub opened : Opens line owner ask.contracts.items next
   pub history : IsStateAfter ask.contracts.items [] next.state
@@ -71,12 +71,12 @@ SetsUpOrRefuses old new number ask result line next = MatchResult result
 
 -- The connection ends on the line, or the line isn't its own.
 abbrev pub ReleasesOrRefuses : DirectoryView → DirectoryView → Vc → Seating → Result PieceView DeskFault → LineView → LineView → Type 0
-ReleasesOrRefuses old new vc seat result line next = MatchResult result
+ReleasesOrRefuses old new vc seating result line next = MatchResult result
     (λ piece. IsReleased old new vc piece line next)
-    (λ fault. (fault ≡ DeskStale) × (line.owner ≢ Some (holder vc seat)) × (new ≡ old) × (next ≡ line))
+    (λ fault. (fault ≡ DeskStale) × (line.owner ≢ Some (holder vc seating)) × (new ≡ old) × (next ≡ line))
 
 -- The line's journal is handed out, or there is a reason not to.
 abbrev pub CutsOrRefuses : Vc → Seating → Result PieceView DeskFault → LineView → LineView → Type 0
-CutsOrRefuses vc seat result line next = MatchResult result
+CutsOrRefuses vc seating result line next = MatchResult result
     (λ piece. IsJournalOf line piece × (next ≡ record line { start = line.state; entries = [] }))
-    (λ fault. IsUncut line (holder vc seat) fault × (next ≡ line))
+    (λ fault. IsUncut line (holder vc seating) fault × (next ≡ line))

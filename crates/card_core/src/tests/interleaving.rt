@@ -1,5 +1,6 @@
 //! One interleaving of two ports and the desk, step by step; the documents have it as a table with the
 //! world after each step.
+
 use super::*;
 
 /// A connection under two contracts, each a cell in ten ticks and no tolerance.

@@ -4,7 +4,7 @@ use Rattle.card_core.specs.declared.reply.Reply.TheVariants.{NotNow}
 use Rattle.card_core.specs.declared.step.Step.TheVariants.{Enter}
 use Rattle.card_core.specs.Agreement.{CoreView, Follows}
 use Rattle.card_core.specs.Arrival.{Answers}
-use Rattle.card_core.specs.Sections.{answer_to}
+use Rattle.card_core.specs.Sections.{answer_to, unjudged_answer}
 use Rattle.card_core.specs.inner.Ports.{is_idle}
 use Rattle.card_core.proofs.ArrivalSteps.{arrives-judged, arrives-missed}
 use Rattle.card_core.proofs.PortLemmas.{core_of}
@@ -39,6 +39,6 @@ returns-in-Err-clause-answered c =
     let l = c.self.inside in
     let free : is_idle (slice_get l.ports.items c.args.port) ≡ true =
     let test = c.is_idle_at.ensures in let same = c.deref.ensures.value in let is = c.if-not-is_idle_at.false in cc in
-    subst (λ (core : CoreView). Answers core c.args.port c.args.cell.now c.args.moment c.in-Err.answer core) c.self.view_is
+    subst (λ (core : CoreView). Answers core c.args.port c.args.cell.now c.args.moment (unjudged_answer c.in-Err.reason) core) c.self.view_is
     (arrives-missed l.shape l.store l.directory l.lines.items l.ports.items c.args.port (record { cell = c.args.cell.now; moment = c.args.moment }) free
-    c.in-Err.answer c.in-Err.ensures.found)
+    (unjudged_answer c.in-Err.reason) c.in-Err.ensures.found)

@@ -1,13 +1,15 @@
 use Rattle.std.proofs.Common.{◌≡◌, ◌<◌, ℕ, Some, None, List, length, refl, sym, subst}
 use Rattle.std.specs.Prelude.{slice_get}
+use Rattle.card_core.specs.declared.answer.Answer.{Answer}
 use Rattle.card_core.specs.declared.port.Port.{Port}
 use Rattle.card_core.specs.declared.port.Port.TheVariants.{Picked as PickedPort}
 use Rattle.card_core.specs.declared.port.Found.{Found}
 use Rattle.card_core.specs.declared.reply.Reply.TheVariants.{Picked, NotNow, Answered}
 use Rattle.card_core.specs.declared.step.Step.TheVariants.{Pick}
 use Rattle.card_core.specs.Agreement.{CoreView, Follows}
+use Rattle.card_core.specs.Sections.{unjudged_answer}
 use Rattle.card_core.specs.inner.Ports.{came_in}
-use Rattle.card_core.proofs.ConnectionLemmas.{is_same_Some}
+use Rattle.card_core.proofs.LookUps.{same_some}
 use Rattle.card_core.proofs.PortLemmas.{core_of, IsCore-moved, IsCore-left}
 use Rattle.card_core.proofs.PortSteps.{pick-not}
 use Rattle.card_core.proofs.PickSteps.{pick-goes, pick-missed}
@@ -28,7 +30,7 @@ invariant_of-self c =
     subst (λ (n : ℕ). c.in-Ok.found.seating.line < n) c.self.invariant.sized c.in-Ok.ensures.within in
     IsCore-moved l.directory l.directory l.lines.items l.lines.items l.ports.items c.move_port.new.ports.items c.args.port
     (PickedPort c.in-Ok.found) c.self.invariant refl refl c.move_port.ensures
-    (λ found there. subst (λ (f : Found). f.seating.line < length l.lines.items) (is_same_Some c.in-Ok.found found there) within)
+    (λ found there. subst (λ (f : Found). f.seating.line < length l.lines.items) (same_some c.in-Ok.found found there) within)
 
 pub invariant_of-self-in-Err : goal.invariant_of-self-in-Err
 invariant_of-self-in-Err c =
@@ -52,9 +54,10 @@ returns-in-Err c =
     let l = c.self.inside in
     let there : came_in (slice_get l.ports.items c.args.port) ≡ Some c.in-Some.came =
     let test = c.entered_at.ensures in let same = c.deref.ensures.value in let is = c.in-Some.is in cc in
-    let answer = c.in-Err.answer in
+    let answer = unjudged_answer c.in-Err.reason in
     let goes = pick-missed l.shape l.store l.directory l.lines.items l.ports.items c.args.port c.in-Some.came there
     answer c.in-Err.ensures.found in
     let New : List Port → CoreView = λ ports. core_of l.shape l.store l.directory l.lines.items ports in
-    subst (λ (core : CoreView). Follows core (Pick c.args.port) (Answered answer) (New c.move_port-in-Err.new.ports.items)) c.self.view_is
-    (subst (λ (ports : List Port). Follows (New l.ports.items) (Pick c.args.port) (Answered answer) (New ports)) (sym c.move_port-in-Err.ensures) goes)
+    subst (λ (core : CoreView). Follows core (Pick c.args.port) (Answered c.answer.result) (New c.move_port-in-Err.new.ports.items)) c.self.view_is
+    (subst (λ (given : Answer). Follows (New l.ports.items) (Pick c.args.port) (Answered given) (New c.move_port-in-Err.new.ports.items)) (sym c.answer.ensures)
+    (subst (λ (ports : List Port). Follows (New l.ports.items) (Pick c.args.port) (Answered answer) (New ports)) (sym c.move_port-in-Err.ensures) goes))

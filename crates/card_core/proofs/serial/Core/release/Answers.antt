@@ -1,5 +1,5 @@
 use Rattle.std.proofs.Common.{◌≡◌, Some, None, sym, subst, arith}
-use Rattle.line_record.specs.Directory.{seat_of}
+use Rattle.line_record.specs.Directory.{seating_at}
 use Rattle.card_core.specs.declared.fault.DeskFault.TheVariants.{NoConnection}
 use Rattle.card_core.specs.declared.reply.Reply.{Reply}
 use Rattle.card_core.specs.declared.reply.Reply.TheVariants.{Released, Refused}
@@ -13,14 +13,14 @@ use Rattle.card_core.proofs.serial.Core.release.Goals.{in-Ok, in-Err}
 pub release_line-requires-clause-there : goal.release_line-requires-clause-there
 release_line-requires-clause-there c =
     let l = c.self.inside in
-    let there : seat_of l.directory c.args.vc ≡ Some c.in-Some.seating = sym c.in-Some.ensures.seat in
+    let there : seating_at l.directory c.args.vc ≡ Some c.in-Some.seating = sym c.in-Some.ensures.seating in
     let within = c.in-Some.ensures.directory.within c.args.vc c.in-Some.seating there in
     omega (arith, within, c.self.invariant.sized)
 
 pub returns-in_default : goal.returns-in_default
 returns-in_default c =
     let l = c.self.inside in
-    let none : seat_of l.directory c.args.vc ≡ None = sym c.in_default.ensures.seat in
+    let none : seating_at l.directory c.args.vc ≡ None = sym c.in_default.ensures.seating in
     subst (λ (core : CoreView). Follows core (Release c.args.vc) (Refused NoConnection) core) c.self.view_is
     (release-missing l.shape l.store l.directory l.lines.items l.ports.items c.args.vc none)
 
@@ -33,7 +33,7 @@ invariant_of-self c =
 pub returns : goal.returns
 returns c =
     let l = c.self.inside in
-    let there : seat_of l.directory c.args.vc ≡ Some c.in-Some.seating = sym c.in-Some.ensures.seat in
+    let there : seating_at l.directory c.args.vc ≡ Some c.in-Some.seating = sym c.in-Some.ensures.seating in
     let after = c.release_line.new.lines.items in
     let Goal : Reply → CoreView → Type 0 = λ reply old.
     Follows old (Release c.args.vc) reply (core_of l.shape l.store c.release_line.new.directory after l.ports.items) in

@@ -1,5 +1,5 @@
 use Rattle.std.proofs.Common.{refl, sym, subst}
-use Rattle.line_record.specs.Directory.{DirectoryView, seat_of}
+use Rattle.line_record.specs.Directory.{DirectoryView, seating_at}
 use Rattle.card_core.specs.declared.reply.Reply.{Reply}
 use Rattle.card_core.specs.declared.reply.Reply.TheVariants.{Reloaded, Refused}
 use Rattle.card_core.specs.declared.step.Step.TheVariants.{Reload}
@@ -21,11 +21,11 @@ returns c =
     elim c.match-reload.branch [
       | in-Ok w ↦
           let both = w.in-Ok.ensures.ok.0 refl in
-          let seat = there_is (seat_of l.directory vc) both.1 in
-          let did = w.in-Ok.ensures.reloaded seat.0 seat.1 in
+          let seating = there_is (seating_at l.directory vc) both.1 in
+          let did = w.in-Ok.ensures.reloaded seating.0 seating.1 in
           subst (λ (reply : Reply). Goal reply c.args.self.now) (sym w.result-is)
           (subst (Goal (Reloaded w.in-Ok.before)) c.self.view_is
-          (reload-goes l.shape l.store l.directory l.lines.items l.ports.items vc program new seat.0 w.in-Ok.before seat.1
+          (reload-goes l.shape l.store l.directory l.lines.items l.ports.items vc program new seating.0 w.in-Ok.before seating.1
           both.0 did.0 did.1 w.in-Ok.ensures.used))
       | in-Err w ↦ subst (λ (reply : Reply). Goal reply c.args.self.now) (sym w.result-is)
           (subst (Goal (Refused w.in-Err.fault)) c.self.view_is

@@ -1,4 +1,4 @@
-use Rattle.card_core.proofs.StaleLemmas.{never-stale}
+use Rattle.card_core.proofs.Spares.{never-stale}
 use Rattle.card_core.proofs.serial.Core.step.Goals as goal
 
 pub returns-clause-fresh : goal.returns-clause-fresh

@@ -1,3 +1,5 @@
+//! The picking of a cell's connection, and the naming of its contract by the program.
+
 use bpf_interp::run;
 use bpf_verify::Program;
 use gen_arena::{Arena, Id};
@@ -59,13 +61,13 @@ ghost use Rattle.std.specs.Prelude.{◌≡◌, ◌↔◌, List, Some, IsSome, If
 ghost use Rattle.bpf_code.specs.declared.instr.Instr.{Instr};
 ghost use Rattle.bpf_verify.specs.Accepted.{IsAccepted};
 ghost use Rattle.gen_arena.specs.Live.{live_value, IsLive};
-ghost use Rattle.line_record.specs.Directory.{seat_of, IsDirectory};
+ghost use Rattle.line_record.specs.Directory.{seating_at, IsDirectory};
 ghost use Rattle.card_core.specs.Sections.{IsNaming};
 
 /// Where the connection is, if there is one. Takes no memory.
 #[inline]
 pub fn pick(directory: &Directory, vc: Vc) -> Option<Seating>
-    ensures seat { result ≡ seat_of directory.now vc }
+    ensures seating { result ≡ seating_at directory.now vc }
     ensures directory { IsDirectory directory.now }
 {
     directory.find(vc)
@@ -80,7 +82,7 @@ pub fn name(store: &Store, program: Id, cell: &Cell) -> Option<Named>
     ensures accepted { (code : List Instr) → live_value store.now program ≡ Some code → IsAccepted code }
 {
     let code = store.get(program)?;
-    // What the store holds is accepted.
+    // That the code is accepted, as the contract says, is what this call promises.
     let _ = code.code();
     let outcome = run(code, cell);
     Some(Named {
