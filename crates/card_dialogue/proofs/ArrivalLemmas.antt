@@ -7,14 +7,17 @@ use Rattle.gen_arena.specs.declared.id.Id.{Id}
 use Rattle.upc_cell.specs.Connection.{vc_of}
 use Rattle.upc_cell.specs.declared.side.Side.{Side}
 use Rattle.upc_cell.specs.declared.vc.Vc.{Vc}
-use Rattle.card_core.specs.Agreement.{Agrees, CoreView, Follows}
+use Rattle.card_core.specs.Agreement.{CoreAgrees, CoreView, Follows}
 use Rattle.card_core.specs.Arrival.{Answers}
 use Rattle.card_core.specs.Log.{Event, Leads}
 use Rattle.card_core.specs.Steps.{WorldStep}
 use Rattle.card_core.specs.World.{Picking, World, entered, picked}
-use Rattle.card_core.specs.Sections.{answer_to}
+use Rattle.card_core.specs.Sections.{answer_to, unjudged_answer}
 use Rattle.card_core.specs.declared.answer.Answer.{Answer}
 use Rattle.card_core.specs.declared.answer.Judgement.{Judgement}
+use Rattle.card_core.specs.declared.answer.Unjudged.{Unjudged}
+use Rattle.card_core.specs.declared.answer.Unjudged.TheVariants as unjudged
+use Rattle.line_record.specs.declared.fault.LineFault.TheVariants.{TooLate, Back, Full, NoMemory}
 use Rattle.card_core.specs.PortReplies.{reply_of}
 use Rattle.card_core.specs.declared.reply.PortReply.{PortReply}
 use Rattle.card_core.specs.declared.reply.PortReply.TheVariants as port
@@ -24,7 +27,7 @@ use Rattle.card_core.specs.declared.step.Step.TheVariants.{Enter, Pick, Judge}
 use Rattle.card_dialogue.specs.Replies.{answer_text, number_of_judging, numbered_answer_text}
 use Rattle.program_dialogue.specs.FaultLines.{bad_hex, wrong_length}
 use Rattle.program_dialogue.specs.Hexadecimal.{cell_of, octets_of}
-use Rattle.card_dialogue.specs.Run.{Arrives, Card, IsLed, Obeys, Polices, PolicesOctets, Refuses}
+use Rattle.card_dialogue.specs.RunText.{Arrives, Card, IsLed, Obeys, Polices, PolicesOctets, Refuses}
 use Rattle.card_dialogue.specs.ScriptCommands.{cell}
 use Rattle.card_dialogue.proofs.MovesLemmas.{moves-map}
 use Rattle.card_dialogue.specs.inner.Policing.{AnswersCell, Held, Moves, ShowsCard}
@@ -65,7 +68,7 @@ arrives-not held held' octets moment names enters = (
       let no = came.0 in cc,
 )
 
-pub arrives : (held held' : Held) (octets : List ℕ) (moment : ℕ) (told : Option (Result Judgement Answer)) → held'.names ≡ held.names
+pub arrives : (held held' : Held) (octets : List ℕ) (moment : ℕ) (told : Option (Result Judgement Unjudged)) → held'.names ≡ held.names
     → IfSome told (λ t. Answers held.core 0 octets moment (answer_to octets t) held'.core)
     → IfNone told (Follows held.core (Enter 0 octets moment) NotNow held'.core)
     → AnswersCell held octets moment (option_map (λ t. answer_to octets t) told) held'
@@ -116,3 +119,13 @@ moves-cell moment word octets here held held' old new spelled is long moves =
     subst (λ b. MatchBool b (Polices before moment here text after) (Refuses (wrong_length (length here)) before text after)) (sym test) polices in
     subst (λ (found : Option (List ℕ)). MatchOption found (Refuses bad_hex before text after) (λ read. PolicesOctets before moment (cell_of read) text after)) (sym spelled)
     (subst (λ read. PolicesOctets before moment read text after) (sym is) sized)) moves
+
+-- A cell that isn't judged has no program that named a contract for it.
+pub number-unjudged : (names : List Id) (reason : Unjudged) → number_of_judging names (unjudged_answer reason) ≡ 0
+number-unjudged names unjudged.NoConnection = refl
+number-unjudged names unjudged.Released = refl
+number-unjudged names unjudged.Stale = refl
+number-unjudged names (unjudged.Refused TooLate) = refl
+number-unjudged names (unjudged.Refused (Back last)) = refl
+number-unjudged names (unjudged.Refused Full) = refl
+number-unjudged names (unjudged.Refused NoMemory) = refl

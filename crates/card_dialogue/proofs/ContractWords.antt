@@ -8,11 +8,11 @@ use Rattle.card_dialogue.specs.ScriptCommands.{contracts_of}
 use Rattle.card_dialogue.specs.ScriptWords.{wanted_of, wanted_of_each}
 use Rattle.card_dialogue.specs.declared.script_words.Wanted.{Wanted}
 
--- these contracts, and those of the words behind them
+-- These contracts, and those of the words behind them.
 abbrev pub read_behind : List Wanted → List (List ℕ) → Option (List Wanted)
 read_behind read words = option_map (λ later. read ++ later) (wanted_of_each words)
 
--- what was read so far, and what is left, are all words' contracts
+-- What was read so far, and what is left, are all words' contracts.
 pub record ReadsOn (words : List (List ℕ)) (read : List Wanted) (rest : List (List ℕ)) : Type 0 where
   pub many : length read + length rest ≡ length words
   pub reads : read_behind read rest ≡ wanted_of_each words

@@ -1,7 +1,7 @@
 pub mod AddingLemmas
 pub mod MarkLemmas
 pub mod ArrivalLemmas
-pub mod CellLineLemmas
+pub mod SpelledCellLemmas
 pub mod DeskReplies
 pub mod MovesLemmas
 pub mod NamingLemmas

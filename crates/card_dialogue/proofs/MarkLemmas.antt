@@ -6,7 +6,7 @@ use Rattle.card_dialogue.specs.ScriptWords.{cut_at}
 abbrev Cut : Type 0
 Cut = List ℕ × List ℕ
 
--- there is no mark
+-- There is no mark.
 pub uncut : (mark : ℕ) (text : List ℕ) → ((k : ℕ) → k < length text → (get_or text k 0 == mark) ≡ false) → cut_at mark text ≡ None
 unfolding cut_at
 uncut mark [] none = refl
@@ -15,7 +15,7 @@ uncut mark (octet ∷ octets) none =
     ap (λ b. if b then Some ([], octets) else option_map (λ (c : Cut). (octet ∷ c.0, c.1)) (cut_at mark octets)) (none 0 (omega arith))
     ∙ ap (λ o. option_map (λ (c : Cut). (octet ∷ c.0, c.1)) o) rest
 
--- the first mark
+-- The first mark.
 cut-first : (mark : ℕ) (text : List ℕ) (place : ℕ) → place < length text → (get_or text place 0 == mark) ≡ true
     → ((k : ℕ) → k < place → (get_or text k 0 == mark) ≡ false) → cut_at mark text ≡ Some (take place text, drop (suc place) text)
 unfolding cut_at

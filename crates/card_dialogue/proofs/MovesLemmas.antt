@@ -21,7 +21,7 @@ use Rattle.program_dialogue.specs.Hexadecimal.{octets_of}
 use Rattle.program_dialogue.specs.Program.{is_program, ReadsAs}
 use Rattle.card_dialogue.specs.Rates.{AreContracts, first_wanted_fault}
 use Rattle.card_dialogue.specs.Replies.{program_named, reply_text}
-use Rattle.card_dialogue.specs.Run.{Asks, Card, CommandLine, IsLed, LoadsOctets, Obeys, Refuses, Takes, TakesNamed, id_loaded}
+use Rattle.card_dialogue.specs.RunText.{Asks, Card, CommandLine, IsLed, LoadsOctets, Obeys, Refuses, Takes, TakesNamed, id_loaded}
 use Rattle.card_dialogue.specs.ScriptCommands.{Command, command_of, load, setup}
 use Rattle.card_dialogue.specs.declared.script_words.Wanted.{Wanted}
 use Rattle.card_dialogue.specs.inner.Policing.{Held, Moves, MovesBy, ShowsCard}

@@ -9,7 +9,7 @@ use Rattle.gen_arena.specs.declared.id.Id.{Id}
 use Rattle.card_dialogue.specs.Replies.{latest_number, number_of_program}
 use Rattle.card_dialogue.specs.inner.Naming.{AreLatest, IsLatest, NoneAbove}
 
--- one name more
+-- One name more.
 latest-push : (id last : Id) (found next : ℕ) (ids : List Id)
     → latest_number id found next (ids ++ last ∷ []) ≡ (if is_same_id id last then next + length ids else latest_number id found next ids)
 latest-push id last found next [] = ap (λ n. if is_same_id id last then n else found) (omega arith)
@@ -22,7 +22,7 @@ pub number-push : (id last : Id) (ids : List Id)
 number-push id last ids =
     latest-push id last 0 1 ids ∙ ap (λ n. if is_same_id id last then n else number_of_program ids id) (omega arith)
 
--- ids that are others leave what was found
+-- Ids that are others leave what was found.
 none-here : (id : Id) (found next : ℕ) (ids : List Id)
     → ((place : ℕ) (here : Id) → slice_get ids place ≡ Some here → is_same_id id here ≡ false) → latest_number id found next ids ≡ found
 none-here id found next [] none = refl
@@ -30,7 +30,7 @@ none-here id found next (here ∷ later) none =
     ap (λ b. latest_number id (if b then next else found) (suc next) later) (none 0 here refl)
     ∙ none-here id found (suc next) later (λ place other e. none (suc place) other e)
 
--- ids behind others
+-- Ids behind others.
 split : (id : Id) (found next : ℕ) (ids later : List Id)
     → latest_number id found next (ids ++ later) ≡ latest_number id (latest_number id found next ids) (next + length ids) later
 split id found next [] later = ap (λ n. latest_number id found n later) (omega arith)
@@ -46,7 +46,7 @@ got-drop (here ∷ later) (suc count) place x e =
     let same : suc count + place ≡ suc (count + place) = omega arith in
     ap (λ n. slice_get (here ∷ later) n) same ∙ got-drop later count place x e
 
--- above a number with none of the slot there is no name of the program
+-- Above a number with none of the slot there is no name of the program.
 pub number-below : (ids : List Id) (id : Id) (number : ℕ) → NoneAbove ids id.slot number
     → number_of_program (take number ids) id ≡ number_of_program ids id
 number-below ids id number none =
@@ -68,7 +68,7 @@ not-above-all ids id = record { within = omega arith; below = ap (λ xs. number_
 pub not-above-latest : (ids : List Id) (id : Id) (number : ℕ) → IsLatest ids id.slot number → NotAbove ids id number
 not-above-latest ids id number latest = record { within = latest.within; below = number-below ids id number latest.last }
 
--- the name of this number, behind those before it
+-- The name of this number, behind those before it.
 last-of : (ids : List Id) (id here : Id) (number : ℕ) → 0 < number → number ≤ length ids → here ≡ get_or ids (number - 1) here
     → number_of_program (take number ids) id ≡ (if is_same_id id here then number else number_of_program (take (number - 1) ids) id)
 last-of ids id here number some within is =

@@ -6,7 +6,7 @@ use Rattle.line_record.specs.Tally.{plus, tally_of}
 use Rattle.line_record.specs.declared.state.State.{State}
 use Rattle.line_record.specs.declared.tally.Tally.{Tally}
 
--- the counts of a piece's entries
+-- The counts of a piece's entries.
 abbrev pub tally_in : PieceView → Tally
 tally_in piece = tally_of (map (λ entry. entry.verdict) piece.entries)
 
@@ -16,11 +16,11 @@ counts-go_on piece start end run begins ends =
     ap (λ (s : State). s.counts) ends ∙ run.counts ∙ entries_count piece.start.counts piece.entries
     ∙ ap (λ (s : State). plus s.counts (tally_in piece)) (sym begins)
 
--- the tally of these numbers
+-- The tally of these numbers.
 abbrev of_each : ℕ → ℕ → ℕ → ℕ → Tally
 of_each passed tagged discarded refused = record { passed = passed; tagged = tagged; discarded = discarded; refused = refused }
 
--- what the end counts beyond the start
+-- What the end counts beyond the start.
 pub counts-between : (start end within : Tally) → end ≡ plus start within
     → record {
       passed = end.passed - start.passed;

@@ -7,7 +7,7 @@ use Rattle.dialogue.specs.Words.{is_silent, words_of}
 use Rattle.dialogue.specs.declared.machine.Turn.TheVariants.{GoesOn}
 use Rattle.dialogue.specs.declared.words.LineWords.{LineWords}
 use Rattle.dialogue.specs.declared.words.LineWords.TheVariants.{Silent, One, Several}
-use Rattle.card_dialogue.specs.Run.{IsSoundRun, RunSteps, RunWorld, Tells, run_rules}
+use Rattle.card_dialogue.specs.RunText.{IsSoundRun, RunSteps, RunWorld, Tells, run_rules}
 use Rattle.card_dialogue.specs.inner.Policing.{Held, Moves, OpensAs, SaysLine, ShowsRun}
 
 -- A line that is one word or more asks for something.

@@ -20,13 +20,13 @@ made-next [] (other ∷ made) ask contract so_far is = absurd so_far
 made-next (first ∷ asks) [] ask contract so_far is = absurd so_far
 made-next (first ∷ asks) (other ∷ made) ask contract so_far is = (so_far.0, made-next asks made ask contract so_far.1 is)
 
--- a fault is passed over where there is none
+-- A fault is passed over where there is none.
 none-first : (fault here joined later : Option GcraFault) → first_of_two fault here ≡ None → (here ≡ None → joined ≡ later)
     → first_of_two fault joined ≡ later
 none-first None here joined later sound behind = behind sound
 none-first (Some fault) here joined later sound behind = cc
 
--- the first fault of wanted that have none, and of others behind them
+-- The first fault of wanted that have none, and of others behind them.
 fault-behind : (asks later : List Wanted) → first_wanted_fault asks ≡ None → first_wanted_fault (asks ++ later) ≡ first_wanted_fault later
 fault-behind [] later sound = refl
 fault-behind (ask ∷ asks) later sound =
@@ -47,7 +47,7 @@ made-one_more asks made count other contract below so_far is sound =
       many = omega (arith, length-append made (contract ∷ []), so_far.many);
     }
 
--- the first fault is that of the first faulty contract
+-- The first fault is that of the first faulty contract.
 pub faulty-first : (asks : List Wanted) (made : List Contract) (count : ℕ) (other : Wanted) (fault : GcraFault)
     → count < length asks → MadeOf asks made count → wanted_fault (get_or asks count other) ≡ Some fault
     → first_wanted_fault asks ≡ Some fault

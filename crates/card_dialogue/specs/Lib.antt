@@ -7,5 +7,5 @@ pub mod Rates
 pub mod CardFaults
 pub mod Replies
 pub mod AddsSome
-pub mod Run
+pub mod RunText
 pub mod inner

@@ -1,9 +1,10 @@
 -- The words of a script: numbers, names of programs and of connections, rates and contracts. Words are
 -- read to the letter.
-use Rattle.std.specs.Prelude.{◌≡◌, ℕ, ◌+◌, ◌-◌, ◌*◌, ◌%◌, ◌==◌, ◌&&◌, Bool, nat_le, if◌then◌else◌, List, [], ◌∷◌, codes, Option, Some, None, option_map}
+use Rattle.std.specs.Prelude.{◌≡◌, ℕ, ◌+◌, ◌-◌, ◌*◌, ◌%◌, ◌==◌, nat_le, if◌then◌else◌, List, [], ◌∷◌, codes, Option, Some, None, option_map}
 use Rattle.std.proofs.Math.Nat.{mod-lt, zero-lt-suc, le_of_suc-le-suc}
 use Rattle.std.specs.Option.{option_and_then}
 use Rattle.std.specs.Str.{bytes_eq}
+use Rattle.dialogue.specs.Words.{is_digit}
 use Rattle.upc_cell.specs.Side.{last_vpi}
 use Rattle.upc_cell.specs.declared.side.Side.{Side}
 use Rattle.upc_cell.specs.declared.vc.Vc.{Vc}
@@ -18,10 +19,6 @@ with_both join one other = option_and_then (λ first. option_map (join first) ot
 -- The number, where it is at most this.
 abbrev pub up_to : ℕ → ℕ → Option ℕ
 up_to most number = if nat_le number most then Some number else None
-
--- An ASCII digit.
-abbrev pub is_digit : ℕ → Bool
-is_digit octet = nat_le 48 octet && nat_le octet 57
 
 -- The number that digits spell behind digits of the value `high`, the highest first; none where an octet
 -- is no digit.

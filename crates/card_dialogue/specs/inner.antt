@@ -1,7 +1,7 @@
 -- What only private functions and proofs need.
 pub mod OnlyWord
 pub mod Digits
-pub mod CellLine
+pub mod SpelledCell
 pub mod Naming
 pub mod CardSteps
 pub mod PortZero

@@ -1,4 +1,5 @@
 //! The fault lines of a card, its rates and its desk, each added at the end of the answers.
+
 ghost use Rattle.std.specs.Prelude.{◌≡◌, ◌≢◌, ◌++◌, OnOk};
 ghost use Rattle.card_dialogue.specs.CardFaults.{desk_fault, gcra_fault, no_card, no_such_program, shape_fault_line};
 ghost use Rattle.card_dialogue.specs.AddsSome.{AddsSome};

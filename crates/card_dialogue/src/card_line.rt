@@ -1,4 +1,5 @@
 //! The line that opens a card.
+
 ghost use Rattle.std.specs.Prelude.{◌≡◌};
 ghost use Rattle.dialogue.specs.Words.{words_of};
 ghost use Rattle.card_dialogue.specs.CardLine.{card_of, shape_of, side_of, sized_shape};

@@ -1,4 +1,5 @@
 //! The commands of a script, read from the words of a line.
+
 ghost use Rattle.std.specs.Prelude.{◌≡◌, option_map};
 ghost use Rattle.card_dialogue.specs.ScriptCommands.{cell_of_words, command_of, contracts_of, cut_of, load_of, only_vc, release_of, reload_of, retire_of, setup_of};
 ghost use Rattle.card_dialogue.specs.CommandSeen.{command_seen};

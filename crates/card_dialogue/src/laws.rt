@@ -1,7 +1,8 @@
 //! Laws of the definitions: functions that do nothing, each for the sake of its contract.
+
 ghost use Rattle.std.specs.Prelude.{◌≡◌, ℕ, List};
-ghost use Rattle.dialogue.specs.declared.outcome.Done.{Done as TheDone};
-ghost use Rattle.card_dialogue.specs.Run.{IsRunText};
+ghost use Rattle.dialogue.specs.declared.ending.Done.{Done as TheDone};
+ghost use Rattle.card_dialogue.specs.RunText.{IsRunText};
 
 /// A script has one text of `run`, although a card may choose to which slot a program comes, and to which line a
 /// connection. Neither is told; and within the lines that an input may have, no slot is given up for having

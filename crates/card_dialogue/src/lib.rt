@@ -7,8 +7,8 @@
 
 mod card_faults;
 mod card_line;
-mod cell_line;
 mod commands;
+mod common_cell_line;
 pub mod laws;
 mod names;
 mod rates;

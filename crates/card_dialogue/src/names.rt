@@ -1,5 +1,6 @@
 //! The names of the programs of a script: `p1` is the first that was put in, `p2` the next, and so on. A name
 //! stays for good.
+
 use card_core::Answer;
 use gen_arena::Id;
 use std::alloc::{AllocError, Global};

@@ -1,4 +1,5 @@
 //! The contracts that a script asks for, as the card takes them.
+
 ghost use Rattle.std.specs.Prelude.{◌≡◌, None, Some, IfOk, IfErr, OnOk};
 ghost use Rattle.card_dialogue.specs.Rates.{AreContracts, IsContract, IsRate, first_of_two, first_wanted_fault, rate_fault, wanted_fault};
 

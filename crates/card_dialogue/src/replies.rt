@@ -1,13 +1,15 @@
 //! The lines by which what the card replies is answered, each added at the end of the answers.
+
 ghost use Rattle.std.specs.Prelude.{◌≡◌, ◌+◌, ◌≤◌, ◌++◌, codes, decimal, length, map, Ok, OnOk};
 ghost use Rattle.line_record.specs.Tally.{tally_of};
-ghost use Rattle.card_core.specs.Sections.{answer_to};
+ghost use Rattle.card_core.specs.Sections.{answer_to, unjudged_answer};
+ghost use Rattle.card_core.specs.Steps.{cell_after};
 ghost use Rattle.program_dialogue.specs.FaultLines.{line};
 ghost use Rattle.card_dialogue.specs.CardFaults.{arrive_fault};
 ghost use Rattle.card_dialogue.specs.Replies.{connection_name, header_text, judging_text, numbered_answer_text, piece_text, program_name, tally_text, verdict_text};
 ghost use Rattle.card_dialogue.specs.AddsSome.{AddsSome};
 
-use card_core::{Answer, Judgement};
+use card_core::{Answer, Judgement, Unjudged};
 use leaky::Verdict;
 use line_record::{Piece, Tally};
 use program_dialogue::{TextFromEnd, add_number, add_text};
@@ -255,7 +257,7 @@ fn add_moment_back(answers: &mut Vec<u8>, last: u64) -> Result<(), AllocError>
 }
 
 /// Adds the answer to a cell that got this verdict and leaves so, where it leaves.
-#[inline(never)]
+#[inline(always)]
 fn add_verdict(
     answers: &mut Vec<u8>,
     verdict: Verdict,
@@ -272,6 +274,30 @@ fn add_verdict(
         Verdict::Tag => add_leaving(answers, b"tag ", vc, number, value, leaving),
         Verdict::Discard => add_kept(answers, b"discard ", vc, number, value),
         Verdict::Refuse => add_kept(answers, b"refuse ", vc, number, value),
+    }
+}
+
+/// Adds the answer to a cell that came so and got this verdict.
+#[inline(never)]
+fn add_told(
+    answers: &mut Vec<u8>,
+    verdict: Verdict,
+    vc: Vc,
+    number: u64,
+    value: u32,
+    cell: &Cell,
+) -> Result<(), AllocError>
+    ensures { OnOk result (answers.new.items ≡ answers.old.items
+        ++ verdict_text verdict (judging_text vc number value) (cell_after verdict cell.now)) }
+{
+    match verdict {
+        Verdict::Tag => {
+            let tagged = cell.tagged();
+            add_verdict(answers, Verdict::Tag, vc, number, value, &tagged)
+        }
+        Verdict::Pass => add_verdict(answers, Verdict::Pass, vc, number, value, cell),
+        Verdict::Discard => add_verdict(answers, Verdict::Discard, vc, number, value, cell),
+        Verdict::Refuse => add_verdict(answers, Verdict::Refuse, vc, number, value, cell),
     }
 }
 
@@ -292,15 +318,21 @@ pub fn add_judged(
     ensures { OnOk result (AddsSome (numbered_answer_text number vc (answer_to cell.now (Ok judged.now)))
         answers.old.items answers.new.items) }
 {
-    match judged.verdict {
-        Verdict::Tag => {
-            let tagged = cell.tagged();
-            add_verdict(answers, Verdict::Tag, vc, number, judged.value, &tagged)
-        }
-        Verdict::Pass => add_verdict(answers, Verdict::Pass, vc, number, judged.value, cell),
-        Verdict::Discard => add_verdict(answers, Verdict::Discard, vc, number, judged.value, cell),
-        Verdict::Refuse => add_verdict(answers, Verdict::Refuse, vc, number, judged.value, cell),
-    }
+    add_told(answers, judged.verdict, vc, number, judged.value, cell)
+}
+
+/// Adds the answer to a cell that came on this connection and wasn't judged. What takes the room of a cell
+/// that was stays in here.
+///
+/// # Errors
+///
+/// `AllocError` where memory was refused, here or to the cell.
+#[inline(never)]
+pub fn add_unjudged(answers: &mut Vec<u8>, vc: Vc, reason: Unjudged) -> Result<(), AllocError>
+    ensures { OnOk result
+        (AddsSome (numbered_answer_text 0 vc (unjudged_answer reason)) answers.old.items answers.new.items) }
+{
+    add_answer(answers, 0, vc, &reason.answer())
 }
 
 /// Adds the answer to a cell that came on this connection, where the program that named its contract has

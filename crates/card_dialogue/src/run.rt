@@ -1,11 +1,12 @@
 //! `upc run`: a card, and the commands and cells of a script.
+
 ghost use Rattle.std.specs.Prelude.{◌≡◌, ◌++◌, [], Some, IfOk, OnOk, OnErr, ℕ, List, Ok};
 ghost use Rattle.dialogue.specs.Devices.{Adds, TakesEnough};
 ghost use Rattle.dialogue.specs.Limits.{most_ahead};
-ghost use Rattle.dialogue.specs.Outcome.{read_failures, write_failures};
+ghost use Rattle.dialogue.specs.Failures.{read_failures, write_failures};
 ghost use Rattle.dialogue.specs.Printing.{IsFront};
 ghost use Rattle.dialogue.specs.Words.{words_of};
-ghost use Rattle.card_dialogue.specs.Run.{IsRunText};
+ghost use Rattle.card_dialogue.specs.RunText.{IsRunText};
 ghost use Rattle.card_dialogue.specs.inner.Policing.{OpensAs};
 
 use crate::card_faults::{add_no_card, add_shape_fault};
@@ -47,7 +48,7 @@ struct Policing {
 impl Policing {
     ghost use Rattle.std.specs.Prelude.{◌≡◌, None, IfOk};
     ghost use Rattle.dialogue.specs.Answering.{Answers};
-    ghost use Rattle.card_dialogue.specs.Run.{run_rules};
+    ghost use Rattle.card_dialogue.specs.RunText.{run_rules};
     ghost use Rattle.card_dialogue.specs.inner.Policing.{ShowsRun};
 
     /// Answers a line before there is a card. It stands apart from the lines behind it, since what a card
@@ -71,7 +72,7 @@ impl Policing {
 }
 
 impl Machine for Policing {
-    ghost use Rattle.card_dialogue.specs.Run.{RunWorld, run_rules};
+    ghost use Rattle.card_dialogue.specs.RunText.{RunWorld, run_rules};
     ghost use Rattle.card_dialogue.specs.inner.Policing.{ShowsRun};
     ghost use Rattle.card_dialogue.specs.inner.RunLaws.{run-total};
 

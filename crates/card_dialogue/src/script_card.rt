@@ -1,16 +1,17 @@
 //! The card that a script has opened, and the commands that it obeys.
+
 use crate::card_faults::{add_desk_fault, add_gcra_fault, add_no_such_program};
-use crate::cell_line::read_cell;
 use crate::commands::{Command, read_command};
+use crate::common_cell_line::read_cell;
 use crate::names::Names;
 use crate::rates::contracts_of;
 use crate::replies::{
-    add_answer, add_cut, add_judged, add_loaded, add_released, add_reloaded, add_retired, add_set,
+    add_cut, add_judged, add_loaded, add_released, add_reloaded, add_retired, add_set, add_unjudged,
 };
 use crate::script_words::Wanted;
 use arrayvec::ArrayVec;
 use bpf_verify::Program;
-use card_core::{Answer, Ask, CardFault, Core, Judgement, Reply, Shape, Step};
+use card_core::{Ask, CardFault, Core, Judgement, Reply, Shape, Step, Unjudged};
 use dialogue::{LineWords, line_words};
 use program_dialogue::{
     CellWord, add_bad_hex, add_bad_line, add_wrong_length, cell_of_word, octets_of_word,
@@ -48,8 +49,7 @@ impl ScriptCard {
     ghost use Rattle.card_dialogue.specs.CardLine.{card_of};
     ghost use Rattle.card_dialogue.specs.ScriptCommands.{load, retire, setup, reload, release, cut, cell};
     ghost use Rattle.card_core.specs.declared.step.Step.TheVariants.{Load};
-    ghost use Rattle.card_dialogue.specs.Replies.{number_of_judging};
-    ghost use Rattle.card_dialogue.specs.Run.{Asks, CommandLine, LoadsOctets, Obeys, Polices, Takes, TakesNamed, new_card};
+    ghost use Rattle.card_dialogue.specs.RunText.{Asks, CommandLine, LoadsOctets, Obeys, Polices, Takes, TakesNamed, new_card};
     ghost use Rattle.card_dialogue.specs.CommandSeen.{command_seen};
     ghost use Rattle.card_dialogue.specs.inner.Policing.{AnswersCell, Moves, SaysLine, ShowsCard};
     ghost use Rattle.dialogue.specs.Words.{words_of};
@@ -209,34 +209,28 @@ impl ScriptCard {
     /// What becomes of a cell, from its entering the port to its answer. It has none where the port isn't
     /// free, as it is before every command.
     #[inline(always)]
-    fn arrive(&mut self, cell: &Cell, moment: u64) -> Option<Result<Judgement, Answer>>
+    fn arrive(&mut self, cell: &Cell, moment: u64) -> Option<Result<Judgement, Unjudged>>
         ensures { AnswersCell self.old cell.now moment (option_map (λ told. answer_to cell.now told) result) self.new }
     {
         self.core.arrive(PORT, cell, moment)
     }
 
-    /// The number of the name of the program that named a judged cell's contract, and 0 for other answers.
-    fn number_judging(&self, answer: &Answer) -> u64
-        ensures { result ≡ number_of_judging self.now.names answer.now }
-    {
-        self.names.number_judging(answer)
-    }
-
     /// Polices a cell.
     #[inline(always)]
-    fn police(&mut self, moment: u64, cell: Cell, answers: &mut Vec<u8>) -> Result<(), AllocError>
-        ensures { OnOk result (Moves (λ before. Polices before moment cell)
+    fn police(&mut self, moment: u64, cell: &Cell, answers: &mut Vec<u8>) -> Result<(), AllocError>
+        ensures { OnOk result (Moves (λ before. Polices before moment cell.now)
             self.old self.new answers.old.items answers.new.items) }
     {
         let vc = cell.vc_at(self.core.shape().side);
-        match self.arrive(&cell, moment) {
-            Some(Ok(judged)) => {
-                let number = self.names.number_of(judged.program) as u64;
-                add_judged(answers, number, vc, &cell, &judged)
-            }
-            Some(Err(answer)) => add_answer(answers, self.number_judging(&answer), vc, &answer),
-            None => Ok(()),
-        }
+        let Some(told) = self.arrive(cell, moment) else {
+            return Ok(());
+        };
+        let judged = match told {
+            Ok(judged) => judged,
+            Err(reason) => return add_unjudged(answers, vc, reason),
+        };
+        let number = self.names.number_of(judged.program) as u64;
+        add_judged(answers, number, vc, cell, &judged)
     }
 
     /// Polices the cell that a word spells, if it spells one.
@@ -252,7 +246,7 @@ impl ScriptCard {
             self.old self.new answers.old.items answers.new.items) }
     {
         match cell_of_word(alloc, word)? {
-            CellWord::OfCell(cell) => self.police(moment, cell, answers),
+            CellWord::OfCell(cell) => self.police(moment, &cell, answers),
             CellWord::OfOthers(count) => add_wrong_length(answers, count),
             CellWord::NoDigits => add_bad_hex(answers),
         }
@@ -322,7 +316,7 @@ impl ScriptCard {
         ensures { OnOk result (Moves (SaysLine line.now) self.old self.new answers.old.items answers.new.items) }
     {
         match read_cell(line) {
-            Some(arrival) => self.police(arrival.moment, arrival.cell, answers),
+            Some(arrival) => self.police(arrival.moment, &arrival.cell, answers),
             None => self.answer_words(alloc, line, answers),
         }
     }

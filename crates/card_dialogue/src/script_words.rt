@@ -1,6 +1,6 @@
 //! The words of a script: numbers, names of programs and of connections, rates and contracts.
-ghost use Rattle.std.specs.Prelude.{◌≡◌, option_map};
-ghost use Rattle.upc_cell.specs.Side.{last_vpi};
+
+ghost use Rattle.std.specs.Prelude.{◌≡◌, ◌<◌, ◌≤◌, length, option_map};
 ghost use Rattle.card_dialogue.specs.declared.script_words.Rate.{Rate as TheRate};
 ghost use Rattle.card_dialogue.specs.declared.script_words.Wanted.{Wanted as TheWanted};
 ghost use Rattle.card_dialogue.specs.ScriptWords.{cut_at, number_of, number_up_to, program_of, rate_of, two_rates, vc_named, wanted_of};
@@ -63,14 +63,47 @@ fn shifted(value: u64, octet: u8) -> Option<u64>
     }
 }
 
-/// The number that a word spells, of at most 2^64 - 1.
+/// So many digits spell no number that is too large.
+const FEW_DIGITS: usize = 19;
+
+/// The value with one more digit behind it; none where the octet is no digit.
 #[inline(always)]
-pub fn number(word: &[u8]) -> Option<u64>
-    ensures { result ≡ number_of word.now }
+fn appended(value: u64, octet: u8) -> Option<u64>
+    requires { value ≤ MOST_BEFORE }
+    ensures { result ≡ with_digit value octet }
 {
-    if word.is_empty() {
+    let digit = u64::from(octet).wrapping_sub(u64::from(b'0'));
+    if digit > 9 {
         return None;
     }
+    Some(10 * value + digit)
+}
+
+/// The number that a word of few digits spells. None of its values is tested.
+#[inline(always)]
+fn short_number(word: &[u8]) -> Option<u64>
+    requires some { 0 < length word.now }
+    requires few { length word.now ≤ FEW_DIGITS }
+    ensures { result ≡ number_of word.now }
+{
+    let mut value = 0u64;
+    let mut rest = word;
+    while let [octet, behind @ ..] = rest {
+        let Some(next) = appended(value, *octet) else {
+            return None;
+        };
+        value = next;
+        rest = behind;
+    }
+    Some(value)
+}
+
+/// The number that a word of many digits spells, of at most 2^64 - 1.
+#[inline(never)]
+fn long_number(word: &[u8]) -> Option<u64>
+    requires { 0 < length word.now }
+    ensures { result ≡ number_of word.now }
+{
     let mut value = 0u64;
     let mut rest = word;
     while let [octet, behind @ ..] = rest {
@@ -81,6 +114,20 @@ pub fn number(word: &[u8]) -> Option<u64>
         rest = behind;
     }
     Some(value)
+}
+
+/// The number that a word spells, of at most 2^64 - 1.
+#[inline(always)]
+pub fn number(word: &[u8]) -> Option<u64>
+    ensures { result ≡ number_of word.now }
+{
+    if word.is_empty() {
+        None
+    } else if word.len() <= FEW_DIGITS {
+        short_number(word)
+    } else {
+        long_number(word)
+    }
 }
 
 /// The number that a word spells, where it is at most this.
@@ -103,24 +150,14 @@ pub fn program(word: &[u8]) -> Option<u64>
     }
 }
 
-/// The highest path at a side.
-fn last_path(side: Side) -> u16
-    ensures { result ≡ last_vpi side }
-{
-    match side {
-        Side::Uni => 255,
-        Side::Nni => 4095,
-    }
-}
-
 /// The virtual connection that two words name at a side.
 pub fn connection(side: Side, path: &[u8], channel: &[u8]) -> Option<Vc>
     ensures { result ≡ vc_named side path.now channel.now }
 {
-    let Some(vpi) = number_at_most(last_path(side), path) else {
+    let Some(vpi) = number_at_most(side.last_vpi(), path) else {
         return None;
     };
-    let Some(vci) = number_at_most(65535, channel) else {
+    let Some(vci) = number_at_most(u16::MAX, channel) else {
         return None;
     };
     match Vc::new_at(side, vpi, vci) {

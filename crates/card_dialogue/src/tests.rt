@@ -1,4 +1,5 @@
 //! The lines of a card, and the contracts that a script asks for.
+
 mod card_faults;
 mod rates;
 mod replies;

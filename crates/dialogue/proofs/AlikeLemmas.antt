@@ -4,15 +4,15 @@ use Rattle.std.proofs.lemmas.Bool.{or_parts, leb-false}
 use Rattle.std.specs.Bool.{MatchBool}
 use Rattle.std.specs.Option.{MatchOption}
 use Rattle.dialogue.specs.Lines.{Line, said}
-use Rattle.dialogue.specs.Limits.{is_over, most_lines, most_octets}
+use Rattle.dialogue.specs.Limits.{is_over, most_input_lines, most_line_octets}
 use Rattle.dialogue.specs.Printing.{Rules, IsFunctional, Prints}
 use Rattle.dialogue.specs.inner.Alike.{LeadAlike, KeepsAlike}
-use Rattle.dialogue.specs.declared.outcome.Done.{Done}
-use Rattle.dialogue.specs.declared.outcome.Done.TheVariants.{Ended}
+use Rattle.dialogue.specs.declared.ending.Done.{Done}
+use Rattle.dialogue.specs.declared.ending.Done.TheVariants.{Ended}
 
--- fewer lines came before a line within the limits than an input may have
-within : (met : ℕ) (line : Line) → is_over met line ≡ false → met < most_lines
-within met line e = leb-false most_lines met (or_parts (nat_le most_lines met) (nat_lt most_octets (length line.octets)) e).0
+-- Fewer lines came before a line within the limits than an input may have.
+within : (met : ℕ) (line : Line) → is_over met line ≡ false → met < most_input_lines
+within met line e = leb-false most_input_lines met (or_parts (nat_le most_input_lines met) (nat_lt most_line_octets (length line.octets)) e).0
 
 pub one-text_alike : {World : Type 0} (rules : Rules World) (AreAlike : ℕ → World → World → Type 0) → KeepsAlike rules AreAlike
     → (lines : List Line) (met : ℕ) (one other : World) (text text' : List ℕ) (done done' : Done) → AreAlike met one other
@@ -45,7 +45,7 @@ one-text_alike {World = World} rules AreAlike keeps (first ∷ lines) met one ot
         let rest = behind later a.2 b.2 a.1 b.1 same.1 a.5 b.5 in
         (a.3 ∙ ap (λ xs. xs ++ a.1) same.0 ∙ ap (λ xs. b.0 ++ xs) rest.0 ∙ sym b.3, rest.1)
 
--- by functional rules each world is like itself
+-- By functional rules each world is like itself.
 pub functional-alike : {World : Type 0} (rules : Rules World) → IsFunctional rules → KeepsAlike rules (λ met one other. one ≡ other)
 functional-alike {World = World} rules functional = record {
   step = λ met one other line here here' next next' few same p q.

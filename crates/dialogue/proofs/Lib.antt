@@ -1,6 +1,7 @@
 pub mod Ranges
 pub mod WindowLemmas
 pub mod LinesLemmas
+pub mod FeedLemmas
 pub mod PrintingLemmas
 pub mod DriverLemmas
 pub mod WordsLemmas

@@ -3,25 +3,25 @@ use Rattle.std.proofs.Common.{◌≡◌, ◌≢◌, ℕ, suc, ◌<◌, ◌≤◌
 use Rattle.std.proofs.lemmas.Bool.{ne_eqb}
 use Rattle.dialogue.specs.Lines.{Line, lines_of, begun_with}
 
--- no octet is a line feed
+-- No octet is a line feed.
 abbrev pub NoFeed : List ℕ → Type 0
 NoFeed octets = (k : ℕ) → k < length octets → get_or octets k 0 ≢ 10
 
--- nor is one behind the first
+-- Nor is one behind the first.
 pub no-feed-behind : (octet : ℕ) (octets : List ℕ) → NoFeed (octet ∷ octets) → NoFeed octets
 no-feed-behind octet octets none k below = none (suc k) (omega arith)
 
 pub first-no-feed : (octet : ℕ) (octets : List ℕ) → NoFeed (octet ∷ octets) → nat_eq octet 10 ≡ false
 first-no-feed octet octets none = ne_eqb octet 10 (none 0 (omega arith))
 
--- octets up to a line feed are the first line
+-- Octets up to a line feed are the first line.
 pub lines-at_feed : (line rest : List ℕ) → NoFeed line → lines_of (line ++ 10 ∷ rest) ≡ (record { octets = line; ended = true }) ∷ lines_of rest
 lines-at_feed [] rest none = refl
 lines-at_feed (c ∷ cs) rest none =
     ap (λ b. if b then (record { octets = []; ended = true }) ∷ lines_of (cs ++ 10 ∷ rest) else begun_with c (lines_of (cs ++ 10 ∷ rest))) (first-no-feed c cs none)
     ∙ ap (λ lines. begun_with c lines) (lines-at_feed cs rest (no-feed-behind c cs none))
 
--- octets without a line feed are the last line
+-- Octets without a line feed are the last line.
 pub lines-of_last : (c : ℕ) (cs : List ℕ) → NoFeed (c ∷ cs) → lines_of (c ∷ cs) ≡ (record { octets = c ∷ cs; ended = false }) ∷ []
 lines-of_last c [] none =
     ap (λ b. if b then (record { octets = []; ended = true }) ∷ [] else begun_with c []) (first-no-feed c [] none)
@@ -29,7 +29,7 @@ lines-of_last c (d ∷ ds) none =
     ap (λ b. if b then (record { octets = []; ended = true }) ∷ lines_of (d ∷ ds) else begun_with c (lines_of (d ∷ ds))) (first-no-feed c (d ∷ ds) none)
     ∙ ap (λ lines. begun_with c lines) (lines-of_last d ds (no-feed-behind c (d ∷ ds) none))
 
--- a first line is at least as long as the octets without a line feed at the front
+-- A first line is at least as long as the octets without a line feed at the front.
 pub record FirstLine (octets : List ℕ) (all : List ℕ) : Type 0 where
   pub line : Line
   pub lines : List Line

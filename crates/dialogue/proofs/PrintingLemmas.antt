@@ -7,12 +7,12 @@ use Rattle.dialogue.specs.Printing.{Rules, IsTotal, Prints}
 use Rattle.dialogue.specs.Answering.{OfEach, Answers, AnswersEnd, TurnsFrom}
 use Rattle.dialogue.specs.inner.Progress.{Passes, PassesBy}
 use Rattle.dialogue.proofs.LinesLemmas.{NoFeed, lines-of_rest}
-use Rattle.dialogue.specs.declared.outcome.Done.{Done}
-use Rattle.dialogue.specs.declared.outcome.Done.TheVariants.{Ended}
+use Rattle.dialogue.specs.declared.ending.Done.{Done}
+use Rattle.dialogue.specs.declared.ending.Done.TheVariants.{Ended}
 use Rattle.dialogue.specs.declared.machine.Turn.{Turn}
 use Rattle.dialogue.specs.declared.machine.Turn.TheVariants.{GoesOn, Ends}
 
--- a line that isn't over the limits, answered so
+-- A line that isn't over the limits, answered so.
 prints-here : {World : Type 0} (rules : Rules World) (met : ℕ) (world : World) (line : Line) (lines : List Line) (text : List ℕ) (done : Done)
     → is_over met line ≡ false
     → ((here : List ℕ) × (more : List ℕ) × (next : Option World) × (text ≡ here ++ more) × rules.steps world (said line) here next
@@ -20,12 +20,12 @@ prints-here : {World : Type 0} (rules : Rules World) (met : ℕ) (world : World)
     → Prints rules met world (line ∷ lines) text done
 prints-here rules met world line lines text done over answered = rw over answered
 
--- a line over the limits
+-- A line over the limits.
 pub prints-over : {World : Type 0} (rules : Rules World) (met : ℕ) (world : World) (line : Line) (lines : List Line)
     → is_over met line ≡ true → Prints rules met world (line ∷ lines) rules.too_long Ended
 prints-over rules met world line lines over = rw over (refl, refl)
 
--- every list of lines has a text, from every sound world
+-- Every list of lines has a text, from every sound world.
 pub some-text : {World : Type 0} (rules : Rules World) → IsTotal rules
     → (lines : List Line) (met : ℕ) (world : World) → rules.is_sound world → (text : List ℕ) × (done : Done) × Prints rules met world lines text done
 some-text rules total [] met world sound = total.close world sound
@@ -47,7 +47,7 @@ some-text {World = World} rules total (line ∷ lines) met world sound =
         let then = after behind now.0 now.1 now.2 in
         (now.0 ++ then.0, then.1, prints-here rules met world line lines (now.0 ++ then.0) then.1 e (now.0, then.0, now.1, refl, now.2, then.2))
 
--- one line from one world
+-- One line from one world.
 passes-from : {World : Type 0} (rules : Rules World) → IsTotal rules → (met : ℕ) (before : World) (line : Line) (here : List ℕ) (turn : Turn) (shown' : World → Type 0)
     → rules.is_sound before → is_over met line ≡ false → TurnsFrom rules before (said line) here turn shown' → PassesBy rules met before line here turn shown'
 passes-from rules total met before line here Ends shown' sound over turns =
@@ -59,7 +59,7 @@ passes-from rules total met before line here GoesOn shown' sound over turns = (
   λ lines more done prints. prints-here rules met before line lines (here ++ more) done over (here, more, Some turns.0, refl, turns.2, prints),
 )
 
--- a line that a machine answered, not over the limits
+-- A line that a machine answered, not over the limits.
 pub passes-answered : {World : Type 0} (rules : Rules World) → IsTotal rules → (met : ℕ) (shown : World → Type 0) (line : Line) (turn : Turn) (shown' : World → Type 0) (old new : List ℕ)
     → is_over met line ≡ false → Answers rules shown (said line) turn shown' old new → Passes rules met shown line turn shown' old new
 passes-answered rules total met shown line turn shown' old new over answers = (
@@ -68,12 +68,12 @@ passes-answered rules total met shown line turn shown' old new over answers = (
   λ before sound is_shown. passes-from rules total met before line answers.0 turn shown' sound over (answers.2 before sound is_shown),
 )
 
--- a line over the limits
+-- A line over the limits.
 pub passes-over : {World : Type 0} (rules : Rules World) (met : ℕ) (shown shown' : World → Type 0) (line : Line) (old : List ℕ)
     → is_over met line ≡ true → Passes rules met shown line Ends shown' old (old ++ rules.too_long)
 passes-over rules met shown shown' line old over = (rules.too_long, refl, λ before sound is_shown lines. prints-over rules met before line lines over)
 
--- answers to the end of the input, behind octets that no line feed ends
+-- Answers to the end of the input, behind octets that no line feed ends.
 abbrev pub EndsBehind : {World : Type 0} → Rules World → ℕ → (World → Type 0) → List ℕ → Done → List ℕ → List ℕ → Type 0
 EndsBehind rules met shown octets done old new =
     (here : List ℕ) × (new ≡ old ++ here) × OfEach rules shown (λ before. Prints rules met before (lines_of octets) here done)

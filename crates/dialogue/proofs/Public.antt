@@ -8,7 +8,7 @@ use Rattle.dialogue.proofs.AlikeLemmas as alike
 use Rattle.dialogue.specs.Words.{is_blank, words_of}
 use Rattle.dialogue.proofs.PrintingLemmas as texts
 use Rattle.dialogue.proofs.WordsLemmas as words
-use Rattle.dialogue.specs.declared.outcome.Done.{Done}
+use Rattle.dialogue.specs.declared.ending.Done.{Done}
 
 -- Octets without a blank are one word.
 pub one-word : (line : List ℕ) → 0 < length line → ((k : ℕ) → k < length line → is_blank (get_or line k 0) ≡ false) → words_of line ≡ line ∷ []

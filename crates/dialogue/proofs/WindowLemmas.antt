@@ -18,7 +18,7 @@ moved-to-front buffer spare buffer' spare' start looked end w sized spare_sized 
       subst P (sym moved) (w.no_feed k below);
 }
 
--- an element below n of a list that has the same first n elements
+-- An element below n of a list that has the same first n elements.
 pub same-below : (xs ys : List ℕ) (n m k : ℕ) → take n xs ≡ take n ys → k < n → k < m → get_or (slice_range xs 0 m) k 0 ≡ get_or (slice_range ys 0 n) k 0
 same-below xs ys n m k same below within =
     let whole : m - 0 ≡ m = omega arith in
@@ -40,7 +40,7 @@ refilled buffer spare buffer' looked end count w sized same fits = record {
       subst Q (sym (same-below buffer' buffer end (end + count) k same (omega arith) (omega arith))) (w.no_feed k below);
 }
 
--- a list written over another of its length
+-- A list written over another of its length.
 pub written-over : (new old : List ℕ) (len : ℕ) → length new ≡ length old → len ≡ length old → take len (new ++ drop (length new) old) ≡ new
 written-over new old len sized whole =
     ap (λ n. take n (new ++ drop (length new) old)) (whole ∙ sym sized) ∙ take-append_seam new (drop (length new) old)

@@ -2,7 +2,7 @@
 -- world: it shows worlds, by a relation that its laws and its contracts alone speak of.
 use Rattle.std.specs.Prelude.{◌≡◌, ℕ, List, ◌++◌, Option, Some, None}
 use Rattle.dialogue.specs.Printing.{Rules}
-use Rattle.dialogue.specs.declared.outcome.Done.{Done}
+use Rattle.dialogue.specs.declared.ending.Done.{Done}
 use Rattle.dialogue.specs.declared.machine.Turn.{Turn}
 use Rattle.dialogue.specs.declared.machine.Turn.TheVariants.{GoesOn, Ends}
 

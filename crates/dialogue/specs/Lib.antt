@@ -1,6 +1,6 @@
 -- Answers to lines, proved from octet to octet. In the order of reading:
 pub mod Devices
-pub mod Outcome
+pub mod Failures
 pub mod Lines
 pub mod Limits
 pub mod Words

@@ -3,8 +3,8 @@
 use Rattle.std.specs.Prelude.{◌≡◌, ℕ, ◌+◌, List, [], ◌∷◌, ◌++◌, Option, Some, MatchOption, MatchBool}
 use Rattle.dialogue.specs.Lines.{Line, said}
 use Rattle.dialogue.specs.Limits.{is_over}
-use Rattle.dialogue.specs.declared.outcome.Done.{Done}
-use Rattle.dialogue.specs.declared.outcome.Done.TheVariants.{Ended}
+use Rattle.dialogue.specs.declared.ending.Done.{Done}
+use Rattle.dialogue.specs.declared.ending.Done.TheVariants.{Ended}
 
 -- The rules of a machine. A world is what they remember of the lines so far.
 pub record Rules (World : Type 0) : Type 1 where

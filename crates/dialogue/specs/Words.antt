@@ -1,9 +1,13 @@
 -- The words of a line: the longest runs of octets that are neither spaces nor tabs.
-use Rattle.std.specs.Prelude.{ℕ, ◌==◌, ◌||◌, Bool, true, false, if◌then◌else◌, List, [], ◌∷◌, filter}
+use Rattle.std.specs.Prelude.{ℕ, ◌==◌, ◌&&◌, ◌||◌, nat_le, Bool, true, false, if◌then◌else◌, List, [], ◌∷◌, filter}
 
 -- Spaces (32) and tabs (9) part words, and no other octet does.
 abbrev pub is_blank : ℕ → Bool
 is_blank octet = (octet == 32) || (octet == 9)
+
+-- An ASCII digit: 0 (48) to 9 (57).
+abbrev pub is_digit : ℕ → Bool
+is_digit octet = nat_le 48 octet && nat_le octet 57
 
 -- An octet before the first of these parts is that part's first.
 abbrev pub part_begun_with : ℕ → List (List ℕ) → List (List ℕ)

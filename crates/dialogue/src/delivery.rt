@@ -1,10 +1,11 @@
 //! Gathered answers on their way to an output.
+
 ghost use Rattle.std.specs.Prelude.{◌≡◌, ◌++◌, List, ℕ, [], take, Err, IfOk, OnOk, OnErr};
 ghost use Rattle.dialogue.specs.Devices.{one_more, IsPart};
-ghost use Rattle.dialogue.specs.Outcome.{write_failures};
+ghost use Rattle.dialogue.specs.Failures.{write_failures};
 
 use crate::device::{Failed, Output};
-use crate::outcome::{Done, RunFault};
+use crate::ending::{Done, RunFault};
 
 /// Gives all of the octets, in as many calls as the output wants.
 ///

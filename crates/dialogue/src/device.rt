@@ -1,4 +1,5 @@
 //! Where octets come from and where they go.
+
 ghost use Rattle.std.specs.Prelude.{◌≡◌, ℕ, ◌<◌, ◌≤◌, ◌++◌, List, [], length, take, IfOk, OnOk, OnErr, Ok};
 ghost use Rattle.dialogue.specs.Devices.{one_more};
 

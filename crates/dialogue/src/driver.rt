@@ -1,37 +1,38 @@
 //! The run of a machine over the lines of an input.
+
 ghost use Rattle.std.specs.Prelude.{◌≡◌, ◌≢◌, ℕ, ◌+◌, ◌<◌, ◌≤◌, ◌++◌, ◌||◌, List, [], true, Ok, Err, length, slice_index, nat_le, nat_lt, IfOk, OnOk, OnErr};
 ghost use Rattle.dialogue.specs.Answering.{OfEach};
 ghost use Rattle.dialogue.specs.Devices.{Adds, IsPart, TakesEnough, one_more};
 ghost use Rattle.dialogue.specs.inner.Moving.{Moves};
-ghost use Rattle.dialogue.specs.Limits.{most_ahead, most_lines, most_octets};
+ghost use Rattle.dialogue.specs.Limits.{most_ahead, most_input_lines, most_line_octets};
 ghost use Rattle.dialogue.specs.Lines.{lines_of};
 ghost use Rattle.dialogue.specs.Printing.{Prints, IsFront};
-ghost use Rattle.dialogue.specs.Outcome.{read_failures, write_failures};
+ghost use Rattle.dialogue.specs.Failures.{read_failures, write_failures};
 ghost use Rattle.dialogue.specs.inner.Progress.{Passes};
-ghost use Rattle.dialogue.specs.declared.outcome.Done.{Done as TheDone};
+ghost use Rattle.dialogue.specs.declared.ending.Done.{Done as TheDone};
 
 use crate::delivery::{give_answers, give_last};
 use crate::device::{Failed, Input, Output};
+use crate::ending::{Done, RunFault};
 use crate::line_ends::before_return;
 use crate::machine::{Machine, Turn};
-use crate::outcome::{Done, RunFault};
 use crate::window::Window;
 use std::alloc::{AllocError, Global};
 
 /// The most lines of an input.
-const MOST_LINES: u32 = 1000000;
+const MOST_INPUT_LINES: u32 = 1000000;
 
 /// The most octets of a line, its carriage return counted and its line feed not.
-const MOST_OCTETS: usize = 70000;
+const MOST_LINE_OCTETS: usize = 70000;
 
 /// So many octets of answers are given at once, without waiting for more.
 const ENOUGH: usize = 65536;
 
 /// Whether a line of this length, with so many lines before it, is over the limits.
 fn is_over_limits(met: u32, octets: usize) -> bool
-    ensures { result ≡ (nat_le most_lines met || nat_lt most_octets octets) }
+    ensures { result ≡ (nat_le most_input_lines met || nat_lt most_line_octets octets) }
 {
-    met >= MOST_LINES || octets > MOST_OCTETS
+    met >= MOST_INPUT_LINES || octets > MOST_LINE_OCTETS
 }
 
 /// Answers a line that a line feed ended.
@@ -43,7 +44,7 @@ fn answer_line<M: Machine>(
 ) -> Result<Turn, AllocError>
     ensures passes { IfOk result (λ turn. Passes M.rules met (M.shows machine.old)
         (record { octets = octets.now; ended = true }) turn (M.shows machine.new) answers.old.items answers.new.items) }
-    ensures within { IfOk result (λ turn. turn ≡ Turn.GoesOn → (met < most_lines) × (length octets.now ≤ most_octets)) }
+    ensures within { IfOk result (λ turn. turn ≡ Turn.GoesOn → (met < most_input_lines) × (length octets.now ≤ most_line_octets)) }
 {
     // A carriage return counts to the length, although the line doesn't say it.
     let counted = octets.len();
@@ -85,7 +86,7 @@ fn refill<I: Input, O: Output>(
     output: &mut O,
     answers: &mut Vec<u8>,
 ) -> Result<usize, RunFault>
-    requires { length window.old ≤ most_octets }
+    requires { length window.old ≤ most_line_octets }
     ensures octets { I.is_known → IfOk result (λ _. window.old ++ I.rest input.old ≡ window.new ++ I.rest input.new) }
     ensures count { IfOk result (λ count. length window.new ≡ length window.old + count) }
     ensures bounded { length window.new ≤ most_ahead }

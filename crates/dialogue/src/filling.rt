@@ -1,4 +1,5 @@
 //! Octets on their way from an input into a room.
+
 ghost use Rattle.std.specs.Prelude.{◌≡◌, ◌+◌, ◌<◌, ◌≤◌, ◌++◌, [], length, take, IfOk, OnOk, OnErr, Ok};
 ghost use Rattle.dialogue.specs.Devices.{one_more};
 

@@ -1,11 +1,12 @@
 //! The whole of an input, under a limit.
+
 ghost use Rattle.std.specs.Prelude.{◌≡◌, ◌≢◌, ◌+◌, ◌<◌, ◌≤◌, ◌^◌, ◌++◌, [], length, take, Ok, Err, IfOk, OnOk, option_map};
 ghost use Rattle.dialogue.specs.Gathered.{gathered, LeavesBehind};
-ghost use Rattle.dialogue.specs.Outcome.{read_failures};
+ghost use Rattle.dialogue.specs.Failures.{read_failures};
 
 use crate::device::Input;
+use crate::ending::RunFault;
 use crate::filling::take_behind;
-use crate::outcome::RunFault;
 use std::alloc::{AllocError, Global};
 
 /// The room to begin with, which is doubled where it is full.

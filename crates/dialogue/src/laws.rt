@@ -1,9 +1,10 @@
 //! Laws over the definitions that this crate's contracts cite. These functions do nothing: each stands
 //! for the law that is its contract.
+
 ghost use Rattle.std.specs.Prelude.{◌≡◌, ℕ, List};
 ghost use Rattle.dialogue.specs.Lines.{Line};
 ghost use Rattle.dialogue.specs.Printing.{IsFunctional, Prints};
-ghost use Rattle.dialogue.specs.declared.outcome.Done.{Done as TheDone};
+ghost use Rattle.dialogue.specs.declared.ending.Done.{Done as TheDone};
 
 use crate::machine::Machine;
 

@@ -12,12 +12,12 @@
 mod delivery;
 mod device;
 mod driver;
+mod ending;
 mod filling;
 mod gathering;
 pub mod laws;
 mod line_ends;
 mod machine;
-mod outcome;
 mod stream;
 #[cfg(test)]
 mod tests;
@@ -27,8 +27,9 @@ mod words;
 pub use delivery::{give_all, give_last};
 pub use device::{Failed, Input, Output};
 pub use driver::answer_lines;
+pub use ending::{Done, RunFault};
 pub use gathering::gather;
+pub use line_ends::before_return;
 pub use machine::{Machine, Turn};
-pub use outcome::{Done, RunFault};
 pub use stream::{Giving, Taking};
 pub use words::{LineWords, first_word, line_words};

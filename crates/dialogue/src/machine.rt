@@ -1,9 +1,10 @@
 //! Machines that answer lines.
+
 ghost use Rattle.std.specs.Prelude.{◌≡◌, ◌++◌, IfOk, OnOk};
 ghost use Rattle.dialogue.specs.Printing.{Rules, IsTotal};
 ghost use Rattle.dialogue.specs.Answering.{Answers, AnswersEnd};
 
-use crate::outcome::Done;
+use crate::ending::Done;
 use std::alloc::AllocError;
 
 /// Whether the run goes on after a line.

@@ -1,4 +1,5 @@
 //! std's readers and writers as devices.
+
 ghost use Rattle.std.specs.Prelude.{◌≡◌, unwrap_or, IsSome, []};
 ghost use Rattle.dialogue.specs.Devices.{one_more};
 

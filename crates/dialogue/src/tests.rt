@@ -1,4 +1,5 @@
 //! Machines over devices that move one octet a call, and fail at a call of one's choice.
+
 mod devices;
 mod parity;
 

@@ -1,7 +1,8 @@
 //! The octets that were taken from an input and not yet answered.
+
 ghost use Rattle.std.specs.Prelude.{◌≡◌, ◌≢◌, ℕ, ◌+◌, ◌<◌, ◌≤◌, ◌++◌, ◌-◌, [], length, take, drop, slice_index, slice_range, vec_len, IfOk, OnOk, OnErr, Ok, IfSome, IfNone};
 ghost use Rattle.dialogue.specs.Devices.{one_more};
-ghost use Rattle.dialogue.specs.Limits.{most_ahead, most_octets};
+ghost use Rattle.dialogue.specs.Limits.{most_ahead, most_line_octets};
 
 use crate::device::{Failed, Input};
 use crate::filling::take_behind;
@@ -11,7 +12,7 @@ use std::marker::Model;
 use std::mem;
 
 /// How many octets a window has room for: more than a line may be long.
-const ROOM: usize = 131072;
+const WINDOW_ROOM: usize = 131072;
 
 /// The octets that were taken from an input and not yet answered, each of them looked at once for
 /// its line feed. Contracts see the list of them.
@@ -44,8 +45,8 @@ impl Window {
     pub fn new(alloc: Global) -> Result<Window, AllocError>
         ensures { IfOk result (λ window. window ≡ []) }
     {
-        let buffer = vec![in alloc; 0u8; ROOM]?;
-        let spare = vec![in alloc; 0u8; ROOM]?;
+        let buffer = vec![in alloc; 0u8; WINDOW_ROOM]?;
+        let spare = vec![in alloc; 0u8; WINDOW_ROOM]?;
         Ok(Window {
             buffer,
             spare,
@@ -63,6 +64,7 @@ impl Window {
     }
 
     /// How many octets stand before the first line feed, where there is one.
+    #[inline(always)]
     pub fn find_line(&mut self) -> Option<usize>
         ensures same { self.new ≡ self.old }
         ensures within { IfSome result (λ count. count < length self.new) }
@@ -94,7 +96,7 @@ impl Window {
     /// Takes more octets from the input behind those that wait, and says how many: none only at the
     /// input's end.
     pub fn fill<I: Input>(&mut self, input: &mut I) -> Result<usize, Failed>
-        requires { length self.old ≤ most_octets }
+        requires { length self.old ≤ most_line_octets }
         ensures octets { I.is_known → IfOk result
             (λ _. self.old ++ I.rest input.old ≡ self.new ++ I.rest input.new) }
         ensures count { IfOk result (λ count. length self.new ≡ length self.old + count) }

@@ -1,4 +1,5 @@
 //! The words of a line.
+
 ghost use Rattle.std.specs.Prelude.{◌≡◌, ◌<◌, ◌∷◌, [], length, slice_index, false, MatchOption};
 ghost use Rattle.dialogue.specs.LineWords.{IsLineWords};
 ghost use Rattle.dialogue.specs.Words.{words_of, is_blank};

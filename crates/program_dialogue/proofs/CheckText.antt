@@ -2,7 +2,7 @@
 use Rattle.std.proofs.Common.{◌≡◌, ℕ, ◌+◌, ◌≤◌, inl, inr, List, [], ◌++◌, Option, Some, None, length, refl, ap, sym, ◌∙◌, subst, arith, append-nil, nat_lt, if◌then◌else◌}
 use Rattle.bpf_asm.proofs.Public.{meaning-or_fault, never_both, fault_once, meaning_once}
 use Rattle.bpf_code.specs.declared.instr.Instr.{Instr}
-use Rattle.program_dialogue.specs.Check.{IsCheckText, Tells, TellsCode, TellsReading, TellsSource, accepted_text, most_source}
+use Rattle.program_dialogue.specs.Check.{IsCheckText, Tells, TellsCode, TellsReading, TellsSource, accepted_text, most_source_octets}
 use Rattle.program_dialogue.specs.Program.{Reading, is_program, is_refused}
 use Rattle.program_dialogue.specs.inner.EvalLaws.{checks-as}
 use Rattle.program_dialogue.proofs.OneText.{checks-once}
@@ -10,10 +10,10 @@ use Rattle.program_dialogue.specs.FaultLines.{asm_fault, too_long}
 use Rattle.dialogue.specs.Devices.{TakesEnough}
 use Rattle.dialogue.specs.Gathered.{gathered, LeavesBehind}
 use Rattle.dialogue.specs.Limits.{most_ahead}
-use Rattle.dialogue.specs.declared.outcome.Done.{Done}
-use Rattle.dialogue.specs.declared.outcome.Done.TheVariants.{Whole, Ended}
+use Rattle.dialogue.specs.declared.ending.Done.{Done}
+use Rattle.dialogue.specs.declared.ending.Done.TheVariants.{Whole, Ended}
 
--- every code has an answer
+-- Every code has an answer.
 told-some : (reading : Reading) → (text : List ℕ) × (done : Done) × TellsReading reading text done
 told-some (is_program code) = (accepted_text code, Whole, (refl, refl))
 told-some (is_refused fault) = (fault, Ended, (refl, refl))
@@ -24,7 +24,7 @@ code-told code =
     let told = told-some read.0 in
     (told.0, told.1, (read.0, read.1, told.2))
 
--- every source has one
+-- Every source has one.
 source-told : (source : List ℕ) → (text : List ℕ) × (done : Done) × TellsSource source text done
 source-told source =
     elim (meaning-or_fault source) [
@@ -36,11 +36,11 @@ found-told : (found : Option (List ℕ)) → (text : List ℕ) × (done : Done) 
 found-told None = (too_long, Ended, (refl, refl))
 found-told (Some source) = source-told source
 
--- every input has a text
+-- Every input has a text.
 pub some-check_text : (octets : List ℕ) → (text : List ℕ) × (done : Done) × IsCheckText octets text done
-some-check_text octets = found-told (gathered most_source octets)
+some-check_text octets = found-told (gathered most_source_octets octets)
 
--- one answer, and one end
+-- One answer, and one end.
 abbrev Same : List ℕ → List ℕ → Done → Done → Type 0
 Same one other ends ends' = (one ≡ other) × (ends ≡ ends')
 
@@ -67,16 +67,16 @@ found-same None text text' done done' p q = (p.0 ∙ sym q.0, p.1 ∙ sym q.1)
 found-same (Some source) text text' done done' p q = source-same source text text' done done' p q
 
 pub one-check_text : (octets one other : List ℕ) (ends other_ends : Done) → IsCheckText octets one ends → IsCheckText octets other other_ends → (one ≡ other) × (ends ≡ other_ends)
-one-check_text octets one other ends other_ends p q = found-same (gathered most_source octets) one other ends other_ends p q
+one-check_text octets one other ends other_ends p q = found-same (gathered most_source_octets octets) one other ends other_ends p q
 
--- an input over the limit is told by its beginning that is over it
-gathered-none : (octets : List ℕ) → length octets ≡ most_source + 1 → gathered most_source octets ≡ None
+-- An input over the limit is told by its beginning that is over it.
+gathered-none : (octets : List ℕ) → length octets ≡ most_source_octets + 1 → gathered most_source_octets octets ≡ None
 gathered-none octets sized =
-    ap (λ n. if nat_lt most_source n then None else Some octets) sized
+    ap (λ n. if nat_lt most_source_octets n then None else Some octets) sized
 
--- what was taken is enough for the answer
-pub enough : (octets left : List ℕ) (found : Option (List ℕ)) (text : List ℕ) (done : Done) → found ≡ gathered most_source octets
-    → LeavesBehind most_source found octets left → Tells found text done
+-- What was taken is enough for the answer.
+pub enough : (octets left : List ℕ) (found : Option (List ℕ)) (text : List ℕ) (done : Done) → found ≡ gathered most_source_octets octets
+    → LeavesBehind most_source_octets found octets left → Tells found text done
     → TakesEnough (λ needed. (told : List ℕ) × IsCheckText needed told done) most_ahead octets left
 enough octets left None text done is behind tells =
     let P : Option (List ℕ) → Type 0 = λ found. Tells found text done in

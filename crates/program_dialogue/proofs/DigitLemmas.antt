@@ -22,7 +22,7 @@ use Rattle.program_dialogue.specs.declared.digits.TheConstants.{NUMBERS}
 use Rattle.program_dialogue.specs.declared.hexadecimal.CellWord.TheVariants.{OfCell}
 use Rattle.program_dialogue.proofs.HexadecimalLemmas.{spelled-length, spelled-digits}
 
--- one more digit was read
+-- One more digit was read.
 pub read-more : (word numbers : List ℕ) (at number seen : ℕ) → at < length numbers
     → (number < 16 → hex_digit_value (get_or word at 0) ≡ Some number)
     → (seen < 16 → (k : ℕ) → k < at → (hex_digit_value (get_or word k 0) ≡ Some (get_or numbers k 0)) × (get_or numbers k 0 < 16))
@@ -40,7 +40,7 @@ read-more word numbers at number seen within one before small =
 hex-value-small : (c v : ℕ) → hex_digit_value c ≡ Some v → v < 16
 hex-value-small c v h = grind (arith)
 
--- what stands in the table: the number of a digit, and 256 of any other octet
+-- What stands in the table: the number of a digit, and 256 of any other octet.
 abbrev number_or_none : Option ℕ → ℕ
 number_or_none (Some number) = number
 number_or_none None = 256
@@ -81,7 +81,7 @@ number-small None c e = omega arith
 pub number-at_most : (c : ℕ) → c < 256 → get_or NUMBERS c 0 ≤ 256
 number-at_most c below = let h = number-small (hex_digit_value c) c refl in omega (arith, number-at c below)
 
--- a figure by its place among the figures
+-- A figure by its place among the figures.
 pub figure-read : (c : ℕ) → c < 256 → (c + 208) % 256 < 10 → hex_digit_value c ≡ Some ((c + 208) % 256)
 figure-read c below small =
     let low : 48 ≤ c = omega arith in
@@ -89,7 +89,7 @@ figure-read c below small =
     let number : (c + 208) % 256 ≡ c - 48 = omega arith in
     rw number (grind arith)
 
--- a letter by its place among the small letters, for each octet that there is
+-- A letter by its place among the small letters, for each octet that there is.
 abbrev letter_at : ℕ → ℕ
 letter_at c = (bit_or c 32 + 159) % 256
 
@@ -113,7 +113,7 @@ letter-below (suc n) c t below small =
 pub letter-read : (c : ℕ) → c < 256 → (bit_or c 32 + 159) % 256 < 6 → hex_digit_value c ≡ Some ((bit_or c 32 + 159) % 256 + 10)
 letter-read c below small = number-of c ((bit_or c 32 + 159) % 256 + 10) (hex_digit_value c) (sym (letter-below 256 c tt below small)) (omega arith)
 
--- a digit is neither a blank nor the sign of a remark
+-- A digit is neither a blank nor the sign of a remark.
 digit-visible : (c : ℕ) → is_hex_digit c ≡ true → (is_blank c ≡ false) × ((c == 35) ≡ false)
 digit-visible c digit = (grind arith, grind arith)
 
@@ -126,7 +126,7 @@ filled : (octets cell : List ℕ) → cell_of octets ≡ cell → length cell �
 filled [] cell same sized = let none : 0 ≡ length cell = ap length same in absurd (omega arith)
 filled (octet ∷ octets) cell same sized = omega arith
 
--- a word that spells a cell is no blank word, and has no blank in it
+-- A word that spells a cell is no blank word, and has no blank in it.
 pub cell-visible : (word cell : List ℕ) → IsCellWord word (OfCell cell)
     → (0 < length word) × ((k : ℕ) → k < length word → is_blank (get_or word k 0) ≡ false)
 cell-visible word cell is =
@@ -138,7 +138,7 @@ loud : (word : List ℕ) → 0 < length word → (get_or word 0 0 == 35) ≡ fal
 loud [] some other = absurd (omega arith)
 loud (octet ∷ octets) some other = other
 
--- a word that spells a cell is answered by the program's value on it
+-- A word that spells a cell is answered by the program's value on it.
 runs-on_cell : (code : List Instr) (octets cell text : List ℕ) → cell_of octets ≡ cell → length cell ≡ 52 → TellsValue code cell text
     → RunsOn code (cell_of octets) text
 runs-on_cell code octets cell text same sized told =
@@ -146,7 +146,7 @@ runs-on_cell code octets cell text same sized told =
     let Q : Bool → Type 0 = λ b. MatchBool b (TellsValue code cell text) (text ≡ wrong_length (length cell)) in
     subst P (sym same) (subst Q (sym (eq-eqb (length cell) 52 sized)) told)
 
--- and so is a line of it alone
+-- And so is a line of it alone.
 pub digits-answered : (code : List Instr) (line cell text : List ℕ) → IsCellWord line (OfCell cell) → TellsValue code cell text
     → EvalSteps (Some code) line text (Some (Some code))
 digits-answered code line cell text word told =
@@ -161,7 +161,7 @@ digits-answered code line cell text word told =
     let Words : List (List ℕ) → Type 0 = λ words. MatchBool (is_silent words) ((text ≡ []) × (Some (Some code) ≡ Some (Some code))) (Asks (Some code) words text (Some (Some code))) in
     subst Words (sym alone) (subst Silent (sym asks) (here, refl))
 
--- what was added is a text of another kind as well
+-- What was added is a text of another kind as well.
 pub adds-onward : {E : Type 0} (r : Result (Unit {0}) E) (IsText IsOther : List ℕ → Type 0) (before after : List ℕ)
     → ((text : List ℕ) → IsText text → IsOther text) → OnOk r (Adds IsText before after) → OnOk r (Adds IsOther before after)
 adds-onward (Ok x) IsText IsOther before after onward added = (added.0, added.1, onward added.0 added.2)

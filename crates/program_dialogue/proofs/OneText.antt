@@ -15,16 +15,16 @@ use Rattle.program_dialogue.specs.inner.EvalLaws.{eval-total}
 use Rattle.program_dialogue.specs.FaultLines.{line, bad_line, bad_hex, verify_fault, decode_fault, wrong_length}
 use Rattle.program_dialogue.specs.Hexadecimal.{octets_of, cell_of}
 use Rattle.dialogue.specs.Words.{words_of, is_silent}
-use Rattle.dialogue.specs.declared.outcome.Done.{Done}
+use Rattle.dialogue.specs.declared.ending.Done.{Done}
 
--- one text, and one world after it
+-- One text, and one world after it.
 abbrev Same : List ℕ → List ℕ → Option World → Option World → Type 0
 Same one other next next' = (one ≡ other) × (next ≡ next')
 
 ends-same : (fault text text' : List ℕ) (next next' : Option World) → EndsBy fault text next → EndsBy fault text' next' → Same text text' next next'
 ends-same fault text text' next next' p q = (p.0 ∙ sym q.0, p.1 ∙ sym q.1)
 
--- a code is read in one way
+-- A code is read in one way.
 pub checks-once : (code : List Instr) (one other : Reading) → ChecksAs code one → ChecksAs code other → one ≡ other
 checks-once code (is_program one) (is_program other) p q = ap (λ c. is_program c) (p.1 ∙ sym q.1)
 checks-once code (is_program one) (is_refused other) p q = absurd (refused-from_fault code q.0 q.1 p.0)
@@ -32,7 +32,7 @@ checks-once code (is_refused one) (is_program other) p q = absurd (refused-from_
 checks-once code (is_refused one) (is_refused other) p q =
     ap (λ t. is_refused t) (p.2 ∙ ap verify_fault (one_comes_first code p.0 q.0 p.1 q.1) ∙ sym q.2)
 
--- and so are any octets
+-- And so are any octets.
 pub reads-once : (octets : List ℕ) (one other : Reading) → ReadsAs octets one → ReadsAs octets other → one ≡ other
 reads-once octets one other (inl p) (inl q) =
     let P : List Instr → Type 0 = λ code. ChecksAs code other in
@@ -101,13 +101,13 @@ closes-same : (world : World) (text text' : List ℕ) (done done' : Done) → Ev
 closes-same None text text' done done' p q = (p.0 ∙ sym q.0, p.1 ∙ sym q.1)
 closes-same (Some code) text text' done done' p q = (p.0 ∙ sym q.0, p.1 ∙ sym q.1)
 
--- the rules of `eval` leave one answer
+-- The rules of `eval` leave one answer.
 eval-functional : IsFunctional eval_rules
 eval-functional = record { step = steps-same; close = closes-same }
 
 pub one-eval_text : (octets one other : List ℕ) (ends other_ends : Done) → IsEvalText octets one ends → IsEvalText octets other other_ends → (one ≡ other) × (ends ≡ other_ends)
 one-eval_text octets = one-text eval_rules eval-functional (lines_of octets) 0 None
 
--- every input has a text of `eval`
+-- Every input has a text of `eval`.
 pub some-eval_text : (octets : List ℕ) → (text : List ℕ) × (done : Done) × IsEvalText octets text done
 some-eval_text octets = some-text eval_rules eval-total (lines_of octets) 0 None tt

@@ -1,6 +1,6 @@
 -- What the crates above may use in their proofs.
 use Rattle.std.proofs.Common.{◌≡◌, ℕ, ◌<◌, List, length, get_or, false}
-use Rattle.dialogue.specs.declared.outcome.Done.{Done}
+use Rattle.dialogue.specs.declared.ending.Done.{Done}
 use Rattle.dialogue.specs.Words.{is_blank}
 use Rattle.program_dialogue.specs.CellWord.{IsCellWord}
 use Rattle.program_dialogue.specs.Check.{IsCheckText}
@@ -21,7 +21,7 @@ cell-visible = digits.cell-visible
 pub reads-as : (octets : List ℕ) → (reading : Reading) × ReadsAs octets reading
 reads-as = laws.reads-as
 
--- and are read in one way.
+-- And are read in one way.
 pub reads-once : (octets : List ℕ) (one other : Reading) → ReadsAs octets one → ReadsAs octets other → one ≡ other
 reads-once = eval.reads-once
 
@@ -29,7 +29,7 @@ reads-once = eval.reads-once
 pub some-check_text : (octets : List ℕ) → (text : List ℕ) × (done : Done) × IsCheckText octets text done
 some-check_text = check.some-check_text
 
--- and one alone.
+-- And one alone.
 pub one-check_text : (octets one other : List ℕ) (ends other_ends : Done) → IsCheckText octets one ends → IsCheckText octets other other_ends → (one ≡ other) × (ends ≡ other_ends)
 one-check_text = check.one-check_text
 
@@ -37,6 +37,6 @@ one-check_text = check.one-check_text
 pub some-eval_text : (octets : List ℕ) → (text : List ℕ) × (done : Done) × IsEvalText octets text done
 some-eval_text = eval.some-eval_text
 
--- and one alone.
+-- And one alone.
 pub one-eval_text : (octets one other : List ℕ) (ends other_ends : Done) → IsEvalText octets one ends → IsEvalText octets other other_ends → (one ≡ other) × (ends ≡ other_ends)
 one-eval_text = eval.one-eval_text

@@ -10,12 +10,12 @@ use Rattle.hex.specs.Hex.{encode_lower}
 use Rattle.program_dialogue.specs.FaultLines.{line, asm_fault, too_long}
 use Rattle.program_dialogue.specs.Program.{Reading, is_program, is_refused, ChecksAs}
 use Rattle.dialogue.specs.Gathered.{gathered}
-use Rattle.dialogue.specs.declared.outcome.Done.{Done}
-use Rattle.dialogue.specs.declared.outcome.Done.TheVariants.{Whole, Ended}
+use Rattle.dialogue.specs.declared.ending.Done.{Done}
+use Rattle.dialogue.specs.declared.ending.Done.TheVariants.{Whole, Ended}
 
 -- The most octets of a source.
-abbrev pub most_source : ℕ
-most_source = 1048576
+abbrev pub most_source_octets : ℕ
+most_source_octets = 1048576
 
 -- The number of a code's instructions, and on a line of their own the octets that spell them.
 abbrev pub accepted_text : List Instr → List ℕ
@@ -42,4 +42,4 @@ Tells found text done = MatchOption found ((text ≡ too_long) × (done ≡ Ende
 
 -- The text of the octets of a whole input, and how it ends.
 abbrev pub IsCheckText : List ℕ → List ℕ → Done → Type 0
-IsCheckText octets text done = Tells (gathered most_source octets) text done
+IsCheckText octets text done = Tells (gathered most_source_octets octets) text done

@@ -11,8 +11,8 @@ use Rattle.program_dialogue.specs.FaultLines.{line, bad_line, bad_hex, no_progra
 use Rattle.program_dialogue.specs.Program.{Reading, is_program, is_refused, ReadsAs}
 use Rattle.dialogue.specs.Lines.{lines_of}
 use Rattle.dialogue.specs.Printing.{Rules, Prints}
-use Rattle.dialogue.specs.declared.outcome.Done.{Done}
-use Rattle.dialogue.specs.declared.outcome.Done.TheVariants.{Whole, Ended}
+use Rattle.dialogue.specs.declared.ending.Done.{Done}
+use Rattle.dialogue.specs.declared.ending.Done.TheVariants.{Whole, Ended}
 
 -- No program yet, or the code of the program.
 abbrev pub World : Type 0

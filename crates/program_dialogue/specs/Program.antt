@@ -1,7 +1,7 @@
 -- What octets say as a program: an accepted code, or the text of the fault for which they are none.
 use Rattle.std.specs.Prelude.{◌≡◌, ◌≢◌, ◌⊎◌, ℕ, List}
 use Rattle.bpf_code.specs.Decoding.{IsFaultOf}
-use Rattle.bpf_code.specs.Spelling.{SpellsCode}
+use Rattle.bpf_code.specs.OctetSpelling.{SpellsCode}
 use Rattle.bpf_code.specs.declared.decoder.DecodeFault.{DecodeFault}
 use Rattle.bpf_code.specs.declared.decoder.DecodeFault.TheVariants.{NoMemory}
 use Rattle.bpf_code.specs.declared.instr.Instr.{Instr}

@@ -1,13 +1,14 @@
 //! `upc check`: a source of assembly, and the octets of its program.
+
 ghost use Rattle.std.specs.Prelude.{IfOk, OnOk, OnErr, option_map, ◌≡◌, ◌++◌, ℕ, List, [], Ok};
 ghost use Rattle.program_dialogue.specs.Check.{IsCheckText, Tells, TellsCode, TellsSource, accepted_text};
 ghost use Rattle.dialogue.specs.Devices.{Adds, TakesEnough};
 ghost use Rattle.dialogue.specs.Limits.{most_ahead};
-ghost use Rattle.dialogue.specs.Outcome.{read_failures, write_failures};
+ghost use Rattle.dialogue.specs.Failures.{read_failures, write_failures};
 ghost use Rattle.dialogue.specs.Printing.{IsFront};
 
-use crate::answer::{add_accepted, add_asm_fault, add_octets, add_too_long};
-use crate::program::check_code;
+use crate::answer_texts::{add_accepted, add_asm_fault, add_octets, add_too_long};
+use crate::program_reading::check_code;
 use bpf_asm::{AsmFault, AsmKind, assemble};
 use bpf_code::{Instr, encode};
 use bpf_verify::Program;
@@ -15,7 +16,7 @@ use dialogue::{Done, Input, Output, RunFault, gather, give_last};
 use std::alloc::{AllocError, Global};
 
 /// The most octets of a source.
-const MOST_SOURCE: u32 = 1048576;
+const MOST_SOURCE_OCTETS: u32 = 1048576;
 
 /// Answers a program by the number of its instructions and their octets.
 #[tactic(auto, using(std::proofs::lemmas::List::append_assoc))]
@@ -105,7 +106,7 @@ pub fn check_source<I: Input, O: Output>(
     ensures reading { I.failures input.new ≡ read_failures result (I.failures input.old) }
     ensures writing { O.failures output.new ≡ write_failures result (O.failures output.old) }
 {
-    let found = match gather(alloc, input, MOST_SOURCE) {
+    let found = match gather(alloc, input, MOST_SOURCE_OCTETS) {
         Ok(found) => found,
         Err(fault) => return Err(fault),
     };

@@ -1,12 +1,19 @@
 //! Cells read from the digits of a line, as many at a time as the processor takes. What isn't read
 //! here is read again by the library, an octet at a time.
+
 ghost use Rattle.std.specs.Prelude.{◌≡◌, ◌*◌, ◌<◌, ◌++◌, ℕ, Some, IfSome, IsTrue, length, replicate, slice_index};
 ghost use Rattle.hex.specs.Hex.{hex_digit_value};
 ghost use Rattle.program_dialogue.specs.CellWord.{IsCellWord};
 ghost use Rattle.program_dialogue.specs.inner.DigitNumbers.{AreDigitsOf, AreJoined, AreNumbers};
 ghost use Rattle.program_dialogue.specs.declared.hexadecimal.CellWord.TheVariants.{OfCell};
 
-use upc_cell::Cell;
+use upc_cell::{CELL_OCTETS, Cell};
+
+/// How many digits spell a whole cell.
+pub const CELL_DIGITS: usize = 2 * CELL_OCTETS;
+
+/// How many digits spell the header of a cell.
+pub const HEADER_DIGITS: usize = 8;
 
 /// The number of a digit; 255 of an octet that is none.
 #[inline(always)]
@@ -52,11 +59,11 @@ fn join(numbers: &[u8], octets: &mut [u8])
 
 /// Writes the cell that 104 octets spell, if all are digits, and answers whether they are.
 #[inline(always)]
-fn read_whole(word: &[u8], octets: &mut [u8; 52]) -> bool
-    requires { length word.now ≡ 104 }
+fn read_whole(word: &[u8], octets: &mut [u8; CELL_OCTETS]) -> bool
+    requires { length word.now ≡ CELL_DIGITS }
     ensures { IsTrue result → IsCellWord word.now (OfCell octets.new) }
 {
-    let mut numbers = [0; 104];
+    let mut numbers = [0; CELL_DIGITS];
     if read_digits(word, &mut numbers) > 15 {
         return false;
     }
@@ -102,9 +109,9 @@ fn are_octets(first: u16, second: u16, third: u16, fourth: u16) -> bool
 
 /// Writes the header that eight octets spell, if all are digits, and answers whether they are.
 #[inline(always)]
-fn read_header(word: &[u8], octets: &mut [u8; 52]) -> bool
-    requires digits { length word.now ≡ 8 }
-    requires payload { octets.old ≡ replicate 52 0 }
+fn read_header(word: &[u8], octets: &mut [u8; CELL_OCTETS]) -> bool
+    requires digits { length word.now ≡ HEADER_DIGITS }
+    requires payload { octets.old ≡ replicate CELL_OCTETS 0 }
     ensures { IsTrue result → IsCellWord word.now (OfCell octets.new) }
 {
     let first = octet_of(word[0], word[1]);
@@ -114,10 +121,16 @@ fn read_header(word: &[u8], octets: &mut [u8; 52]) -> bool
     if !are_octets(first, second, third, fourth) {
         return false;
     }
-    octets[0] = first as u8;
-    octets[1] = second as u8;
-    octets[2] = third as u8;
-    octets[3] = fourth as u8;
+    // As one number, so that whoever reads the header next has it at hand.
+    let header = 16777216 * u32::from(first)
+        + 65536 * u32::from(second)
+        + 256 * u32::from(third)
+        + u32::from(fourth);
+    let [first, second, third, fourth] = header.to_be_bytes();
+    octets[0] = first;
+    octets[1] = second;
+    octets[2] = third;
+    octets[3] = fourth;
     true
 }
 
@@ -126,10 +139,10 @@ fn read_header(word: &[u8], octets: &mut [u8; 52]) -> bool
 pub fn cell_of_digits(word: &[u8]) -> Option<Cell>
     ensures { IfSome result (λ cell. IsCellWord word.now (OfCell cell)) }
 {
-    let mut octets = [0; 52];
+    let mut octets = [0; CELL_OCTETS];
     let read = match word.len() {
-        104 => read_whole(word, &mut octets),
-        8 => read_header(word, &mut octets),
+        CELL_DIGITS => read_whole(word, &mut octets),
+        HEADER_DIGITS => read_header(word, &mut octets),
         _ => false,
     };
     if read { Some(Cell::from(octets)) } else { None }

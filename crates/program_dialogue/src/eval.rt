@@ -1,19 +1,20 @@
 //! `upc eval`: one program, and its value on each cell.
+
 ghost use Rattle.std.specs.Prelude.{◌≡◌, ◌∷◌, ◌++◌, [], Some, None, IfOk, OnOk, OnErr, option_map, ℕ, List, Ok};
 ghost use Rattle.dialogue.specs.Devices.{Adds, TakesEnough};
 ghost use Rattle.dialogue.specs.Limits.{most_ahead};
 ghost use Rattle.dialogue.specs.Answering.{Answers};
 ghost use Rattle.program_dialogue.specs.Eval.{CellLine, ProgramLine, TellsValue, EvalSteps, IsEvalText, eval_rules};
-ghost use Rattle.dialogue.specs.Outcome.{read_failures, write_failures};
+ghost use Rattle.dialogue.specs.Failures.{read_failures, write_failures};
 ghost use Rattle.dialogue.specs.Printing.{IsFront};
 
-use crate::answer::{
+use crate::answer_texts::{
     add_accepted, add_bad_hex, add_bad_line, add_no_program, add_too_long, add_value,
     add_wrong_length,
 };
 use crate::digits::cell_of_digits;
 use crate::hexadecimal::{CellWord, cell_of_word, octets_of_word};
-use crate::program::read_program;
+use crate::program_reading::read_program;
 use bpf_interp::run;
 use bpf_verify::Program;
 use dialogue::{Done, Input, LineWords, Machine, Output, RunFault, Turn, answer_lines, line_words};

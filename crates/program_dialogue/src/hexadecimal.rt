@@ -1,13 +1,14 @@
 //! Words of hexadecimal digits, as octets and as cells.
+
 ghost use Rattle.std.specs.Prelude.{◌≡◌, length, IfOk};
 ghost use Rattle.std.specs.Option.{option_map};
 ghost use Rattle.program_dialogue.specs.Hexadecimal.{octets_of};
 ghost use Rattle.program_dialogue.specs.CellWord.{IsCellWord};
 
-use crate::digits::cell_of_digits;
+use crate::digits::{CELL_DIGITS, HEADER_DIGITS, cell_of_digits};
 use hex::FromHexError;
 use std::alloc::{AllocError, Global};
-use upc_cell::Cell;
+use upc_cell::{CELL_OCTETS, Cell};
 
 /// What a word stands for on a cell line.
 pub enum CellWord {
@@ -46,8 +47,8 @@ fn cell_by_library(alloc: Global, word: &[u8]) -> Result<CellWord, AllocError>
     ensures { IfOk result (IsCellWord word.now) }
 {
     match word.len() {
-        104 => Ok(whole_cell(word)),
-        8 => Ok(header_cell(word)),
+        CELL_DIGITS => Ok(whole_cell(word)),
+        HEADER_DIGITS => Ok(header_cell(word)),
         _ => match octets_of_word(alloc, word)? {
             Some(octets) => Ok(CellWord::OfOthers(octets.len())),
             None => Ok(CellWord::NoDigits),
@@ -57,10 +58,10 @@ fn cell_by_library(alloc: Global, word: &[u8]) -> Result<CellWord, AllocError>
 
 /// The cell that 104 digits spell.
 fn whole_cell(word: &[u8]) -> CellWord
-    requires { length word.now ≡ 104 }
+    requires { length word.now ≡ CELL_DIGITS }
     ensures { IsCellWord word.now result }
 {
-    let mut octets = [0; 52];
+    let mut octets = [0; CELL_OCTETS];
     match hex::decode_to_slice(word, &mut octets) {
         Ok(()) => CellWord::OfCell(Cell::from(octets)),
         Err(_) => CellWord::NoDigits,
@@ -69,10 +70,10 @@ fn whole_cell(word: &[u8]) -> CellWord
 
 /// The cell whose header eight digits spell, with a payload of zeros.
 fn header_cell(word: &[u8]) -> CellWord
-    requires { length word.now ≡ 8 }
+    requires { length word.now ≡ HEADER_DIGITS }
     ensures { IsCellWord word.now result }
 {
-    let mut octets = [0; 52];
+    let mut octets = [0; CELL_OCTETS];
     match hex::decode_to_slice(word, &mut octets[..4]) {
         Ok(()) => CellWord::OfCell(Cell::from(octets)),
         Err(_) => CellWord::NoDigits,

@@ -4,20 +4,22 @@
 //! cells and as programs, and the answers to those that are none.
 #![tactic(auto)]
 
-mod answer;
+mod answer_texts;
 mod check;
 mod digits;
 mod eval;
 mod hexadecimal;
-mod program;
+mod program_reading;
 #[cfg(test)]
 mod tests;
 mod text_from_end;
 
-pub use answer::{add_bad_hex, add_bad_line, add_number, add_text, add_too_long, add_wrong_length};
+pub use answer_texts::{
+    add_bad_hex, add_bad_line, add_number, add_text, add_too_long, add_wrong_length,
+};
 pub use check::check_source;
-pub use digits::cell_of_digits;
+pub use digits::{CELL_DIGITS, HEADER_DIGITS, cell_of_digits};
 pub use eval::eval_bytes;
 pub use hexadecimal::{CellWord, cell_of_word, octets_of_word};
-pub use program::read_program;
+pub use program_reading::read_program;
 pub use text_from_end::TextFromEnd;

@@ -1,4 +1,5 @@
 //! A short text that is written from its end.
+
 use std::marker::Model;
 
 /// A text of at most `ROOM` octets that is written from its end: what is put to it stands before what it

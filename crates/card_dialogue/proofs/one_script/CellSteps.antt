@@ -17,10 +17,10 @@ use Rattle.card_core.specs.declared.answer.Answer.{Answer}
 use Rattle.card_core.specs.declared.answer.Answer.TheVariants as answer
 use Rattle.card_core.specs.declared.reply.Reply.TheVariants.{Answered, Picked}
 use Rattle.card_core.specs.declared.step.Step.TheVariants.{Judge}
-use Rattle.dialogue.specs.Limits.{most_lines}
+use Rattle.dialogue.specs.Limits.{most_input_lines}
 use Rattle.card_dialogue.specs.CardFaults.{arrive_fault}
 use Rattle.card_dialogue.specs.Replies.{answer_text, judging_text, number_of_program, verdict_text}
-use Rattle.card_dialogue.specs.Run.{Arrives, IsAnswered}
+use Rattle.card_dialogue.specs.RunText.{Arrives, IsAnswered}
 use Rattle.card_dialogue.specs.inner.PortZero.{PortIs}
 use Rattle.card_dialogue.proofs.one_script.CellCases.{entered-as, judge-case, found_so, judged_so, missed_so, pick-case, put-back, put-back_twice, put-there, refused_so, JudgeCase}
 use Rattle.card_dialogue.proofs.one_script.ConnectionSteps.{connections-changed, found-there, with-seen}
@@ -78,7 +78,7 @@ PolicesSeen s moment octets text to =
     (λ connection. FoundSeen s (vc_of s.shape.side octets) connection moment octets text to)
 
 -- Behind fewer lines than a script may have no line has as many verdicts as it may.
-refusal-seen : (met : ℕ) (world : World) (connection : Connection) (moment : ℕ) → Stands met world → met < most_lines
+refusal-seen : (met : ℕ) (world : World) (connection : Connection) (moment : ℕ) → Stands met world → met < most_input_lines
     → cell_refusal world connection moment ≡ seen_refusal (seen world) (seen_connection world.given connection) moment
 refusal-seen met world connection moment stand few =
     let counted = stand.counted connection.line in
@@ -212,7 +212,7 @@ judged-stands met before vc connection octets moment value stand found =
 
 -- A cell whose connection is found.
 found-comes : (met : ℕ) (before after : World) (names : List Id) (moment : ℕ) (octets : List ℕ) (given : Answer) (text : List ℕ)
-    → Stands met before → IsSound before → met < most_lines → names ≡ names_of before.given → PortIs before outside
+    → Stands met before → IsSound before → met < most_input_lines → names ≡ names_of before.given → PortIs before outside
     → (connection : Connection) → connection_in before.connections (vc_of before.shape.side octets) ≡ Some connection
     → (code : List Instr) → code_in before.given connection.program ≡ Some code → (value : ℕ) → Gives code octets value
     → JudgeCase (picked_world before octets moment (vc_of before.shape.side octets) connection value)
@@ -260,7 +260,7 @@ found-comes met before after names moment octets given text stand sound few know
 
 -- How a cell is answered that has entered.
 answered-comes : (met : ℕ) (before after : World) (names : List Id) (moment : ℕ) (octets : List ℕ) (given : Answer) (text : List ℕ)
-    → Stands met before → IsSound before → met < most_lines → names ≡ names_of before.given → PortIs before outside
+    → Stands met before → IsSound before → met < most_input_lines → names ≡ names_of before.given → PortIs before outside
     → IsAnswered (with_port before 0 (entered octets moment)) given after
     → answer_text names (vc_of before.shape.side octets) given ≡ Some text → CellComes met before after moment octets text
 answered-comes met before after names moment octets given text stand sound few known free (inl picks) told =
@@ -286,7 +286,7 @@ answered-comes met before after names moment octets given text stand sound few k
 
 -- A cell arrives.
 pub cell-comes : (met : ℕ) (before after : World) (names : List Id) (moment : ℕ) (octets : List ℕ) (given : Answer) (text : List ℕ)
-    → Stands met before → IsSound before → met < most_lines → names ≡ names_of before.given → PortIs before outside
+    → Stands met before → IsSound before → met < most_input_lines → names ≡ names_of before.given → PortIs before outside
     → Arrives before octets moment given after
     → answer_text names (vc_of before.shape.side octets) given ≡ Some text → CellComes met before after moment octets text
 cell-comes met before after names moment octets given text stand sound few known free arrives told =

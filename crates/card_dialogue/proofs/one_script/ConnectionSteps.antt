@@ -16,7 +16,7 @@ use Rattle.card_core.specs.declared.reply.Reply.TheVariants.{NotSetUp}
 use Rattle.card_core.specs.declared.step.Step.TheVariants.{Setup}
 use Rattle.program_dialogue.specs.FaultLines.{line}
 use Rattle.card_dialogue.specs.Replies.{connection_name, reply_text}
-use Rattle.card_dialogue.specs.Run.{id_loaded}
+use Rattle.card_dialogue.specs.RunText.{id_loaded}
 use Rattle.card_dialogue.specs.ScriptCommands.{setup}
 use Rattle.card_dialogue.specs.declared.script_words.Wanted.{Wanted}
 use Rattle.card_dialogue.proofs.one_script.Numbers.{number_in}

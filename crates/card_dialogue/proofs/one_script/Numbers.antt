@@ -126,7 +126,7 @@ number-stays loading given id new some =
 pub number-next : (loading : Loading) (given : List Loading) → number_in (loading ∷ given) loading.id ≡ suc (length given)
 number-next loading given = ap (λ b. if b then suc (length given) else number_in given loading.id) (id_itself loading.id)
 
--- what stands at a place of a list with one more behind it
+-- What stands at a place of a list with one more behind it.
 get-append : (names : List Id) (last id : Id) (place : ℕ) → slice_get (names ++ last ∷ []) place ≡ Some id
     → (slice_get names place ≡ Some id) ⊎ ((place ≡ length names) × (last ≡ id))
 get-append [] last id zero found = inr (refl, same_Some last id found)

@@ -7,14 +7,14 @@ use Rattle.card_core.specs.Shapes.{shape_fault}
 use Rattle.card_core.specs.declared.fault.CardFault.{CardFault}
 use Rattle.card_core.specs.declared.shape.Shape.{Shape}
 use Rattle.dialogue.proofs.Public.{one-text_alike, some-text}
-use Rattle.dialogue.specs.Limits.{most_lines}
+use Rattle.dialogue.specs.Limits.{most_input_lines}
 use Rattle.dialogue.specs.Lines.{lines_of}
 use Rattle.dialogue.specs.Words.{is_silent, words_of}
-use Rattle.dialogue.specs.declared.outcome.Done.{Done}
+use Rattle.dialogue.specs.declared.ending.Done.{Done}
 use Rattle.dialogue.specs.inner.Alike.{KeepsAlike, LeadAlike}
 use Rattle.card_dialogue.specs.CardLine.{card_of}
 use Rattle.card_dialogue.specs.CardFaults.{no_card, shape_fault_line}
-use Rattle.card_dialogue.specs.Run.{Card, CommandLine, EndsBy, IsLed, IsRunText, Opens, RunCloses, RunSteps, RunWorld, Tells, new_card, run_rules}
+use Rattle.card_dialogue.specs.RunText.{Card, CommandLine, EndsBy, IsLed, IsRunText, Opens, RunCloses, RunSteps, RunWorld, Tells, new_card, run_rules}
 use Rattle.card_dialogue.specs.inner.RunLaws.{run-total}
 use Rattle.card_dialogue.proofs.one_script.OneAnswer.{line-once}
 use Rattle.card_dialogue.proofs.one_script.Seen.{Seen, seen}
@@ -72,7 +72,7 @@ opening-alike met (Some shape) one other next next' led p q = opens-alike met sh
 
 -- A line to a card.
 commands-alike : (met : ℕ) (before before' : Card) (words : List (List ℕ)) (one other : List ℕ) (after after' : Card)
-    → met < most_lines → AreCardsAlike met before before' → IsLed after → IsLed after'
+    → met < most_input_lines → AreCardsAlike met before before' → IsLed after → IsLed after'
     → CommandLine before words one after → CommandLine before' words other after'
     → (one ≡ other) × AreCardsAlike (met + 1) after after'
 commands-alike met before before' words one other after after' few alike led led' p q =
@@ -104,7 +104,7 @@ none-alike met line one other next next' true led p q = (p.0 ∙ sym q.0, lead m
 none-alike met line one other next next' false led p q = opening-alike met (card_of (words_of line)) one other next next' led p q
 
 some-alike : (met : ℕ) (before before' : Card) (line one other : List ℕ) (next next' : Option RunWorld) (b : Bool)
-    → met < most_lines → AreCardsAlike met before before'
+    → met < most_input_lines → AreCardsAlike met before before'
     → ((card : Card) → next ≡ Some (Some card) → IsLed card) → ((card : Card) → next' ≡ Some (Some card) → IsLed card)
     → MatchBool b ((one ≡ []) × (next ≡ Some (Some before))) (Tells (Some before) (words_of line) one next)
     → MatchBool b ((other ≡ []) × (next' ≡ Some (Some before'))) (Tells (Some before') (words_of line) other next')
@@ -122,7 +122,7 @@ some-alike met before before' line one other next next' false few alike led led'
     (done.0, lead (met + 1) next next' (Some (Some p.0)) (Some (Some q.0)) p.2 q.2 done.1)
 
 step-alike : (met : ℕ) (world world' : RunWorld) (line one other : List ℕ) (next next' : Option RunWorld)
-    → met < most_lines → AreAlike met world world' → RunSteps world line one next → RunSteps world' line other next'
+    → met < most_input_lines → AreAlike met world world' → RunSteps world line one next → RunSteps world' line other next'
     → AnswerAlike (met + 1) one other next next'
 step-alike met None None line one other next next' few alike p q =
     none-alike (met + 1) line one other next next' (is_silent (words_of line)) (λ card e. keeps-led None line one next card tt p e) p q

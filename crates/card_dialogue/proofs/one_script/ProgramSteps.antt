@@ -15,10 +15,10 @@ use Rattle.card_core.specs.declared.fault.DeskFault.TheVariants.{Busy, InUse, No
 use Rattle.card_core.specs.declared.reply.Reply.{Reply}
 use Rattle.card_core.specs.declared.reply.Reply.TheVariants.{Loaded, NotLoaded, Refused, Retired}
 use Rattle.card_core.specs.declared.step.Step.TheVariants.{Load, Retire}
-use Rattle.dialogue.specs.Limits.{most_lines}
+use Rattle.dialogue.specs.Limits.{most_input_lines}
 use Rattle.program_dialogue.specs.FaultLines.{line}
 use Rattle.card_dialogue.specs.Replies.{program_name, reply_text}
-use Rattle.card_dialogue.specs.Run.{id_loaded}
+use Rattle.card_dialogue.specs.RunText.{id_loaded}
 use Rattle.card_dialogue.specs.ScriptCommands.{load, retire}
 use Rattle.card_dialogue.proofs.one_script.Numbers.{names_of, number_in, number-next, number-none}
 use Rattle.card_dialogue.proofs.one_script.OpenPlaces.{any-same, apart-filter, is_open, is_taken, open-place}
@@ -36,7 +36,7 @@ length-live given [] = refl
 length-live given (loading ∷ later) = ap suc (length-live given later)
 
 -- Behind fewer lines than a script may have, a slot is open where no live program has it.
-open-slots : (met : ℕ) (world : World) → Stands met world → met < most_lines
+open-slots : (met : ℕ) (world : World) → Stands met world → met < most_input_lines
     → any_below world.shape.programs (is_open_slot world) ≡ nat_lt (length (seen_live world.given world.live)) world.shape.programs
 open-slots met world stand few =
     let unworn : (slot : ℕ) → nat_lt (times_given world.given slot) greatest_generation ≡ true = λ slot.
@@ -53,7 +53,7 @@ seen_load_fault s =
     else if not (nat_lt (length s.live) s.shape.programs) then Some ProgramsFull
     else None
 
-load_fault-seen : (met : ℕ) (world : World) → Stands met world → met < most_lines → load_fault world ≡ seen_load_fault (seen world)
+load_fault-seen : (met : ℕ) (world : World) → Stands met world → met < most_input_lines → load_fault world ≡ seen_load_fault (seen world)
 load_fault-seen met world stand few =
     let e = open-slots met world stand few in
     λ i. if is_busy world then Some Busy else if not (e i) then Some ProgramsFull else None
@@ -137,7 +137,7 @@ loads-comes met before after code digits reply text stand sound told goes =
 
 -- A program is put in.
 pub load-comes : (met : ℕ) (before after : World) (code : List Instr) (digits : List ℕ) (reply : Reply) (text : List ℕ) → Stands met before
-    → IsSound before → met < most_lines → reply_text (load digits) (length before.given) reply ≡ Some text
+    → IsSound before → met < most_input_lines → reply_text (load digits) (length before.given) reply ≡ Some text
     → WorldStep before (Load code) reply after
     → Comes met before after reply (answered (seen_load_fault (seen before)) (loaded_text (seen before))) text
     (left (seen_load_fault (seen before)) (seen before) (with_program (seen before) code))

@@ -16,7 +16,7 @@ use Rattle.card_core.specs.declared.reply.Reply.TheVariants.{Cut as CutOff, Refu
 use Rattle.card_core.specs.declared.step.Step.TheVariants.{Cut, Release, Reload}
 use Rattle.program_dialogue.specs.FaultLines.{line}
 use Rattle.card_dialogue.specs.Replies.{connection_name, piece_text, program_name, reply_text, tally_text}
-use Rattle.card_dialogue.specs.Run.{id_loaded}
+use Rattle.card_dialogue.specs.RunText.{id_loaded}
 use Rattle.card_dialogue.specs.ScriptCommands.{cut, release, reload}
 use Rattle.card_dialogue.proofs.one_script.ConnectionSteps.{changed_at, changed-seen, connections-changed, connections-without, found-there, none-seen}
 use Rattle.card_dialogue.proofs.one_script.Numbers.{number_in}

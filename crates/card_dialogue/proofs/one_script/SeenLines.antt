@@ -12,14 +12,14 @@ use Rattle.card_core.specs.inner.Sound.{IsSound}
 use Rattle.card_core.specs.declared.reply.Reply.{Reply}
 use Rattle.card_core.specs.declared.step.Step.{Step}
 use Rattle.card_core.specs.declared.step.Step.TheVariants.{Cut, Load, Release, Reload, Retire, Setup}
-use Rattle.dialogue.specs.Limits.{most_lines}
+use Rattle.dialogue.specs.Limits.{most_input_lines}
 use Rattle.program_dialogue.specs.FaultLines.{bad_hex, bad_line, wrong_length}
 use Rattle.card_dialogue.specs.CardFaults.{gcra_fault, no_such_program}
 use Rattle.program_dialogue.specs.Hexadecimal.{cell_of, octets_of}
 use Rattle.program_dialogue.specs.Program.{ReadsAs, Reading, is_program, is_refused}
 use Rattle.card_dialogue.specs.Rates.{AreContracts, first_wanted_fault}
 use Rattle.card_dialogue.specs.Replies.{program_named, reply_text}
-use Rattle.card_dialogue.specs.Run.{Asks, Card, CommandLine, IsLed, LoadsOctets, Obeys, Polices, PolicesOctets, Refuses, Takes, TakesNamed, TakesReading, id_loaded}
+use Rattle.card_dialogue.specs.RunText.{Asks, Card, CommandLine, IsLed, LoadsOctets, Obeys, Polices, PolicesOctets, Refuses, Takes, TakesNamed, TakesReading, id_loaded}
 use Rattle.card_dialogue.specs.ScriptCommands.{Command, cell, command_of, cut, load, release, reload, retire, setup}
 use Rattle.card_dialogue.specs.declared.script_words.Wanted.{Wanted}
 use Rattle.card_dialogue.proofs.one_script.CellSteps.{PolicesSeen, cell-comes}
@@ -103,7 +103,7 @@ pub record LineComes (met : ℕ) (after : Card) (AnswersSeen : Seen → Type 0) 
   pub stands : Stands (met + 1) after.world
   pub names : after.names ≡ names_of after.world.given
 
-module _ (met : ℕ) (few : met < most_lines) (before : Card) (behind : IsBehind met before) (after : Card) (text : List ℕ) where
+module _ (met : ℕ) (few : met < most_input_lines) (before : Card) (behind : IsBehind met before) (after : Card) (text : List ℕ) where
   sound : IsSound before.world
   sound = worlds-sound behind.led.shape behind.led.log before.world behind.led.leads
 

@@ -10,7 +10,7 @@ use Rattle.card_core.specs.declared.shape.Shape.{Shape}
 use Rattle.card_core.specs.declared.step.Step.{Step}
 use Rattle.card_dialogue.specs.CardFaults.{desk_fault}
 use Rattle.card_dialogue.specs.Replies.{reply_text}
-use Rattle.card_dialogue.specs.Run.{id_loaded}
+use Rattle.card_dialogue.specs.RunText.{id_loaded}
 use Rattle.card_dialogue.specs.ScriptCommands.{Command}
 use Rattle.card_dialogue.proofs.one_script.Numbers.{AreOnce, names_of}
 use Rattle.card_dialogue.proofs.one_script.OpenPlaces.{AreApart, AreBelow}

@@ -1,6 +1,7 @@
 -- Digits, one after another.
 use Rattle.std.specs.Prelude.{ℕ, ◌+◌, ◌-◌, ◌*◌, if◌then◌else◌, Option, None}
-use Rattle.card_dialogue.specs.ScriptWords.{is_digit, most_number, up_to}
+use Rattle.card_dialogue.specs.ScriptWords.{most_number, up_to}
+use Rattle.dialogue.specs.Words.{is_digit}
 
 -- The value with one more digit behind it, if the octet is a digit and the value isn't too large.
 abbrev pub with_digit : ℕ → ℕ → Option ℕ

@@ -1,10 +1,10 @@
 -- A card as the code keeps it, and what its answers say of the cards that it shows.
 use Rattle.std.specs.Prelude.{◌≡◌, ℕ, List, ◌++◌, Option, Some, None, MatchOption}
 use Rattle.gen_arena.specs.declared.id.Id.{Id}
-use Rattle.card_core.specs.Agreement.{Agrees, CoreView}
+use Rattle.card_core.specs.Agreement.{CoreAgrees, CoreView}
 use Rattle.card_core.specs.World.{World}
 use Rattle.card_core.specs.declared.answer.Answer.{Answer}
-use Rattle.card_dialogue.specs.Run.{Arrives, Card, IsLed, OpeningLine, RunSteps, RunWorld}
+use Rattle.card_dialogue.specs.RunText.{Arrives, Card, IsLed, OpeningLine, RunSteps, RunWorld}
 
 -- The core, and the ids of the programs in the order of their names.
 pub record Held : Type 0 where
@@ -13,7 +13,7 @@ pub record Held : Type 0 where
 
 -- What is kept shows a card whose world the core agrees with, and whose names are those that are kept.
 pub record ShowsCard (held : Held) (card : Card) : Type 0 where
-  pub agrees : Agrees held.core card.world
+  pub agrees : CoreAgrees held.core card.world
   pub names : held.names ≡ card.names
 
 -- Where a card is kept it is shown, and where none is kept there is none yet.
@@ -36,7 +36,7 @@ Moves Goes held held' old new = (text : List ℕ) × (new ≡ old ++ text) × Mo
 abbrev pub AnswersCell : Held → List ℕ → ℕ → Option Answer → Held → Type 0
 AnswersCell held octets moment given held' = (held'.names ≡ held.names) × ((before : Card) → IsLed before → ShowsCard held before
     → (answer : Answer) × (given ≡ Some answer) × (after : World)
-    × Arrives before.world octets moment answer after × Agrees held'.core after)
+    × Arrives before.world octets moment answer after × CoreAgrees held'.core after)
 
 -- The line is answered by the text, and the run goes on with the card afterwards.
 abbrev pub SaysLine : List ℕ → Card → List ℕ → Card → Type 0

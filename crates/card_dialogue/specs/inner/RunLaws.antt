@@ -32,8 +32,8 @@ use Rattle.card_core.specs.declared.step.Step.{Step}
 use Rattle.card_core.specs.declared.step.Step.TheVariants.{Enter, Pick, Judge, Load, Retire, Setup, Reload, Release, Cut}
 use Rattle.dialogue.specs.Printing.{IsTotal}
 use Rattle.dialogue.specs.Words.{is_silent, words_of}
-use Rattle.dialogue.specs.declared.outcome.Done.{Done}
-use Rattle.dialogue.specs.declared.outcome.Done.TheVariants.{Whole, Ended}
+use Rattle.dialogue.specs.declared.ending.Done.{Done}
+use Rattle.dialogue.specs.declared.ending.Done.TheVariants.{Whole, Ended}
 use Rattle.card_core.specs.Shapes.{shape_fault}
 use Rattle.card_dialogue.specs.CardLine.{card_of}
 use Rattle.card_dialogue.specs.ScriptCommands.{Command, load, retire, setup, reload, release, cut, cell, command_of}
@@ -43,7 +43,7 @@ use Rattle.program_dialogue.specs.Hexadecimal.{octets_of, cell_of}
 use Rattle.program_dialogue.specs.Program.{Reading, is_program, is_refused, ReadsAs}
 use Rattle.card_dialogue.specs.Rates.{AreContracts, IsContract, IsRate, first_of_two, first_wanted_fault, rate_fault, wanted_fault}
 use Rattle.card_dialogue.specs.Replies.{program_named, reply_text}
-use Rattle.card_dialogue.specs.Run.{Asks, Card, EndsBy, IsAnswered, IsLed, IsSoundRun, LoadsOctets, Obeys, Opens, Polices, PolicesOctets, Refuses, RunCloses, RunWorld, Takes, TakesNamed, TakesReading, Tells, id_loaded, ids_loaded, new_card, run_rules}
+use Rattle.card_dialogue.specs.RunText.{Asks, Card, EndsBy, IsAnswered, IsLed, IsSoundRun, LoadsOctets, Obeys, Opens, Polices, PolicesOctets, Refuses, RunCloses, RunWorld, Takes, TakesNamed, TakesReading, Tells, id_loaded, ids_loaded, new_card, run_rules}
 use Rattle.card_dialogue.specs.declared.script_words.Rate.{Rate}
 use Rattle.card_dialogue.specs.declared.script_words.Wanted.{Wanted}
 use Rattle.card_dialogue.specs.declared.script_words.Wanted.TheVariants as wanted
@@ -51,13 +51,13 @@ use Rattle.card_dialogue.specs.inner.CardSteps.{Spares, Told, answer-told, cut-t
 use Rattle.program_dialogue.proofs.Public.{reads-as}
 use Rattle.card_dialogue.specs.inner.PortZero.{PortIs, cut-ports, enter-goes, judge-goes, load-ports, pick-goes, release-ports, reload-ports, retire-ports, setup-ports}
 
--- the names of a log with one more event
+-- The names of a log with one more event.
 ids-next : (log : List Event) (step : Step) (reply : Reply) → ids_loaded (log ++ record { step = step; reply = reply } ∷ []) ≡ ids_loaded log ++ id_loaded reply
 ids-next log step reply =
     flat_map-append (λ (event : Event). id_loaded event.reply) log (record { step = step; reply = reply } ∷ [])
     ∙ ap (λ xs. ids_loaded log ++ xs) (append-nil (id_loaded reply))
 
--- a log that leads to this world, and gave these names
+-- A log that leads to this world, and gave these names.
 record Behind (shape : Shape) (log : List Event) (world : World) (names : List Id) : Type 0 where
   leads : Leads shape log world
   known : names ≡ ids_loaded log
@@ -70,7 +70,7 @@ behind-next shape log world after names step reply behind goes = record {
   known = ap (λ xs. xs ++ id_loaded reply) behind.known ∙ sym (ids-next log step reply);
 }
 
--- a step that puts no program in
+-- A step that puts no program in.
 behind-quiet : (shape : Shape) (log : List Event) (world after : World) (names : List Id) (step : Step) (reply : Reply)
     → Behind shape log world names → WorldStep world step reply after → id_loaded reply ≡ []
     → Behind shape (log ++ record { step = step; reply = reply } ∷ []) after names
@@ -85,7 +85,7 @@ behind-of card led = record { leads = led.leads; known = led.names }
 led-of : (card : Card) (shape : Shape) (log : List Event) → Behind shape log card.world card.names → PortIs card.world outside → IsLed card
 led-of card shape log behind free = record { shape = shape; log = log; leads = behind.leads; names = behind.known; free = free }
 
--- the card after a step of the desk
+-- The card after a step of the desk.
 led-taken : (before after : Card) (command : Command) (step : Step) (text : List ℕ) → IsLed before
     → ((reply : Reply) → WorldStep before.world step reply after.world → after.world.ports ≡ before.world.ports)
     → Takes before command step text after → IsLed after
@@ -97,7 +97,7 @@ led-taken before after command step text led leaves takes =
 led-refused : (before after : Card) (fault text : List ℕ) → IsLed before → Refuses fault before text after → IsLed after
 led-refused before after fault text led refused = subst IsLed (sym refused.1) led
 
--- a step of the desk is taken, and its reply has a text
+-- A step of the desk is taken, and its reply has a text.
 takes : (before : Card) (command : Command) (step : Step) → IsLed before → LoadsAccepted step
     → ((after : World) (reply : Reply) → WorldStep before.world step reply after → Spares reply → Told (reply_text command (length before.names) reply))
     → (text : List ℕ) × (after : Card) × Takes before command step text after
@@ -109,7 +109,7 @@ takes before command step led accepted told =
       record { reply = replied.0; stepped = replied.2; named = refl; told = line.1 },
     )
 
--- rates without a fault are buckets' parameters
+-- Rates without a fault are buckets' parameters.
 none-of : (b : Bool) (fault : GcraFault) (later : Option GcraFault) → (if b then Some fault else later) ≡ None → (b ≡ false) × (later ≡ None)
 none-of true fault later e = cc
 none-of false fault later e = (refl, e)
@@ -152,7 +152,7 @@ contracts-some (ask ∷ later) sound =
     let both = first-none (wanted_fault ask) (first_wanted_fault later) sound in
     let one = contract-some ask both.0 in let others = contracts-some later both.1 in (one.0 ∷ others.0, (one.1, others.1))
 
--- a program of a number, or none
+-- A program of a number, or none.
 named-some : (found : Option Id) (before : Card) (TakesWith : Id → List ℕ → Card → Type 0)
     → ((id : Id) → (text : List ℕ) × (after : Card) × TakesWith id text after)
     → (text : List ℕ) × (after : Card) × MatchOption found (Refuses no_such_program before text after) (λ id. TakesWith id text after)
@@ -165,7 +165,7 @@ named-led : (found : Option Id) (before after : Card) (text : List ℕ) (TakesWi
 named-led None before after text TakesWith led keeps refused = led-refused before after no_such_program text led refused
 named-led (Some id) before after text TakesWith led keeps takes = keeps id takes
 
--- a program's octets
+-- A program's octets.
 accepted-of : (octets : List ℕ) (code : List Instr) → ReadsAs octets (is_program code) → IsAccepted code
 accepted-of octets code (inl spelled) = subst IsAccepted (sym spelled.2.1) spelled.2.0
 accepted-of octets code (inr faulty) = let no = faulty.3 in cc
@@ -198,7 +198,7 @@ load-led : (before after : Card) (digits text : List ℕ) → IsLed before → (
 load-led before after digits text led None refused = led-refused before after bad_hex text led refused
 load-led before after digits text led (Some octets) loads = reading-led before after digits text led loads.0 loads.2
 
--- a cell
+-- A cell.
 cell-some : (before : Card) (moment : ℕ) (octets : List ℕ) → IsLed before → (text : List ℕ) × (after : Card) × Polices before moment octets text after
 cell-some before moment octets led =
     let one = step-replied led.shape led.log before.world led.leads (Enter 0 octets moment) tt in
@@ -254,7 +254,7 @@ cell-led before after moment octets text led polices =
     let came = behind-quiet led.shape led.log before.world arrived.0 before.names (Enter 0 octets moment) Entered (behind-of before led) arrived.1 refl in
     answered-led before after led.shape _ arrived.0 octets moment polices.answer came entering.1 polices.same arrived.2
 
--- octets that come as a cell
+-- Octets that come as a cell.
 sized-some : (before : Card) (moment : ℕ) (octets : List ℕ) → IsLed before → (b : Bool)
     → (text : List ℕ) × (after : Card) × MatchBool b (Polices before moment octets text after) (Refuses (wrong_length (length octets)) before text after)
 sized-some before moment octets led true = cell-some before moment octets led
@@ -275,7 +275,7 @@ digits-led : (before after : Card) (moment : ℕ) (text : List ℕ) → IsLed be
 digits-led before after moment text led None refused = led-refused before after bad_hex text led refused
 digits-led before after moment text led (Some octets) polices = sized-led before after moment (cell_of octets) text led (length (cell_of octets) == 52) polices
 
--- a connection is set up
+-- A connection is set up.
 wanted-some : (before : Card) (vc : Vc) (number : ℕ) (wanted : List Wanted) → IsLed before → (found : Option GcraFault) → first_wanted_fault wanted ≡ found
     → (text : List ℕ) × (after : Card) × MatchOption found (TakesNamed before (setup vc number wanted) number (Asks before vc number wanted) text after)
     (λ fault. Refuses (gcra_fault fault) before text after)
@@ -296,7 +296,7 @@ wanted-led before after vc number wanted text led None takes =
     (λ id asks. led-taken before after (setup vc number wanted) (Setup asks.ask) text led (setup-ports before.world after.world asks.ask) asks.taken) takes
 wanted-led before after vc number wanted text led (Some fault) refused = led-refused before after _ text led refused
 
--- a command
+-- A command.
 command-some : (before : Card) → IsLed before → (command : Command) → (text : List ℕ) × (after : Card) × Obeys before command text after
 command-some before led (load digits) = load-some before digits led (octets_of digits)
 command-some before led (retire number) =
@@ -337,7 +337,7 @@ line-led : (before after : Card) (text : List ℕ) → IsLed before → (found :
 line-led before after text led None refused = led-refused before after bad_line text led refused
 line-led before after text led (Some command) obeys = command-led before after text led command obeys
 
--- the line that opens a card
+-- The line that opens a card.
 opens-some : (shape : Shape) → (found : Option CardFault) → (text : List ℕ) × (next : Option RunWorld)
     × MatchOption found ((text ≡ codes "ready\n") × (next ≡ Some (Some (new_card shape)))) (λ fault. EndsBy (shape_fault_line fault) text next)
 opens-some shape None = (codes "ready\n", Some (Some (new_card shape)), (refl, refl))
@@ -347,7 +347,7 @@ opening-some : (found : Option Shape) → (text : List ℕ) × (next : Option Ru
 opening-some None = (no_card, None, (refl, refl))
 opening-some (Some shape) = opens-some shape (shape_fault shape)
 
--- a card of a shape within its limits has a port 0
+-- A card of a shape within its limits has a port 0.
 first-free : (ports : ℕ) → 0 < ports → slice_get (replicate ports outside) 0 ≡ Some outside
 first-free zero some = absurd (omega arith)
 first-free (suc ports) some = refl
@@ -395,7 +395,7 @@ close-some : (world : RunWorld) → IsSoundRun world → (text : List ℕ) × (d
 close-some None sound = (no_card, Ended, (refl, refl))
 close-some (Some card) sound = ([], Whole, (refl, refl))
 
--- the rules of `run` are total
+-- The rules of `run` are total.
 pub run-total : IsTotal run_rules
 run-total = record {
   keeps = λ world said text after sound steps. silent-sound world after (words_of said) text (is_silent (words_of said)) sound steps;

@@ -1,4 +1,5 @@
 //! The fault lines of scripts and cards.
+
 use crate::card_faults::{
     add_desk_fault, add_gcra_fault, add_no_card, add_no_such_program, add_shape_fault,
 };

@@ -1,4 +1,5 @@
 //! The contracts that a script asks for.
+
 use crate::rates::contracts_of;
 use crate::script_words::{Rate, Wanted};
 use arrayvec::ArrayVec;

@@ -1,4 +1,5 @@
 //! The lines of the card's replies.
+
 use crate::replies::{
     add_answer, add_cut, add_loaded, add_ready, add_released, add_reloaded, add_retired, add_set,
 };

@@ -2,8 +2,8 @@
 -- of all lines so far, of which it holds one bit.
 use Rattle.std.specs.Prelude.{◌≡◌, ℕ, Bool, true, false, not, List, [], ◌∷◌, codes, Option, Some}
 use Rattle.dialogue.specs.Printing.{Rules, IsTotal}
-use Rattle.dialogue.specs.declared.outcome.Done.{Done}
-use Rattle.dialogue.specs.declared.outcome.Done.TheVariants.{Whole}
+use Rattle.dialogue.specs.declared.ending.Done.{Done}
+use Rattle.dialogue.specs.declared.ending.Done.TheVariants.{Whole}
 use Rattle.std.proofs.Common.{refl}
 
 -- The lines so far, the latest first.

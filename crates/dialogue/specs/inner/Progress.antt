@@ -3,8 +3,8 @@ use Rattle.std.specs.Prelude.{◌≡◌, ℕ, ◌+◌, List, ◌∷◌, ◌++◌
 use Rattle.dialogue.specs.Lines.{Line, lines_of}
 use Rattle.dialogue.specs.Printing.{Rules, Prints}
 use Rattle.dialogue.specs.Answering.{OfEach}
-use Rattle.dialogue.specs.declared.outcome.Done.{Done}
-use Rattle.dialogue.specs.declared.outcome.Done.TheVariants.{Ended}
+use Rattle.dialogue.specs.declared.ending.Done.{Done}
+use Rattle.dialogue.specs.declared.ending.Done.TheVariants.{Ended}
 use Rattle.dialogue.specs.declared.machine.Turn.{Turn}
 use Rattle.dialogue.specs.declared.machine.Turn.TheVariants.{GoesOn, Ends}
 

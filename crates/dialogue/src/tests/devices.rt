@@ -1,4 +1,5 @@
 //! Devices that move one octet a call, and fail once so many calls have gone well.
+
 ghost use Rattle.std.specs.Prelude.{◌≡◌};
 
 use crate::{Failed, Input, Output};

@@ -1,4 +1,5 @@
 //! A machine whose world is the list of all lines so far, of which it holds one bit.
+
 ghost use Rattle.std.specs.Prelude.{◌≡◌};
 ghost use Rattle.dialogue.specs.examples.Parity.{answer_of};
 

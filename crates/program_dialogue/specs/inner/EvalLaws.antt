@@ -14,10 +14,10 @@ use Rattle.program_dialogue.specs.FaultLines.{line, bad_line, bad_hex, no_progra
 use Rattle.program_dialogue.specs.Hexadecimal.{octets_of, cell_of}
 use Rattle.dialogue.specs.Printing.{IsTotal}
 use Rattle.dialogue.specs.Words.{words_of, is_silent}
-use Rattle.dialogue.specs.declared.outcome.Done.{Done}
-use Rattle.dialogue.specs.declared.outcome.Done.TheVariants.{Whole, Ended}
+use Rattle.dialogue.specs.declared.ending.Done.{Done}
+use Rattle.dialogue.specs.declared.ending.Done.TheVariants.{Whole, Ended}
 
--- every code is a program or refused
+-- Every code is a program or refused.
 pub checks-as : (code : List Instr) → (reading : Reading) × ChecksAs code reading
 checks-as code =
     elim (accepted-or_fault code) [
@@ -25,7 +25,7 @@ checks-as code =
       | inr faulty ↦ (is_refused (verify_fault faulty.0), (faulty.0, faulty.1, refl))
     ]
 
--- and so are any octets
+-- And so are any octets.
 pub reads-as : (octets : List ℕ) → (reading : Reading) × ReadsAs octets reading
 reads-as octets =
     elim (code-or_fault octets) [
@@ -86,7 +86,7 @@ eval-can_close : (world : World) → IsSoundWorld world → (text : List ℕ) ×
 eval-can_close None sound = (no_program, Ended, (refl, refl))
 eval-can_close (Some code) sound = ([], Whole, (refl, refl))
 
--- a world that a program line leads to
+-- A world that a program line leads to.
 checked-sound : (code : List Instr) (reading : Reading) (text : List ℕ) (after : World) → ChecksAs code reading → TellsReading reading text (Some after) → IsSoundWorld after
 checked-sound code (is_program accepted) text after checks told =
     let same : Some code ≡ after = let e = told.1 in let f = checks.1 in cc in subst IsSoundWorld same checks.0
@@ -123,7 +123,7 @@ silent-sound world after words text false sound asked = asks-sound world after w
 eval-keeps_sound : (world : World) (said text : List ℕ) (after : World) → IsSoundWorld world → EvalSteps world said text (Some after) → IsSoundWorld after
 eval-keeps_sound world said text after sound steps = silent-sound world after (words_of said) text (is_silent (words_of said)) sound steps
 
--- the rules of `eval` are total
+-- The rules of `eval` are total.
 pub eval-total : IsTotal eval_rules
 eval-total = record {
   keeps = λ world said text after sound steps. eval-keeps_sound world said text after sound steps;

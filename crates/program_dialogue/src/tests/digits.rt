@@ -1,4 +1,5 @@
 //! Cell words beside the library's reading of them.
+
 use crate::digits::cell_of_digits;
 use std::process::Abort;
 use upc_cell::Cell;

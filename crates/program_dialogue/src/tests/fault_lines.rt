@@ -1,5 +1,6 @@
 //! Each fault line is `fault`, the fault's family, and the fault as its own crate prints it.
-use crate::answer::{add_asm_fault, add_decode_fault, add_verify_fault};
+
+use crate::answer_texts::{add_asm_fault, add_decode_fault, add_verify_fault};
 use bpf_asm::{AsmFault, AsmKind};
 use bpf_code::DecodeFault;
 use bpf_verify::Fault;

@@ -5,7 +5,7 @@ use Rattle.dialogue.specs.Lines.{lines_of}
 use Rattle.dialogue.specs.Limits.{most_ahead}
 use Rattle.dialogue.specs.Printing.{Prints}
 use Rattle.dialogue.specs.Answering.{OfEach}
-use Rattle.dialogue.specs.declared.outcome.Done.TheVariants.{Ended}
+use Rattle.dialogue.specs.declared.ending.Done.TheVariants.{Ended}
 use Rattle.dialogue.proofs.DriverLemmas.{begin, progress-line, progress-given, progress-left, all-moved, text-of, front-of, front-of-last, enough, line-ends, window-over}
 use Rattle.dialogue.proofs.DriverLemmas.{split-window, no-feed-front, at-err, at-ok, at-done, at-given, at-fault, none-at}
 use Rattle.dialogue.proofs.driver.answer_lines.Goals as goal

@@ -1,6 +1,6 @@
 -- What was given and what waits to be given lead to an answer to the whole input.
 use Rattle.std.proofs.Common.{◌≡◌, ◌-◌, ◌*◌, ◌≤◌, ◌++◌, length}
-use Rattle.dialogue.specs.Limits.{most_ahead, most_lines}
+use Rattle.dialogue.specs.Limits.{most_ahead, most_input_lines}
 use Rattle.dialogue.specs.inner.Progress.{Progress}
 use Rattle.dialogue.proofs.driver.answer_lines.Given as goal
 
@@ -8,7 +8,7 @@ abbrev pub invariant-loop-count : goal.invariant-loop-count
 invariant-loop-count g l =
     let m = g.M.Machine in
     record {
-      met : l.met ≤ most_lines;
+      met : l.met ≤ most_input_lines;
       bounded : length l.window ≤ most_ahead;
       reading : g.I.Input.failures l.input ≡ g.I.Input.failures l.fn.input;
       writing : g.O.Output.failures l.output ≡ g.O.Output.failures l.fn.output;

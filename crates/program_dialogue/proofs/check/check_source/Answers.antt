@@ -3,7 +3,7 @@ use Rattle.std.proofs.Common.{ℕ, List, option_map, subst, sym}
 use Rattle.std.proofs.lemmas.Result.{IfOk-weaker}
 use Rattle.dialogue.specs.Devices.{TakesEnough}
 use Rattle.dialogue.specs.Limits.{most_ahead}
-use Rattle.dialogue.specs.declared.outcome.Done.{Done}
+use Rattle.dialogue.specs.declared.ending.Done.{Done}
 use Rattle.dialogue.proofs.Public.{nothing-begins}
 use Rattle.program_dialogue.specs.Check.{IsCheckText}
 use Rattle.program_dialogue.proofs.CheckText.{enough, some-check_text}

@@ -1,5 +1,5 @@
 -- Four octets, of two digits each, are a header.
-use Rattle.std.proofs.Common.{◌≡◌, [], ◌∷◌, ◌++◌, ◌<◌, length, replicate, length-append, sym, ◌∙◌, ap, refl, arith}
+use Rattle.std.proofs.Common.{◌≡◌, ℕ, [], ◌∷◌, ◌++◌, ◌+◌, ◌*◌, ◌/◌, ◌%◌, ◌<◌, length, replicate, length-append, sym, ◌∙◌, ap, refl, arith}
 use Rattle.program_dialogue.proofs.HexadecimalLemmas.{four-spelled, cell-of_header}
 use Rattle.program_dialogue.proofs.digits.read_header.Goals as goal
 
@@ -10,6 +10,12 @@ returns c = λ _.
     let b = c.octet_of-second.result in
     let d = c.octet_of-third.result in
     let e = c.octet_of-fourth.result in
+    let number : ℕ = 16777216 * c.from.result + 65536 * c.from-2.result + 256 * c.from-3.result + c.from-4.result in
+    let one : number / 16777216 % 256 ≡ a = omega (arith, small.0, small.1, small.2, small.3, c.from.ensures, c.from-2.ensures, c.from-3.ensures, c.from-4.ensures) in
+    let two : number / 65536 % 256 ≡ b = omega (arith, small.0, small.1, small.2, small.3, c.from.ensures, c.from-2.ensures, c.from-3.ensures, c.from-4.ensures) in
+    let three : number / 256 % 256 ≡ d = omega (arith, small.0, small.1, small.2, small.3, c.from.ensures, c.from-2.ensures, c.from-3.ensures, c.from-4.ensures) in
+    let four : number % 256 ≡ e = omega (arith, small.0, small.1, small.2, small.3, c.from.ensures, c.from-2.ensures, c.from-3.ensures, c.from-4.ensures) in
+    let octets : c.to_be_bytes.result ≡ a ∷ b ∷ d ∷ e ∷ [] = c.to_be_bytes.ensures ∙ (λ i. one i ∷ two i ∷ three i ∷ four i ∷ []) in
     let spelled = four-spelled c.args.word.now a b d e (omega arith) (c.octet_of-first.ensures small.0) (c.octet_of-second.ensures small.1)
     (c.octet_of-third.ensures small.2) (c.octet_of-fourth.ensures small.3) in
-    (a ∷ b ∷ d ∷ e ∷ [], spelled, rw c.requires.payload refl, rw c.requires.payload refl)
+    (a ∷ b ∷ d ∷ e ∷ [], spelled, rw (octets, c.requires.payload) refl, rw (octets, c.requires.payload) refl)

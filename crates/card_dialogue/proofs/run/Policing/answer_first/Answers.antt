@@ -3,7 +3,7 @@ use Rattle.std.proofs.Common.{None, Some, subst, sym}
 use Rattle.dialogue.specs.Answering.{Answers}
 use Rattle.dialogue.specs.Words.{words_of}
 use Rattle.dialogue.specs.declared.machine.Turn.TheVariants.{GoesOn}
-use Rattle.card_dialogue.specs.Run.{run_rules}
+use Rattle.card_dialogue.specs.RunText.{run_rules}
 use Rattle.card_dialogue.specs.inner.Policing.{OpensAs, ShowsRun}
 use Rattle.card_dialogue.proofs.PolicingLemmas.{line-asks, turn-opened}
 use Rattle.card_dialogue.proofs.run.Policing.answer_first.Goals as goal

@@ -2,7 +2,7 @@
 use Rattle.std.proofs.Common.{Some, subst, sym}
 use Rattle.dialogue.specs.Answering.{Answers}
 use Rattle.dialogue.specs.declared.machine.Turn.TheVariants.{GoesOn}
-use Rattle.card_dialogue.specs.Run.{run_rules}
+use Rattle.card_dialogue.specs.RunText.{run_rules}
 use Rattle.card_dialogue.specs.inner.Policing.{ShowsRun}
 use Rattle.card_dialogue.proofs.PolicingLemmas.{turn-moved}
 use Rattle.card_dialogue.proofs.run.PolicingMachine.answer.Goals as goal

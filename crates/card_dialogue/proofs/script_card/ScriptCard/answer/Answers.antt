@@ -1,5 +1,5 @@
 -- The cell of the line is policed.
-use Rattle.card_dialogue.proofs.CellLineLemmas.{moves-cell_line}
+use Rattle.card_dialogue.proofs.SpelledCellLemmas.{moves-cell_line}
 use Rattle.card_dialogue.proofs.MovesLemmas.{on-ok}
 use Rattle.card_dialogue.proofs.script_card.ScriptCard.answer.Goals as goal
 

@@ -2,7 +2,7 @@
 use Rattle.std.proofs.Common.{subst}
 use Rattle.dialogue.specs.LineWords.{IsLineWords}
 use Rattle.dialogue.specs.Words.{words_of}
-use Rattle.card_dialogue.proofs.CellLineLemmas.{moves-asked, moves-silent}
+use Rattle.card_dialogue.proofs.SpelledCellLemmas.{moves-asked, moves-silent}
 use Rattle.card_dialogue.proofs.MovesLemmas.{on-ok}
 use Rattle.card_dialogue.proofs.PolicingLemmas.{line-asks}
 use Rattle.card_dialogue.proofs.script_card.ScriptCard.answer_words.Goals as goal

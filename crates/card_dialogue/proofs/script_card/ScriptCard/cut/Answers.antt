@@ -2,7 +2,7 @@
 use Rattle.std.proofs.Common.{refl}
 use Rattle.card_core.specs.declared.reply.Reply.TheVariants.{Refused, Cut as CutOff}
 use Rattle.card_core.specs.declared.step.Step.TheVariants.{Cut}
-use Rattle.card_dialogue.specs.Run.{Obeys, Takes}
+use Rattle.card_dialogue.specs.RunText.{Obeys, Takes}
 use Rattle.card_dialogue.specs.ScriptCommands.{cut}
 use Rattle.card_dialogue.proofs.AddingLemmas.{adds-some}
 use Rattle.card_dialogue.specs.inner.Policing.{Held}

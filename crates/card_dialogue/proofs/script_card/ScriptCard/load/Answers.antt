@@ -3,7 +3,7 @@ use Rattle.std.proofs.Common.{◌≡◌, ◌∙◌, ◌++◌, Some, ap, option_m
 use Rattle.card_core.specs.declared.step.Step.TheVariants.{Load}
 use Rattle.program_dialogue.specs.Hexadecimal.{octets_of}
 use Rattle.program_dialogue.specs.Program.{is_program, ReadsAs}
-use Rattle.card_dialogue.specs.Run.{Takes}
+use Rattle.card_dialogue.specs.RunText.{Takes}
 use Rattle.card_dialogue.specs.ScriptCommands.{load}
 use Rattle.program_dialogue.specs.Finding.{Finds}
 use Rattle.card_dialogue.specs.inner.Policing.{Moves}

@@ -1,6 +1,6 @@
 -- Each command is obeyed by its function.
 use Rattle.std.proofs.Common.{OnOk, subst, sym}
-use Rattle.card_dialogue.specs.Run.{Obeys}
+use Rattle.card_dialogue.specs.RunText.{Obeys}
 use Rattle.card_dialogue.specs.CommandSeen.{command_seen}
 use Rattle.card_dialogue.specs.inner.Policing.{Moves}
 use Rattle.card_dialogue.proofs.script_card.ScriptCard.obey.Goals as goal

@@ -5,7 +5,7 @@ use Rattle.card_core.specs.declared.reply.Reply.TheVariants.{Loaded, NotLoaded}
 use Rattle.card_core.specs.declared.step.Step.TheVariants.{Load}
 use Rattle.program_dialogue.specs.FaultLines.{line}
 use Rattle.card_dialogue.specs.Replies.{program_name}
-use Rattle.card_dialogue.specs.Run.{Takes}
+use Rattle.card_dialogue.specs.RunText.{Takes}
 use Rattle.card_dialogue.specs.ScriptCommands.{load}
 use Rattle.card_dialogue.proofs.AddingLemmas.{adds-some}
 use Rattle.card_dialogue.specs.inner.Policing.{Held}

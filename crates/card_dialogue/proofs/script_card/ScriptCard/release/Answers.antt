@@ -2,7 +2,7 @@
 use Rattle.std.proofs.Common.{refl}
 use Rattle.card_core.specs.declared.reply.Reply.TheVariants.{Refused, Released}
 use Rattle.card_core.specs.declared.step.Step.TheVariants.{Release}
-use Rattle.card_dialogue.specs.Run.{Obeys, Takes}
+use Rattle.card_dialogue.specs.RunText.{Obeys, Takes}
 use Rattle.card_dialogue.specs.ScriptCommands.{release}
 use Rattle.card_dialogue.proofs.AddingLemmas.{adds-some}
 use Rattle.card_dialogue.specs.inner.Policing.{Held}

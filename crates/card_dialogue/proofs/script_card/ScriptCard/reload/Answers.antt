@@ -2,7 +2,7 @@
 use Rattle.std.proofs.Common.{◌∙◌, ap, sym, refl}
 use Rattle.card_core.specs.declared.reply.Reply.TheVariants.{Refused, Reloaded}
 use Rattle.card_core.specs.declared.step.Step.TheVariants.{Reload}
-use Rattle.card_dialogue.specs.Run.{Obeys, Takes}
+use Rattle.card_dialogue.specs.RunText.{Obeys, Takes}
 use Rattle.card_dialogue.specs.ScriptCommands.{reload}
 use Rattle.card_dialogue.proofs.AddingLemmas.{adds-some}
 use Rattle.card_dialogue.specs.inner.Policing.{Held, Moves}

@@ -4,7 +4,7 @@ use Rattle.bpf_code.specs.declared.instr.Instr.{Instr}
 use Rattle.gen_arena.specs.declared.id.Id.{Id}
 use Rattle.card_core.specs.declared.reply.Reply.TheVariants.{Refused, Retired}
 use Rattle.card_core.specs.declared.step.Step.TheVariants.{Retire}
-use Rattle.card_dialogue.specs.Run.{Card, Obeys, Takes}
+use Rattle.card_dialogue.specs.RunText.{Card, Obeys, Takes}
 use Rattle.card_dialogue.specs.ScriptCommands.{retire}
 use Rattle.card_dialogue.proofs.AddingLemmas.{adds-some}
 use Rattle.card_dialogue.specs.inner.Policing.{Held, Moves}

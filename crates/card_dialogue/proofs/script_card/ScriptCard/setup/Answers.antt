@@ -3,7 +3,7 @@ use Rattle.std.proofs.Common.{◌∙◌, ap, sym, refl}
 use Rattle.card_core.specs.declared.ask.Ask.{Ask}
 use Rattle.card_core.specs.declared.reply.Reply.TheVariants.{NotSetUp, SetUp}
 use Rattle.card_core.specs.declared.step.Step.TheVariants.{Setup}
-use Rattle.card_dialogue.specs.Run.{Obeys, Takes}
+use Rattle.card_dialogue.specs.RunText.{Obeys, Takes}
 use Rattle.card_dialogue.specs.ScriptCommands.{setup}
 use Rattle.card_dialogue.proofs.AddingLemmas.{adds-some}
 use Rattle.card_dialogue.specs.inner.Policing.{Held}

@@ -1,9 +1,10 @@
 //! Octets and codes as programs.
+
 ghost use Rattle.std.specs.Prelude.{IfOk};
 ghost use Rattle.program_dialogue.specs.Program.{ChecksAs, ReadsAs};
 ghost use Rattle.program_dialogue.specs.Finding.{Finds};
 
-use crate::answer::{add_decode_fault, add_verify_fault};
+use crate::answer_texts::{add_decode_fault, add_verify_fault};
 use bpf_code::{DecodeFault, Instr, decode};
 use bpf_verify::{Program, verify};
 use std::alloc::{AllocError, Global};

@@ -2,7 +2,7 @@
 use Rattle.std.proofs.Common.{◌≡◌, ◌≤◌, length}
 use Rattle.card_dialogue.specs.ScriptWords.{most_number, number_of}
 use Rattle.card_dialogue.proofs.NumberLemmas.{number_behind}
-use Rattle.card_dialogue.proofs.script_words.number.Given as goal
+use Rattle.card_dialogue.proofs.script_words.long_number.Given as goal
 
 abbrev pub invariant-loop-rest : goal.invariant-loop-rest
 invariant-loop-rest l = (number_behind l.value l.rest ≡ number_of l.word) × (l.value ≤ most_number)

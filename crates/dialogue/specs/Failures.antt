@@ -2,8 +2,8 @@
 -- How many failures a device counts after a run: one more exactly where the run answers that fault.
 use Rattle.std.specs.Prelude.{ℕ, Result, Ok, Err}
 use Rattle.dialogue.specs.Devices.{one_more}
-use Rattle.dialogue.specs.declared.outcome.RunFault.{RunFault}
-use Rattle.dialogue.specs.declared.outcome.RunFault.TheVariants.{ReadFailed, WriteFailed, NoMemory}
+use Rattle.dialogue.specs.declared.ending.RunFault.{RunFault}
+use Rattle.dialogue.specs.declared.ending.RunFault.TheVariants.{ReadFailed, WriteFailed, NoMemory}
 
 -- The count of the input.
 abbrev pub read_failures : {T : Type 0} → Result T RunFault → ℕ → ℕ

@@ -1,8 +1,8 @@
 -- The three words are those of the line.
 use Rattle.std.proofs.Common.{◌≡◌, ◌∷◌, ◌++◌, ◌∙◌, Some, ap, codes, sym}
 use Rattle.card_dialogue.specs.ScriptWords.{number_of}
-use Rattle.card_dialogue.proofs.CellLineLemmas.{cell-line}
-use Rattle.card_dialogue.proofs.cell_line.read_sized.Goals as goal
+use Rattle.card_dialogue.proofs.SpelledCellLemmas.{cell-line}
+use Rattle.card_dialogue.proofs.common_cell_line.read_sized.Goals as goal
 
 pub returns : goal.returns
 returns c =

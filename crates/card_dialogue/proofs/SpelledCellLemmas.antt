@@ -3,20 +3,20 @@ use Rattle.std.proofs.Common.{◌≡◌, ℕ, zero, suc, ◌+◌, ◌-◌, ◌*�
 use Rattle.std.proofs.lemmas.Bool.Decides.{nat_tests}
 use Rattle.std.specs.Bool.{MatchBool}
 use Rattle.std.specs.Option.{option_and_then}
-use Rattle.dialogue.specs.Words.{is_blank, is_silent, words_of}
+use Rattle.dialogue.specs.Words.{is_blank, is_silent, words_of, is_digit}
 use Rattle.dialogue.proofs.Public.{first-word, one-word}
 use Rattle.program_dialogue.specs.CellWord.{IsCellWord}
 use Rattle.program_dialogue.specs.declared.hexadecimal.CellWord.TheVariants.{OfCell}
 use Rattle.program_dialogue.proofs.Public.{cell-visible}
-use Rattle.card_dialogue.specs.Run.{Card, CommandLine, Obeys, Polices, RunSteps, RunWorld, Tells}
+use Rattle.card_dialogue.specs.RunText.{Card, CommandLine, Obeys, Polices, RunSteps, RunWorld, Tells}
 use Rattle.card_dialogue.specs.ScriptCommands.{cell, command_of}
-use Rattle.card_dialogue.specs.ScriptWords.{is_digit, most_number, number_of, spelled_behind, up_to}
-use Rattle.card_dialogue.specs.inner.CellLine.{IsCellLine}
+use Rattle.card_dialogue.specs.ScriptWords.{most_number, number_of, spelled_behind, up_to}
+use Rattle.card_dialogue.specs.inner.SpelledCell.{SpellsCell}
 use Rattle.card_dialogue.specs.inner.Policing.{Held, Moves, SaysLine}
 use Rattle.card_dialogue.proofs.ArrivalLemmas.{moves-cell}
 use Rattle.card_dialogue.proofs.MovesLemmas.{moves-line, moves-map}
 
--- a digit is no blank
+-- A digit is no blank.
 digit-visible : (octet : ℕ) → is_digit octet ≡ true → is_blank octet ≡ false
 digit-visible octet digit = grind (arith, nat_tests)
 
@@ -25,7 +25,7 @@ at-place : (octet : ℕ) (octets : List ℕ) → is_blank octet ≡ false → ((
 at-place octet octets first later zero below = first
 at-place octet octets first later (suc k) below = later k (omega arith)
 
--- nor is any octet of a number
+-- Nor is any octet of a number.
 digits-visible : (high : ℕ) (octets : List ℕ) (value : ℕ) → spelled_behind high octets ≡ Some value
     → (k : ℕ) → k < length octets → is_blank (get_or octets k 0) ≡ false
 unfolding spelled_behind
@@ -56,9 +56,9 @@ command-visible (suc (suc zero)) below = refl
 command-visible (suc (suc (suc zero))) below = refl
 command-visible (suc (suc (suc (suc k)))) below = absurd (omega arith)
 
--- one space between the words
+-- One space between the words.
 pub cell-line : (line number word : List ℕ) (moment : ℕ) (here : List ℕ) → line ≡ codes "cell " ++ (number ++ 32 ∷ word)
-    → number_of number ≡ Some moment → IsCellWord word (OfCell here) → IsCellLine line moment here
+    → number_of number ≡ Some moment → IsCellWord word (OfCell here) → SpellsCell line moment here
 cell-line line number word moment here is reads spells =
     let last = cell-visible word here spells in
     let middle = number-visible number moment reads in
@@ -90,7 +90,7 @@ pub moves-silent : (line old : List ℕ) (held : Held) → is_silent (words_of l
 moves-silent line old held silent = ([], sym (append-nil old), λ before led shows. (before, shows, silent-said before line [] refl silent))
 
 -- The line of a cell, which is policed.
-pub moves-cell_line : (line : List ℕ) (moment : ℕ) (here old new : List ℕ) (held held' : Held) → IsCellLine line moment here
+pub moves-cell_line : (line : List ℕ) (moment : ℕ) (here old new : List ℕ) (held held' : Held) → SpellsCell line moment here
     → Moves (λ before. Polices before moment here) held held' old new → Moves (SaysLine line) held held' old new
 moves-cell_line line moment here old new held held' is moves =
     let number : List ℕ = is.0 in

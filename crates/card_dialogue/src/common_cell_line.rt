@@ -1,17 +1,12 @@
 //! The line of a cell in its common form, as programs write it: its words with one space between them, and
 //! nothing before and behind. What has another form is read by its words.
+
 ghost use Rattle.std.specs.Prelude.{◌≡◌, ◌∷◌, ◌++◌, codes, length, IfSome};
-ghost use Rattle.card_dialogue.specs.inner.CellLine.{IsCellLine};
+ghost use Rattle.card_dialogue.specs.inner.SpelledCell.{SpellsCell};
 
 use crate::script_words::number;
-use program_dialogue::cell_of_digits;
+use program_dialogue::{CELL_DIGITS, HEADER_DIGITS, cell_of_digits};
 use upc_cell::Cell;
-
-/// How many digits spell the header of a cell.
-const HEADER_DIGITS: usize = 8;
-
-/// How many digits spell a whole cell.
-const CELL_DIGITS: usize = 104;
 
 /// A cell of a script, and the moment when it comes, in ticks.
 #[derive(Clone, Copy, Debug)]
@@ -49,7 +44,7 @@ fn cut_before(text: &[u8], count: usize) -> Option<(&[u8], &[u8])>
 /// The cell of a line whose last word has so many digits.
 #[inline(always)]
 fn read_sized(line: &[u8], digits: usize) -> Option<Arrival>
-    ensures { IfSome result (λ found. IsCellLine line.now found.moment found.cell) }
+    ensures { IfSome result (λ found. SpellsCell line.now found.moment found.cell) }
 {
     let rest = behind_command(line)?;
     let (moment, word) = cut_before(rest, digits)?;
@@ -61,7 +56,7 @@ fn read_sized(line: &[u8], digits: usize) -> Option<Arrival>
 /// The cell of a line of the common form.
 #[inline(always)]
 pub fn read_cell(line: &[u8]) -> Option<Arrival>
-    ensures { IfSome result (λ found. IsCellLine line.now found.moment found.cell) }
+    ensures { IfSome result (λ found. SpellsCell line.now found.moment found.cell) }
 {
     if line.len() < CELL_DIGITS {
         read_sized(line, HEADER_DIGITS)

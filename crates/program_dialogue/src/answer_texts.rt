@@ -1,4 +1,5 @@
 //! The answer lines of the subcommands, each added at the end of the answers.
+
 ghost use Rattle.std.specs.Prelude.{◌≡◌, ◌≢◌, ◌++◌, codes, decimal, OnOk};
 ghost use Rattle.hex.specs.Hex.{encode_lower};
 ghost use Rattle.program_dialogue.specs.FaultLines.{asm_fault, asm_name, bad_hex, bad_line, decode_fault, line, no_program, too_long, verify_fault, wrong_length};

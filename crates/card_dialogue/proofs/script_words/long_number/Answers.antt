@@ -3,7 +3,7 @@ use Rattle.std.proofs.Common.{◌≡◌, ◌<◌, Some, None, length, get_or, sy
 use Rattle.std.proofs.lemmas.Grind.{common_steps}
 use Rattle.card_dialogue.specs.inner.Digits.{with_digit}
 use Rattle.card_dialogue.proofs.NumberLemmas.{number_begins, number_ends, number_goes_on, number_stops, shifted-within}
-use Rattle.card_dialogue.proofs.script_words.number.Goals as goal
+use Rattle.card_dialogue.proofs.script_words.long_number.Goals as goal
 
 pub returns-in_default-shifted : goal.returns-in_default-shifted
 returns-in_default-shifted c =

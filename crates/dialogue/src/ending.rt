@@ -1,4 +1,5 @@
 //! How a run over an input and an output ends.
+
 use thiserror::Error;
 
 /// How far the input was answered.

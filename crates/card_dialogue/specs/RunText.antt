@@ -18,8 +18,8 @@ use Rattle.card_core.specs.declared.step.Step.TheVariants.{Enter, Pick, Judge, L
 use Rattle.dialogue.specs.Lines.{lines_of}
 use Rattle.dialogue.specs.Printing.{Rules, Prints}
 use Rattle.dialogue.specs.Words.{words_of, is_silent}
-use Rattle.dialogue.specs.declared.outcome.Done.{Done}
-use Rattle.dialogue.specs.declared.outcome.Done.TheVariants.{Whole, Ended}
+use Rattle.dialogue.specs.declared.ending.Done.{Done}
+use Rattle.dialogue.specs.declared.ending.Done.TheVariants.{Whole, Ended}
 use Rattle.card_core.specs.Shapes.{shape_fault}
 use Rattle.card_dialogue.specs.CardLine.{card_of}
 use Rattle.card_dialogue.specs.ScriptCommands.{Command, load, retire, setup, reload, release, cut, cell, command_of}
