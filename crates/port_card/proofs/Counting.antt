@@ -4,7 +4,7 @@ use Rattle.std.specs.Prelude.{slice_get, slice_set}
 use Rattle.leaky.specs.declared.verdict.Verdict.{Verdict}
 use Rattle.leaky.specs.declared.verdict.Verdict.TheVariants.{Pass, Tag, Discard, Refuse}
 use Rattle.line_record.specs.declared.tally.Tally.{Tally}
-use Rattle.line_record.specs.Tally.{nothing, counted, number_of, plus, total, HasRoom, IsPart}
+use Rattle.line_record.specs.Tally.{nothing, counted, count_of, plus, total, HasRoom, IsPart}
 use Rattle.line_record.proofs.Public.{parts_are_within}
 use Rattle.port_card.specs.Seats.{SeatView, tally_or_nothing, counted_on}
 
@@ -15,7 +15,7 @@ total-unused (suc lines) = ap (plus nothing) (total-unused lines)
 
 -- What is a part of a tally below 2^62 can count one more.
 pub room_in-part : (part whole : Tally) (verdict : Verdict) → IsPart part whole → HasRoom whole
-    → number_of part verdict + 1 < 18446744073709551616
+    → count_of part verdict + 1 < 18446744073709551616
 room_in-part part whole Pass within room = omega (arith, within.passed, room.passed)
 room_in-part part whole Tag within room = omega (arith, within.tagged, room.tagged)
 room_in-part part whole Discard within room = omega (arith, within.discarded, room.discarded)
@@ -32,7 +32,7 @@ IsPart-trans part whole larger first second = record {
 -- One of several tallies can count one more where all of them together are part of a tally that has room.
 pub room_on-line : (tallies : List Tally) (line : ℕ) (tally whole : Tally) (verdict : Verdict)
     → slice_get tallies line ≡ Some tally → IsPart (total tallies) whole → HasRoom whole
-    → number_of tally verdict + 1 < 18446744073709551616
+    → count_of tally verdict + 1 < 18446744073709551616
 room_on-line tallies line tally whole verdict at within room =
     room_in-part tally whole verdict
     (IsPart-trans tally (total tallies) whole (parts_are_within.total tallies line tally at) within) room

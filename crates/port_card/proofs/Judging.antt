@@ -14,7 +14,7 @@ use Rattle.line_record.specs.declared.fault.LineFault.{LineFault}
 use Rattle.line_record.specs.declared.fault.LineFault.TheVariants.{TooLate, Back, Full, NoMemory}
 use Rattle.line_record.specs.History.{NamedCell, numbered, cell_of, verdict_after, verdict_under, buckets_after}
 use Rattle.line_record.specs.Line.{LineView, line_refusal}
-use Rattle.line_record.specs.Run.{IsRun}
+use Rattle.line_record.specs.JournalRun.{IsRun}
 use Rattle.line_record.proofs.Public.{states_stand_for_buckets}
 use Rattle.card_core.specs.declared.answer.Answer.{Answer}
 use Rattle.card_core.specs.declared.answer.Answer.TheVariants.{Released}

@@ -15,17 +15,17 @@ use Rattle.port_card.specs.Answers.{IsOfRelease}
 
 -- What the locked section says of its result.
 abbrev pub IsServed : Result PieceView DeskFault → LineView → Vc → Seating → Type 0
-IsServed result line vc seat = MatchResult result
-    (λ _. line.owner ≡ Some (holder vc seat))
-    (λ fault. (fault ≡ Stale) × (line.owner ≢ Some (holder vc seat)))
+IsServed result line vc seating = MatchResult result
+    (λ _. line.owner ≡ Some (holder vc seating))
+    (λ fault. (fault ≡ Stale) × (line.owner ≢ Some (holder vc seating)))
 
-pub served-piece : (result : Result PieceView DeskFault) (line : LineView) (vc : Vc) (seat : Seating)
-    → IsServed result line vc seat → IfOk result (IsJournalOf line) → IfOk result (λ piece. piece.owner.vc ≡ vc)
-served-piece (Ok piece) line vc seat served journal =
-    ap (λ (o : Owner). o.vc) (same_Some piece.owner (holder vc seat) (sym journal.owner ∙ served))
-served-piece (Err fault) line vc seat served journal = tt
+pub served-piece : (result : Result PieceView DeskFault) (line : LineView) (vc : Vc) (seating : Seating)
+    → IsServed result line vc seating → IfOk result (IsJournalOf line) → IfOk result (λ piece. piece.owner.vc ≡ vc)
+served-piece (Ok piece) line vc seating served journal =
+    ap (λ (o : Owner). o.vc) (same_Some piece.owner (holder vc seating) (sym journal.owner ∙ served))
+served-piece (Err fault) line vc seating served journal = tt
 
-pub served-refused : (result : Result PieceView DeskFault) (line : LineView) (vc : Vc) (seat : Seating)
-    → IsServed result line vc seat → IfErr result IsOfRelease
-served-refused (Ok piece) line vc seat served = tt
-served-refused (Err fault) line vc seat served = subst IsOfRelease (sym served.0) tt
+pub served-refused : (result : Result PieceView DeskFault) (line : LineView) (vc : Vc) (seating : Seating)
+    → IsServed result line vc seating → IfErr result IsOfRelease
+served-refused (Ok piece) line vc seating served = tt
+served-refused (Err fault) line vc seating served = subst IsOfRelease (sym served.0) tt

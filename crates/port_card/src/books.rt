@@ -1,3 +1,5 @@
+//! The four verdicts' sums, each counted twice: on the lines and at the seats.
+
 ghost use Rattle.std.specs.Prelude.{◌≡◌, ◌+◌, ◌<◌, ◌≤◌, ◌^◌, ◌↔◌, IsTrue};
 
 use crate::ledgers::{
@@ -10,7 +12,8 @@ use line_record::MOST_CELLS;
 use std::marker::Model;
 use std::sync::ledger::{Blank, Book, Ledger, Share};
 
-/// The eight ledgers of a card, before any type stands for them.
+/// The eight ledgers of a card, before any type stands for them. Contracts see how many lines and
+/// ports they are for, and the names that they have.
 #[derive(Drop)]
 pub struct Blanks {
     passed_on_lines: Blank,
@@ -70,6 +73,7 @@ impl Blanks {
 }
 
 /// How many cells got one verdict, by two ledgers: that of the lines and that of the seats.
+/// Contracts see the number.
 #[derive(Drop)]
 struct Pair<L: Ledger, M: Ledger> {
     count: u64,
@@ -88,7 +92,7 @@ impl<L: Ledger, M: Ledger> Model for Pair<L, M> {
 }
 
 impl<L: Ledger, M: Ledger> Pair<L, M> {
-    // Both ledgers, and the whole share of each.
+    /// Opens both ledgers, and gives the whole share of each.
     fn open(on_lines: Blank, at_seats: Blank) -> (Self, Share<L>, Share<M>)
         requires line_name { on_lines.name ≡ L.name }
         requires line_parts { on_lines.parts ≡ L.parts }
@@ -108,14 +112,14 @@ impl<L: Ledger, M: Ledger> Pair<L, M> {
         (pair, line, seat)
     }
 
-    // Whether one more cell can be counted.
+    /// Whether one more cell can be counted.
     fn has_room(&self) -> bool
         ensures { IsTrue result ↔ (self.now < 2 ^ 62) }
     {
         self.count < MOST_CELLS
     }
 
-    // Counts one more cell.
+    /// Counts one more cell, in both ledgers.
     fn count(&mut self, line: &mut Share<L>, seat: &mut Share<M>)
         requires room { self.old < 2 ^ 62 }
         requires line_part { 0 < line.old.parts }
@@ -129,7 +133,8 @@ impl<L: Ledger, M: Ledger> Pair<L, M> {
         self.count += 1;
     }
 
-    // A seat has counted no more than all together.
+    /// Changes nothing. A seat has counted no more than all seats together, which the ledger knows
+    /// and the seat's tallies don't: so a tally has room wherever the card's sum has.
     fn bound(&mut self, seat: &mut Share<M>)
         ensures same { self.new ≡ self.old }
         ensures seat { (seat.new.parts ≡ seat.old.parts) × (seat.new.amount ≡ seat.old.amount) }
@@ -139,7 +144,8 @@ impl<L: Ledger, M: Ledger> Pair<L, M> {
         self.at_seats.audit(seat);
     }
 
-    // All lines have counted what all seats have.
+    /// Changes nothing. Who has all shares of both ledgers knows that the lines counted what the
+    /// seats did.
     fn audit(&mut self, line: &mut Share<L>, seat: &mut Share<M>)
         requires all_lines { line.old.parts ≡ L.parts }
         requires all_seats { seat.old.parts ≡ M.parts }
@@ -154,8 +160,9 @@ impl<L: Ledger, M: Ledger> Pair<L, M> {
     }
 }
 
-/// The sums of a card: how many cells got each verdict, by what the lines counted and by what the
-/// seats counted, which are the same. No sum is above 2^62.
+/// What stands behind the lock of the books: the sums of a card by verdict, of what the lines
+/// counted and of what the seats counted, which are the same. No sum is above 2^62. Contracts see
+/// the sums as a tally.
 #[derive(Drop)]
 pub(crate) struct Books<S: Ledgers> {
     passed: Pair<PassedOnLines<S>, PassedAtSeats<S>>,
@@ -178,10 +185,10 @@ impl<S: Ledgers> Model for Books<S> {
 }
 
 impl<S: Ledgers> Books<S> {
-    ghost use Rattle.line_record.specs.Tally.{nothing, counted, number_of, HasRoom, IsPart};
+    ghost use Rattle.line_record.specs.Tally.{nothing, counted, count_of, HasRoom, IsPart};
     ghost use Rattle.port_card.specs.inner.Marks.{unused_marks, counted_mark, IsBounded};
 
-    // Books of no cell, and all marks of lines and of seats.
+    /// Opens books that have counted no cell, and gives all marks of lines and of seats.
     pub(crate) fn open(blanks: Blanks) -> (Self, LineMarks<S>, SeatMarks<S>)
         requires { blanks ≡ S.names }
         ensures books { result.0 ≡ nothing }
@@ -225,7 +232,7 @@ impl<S: Ledgers> Books<S> {
         (books, lines, seats)
     }
 
-    // Whether one more cell of any verdict can be counted.
+    /// Whether one more cell can be counted, whatever its verdict.
     #[inline]
     pub(crate) fn has_room(&self) -> bool
         ensures { IsTrue result ↔ HasRoom self.now }
@@ -236,7 +243,7 @@ impl<S: Ledgers> Books<S> {
             && self.refused.has_room()
     }
 
-    // Counts one more cell of this verdict, on a line and at a seat.
+    /// Counts one more cell of this verdict, on a line and at a seat.
     #[inline]
     pub(crate) fn count(
         &mut self,
@@ -261,7 +268,7 @@ impl<S: Ledgers> Books<S> {
         }
     }
 
-    // A seat has counted no more than all together.
+    /// Changes nothing. A seat has counted no more than all seats together, verdict by verdict.
     #[inline]
     pub(crate) fn bound(&mut self, seat: &mut SeatMarks<S>)
         ensures same { self.new ≡ self.old }
@@ -275,7 +282,8 @@ impl<S: Ledgers> Books<S> {
         self.refused.bound(&mut seat.refused);
     }
 
-    // All lines have counted what all seats have, verdict by verdict.
+    /// Changes nothing. Who has all marks of lines and of seats knows that the lines counted what
+    /// the seats did, verdict by verdict.
     pub(crate) fn audit(&mut self, lines: &mut LineMarks<S>, seats: &mut SeatMarks<S>)
         requires all_lines { lines.old.parts ≡ S.names.lines }
         requires all_seats { seats.old.parts ≡ S.names.ports }

@@ -1,14 +1,16 @@
+//! The running card: what ports and the desk have in common, behind its locks.
+
 use crate::books::{Blanks, Books};
+use crate::counted_line::CountedLine;
 use crate::desk::Desk;
 use crate::gate::Gate;
 use crate::ledgers::Ledgers;
 use crate::marks::{LineMarks, SeatMarks};
-use crate::places::Places;
 use crate::seat::PortSeat;
-use crate::slot::Slot;
+use crate::seatings::Seatings;
 use card_core::{Answer, CardFault, Shape, Store, name};
 use gen_arena::Arena;
-use line_record::{Line, Seating};
+use line_record::{Line, MOST_ENTRIES, Seating};
 use std::alloc::Global;
 use std::marker::Model;
 use std::sync::{Mutex, RwLock, Wait};
@@ -22,8 +24,8 @@ use upc_cell::{Cell, Vc};
 pub struct Card<S: Ledgers> {
     pub(crate) shape: Shape,
     pub(crate) store: RwLock<Store>,
-    pub(crate) places: Mutex<Places<S>>,
-    pub(crate) slots: Vec<Mutex<Slot<S>>>,
+    pub(crate) seatings: Mutex<Seatings<S>>,
+    pub(crate) counted_lines: Vec<Mutex<CountedLine<S>>>,
     pub(crate) books: Mutex<Books<S>>,
 }
 
@@ -37,7 +39,7 @@ impl<S: Ledgers> Model for Card<S> {
 
     ghost view = { λ c. c.shape };
 
-    ghost invariant = { λ c. IsShape c.shape × AreFor c.shape S.names × (vec_len c.slots ≡ S.names.lines) };
+    ghost invariant = { λ c. IsShape c.shape × AreFor c.shape S.names × (vec_len c.counted_lines ≡ S.names.lines) };
 }
 
 impl<S: Ledgers> Card<S> {
@@ -76,11 +78,15 @@ impl<S: Ledgers> Card<S> {
         let Ok(store) = Arena::new(alloc, shape.programs as u16) else {
             return Err(CardFault::NoMemory);
         };
-        let Some(places) = Places::new(alloc, shape.lines as u16) else {
+        let Some(seatings) = Seatings::new(alloc, shape.lines as u16) else {
             return Err(CardFault::NoMemory);
         };
-        let Some(slots) = free_slots(alloc, shape.lines as usize, shape.journal as u32, on_lines)
-        else {
+        let Some(counted_lines) = free_lines(
+            alloc,
+            shape.lines as usize,
+            shape.journal as u32,
+            on_lines,
+        ) else {
             return Err(CardFault::NoMemory);
         };
         let Some(seats) = new_seats(alloc, shape.ports as u8, shape.lines as usize, at_seats) else {
@@ -89,8 +95,8 @@ impl<S: Ledgers> Card<S> {
         let card = Card {
             shape,
             store: RwLock::new(store),
-            places: Mutex::new(places),
-            slots,
+            seatings: Mutex::new(seatings),
+            counted_lines,
             books: Mutex::new(books),
         };
         Ok((card, seats, Desk::new()))
@@ -130,16 +136,16 @@ impl<S: Ledgers> Card<S> {
             return Answer::Stale;
         };
         gate.between(seat.port());
-        let mut slot = self.slots[usize::from(seating.line)].lock(rt);
+        let mut counted_line = self.counted_lines[usize::from(seating.line)].lock(rt);
         let mut books = self.books.lock(rt);
-        slot.judge(&mut books, seat, vc, &seating, &named, moment)
+        counted_line.judge(&mut books, seat, vc, &seating, &named, moment)
     }
 
-    // Where the connection is, if there is one.
+    /// Where the connection is, if there is one. The directory's lock is let go before this returns.
     fn find<R: Wait>(&self, rt: &R, vc: Vc) -> Option<Seating>
-        ensures { IfSome result (λ seat. seat.line < self.now.lines) }
+        ensures { IfSome result (λ seating. seating.line < self.now.lines) }
     {
-        self.places.lock(rt).find(vc)
+        self.seatings.lock(rt).find(vc)
     }
 }
 
@@ -147,32 +153,32 @@ ghost use Rattle.std.specs.Prelude.{◌≡◌, ◌≤◌, IfSome, vec_len};
 ghost use Rattle.port_card.specs.Seats.{AreNewSeats};
 ghost use Rattle.port_card.specs.inner.Marks.{unused_marks};
 
-// So many free lines with their marks, behind a lock each; none where the memory is refused.
-fn free_slots<S: Ledgers>(
+/// Makes so many free lines with their marks, behind a lock each; none where the memory is refused.
+fn free_lines<S: Ledgers>(
     alloc: Global,
     lines: usize,
     journal: u32,
     all: LineMarks<S>,
-) -> Option<Vec<Mutex<Slot<S>>>>
+) -> Option<Vec<Mutex<CountedLine<S>>>>
     requires some { 1 ≤ journal }
-    requires most { journal ≤ 65536 }
+    requires most { journal ≤ MOST_ENTRIES }
     requires marks { all ≡ unused_marks lines }
-    ensures { IfSome result (λ slots. vec_len slots ≡ lines) }
+    ensures { IfSome result (λ counted_lines. vec_len counted_lines ≡ lines) }
 {
     let mut rest = all;
-    let Ok(mut slots) = Vec::with_capacity(alloc, lines) else {
+    let Ok(mut counted_lines) = Vec::with_capacity(alloc, lines) else {
         return None;
     };
     for _ in 0..lines {
         let Ok(line) = Line::new(alloc, journal) else {
             return None;
         };
-        slots.push_reserved(Mutex::new(Slot::new(line, rest.split_off())));
+        counted_lines.push_reserved(Mutex::new(CountedLine::new(line, rest.split_off())));
     }
-    Some(slots)
+    Some(counted_lines)
 }
 
-// The seats of so many ports; none where the memory is refused.
+/// Makes the seats of so many ports; none where the memory is refused.
 fn new_seats<S: Ledgers>(
     alloc: Global,
     ports: u8,

@@ -1,8 +1,11 @@
+//! The closing of a card: lines and sums once every seat and the desk are back.
+
 use crate::card::Card;
+use crate::counted_line::CountedLine;
 use crate::ledgers::Ledgers;
 use crate::marks::{LineMarks, SeatMarks};
 use crate::seat::{Column, PortSeat};
-use crate::slot::Slot;
+use card_core::MOST_LINES;
 use line_record::{Line, Tally};
 use std::alloc::Global;
 use std::sync::Mutex;
@@ -79,7 +82,7 @@ impl<S: Ledgers> Card<S> {
         if seats.len() < self.shape.ports as usize {
             return Err((CloseFault::Missing, self, seats));
         }
-        let Ok(lines) = Vec::with_capacity(alloc, self.slots.len()) else {
+        let Ok(lines) = Vec::with_capacity(alloc, self.counted_lines.len()) else {
             return Err((CloseFault::NoMemory, self, seats));
         };
         let Ok(columns) = Vec::with_capacity(alloc, seats.len()) else {
@@ -88,15 +91,15 @@ impl<S: Ledgers> Card<S> {
         let Card {
             shape: _,
             store: _,
-            places: _,
-            slots,
+            seatings: _,
+            counted_lines,
             books,
         } = self;
-        let mut slots = slots;
+        let mut counted_lines = counted_lines;
         let mut seats = seats;
-        let no_lines = marks_of_no_line(&mut slots);
+        let no_lines = marks_of_no_line(&mut counted_lines);
         let no_seats = seats[0].no_marks();
-        let (lines, mut on_lines) = gathered_lines(slots, lines, no_lines);
+        let (lines, mut on_lines) = gathered_lines(counted_lines, lines, no_lines);
         let (columns, mut at_seats) = gathered_columns(seats, columns, no_seats);
         books.into_inner().audit(&mut on_lines, &mut at_seats);
         let uneven = first_uneven(&lines, &columns);
@@ -110,38 +113,38 @@ ghost use Rattle.port_card.specs.Closing.{lines_total, IsFirstUneven};
 ghost use Rattle.port_card.specs.inner.Columns.{columns_total, columns_on};
 ghost use Rattle.port_card.specs.inner.Marks.{unused_marks};
 
-// Marks of no part, of the lines' ledgers.
-fn marks_of_no_line<S: Ledgers>(slots: &mut [Mutex<Slot<S>>]) -> LineMarks<S>
-    requires { 0 < length slots.old }
+/// Marks of no part, of the lines' ledgers, to which those of each line are merged.
+fn marks_of_no_line<S: Ledgers>(counted_lines: &mut [Mutex<CountedLine<S>>]) -> LineMarks<S>
+    requires { 0 < length counted_lines.old }
     ensures { result ≡ unused_marks 0 }
 {
-    slots[0].get_mut().no_marks()
+    counted_lines[0].get_mut().no_marks()
 }
 
-// The lines out of their locks, into a list that has room for them, and all their marks.
+/// Takes the lines out of their locks, into a list that has room for them, and merges their marks.
 fn gathered_lines<S: Ledgers>(
-    slots: Vec<Mutex<Slot<S>>>,
+    counted_lines: Vec<Mutex<CountedLine<S>>>,
     lines: Vec<Line>,
     none: LineMarks<S>,
 ) -> (Vec<Line>, LineMarks<S>)
     requires empty { lines.items ≡ [] }
-    requires room { vec_len slots ≤ vec_capacity lines }
+    requires room { vec_len counted_lines ≤ vec_capacity lines }
     requires none { none ≡ unused_marks 0 }
-    ensures sized { length result.0.items ≡ vec_len slots }
-    ensures parts { result.1.parts ≡ vec_len slots }
+    ensures sized { length result.0.items ≡ vec_len counted_lines }
+    ensures parts { result.1.parts ≡ vec_len counted_lines }
     ensures tally { result.1.tally ≡ lines_total result.0.items }
 {
     let mut lines = lines;
     let mut marks = none;
-    for slot in slots {
-        let Slot { line, marks: own } = slot.into_inner();
+    for counted_line in counted_lines {
+        let CountedLine { line, marks: own } = counted_line.into_inner();
         marks.merge(own);
         lines.push_reserved(line);
     }
     (lines, marks)
 }
 
-// The seats' tallies, into a list that has room for them, and all their marks.
+/// Takes the seats' tallies, into a list that has room for them, and merges their marks.
 fn gathered_columns<S: Ledgers>(
     seats: Vec<PortSeat<S>>,
     columns: Vec<Column>,
@@ -165,9 +168,10 @@ fn gathered_columns<S: Ledgers>(
     (columns, marks)
 }
 
-// The number of the first line that counted otherwise than the seats did.
+/// The number of the first line that counted otherwise than the seats did; none where there is no
+/// such line.
 fn first_uneven(lines: &[Line], columns: &[Column]) -> Option<u16>
-    requires few { length lines.now ≤ 4096 }
+    requires few { length lines.now ≤ MOST_LINES }
     requires fit { FitsWords (columns_total columns.now) }
     ensures { IsFirstUneven lines.now (columns_on columns.now) result }
 {
@@ -179,14 +183,14 @@ fn first_uneven(lines: &[Line], columns: &[Column]) -> Option<u16>
     None
 }
 
-// Whether both have the same counts.
+/// Whether both have the same counts.
 fn is_same(one: Tally, other: Tally) -> bool
     ensures { IsTrue result ↔ (one ≡ other) }
 {
     one == other
 }
 
-// What the seats counted on this line together.
+/// What the seats counted on this line together.
 fn sum_on(columns: &[Column], line: usize) -> Tally
     requires { FitsWords (columns_total columns.now) }
     ensures { result ≡ columns_on columns.now line }

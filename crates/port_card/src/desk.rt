@@ -1,3 +1,5 @@
+//! The desk of a running card.
+
 use crate::card::Card;
 use crate::ledgers::Ledgers;
 use bpf_verify::Program;
@@ -21,7 +23,7 @@ impl<S: Ledgers> Desk<S> {
     ghost use Rattle.line_record.specs.Piece.{IsPiece};
     ghost use Rattle.port_card.specs.Answers.{IsOfSetup, IsOfRetirement, IsOfReload, IsOfRelease, IsOfCut};
 
-    // The desk of a card that is made.
+    /// The desk of a card that is being made. No other is ever made for it.
     pub(crate) fn new() -> Self {
         Desk { of: PhantomData }
     }
@@ -56,7 +58,7 @@ impl<S: Ledgers> Desk<S> {
         ensures refused { IfErr result IsOfRetirement }
     {
         let mut store = card.store.write(rt);
-        card.places.lock(rt).retire(&mut store, id)
+        card.seatings.lock(rt).retire(&mut store, id)
     }
 
     /// Sets a connection up on a free line; which one is open.
@@ -78,14 +80,14 @@ impl<S: Ledgers> Desk<S> {
         ensures returned { IfErr result (λ refused. refused.1 ≡ ask) }
     {
         let store = card.store.read(rt);
-        let mut guard = card.places.lock(rt);
-        let places = &mut *guard;
-        let number = match places.admit(&store, &ask) {
+        let mut guard = card.seatings.lock(rt);
+        let seatings = &mut *guard;
+        let number = match seatings.admit(&store, &ask) {
             Ok(number) => number,
             Err(fault) => return Err((fault, ask)),
         };
-        let mut slot = card.slots[usize::from(number)].lock(rt);
-        slot.setup(places, number, ask)
+        let mut counted_line = card.counted_lines[usize::from(number)].lock(rt);
+        counted_line.setup(seatings, number, ask)
     }
 
     /// Gives a connection another program, and answers the one that it had. Its buckets and its
@@ -104,7 +106,7 @@ impl<S: Ledgers> Desk<S> {
         ensures { IfErr result IsOfReload }
     {
         let store = card.store.read(rt);
-        card.places.lock(rt).reload(&store, vc, program)
+        card.seatings.lock(rt).reload(&store, vc, program)
     }
 
     /// Ends a connection, and answers its journal. Takes no memory.
@@ -118,13 +120,13 @@ impl<S: Ledgers> Desk<S> {
         ensures run { IfOk result (λ piece. IsPiece piece) }
         ensures refused { IfErr result IsOfRelease }
     {
-        let mut guard = card.places.lock(rt);
-        let places = &mut *guard;
-        let Some(seating) = places.find(vc) else {
+        let mut guard = card.seatings.lock(rt);
+        let seatings = &mut *guard;
+        let Some(seating) = seatings.find(vc) else {
             return Err(DeskFault::NoConnection);
         };
-        let mut slot = card.slots[usize::from(seating.line)].lock(rt);
-        slot.release(places, vc, &seating)
+        let mut counted_line = card.counted_lines[usize::from(seating.line)].lock(rt);
+        counted_line.release(seatings, vc, &seating)
     }
 
     /// Hands out a connection's journal, and begins a new one. The room for the new one is taken
@@ -139,11 +141,11 @@ impl<S: Ledgers> Desk<S> {
         ensures run { IfOk result (λ piece. IsPiece piece) }
         ensures refused { IfErr result IsOfCut }
     {
-        let places = card.places.lock(rt);
-        let Some(seating) = places.find(vc) else {
+        let seatings = card.seatings.lock(rt);
+        let Some(seating) = seatings.find(vc) else {
             return Err(DeskFault::NoConnection);
         };
-        card.slots[usize::from(seating.line)]
+        card.counted_lines[usize::from(seating.line)]
             .lock(rt)
             .cut(vc, &seating)
     }

@@ -1,3 +1,5 @@
+//! What happens at a port between picking and judging.
+
 /// What happens at a port between the picking and the judging of a cell. A test makes a port wait
 /// there for what another thread does. No lock but the read lock of the programs is held then.
 pub trait Gate {

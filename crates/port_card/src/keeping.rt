@@ -1,4 +1,5 @@
 //! What the values that stand behind a card's locks keep, whoever holds the locks.
+
 ghost use Rattle.line_record.specs.Directory.{IsDirectory};
 ghost use Rattle.line_record.specs.Line.{IsLine};
 ghost use Rattle.port_card.specs.Keeping.{IsOfAccepted};

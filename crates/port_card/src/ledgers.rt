@@ -1,3 +1,5 @@
+//! The eight ledgers of a card: for each verdict one of the lines and one of the seats.
+
 ghost use Rattle.port_card.specs.Names.{Names, no_names};
 
 use std::marker::{Brand, PhantomData};

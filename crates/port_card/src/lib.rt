@@ -5,14 +5,14 @@
 mod books;
 mod card;
 mod closing;
+mod counted_line;
 mod desk;
 mod gate;
 pub mod keeping;
 mod ledgers;
 mod marks;
-mod places;
 mod seat;
-mod slot;
+mod seatings;
 
 pub use books::Blanks;
 pub use card::Card;

@@ -1,3 +1,5 @@
+//! Shares of four ledgers, one a verdict, that are counted together.
+
 use crate::ledgers::{
     DiscardedAtSeats, DiscardedOnLines, PassedAtSeats, PassedOnLines, RefusedAtSeats,
     RefusedOnLines, TaggedAtSeats, TaggedOnLines,
@@ -54,7 +56,7 @@ impl<P: Ledger, T: Ledger, D: Ledger, R: Ledger> Marks<P, T, D, R> {
     ghost use Rattle.line_record.specs.Tally.{nothing};
     ghost use Rattle.port_card.specs.inner.Marks.{unused_marks, both_marks};
 
-    // Marks of no part.
+    /// Marks of no part, of the same ledgers.
     pub(crate) fn none(&mut self) -> Self
         ensures none { result ≡ unused_marks 0 }
         ensures same { self.new ≡ self.old }
@@ -67,7 +69,7 @@ impl<P: Ledger, T: Ledger, D: Ledger, R: Ledger> Marks<P, T, D, R> {
         }
     }
 
-    // One part of marks that have counted nothing.
+    /// Splits one part off marks that have counted nothing.
     pub(crate) fn split_off(&mut self) -> Self
         requires some { 1 ≤ self.old.parts }
         requires unused { self.old.tally ≡ nothing }
@@ -83,7 +85,8 @@ impl<P: Ledger, T: Ledger, D: Ledger, R: Ledger> Marks<P, T, D, R> {
         }
     }
 
-    // Takes in other marks. There are no more parts than the ledger has.
+    /// Takes in other marks. No ledger has more parts than it was cut into, which bounds the parts
+    /// of both together.
     pub(crate) fn merge(&mut self, other: Self)
         ensures both { self.new ≡ both_marks self.old other }
         ensures all { self.new.parts ≤ P.parts }

@@ -1,3 +1,5 @@
+//! The seat of a port, and what it has counted.
+
 ghost use Rattle.std.specs.Prelude.{◌≡◌, IfSome, replicate};
 ghost use Rattle.line_record.specs.Tally.{nothing};
 
@@ -14,7 +16,7 @@ use std::marker::Model;
 #[derive(Drop)]
 pub struct PortSeat<S: Ledgers> {
     port: u8,
-    // By line, from 0.
+    /// By the number of the line.
     tallies: Vec<Tally>,
     marks: SeatMarks<S>,
 }
@@ -39,7 +41,7 @@ impl<S: Ledgers> PortSeat<S> {
     ghost use Rattle.port_card.specs.Seats.{new_seat, counted_on};
     ghost use Rattle.port_card.specs.inner.Marks.{unused_marks, counted_mark};
 
-    // The seat of a port without cells; none where the memory is refused.
+    /// The seat of a port at which no cell was judged; none where the memory is refused.
     pub(crate) fn new(alloc: Global, port: u8, lines: usize, marks: SeatMarks<S>) -> Option<Self>
         requires lines { lines ≡ S.names.lines }
         requires marks { marks ≡ unused_marks 1 }
@@ -72,7 +74,7 @@ impl<S: Ledgers> PortSeat<S> {
         self.tallies.get(usize::from(line)).copied()
     }
 
-    // Marks of no part, of the seats' ledgers.
+    /// Marks of no part, of the seats' ledgers, to which those of each seat are merged.
     pub(crate) fn no_marks(&mut self) -> SeatMarks<S>
         ensures none { result ≡ unused_marks 0 }
         ensures same { self.new ≡ self.old }
@@ -80,7 +82,7 @@ impl<S: Ledgers> PortSeat<S> {
         self.marks.none()
     }
 
-    // The tallies, and the marks that have counted what they have together.
+    /// Takes the seat apart: its tallies, and the marks that have counted what they have together.
     pub(crate) fn into_column(self) -> (Column, SeatMarks<S>)
         ensures column { result.0 ≡ self.tallies }
         ensures parts { result.1.parts ≡ 1 }
@@ -94,7 +96,7 @@ impl<S: Ledgers> PortSeat<S> {
         (Column { tallies }, marks)
     }
 
-    // Counts a cell that the line of this number judged, here, on the line and in the books.
+    /// Counts a cell that the line of this number judged: here, on the line and in the books.
     #[inline]
     pub(crate) fn count(
         &mut self,
@@ -135,7 +137,7 @@ impl Column {
     ghost use Rattle.std.specs.Prelude.{◌≡◌};
     ghost use Rattle.port_card.specs.inner.Columns.{column_on};
 
-    // The tally of this line.
+    /// The tally of this line, and that of no cell where the column is shorter.
     pub(crate) fn on(&self, line: usize) -> Tally
         ensures { result ≡ column_on line self.now }
     {
@@ -146,7 +148,7 @@ impl Column {
     }
 }
 
-// The tally of no cell, for so many lines; none where the memory is refused.
+/// Makes the tally of no cell for each of so many lines; none where the memory is refused.
 fn no_tallies(alloc: Global, lines: usize) -> Option<Vec<Tally>>
     ensures { IfSome result (λ tallies. tallies.items ≡ replicate lines nothing) }
 {

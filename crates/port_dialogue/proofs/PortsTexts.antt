@@ -4,8 +4,8 @@ use Rattle.std.specs.Prelude.{Result, Ok, Err, IfOk}
 use Rattle.dialogue.specs.Devices.{Adds, TakesEnough}
 use Rattle.dialogue.specs.Lines.{lines_of}
 use Rattle.dialogue.specs.Printing.{IsFront}
-use Rattle.dialogue.specs.declared.outcome.Done.{Done}
-use Rattle.dialogue.specs.declared.outcome.Done.TheVariants.{Whole, Ended}
+use Rattle.dialogue.specs.declared.ending.Done.{Done}
+use Rattle.dialogue.specs.declared.ending.Done.TheVariants.{Whole, Ended}
 use Rattle.dialogue.proofs.Public.{some-text}
 use Rattle.port_dialogue.specs.ClosingText.{closing_text}
 use Rattle.port_dialogue.specs.PortsText.{IsClosedText, IsPortsText, IsReadingText, reading_rules}

@@ -1,6 +1,6 @@
 -- What the crates above may use in their proofs.
 use Rattle.std.proofs.Common.{ℕ, List}
-use Rattle.dialogue.specs.declared.outcome.Done.{Done}
+use Rattle.dialogue.specs.declared.ending.Done.{Done}
 use Rattle.port_dialogue.specs.PortsText.{IsPortsText}
 use Rattle.port_dialogue.proofs.PortsTexts as texts
 

@@ -6,8 +6,8 @@ use Rattle.dialogue.specs.Lines.{Line, said, lines_of}
 use Rattle.dialogue.specs.Limits.{is_over}
 use Rattle.dialogue.specs.Printing.{Prints, IsFront}
 use Rattle.dialogue.specs.Words.{words_of, is_silent}
-use Rattle.dialogue.specs.declared.outcome.Done.{Done}
-use Rattle.dialogue.specs.declared.outcome.Done.TheVariants.{Whole, Ended}
+use Rattle.dialogue.specs.declared.ending.Done.{Done}
+use Rattle.dialogue.specs.declared.ending.Done.TheVariants.{Whole, Ended}
 use Rattle.card_core.specs.Shapes.{shape_fault}
 use Rattle.card_core.specs.declared.fault.CardFault.{CardFault}
 use Rattle.card_core.specs.declared.shape.Shape.{Shape}

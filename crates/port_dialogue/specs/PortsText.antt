@@ -7,8 +7,8 @@ use Rattle.card_core.specs.declared.shape.Shape.{Shape}
 use Rattle.dialogue.specs.Lines.{lines_of}
 use Rattle.dialogue.specs.Printing.{Rules, Prints}
 use Rattle.dialogue.specs.Words.{words_of, is_silent}
-use Rattle.dialogue.specs.declared.outcome.Done.{Done}
-use Rattle.dialogue.specs.declared.outcome.Done.TheVariants.{Whole, Ended}
+use Rattle.dialogue.specs.declared.ending.Done.{Done}
+use Rattle.dialogue.specs.declared.ending.Done.TheVariants.{Whole, Ended}
 use Rattle.program_dialogue.specs.FaultLines.{too_long}
 use Rattle.card_dialogue.specs.CardFaults.{no_card, shape_fault_line}
 use Rattle.card_dialogue.specs.CardLine.{card_of}

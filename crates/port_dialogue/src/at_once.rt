@@ -1,6 +1,7 @@
 //! The ports and the desk of a card at work at the same time, a thread for each port.
+
 use crate::dealing::{BusyPort, Deal};
-use crate::desk::ScriptDesk;
+use crate::script_desk::ScriptDesk;
 use port_card::{Card, Gate, Ledgers};
 use std::alloc::{AllocError, Global};
 use std::sync::Wait;

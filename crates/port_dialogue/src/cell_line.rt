@@ -1,4 +1,5 @@
 //! The cell lines of a script.
+
 ghost use Rattle.std.specs.Prelude.{IfOk};
 ghost use Rattle.dialogue.specs.Words.{words_of};
 ghost use Rattle.card_dialogue.specs.ScriptCommands.{command_of};

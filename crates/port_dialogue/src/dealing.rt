@@ -1,17 +1,21 @@
 //! The lines of a script from its first cell line on, dealt to the ports and the desk that answer them.
+
 ghost use Rattle.std.specs.Prelude.{◌≡◌, ◌<◌};
 ghost use Rattle.port_dialogue.specs.inner.Dealing.{port_of};
 
 use crate::cell_line::{CellLine, CellLineFault, read_cell_line};
-use crate::lines::{first_line, is_cell_line};
+use crate::script_lines::{first_line, is_cell_line};
 use card_core::Answer;
 use port_card::{Ledgers, PortSeat};
 use std::alloc::{AllocError, Global};
 use upc_cell::{Cell, Side, Vc};
 
+/// How many channels a path has.
+const CHANNELS: usize = 65536;
+
 /// A cell that comes to a port, and what it was answered: `NoMemory` until it is.
 #[derive(Clone, Copy)]
-pub struct Arrival {
+pub struct DealtCell {
     /// In ticks.
     pub moment: u64,
     pub cell: Cell,
@@ -22,7 +26,7 @@ pub struct Arrival {
 #[derive(Drop)]
 pub struct BusyPort<S: Ledgers> {
     pub seat: PortSeat<S>,
-    pub arrivals: Vec<Arrival>,
+    pub arrivals: Vec<DealtCell>,
 }
 
 /// Who answers a line, and as which of his lines, from 0.
@@ -78,7 +82,7 @@ fn port_of(vc: Vc, ports: usize) -> usize
     requires { 0 < ports }
     ensures { result ≡ port_of vc ports }
 {
-    (usize::from(vc.vpi) * 65536 + usize::from(vc.vci)) % ports
+    (usize::from(vc.vpi) * CHANNELS + usize::from(vc.vci)) % ports
 }
 
 impl<'a> Deal<'a> {
@@ -106,7 +110,7 @@ impl<'a> Deal<'a> {
             return Ok(());
         };
         let place = port.arrivals.len();
-        port.arrivals.push(Arrival {
+        port.arrivals.push(DealtCell {
             moment,
             cell,
             answer: Answer::NoMemory,

@@ -1,11 +1,12 @@
 //! What ports and desk were answered, in the script's order.
+
 ghost use Rattle.std.specs.Prelude.{OnOk};
 ghost use Rattle.card_dialogue.specs.AddsSome.{AddsSome};
 ghost use Rattle.card_dialogue.specs.Replies.{answer_text};
 ghost use Rattle.upc_cell.specs.Connection.{vc_of};
 
 use crate::cell_line::add_cell_line_fault;
-use crate::dealing::{Answerer, Arrival, BusyPort};
+use crate::dealing::{Answerer, BusyPort, DealtCell};
 use card_dialogue::{Names, add_answer};
 use port_card::Ledgers;
 use std::alloc::AllocError;
@@ -15,7 +16,7 @@ use upc_cell::Side;
 fn add_arrival(
     side: Side,
     names: &Names,
-    arrival: &Arrival,
+    arrival: &DealtCell,
     answers: &mut Vec<u8>,
 ) -> Result<(), AllocError>
     ensures { OnOk result (AddsSome (answer_text names.now (vc_of side arrival.now.cell) arrival.now.answer)

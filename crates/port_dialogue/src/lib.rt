@@ -8,14 +8,14 @@
 
 mod at_once;
 mod cell_line;
-mod closing;
+mod closing_lines;
 mod dealing;
-mod desk;
 mod in_order;
-mod lines;
-mod run;
+mod ports;
 mod script;
+mod script_desk;
+mod script_lines;
 #[cfg(test)]
 mod tests;
 
-pub use run::{run_ports, run_ports_with};
+pub use ports::{run_ports, run_ports_with};

@@ -1,4 +1,5 @@
 //! The script of `upc ports`, which is read whole before anything of it is run.
+
 ghost use Rattle.std.specs.Prelude.{◌≡◌, false};
 
 use card_core::Shape;

@@ -1,7 +1,9 @@
 //! Scripts whose cells come to ports that are threads of their own.
+
+use crate::closing_lines::{add_closing, done_after};
 use crate::{run_ports, run_ports_with};
 use dialogue::{Done, Giving, RunFault, Taking};
-use port_card::Gate;
+use port_card::{CloseFault, Closing, Gate};
 use std::alloc::Global;
 use std::process::Abort;
 use std::sync::Wait;
@@ -225,6 +227,42 @@ fn cells_are_dealt_by_the_path_of_the_cards_side(rt: HostRuntime) -> Result<(), 
         let (told, _) = printed(&rt, rt.alloc(), script, &gate)?;
         assert_eq!(rt; told.as_slice(), text);
         assert_eq!(rt; gate.port.load(Ordering::SeqCst), port);
+    }
+    Ok(())
+}
+
+#[test]
+fn why_a_card_is_not_closed_is_printed_by_number_and_name(rt: HostRuntime) -> Result<(), Fail> {
+    for (fault, text) in [
+        (CloseFault::Missing, "1 Missing"),
+        (CloseFault::NoMemory, "2 NoMemory"),
+    ] {
+        assert_eq!(rt; format!(in rt.alloc(); "{fault}")?.as_str(), text);
+    }
+    Ok(())
+}
+
+/// A closed card without lines, whose books say that this line is uneven.
+fn closed(alloc: Global, uneven: Option<u16>) -> Closing {
+    Closing {
+        lines: Vec::new(alloc),
+        uneven,
+    }
+}
+
+#[test]
+fn an_uneven_line_is_told_in_place_of_the_totals(rt: HostRuntime) -> Result<(), Fail> {
+    let rows: [(Option<u16>, &[u8], Done); 3] = [
+        (None, b"totals 0 0 0 0\n", Done::Whole),
+        (Some(0), b"fault card 1 Uneven 0\n", Done::Ended),
+        (Some(4095), b"fault card 1 Uneven 4095\n", Done::Ended),
+    ];
+    for (uneven, text, ends) in rows {
+        let closing = closed(rt.alloc(), uneven);
+        let mut answers = Vec::new(rt.alloc());
+        add_closing(&mut answers, &closing)?;
+        assert_eq!(rt; answers.as_slice(), text);
+        assert_eq!(rt; done_after(&closing), ends);
     }
     Ok(())
 }

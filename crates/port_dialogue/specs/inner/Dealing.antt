@@ -8,6 +8,10 @@ abbrev pub is_cell_line : List (List ℕ) → Bool
 is_cell_line [] = false
 is_cell_line (word ∷ words) = bytes_eq word (codes "cell")
 
+-- How many channels a path has.
+abbrev pub channels : ℕ
+channels = 65536
+
 -- The number of the port that a connection's cells come to, of so many: by its path and its channel.
 abbrev pub port_of : Vc → ℕ → ℕ
-port_of vc ports = (vc.vpi * 65536 + vc.vci) % ports
+port_of vc ports = (vc.vpi * channels + vc.vci) % ports

@@ -8,8 +8,8 @@ use Rattle.card_core.specs.declared.fault.CardFault.{CardFault}
 use Rattle.card_core.specs.declared.shape.Shape.{Shape}
 use Rattle.dialogue.specs.Printing.{IsTotal}
 use Rattle.dialogue.specs.Words.{words_of, is_silent}
-use Rattle.dialogue.specs.declared.outcome.Done.{Done}
-use Rattle.dialogue.specs.declared.outcome.Done.TheVariants.{Whole, Ended}
+use Rattle.dialogue.specs.declared.ending.Done.{Done}
+use Rattle.dialogue.specs.declared.ending.Done.TheVariants.{Whole, Ended}
 use Rattle.card_dialogue.specs.CardLine.{card_of}
 use Rattle.card_dialogue.specs.CardFaults.{no_card, shape_fault_line}
 use Rattle.port_dialogue.specs.PortsText.{EndsBy, OpensOrEnds, ReadsWords, ReadSteps, ReadCloses, reading_rules}

@@ -2,11 +2,11 @@ use Rattle.std.proofs.Common.{◌≡◌, ◌≤◌, length, vec_len, vec_capacit
 use Rattle.port_card.specs.Closing.{lines_total}
 use Rattle.port_card.proofs.closing.gathered_lines.Given as goal
 
-abbrev pub invariant-loop-slot : goal.invariant-loop-slot
-invariant-loop-slot g l = record {
-  can : (goal.iterator-loop-slot g).can_next l.slot-iterator;
-  ends : (goal.iterator-loop-slot g).is_finite l.slot-iterator;
-  room : vec_len l.fn.slots ≤ vec_capacity l.lines;
+abbrev pub invariant-loop-counted_line : goal.invariant-loop-counted_line
+invariant-loop-counted_line g l = record {
+  can : (goal.iterator-loop-counted_line g).can_next l.counted_line-iterator;
+  ends : (goal.iterator-loop-counted_line g).is_finite l.counted_line-iterator;
+  room : vec_len l.fn.counted_lines ≤ vec_capacity l.lines;
   one_each : length l.lines.items ≡ length l.yielded;
   parts : l.marks.parts ≡ length l.yielded;
   tally : l.marks.tally ≡ lines_total l.lines.items;

@@ -1,0 +1,187 @@
+//! A line of the running card, with the marks of what it has counted.
+
+ghost use Rattle.std.specs.Prelude.{◌≡◌, option_map};
+ghost use Rattle.card_core.specs.Sections.{told};
+
+use crate::books::Books;
+use crate::ledgers::Ledgers;
+use crate::marks::LineMarks;
+use crate::seat::PortSeat;
+use crate::seatings::Seatings;
+use card_core::{Answer, Ask, DeskFault, Named, cut, judge_at, release, setup};
+use leaky::Verdict;
+use line_record::{Line, Owner, Piece, Seating};
+use upc_cell::Vc;
+
+/// What stands behind the lock of a line: the line, and marks of one part that have counted what the
+/// line has.
+#[derive(Drop)]
+pub(crate) struct CountedLine<S: Ledgers> {
+    pub(crate) line: Line,
+    pub(crate) marks: LineMarks<S>,
+    ghost one: { marks.parts ≡ 1 },
+    ghost same: { marks.tally ≡ line.state.counts },
+}
+
+impl<S: Ledgers> CountedLine<S> {
+    ghost use Rattle.std.specs.Prelude.{◌≡◌, ◌≢◌, ◌+◌, ◌<◌, ◌≤◌, ◌^◌, [], length, Some, None, IfOk, IfErr, IfSome, IsSome, MatchOption, MatchResult, OnErr, OnOk};
+    ghost use Rattle.line_record.specs.Directory.{seating_at, IsOpenLine, Sits};
+    ghost use Rattle.line_record.specs.Line.{IsLine, Opens};
+    ghost use Rattle.line_record.specs.Piece.{IsJournalOf, IsPiece};
+    ghost use Rattle.line_record.specs.Tally.{nothing, HasRoom};
+    ghost use Rattle.card_core.specs.Sections.{holder, judging_refusal, IsUncut, IsUnready, JudgesAt, told};
+    ghost use Rattle.card_core.specs.Steps.{cell_after};
+    ghost use Rattle.port_card.specs.Seats.{seat_after};
+    ghost use Rattle.port_card.specs.Answers.{IsNoNumber, BlamesRightly, IsOfSetup, IsOfRelease, IsOfCut};
+    ghost use Rattle.port_card.specs.inner.Marks.{unused_marks};
+
+    /// A line that has judged nothing, with its marks.
+    pub(crate) fn new(line: Line, marks: LineMarks<S>) -> Self
+        requires line { line.state.counts ≡ nothing }
+        requires marks { marks ≡ unused_marks 1 }
+    {
+        CountedLine { line, marks }
+    }
+
+    /// Marks of no part, of the lines' ledgers.
+    pub(crate) fn no_marks(&mut self) -> LineMarks<S>
+        ensures { result ≡ unused_marks 0 }
+    {
+        self.marks.none()
+    }
+
+    /// Judges a named cell on the line, and counts it where it was judged. The answer is
+    /// `JournalFull` where one of the card's sums is 2^62, whatever the verdict would be.
+    pub(crate) fn judge(
+        &mut self,
+        books: &mut Books<S>,
+        seat: &mut PortSeat<S>,
+        vc: Vc,
+        seating: &Seating,
+        named: &Named,
+        moment: u64,
+    ) -> Answer
+        requires { seating.now.line < length seat.old.tallies }
+
+        // It is the locked section of the core, on the line that was lent.
+        ensures section { HasRoom books.old → MatchOption (judging_refusal self.old.line vc seating.now moment)
+            (JudgesAt self.old.line seating.now named.now moment result self.new.line)
+            (λ refused. (result ≡ refused) × (self.new.line ≡ self.old.line)) }
+        ensures full { (HasRoom books.old → ⊥) → (result ≡ Answer.JournalFull) × (self.new.line ≡ self.old.line) }
+        ensures kept { IsLine self.old.line }
+
+        // The seat counts a judged cell and no other.
+        ensures tallied { seat.new ≡ seat_after seat.old (told result) }
+
+        // What is told of a judged cell, and what of its moment.
+        ensures there { IfSome (told result) (λ judged. judged.line ≡ seating.now.line) }
+        ensures moment { IfSome (told result) (λ judged. judged.moment ≡ moment) }
+        ensures value { IfSome (told result) (λ judged. judged.value ≡ named.now.value) }
+        ensures program { IfSome (told result) (λ judged. judged.program ≡ named.now.program) }
+        ensures cell { IfSome (told result) (λ judged. judged.cell ≡ cell_after judged.verdict named.now.cell) }
+        ensures unnamed { IfSome (told result) (λ judged.
+            IsNoNumber judged.value → judged.verdict ≡ Verdict.Refuse) }
+        ensures in_time { IsSome (told result) → moment ≤ 2 ^ 62 }
+        ensures blames { BlamesRightly moment result }
+        ensures memory { result ≢ Answer.NoMemory }
+    {
+        // That the line keeps a run and has four contracts at most is known once it is looked at.
+        let _ = self.line.contracts();
+        if !books.has_room() {
+            return Answer::JournalFull;
+        }
+        let answer = judge_at(&mut self.line, vc, seating, named, moment);
+        if let Some((line, verdict)) = judged_on(&answer) {
+            seat.count(books, &mut self.marks, line, verdict);
+        }
+        answer
+    }
+
+    /// Sets a connection up on the line, whose number this is.
+    pub(crate) fn setup(
+        &mut self,
+        seatings: &mut Seatings<S>,
+        number: u16,
+        ask: Ask,
+    ) -> Result<Owner, (DeskFault, Ask)>
+        requires absent { seating_at seatings.old.directory ask.vc ≡ None }
+        requires within { number < seatings.old.directory.lines }
+        requires open { IsOpenLine seatings.old.directory number }
+        requires some { 0 < length ask.contracts.items }
+        requires unworn { seatings.old.directory.used < 2 ^ 62 }
+
+        // It is the locked section of the core, on the line and the directory that were lent.
+        ensures opened { IfOk result (λ owner.
+            Opens self.old.line owner ask.contracts.items self.new.line) }
+        ensures seating { OnOk result (Sits seatings.old.directory ask.vc
+            (Some (record { line = number; incarnation = seatings.old.directory.used + 1; program = ask.program }))
+            seatings.new.directory) }
+        ensures unready { IfErr result (λ refused. IsUnready self.old.line refused.0) }
+        ensures unchanged { OnErr result (seatings.new.directory ≡ seatings.old.directory) }
+
+        ensures owner { IfOk result (λ owner. owner.vc ≡ ask.vc) }
+        ensures refused { IfErr result (λ refused. IsOfSetup refused.0) }
+        ensures returned { IfErr result (λ refused. refused.1 ≡ ask) }
+    {
+        setup(&mut seatings.directory, &mut self.line, number, ask)
+    }
+
+    /// Ends the connection that the directory has here, and answers its journal.
+    pub(crate) fn release(
+        &mut self,
+        seatings: &mut Seatings<S>,
+        vc: Vc,
+        seating: &Seating,
+    ) -> Result<Piece, DeskFault>
+        requires { seating_at seatings.old.directory vc ≡ Some seating.now }
+
+        // It is the locked section of the core, on the line and the directory that were lent.
+        ensures served { MatchResult result
+            (λ _. self.old.line.owner ≡ Some (holder vc seating.now))
+            (λ fault. (fault ≡ DeskFault.Stale) × (self.old.line.owner ≢ Some (holder vc seating.now))) }
+        ensures journal { IfOk result (λ piece. IsJournalOf self.old.line piece) }
+        ensures gone { OnOk result (Sits seatings.old.directory vc None seatings.new.directory) }
+        ensures unchanged { OnErr result
+            ((seatings.new.directory ≡ seatings.old.directory) × (self.new.line ≡ self.old.line)) }
+
+        ensures piece { IfOk result (λ piece. piece.owner.vc ≡ vc) }
+        ensures run { IfOk result (λ piece. IsPiece piece) }
+        ensures refused { IfErr result IsOfRelease }
+    {
+        release(&mut seatings.directory, &mut self.line, vc)
+    }
+
+    /// Hands out the connection's journal, and begins a new one.
+    pub(crate) fn cut(&mut self, vc: Vc, seating: &Seating) -> Result<Piece, DeskFault>
+        // It is the locked section of the core, on the line that was lent.
+        ensures served { OnOk result (self.old.line.owner ≡ Some (holder vc seating.now)) }
+        ensures uncut { IfErr result (λ fault. IsUncut self.old.line (holder vc seating.now) fault) }
+        ensures journal { IfOk result (λ piece. IsJournalOf self.old.line piece) }
+        ensures begun { OnOk result
+            (self.new.line ≡ record self.old.line { start = self.old.line.state; entries = [] }) }
+        ensures unchanged { OnErr result (self.new.line ≡ self.old.line) }
+
+        ensures piece { IfOk result (λ piece. piece.owner.vc ≡ vc) }
+        ensures run { IfOk result (λ piece. IsPiece piece) }
+        ensures refused { IfErr result IsOfCut }
+    {
+        cut(&mut self.line, vc, seating)
+    }
+}
+
+/// The number of the line and the verdict of a judged cell; none where the cell wasn't judged.
+#[inline]
+fn judged_on(answer: &Answer) -> Option<(u16, Verdict)>
+    ensures { result ≡ option_map (λ judged. (judged.line, judged.verdict)) (told answer.now) }
+{
+    match *answer {
+        Answer::Judged { line, verdict, .. } => Some((line, verdict)),
+        Answer::NoConnection
+        | Answer::Released
+        | Answer::Stale
+        | Answer::MomentBack { .. }
+        | Answer::MomentTooLate
+        | Answer::JournalFull
+        | Answer::NoMemory => None,
+    }
+}

@@ -1,0 +1,103 @@
+//! The directory of a running card, as it stands behind its lock.
+
+ghost use Rattle.std.specs.Prelude.{◌≡◌};
+
+use crate::ledgers::Ledgers;
+use bpf_verify::Program;
+use card_core::{Ask, DeskFault, Store, admit, pick, reload, retire};
+use gen_arena::Id;
+use line_record::{Directory, Seating};
+use std::alloc::Global;
+use std::marker::PhantomData;
+use upc_cell::Vc;
+
+/// What stands behind the directory's lock: the directory of the card's lines.
+#[derive(Drop)]
+pub(crate) struct Seatings<S: Ledgers> {
+    pub(crate) directory: Directory,
+    of: PhantomData<S>,
+    ghost all_lines: { directory.lines ≡ S.names.lines },
+}
+
+impl<S: Ledgers> Seatings<S> {
+    ghost use Rattle.std.specs.Prelude.{◌≡◌, ◌<◌, ◌≤◌, ◌↔◌, None, Some, MatchResult, IfSome, IfOk, IfErr, IsErrOf, OnErr};
+    ghost use Rattle.bpf_verify.specs.Accepted.{IsAccepted};
+    ghost use Rattle.gen_arena.specs.Live.{live_value, IsLive};
+    ghost use Rattle.gen_arena.specs.Remove.{Removes};
+    ghost use Rattle.line_record.specs.Directory.{seating_at, IsDirectory, IsNamed, Sits};
+    ghost use Rattle.line_record.specs.declared.directory.Seating.{Seating as TheSeating};
+    ghost use Rattle.card_core.specs.Sections.{Admits, IsUnfit};
+    ghost use Rattle.port_card.specs.Answers.{IsOfSetup, IsOfRetirement, IsOfReload};
+
+    /// The directory of a card without connections; none where the memory is refused.
+    pub(crate) fn new(alloc: Global, lines: u16) -> Option<Self>
+        requires lines { lines ≡ S.names.lines }
+        requires some { 0 < lines }
+    {
+        match Directory::new(alloc, lines, 1) {
+            Ok(directory) => Some(Seatings {
+                directory,
+                of: PhantomData,
+            }),
+            Err(_) => None,
+        }
+    }
+
+    /// Where the connection is, if there is one.
+    #[inline]
+    pub(crate) fn find(&self, vc: Vc) -> Option<Seating>
+        ensures seating { result ≡ seating_at self.now.directory vc }
+        ensures within { IfSome result (λ seating. seating.line < S.names.lines) }
+        ensures directory { IsDirectory self.now.directory }
+    {
+        pick(&self.directory, vc)
+    }
+
+    /// Takes out a program that no connection names.
+    pub(crate) fn retire(&self, store: &mut Store, id: Id) -> Result<Program, DeskFault>
+        // It is the locked section of the core, on the programs that were lent.
+        ensures retired { IfOk result (λ program. Removes store.old store.new id program) }
+        ensures no_program { IsErrOf result DeskFault.NoProgram ↔ (live_value store.old id ≡ None) }
+        ensures in_use { IsErrOf result DeskFault.InUse
+            ↔ (IsLive store.old id × IsNamed self.now.directory id) }
+        ensures unchanged { OnErr result (store.new ≡ store.old) }
+
+        ensures accepted { IfOk result (λ program. IsAccepted program) }
+        ensures refused { IfErr result IsOfRetirement }
+    {
+        let retired = retire(store, &self.directory, id);
+        if let Ok(program) = &retired {
+            // That the code is accepted is known once the program is looked at.
+            let _ = program.code();
+        }
+        retired
+    }
+
+    /// The number of a line on which what is asked may be set up.
+    pub(crate) fn admit(&self, store: &Store, ask: &Ask) -> Result<u16, DeskFault>
+        ensures admitted { MatchResult result
+            (λ line. Admits store.now self.now.directory ask.now line)
+            (λ fault. IsUnfit store.now self.now.directory ask.now fault) }
+        ensures within { IfOk result (λ line. line < S.names.lines) }
+        ensures refused { IfErr result IsOfSetup }
+    {
+        admit(store, &self.directory, ask)
+    }
+
+    /// Gives a connection another program, and answers the one that it had.
+    pub(crate) fn reload(&mut self, store: &Store, vc: Vc, program: Id) -> Result<Id, DeskFault>
+        // It is the locked section of the core, on the directory that was lent.
+        ensures no_program { IsErrOf result DeskFault.NoProgram
+            ↔ (live_value store.now program ≡ None) }
+        ensures no_connection { IsErrOf result DeskFault.NoConnection
+            ↔ (IsLive store.now program × (seating_at self.old.directory vc ≡ None)) }
+        ensures reloaded { IfOk result (λ before. (seating : TheSeating) → seating_at self.old.directory vc ≡ Some seating
+            → (before ≡ seating.program)
+            × Sits self.old.directory vc (Some (record seating { program = program })) self.new.directory) }
+        ensures unchanged { OnErr result (self.new.directory ≡ self.old.directory) }
+
+        ensures refused { IfErr result IsOfReload }
+    {
+        reload(store, &mut self.directory, vc, program)
+    }
+}

@@ -1,0 +1,245 @@
+//! What the scenes have in common: shapes, cells, programs and connections.
+
+mod changes;
+mod journals;
+mod overlaps;
+mod sections;
+mod shapes;
+mod two_ports;
+
+ghost use Rattle.std.specs.Prelude.{◌≡◌};
+
+use arrayvec::ArrayVec;
+use bpf_code::{By, Instr, Op, Size, Test};
+use bpf_verify::{Program, verify};
+use card_core::{Answer, Ask, DeskFault, Shape};
+use gen_arena::Id;
+use leaky::{Contract, Gcra, Verdict};
+use line_record::{Piece, Tally};
+use port_card::{Card, CloseFault, Closing, Desk, Gate, Ledgers, NoWait, PortSeat};
+use std::alloc::Global;
+use std::sync::Wait;
+use std::sync::atomic::{AtomicU64, Ordering};
+use std::test::Fail;
+use std::thread;
+use upc_cell::{Cell, Side, Vc};
+
+/// The header of a data cell of 1/100 with cell loss priority 0.
+const DATA: [u8; 4] = [0x00, 0x10, 0x06, 0x40];
+
+/// The header of a management cell of 1/100.
+const MANAGEMENT: [u8; 4] = [0x00, 0x10, 0x06, 0x4a];
+
+/// The header of a data cell of 1/101.
+const OTHER: [u8; 4] = [0x00, 0x10, 0x06, 0x50];
+
+/// The most turns that a thread makes to wait for another.
+const TURNS: u64 = 10_000_000;
+
+/// A shape at the side of users.
+fn shape(programs: u64, lines: u64, ports: u64, journal: u64) -> Shape
+    ensures lines { result.lines ≡ lines }
+    ensures ports { result.ports ≡ ports }
+{
+    Shape {
+        programs,
+        lines,
+        ports,
+        journal,
+        side: Side::Uni,
+    }
+}
+
+/// A cell of this header with a payload of zeros.
+fn cell(header: [u8; 4]) -> Cell {
+    let mut octets = [0u8; 52];
+    octets[0] = header[0];
+    octets[1] = header[1];
+    octets[2] = header[2];
+    octets[3] = header[3];
+    Cell::from(octets)
+}
+
+/// A program that gives this value for every cell.
+fn constant(alloc: Global, value: u32) -> Result<Program, Fail> {
+    let code = vec![in alloc; Instr::RetK(value)]?;
+    Ok(verify(code)?)
+}
+
+/// A program that gives 1 for user data, and 2 for management.
+fn classifier(alloc: Global) -> Result<Program, Fail> {
+    let mut code = Vec::new(alloc);
+    code.push(Instr::LoadAbs {
+        size: Size::Octet,
+        k: 3,
+    })?;
+    code.push(Instr::Alu {
+        op: Op::And,
+        by: By::Imm(14),
+    })?;
+    code.push(Instr::Branch {
+        test: Test::Ge,
+        by: By::Imm(8),
+        jt: 1,
+        jf: 0,
+    })?;
+    code.push(Instr::RetK(1))?;
+    code.push(Instr::RetK(2))?;
+    Ok(verify(code)?)
+}
+
+/// A connection of 1 under this channel: a cell in ten ticks, with this tolerance.
+fn ask(vci: u16, program: Id, limit: u64) -> Result<Ask, Fail> {
+    let mut contracts = ArrayVec::new();
+    contracts.push(Contract::Cbr1(Gcra::new(10, limit)?));
+    Ok(Ask {
+        vc: Vc::new(1, vci)?,
+        program,
+        contracts,
+    })
+}
+
+/// A program is put in.
+fn load<S: Ledgers, R: Wait>(
+    rt: &R,
+    desk: &mut Desk<S>,
+    card: &Card<S>,
+    program: Program,
+) -> Result<Id, Fail> {
+    match desk.load(rt, card, program) {
+        Ok(id) => Ok(id),
+        Err(_) => Err(Fail::from("not loaded")),
+    }
+}
+
+/// A connection is set up. Where memory is refused it is asked for once more, with what came back.
+fn set_up<S: Ledgers, R: Wait>(
+    rt: &R,
+    desk: &mut Desk<S>,
+    card: &Card<S>,
+    ask: Ask,
+) -> Result<u64, Fail> {
+    let back = match desk.setup(rt, card, ask) {
+        Ok(owner) => return Ok(owner.incarnation),
+        Err((DeskFault::NoMemory, back)) => back,
+        Err(_) => return Err(Fail::from("not set up")),
+    };
+    match desk.setup(rt, card, back) {
+        Ok(owner) => Ok(owner.incarnation),
+        Err(_) => Err(Fail::from("not set up")),
+    }
+}
+
+/// Both seats of a card of two ports, that of port 0 first.
+fn both<S: Ledgers>(seats: Vec<PortSeat<S>>) -> Result<(PortSeat<S>, PortSeat<S>), Fail> {
+    let mut seats = seats;
+    let Some(second) = seats.pop() else {
+        return Err(Fail::from("no seat"));
+    };
+    let Some(first) = seats.pop() else {
+        return Err(Fail::from("one seat"));
+    };
+    Ok((first, second))
+}
+
+/// A card is closed. Where memory is refused it is asked for once more, with what came back.
+fn closed<S: Ledgers>(
+    alloc: Global,
+    card: Card<S>,
+    seats: Vec<PortSeat<S>>,
+) -> Result<Closing, Fail> {
+    let (card, seats) = match card.close(alloc, seats) {
+        Ok(closing) => return Ok(closing),
+        Err((CloseFault::NoMemory, card, seats)) => (card, seats),
+        Err(_) => return Err(Fail::from("not closed")),
+    };
+    match card.close(alloc, seats) {
+        Ok(closing) => Ok(closing),
+        Err(_) => Err(Fail::from("not closed")),
+    }
+}
+
+/// The verdict and its number, where a cell was judged.
+fn judged(answer: Answer) -> Option<(Verdict, u64)> {
+    match answer {
+        Answer::Judged {
+            verdict,
+            number,
+            ..
+        } => Some((verdict, number)),
+        _ => None,
+    }
+}
+
+fn tally(passed: u64, tagged: u64, discarded: u64, refused: u64) -> Tally {
+    Tally {
+        passed,
+        tagged,
+        discarded,
+        refused,
+    }
+}
+
+/// How many cells a journal has that was handed out.
+fn entries(piece: Result<Piece, DeskFault>) -> Option<usize> {
+    match piece {
+        Ok(piece) => Some(piece.entries().len()),
+        Err(_) => None,
+    }
+}
+
+/// Whether the flag was raised before the turns ran out.
+fn turned_until(flag: &AtomicU64) -> bool {
+    for _ in 0..TURNS {
+        if flag.load(Ordering::SeqCst) != 0 {
+            return true;
+        }
+        thread::yield_now();
+    }
+    false
+}
+
+/// Port 0 tells that its cell was picked, and turns until it is let go. No other port waits.
+#[derive(Drop)]
+struct Until {
+    picked: AtomicU64,
+    done: AtomicU64,
+    in_time: AtomicU64,
+}
+
+impl Until {
+    fn new() -> Until {
+        Until {
+            picked: AtomicU64::new(0),
+            done: AtomicU64::new(0),
+            in_time: AtomicU64::new(0),
+        }
+    }
+
+    /// Whether the cell was picked before the turns ran out.
+    fn was_picked(&self) -> bool {
+        turned_until(&self.picked)
+    }
+
+    /// Lets port 0 go on.
+    fn let_go(&self) {
+        self.done.store(1, Ordering::SeqCst);
+    }
+
+    /// Whether port 0 was let go before its turns ran out.
+    fn was_in_time(&self) -> bool {
+        self.in_time.load(Ordering::SeqCst) == 1
+    }
+}
+
+impl Gate for Until {
+    fn between(&self, port: u8) {
+        if port != 0 {
+            return;
+        }
+        self.picked.store(1, Ordering::SeqCst);
+        if turned_until(&self.done) {
+            self.in_time.store(1, Ordering::SeqCst);
+        }
+    }
+}

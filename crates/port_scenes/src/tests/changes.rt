@@ -1,0 +1,288 @@
+//! What the desk does while a cell is between its look-up and its judgement.
+
+ghost use Rattle.std.specs.Prelude.{◌≡◌};
+ghost use Rattle.port_card.specs.Names.{AreFor};
+
+use super::*;
+use port_card::Blanks;
+use std::marker::Brand;
+use std::thread::Threads;
+
+/// How long a gate looks whether a retirement was answered.
+const LOOKS: u64 = 1_000_000;
+
+/// What a port saw of its one cell.
+#[derive(Debug, Drop)]
+struct AtPort {
+    answer: Answer,
+    /// What the seat counted on the first line and on the second.
+    first: Option<Tally>,
+    second: Option<Tally>,
+}
+
+/// What the desk saw once the cell was answered.
+#[derive(Debug, Drop)]
+struct AtDesk {
+    /// How the retirement of the first program was answered, and how once more.
+    retired: Option<DeskFault>,
+    again: Option<DeskFault>,
+    /// How many cells the connection's journal had.
+    entries: Option<usize>,
+}
+
+/// What came of a scene in which the desk changed something while a cell was at its gate.
+#[derive(Debug, Drop)]
+struct Seen {
+    /// The desk was done before the gate's turns ran out.
+    in_time: bool,
+    /// The program that the connection was set up with.
+    program: Id,
+    port: AtPort,
+    desk: AtDesk,
+}
+
+#[test]
+fn a_cell_of_a_connection_that_was_set_up_again_is_released(rt: HostRuntime) -> Result<(), Fail> {
+    let shape = shape(2, 2, 2, 16);
+    let blanks = Blanks::new(2, 2);
+    let seen = changed::<Brand, HostRuntime>(&rt, rt.alloc(), shape, blanks, false)?;
+    assert!(rt; seen.in_time);
+    assert_eq!(rt; seen.port.answer, Answer::Released);
+    assert_eq!(rt; seen.port.first, Some(Tally::new()));
+    assert_eq!(rt; seen.port.second, Some(Tally::new()));
+    assert_eq!(rt; seen.desk.entries, Some(0));
+    Ok(())
+}
+
+#[test]
+fn a_cell_is_judged_by_the_program_that_was_picked(rt: HostRuntime) -> Result<(), Fail> {
+    let shape = shape(2, 2, 2, 16);
+    let blanks = Blanks::new(2, 2);
+    let seen = changed::<Brand, HostRuntime>(&rt, rt.alloc(), shape, blanks, true)?;
+    assert!(rt; seen.in_time);
+    let Answer::Judged {
+        value,
+        program,
+        verdict,
+        ..
+    } = seen.port.answer
+    else {
+        return Err(Fail::from("not judged"));
+    };
+    assert_eq!(rt; (value, verdict), (1, Verdict::Pass));
+    assert_eq!(rt; program, seen.program);
+    assert_eq!(rt; seen.desk.entries, Some(1));
+    assert_eq!(rt; seen.desk.retired, None);
+    assert_eq!(rt; seen.desk.again, Some(DeskFault::NoProgram));
+    Ok(())
+}
+
+/// Puts two programs in, and sets up a connection with the first.
+fn prepared<S: Ledgers, R: Wait>(
+    rt: &R,
+    alloc: Global,
+    card: &Card<S>,
+    desk: &mut Desk<S>,
+    reloads: bool,
+) -> Result<Errand, Fail> {
+    let program = load(rt, desk, card, constant(alloc, 1)?)?;
+    let other = load(rt, desk, card, constant(alloc, 2)?)?;
+    set_up(rt, desk, card, ask(100, program, 0)?)?;
+    Ok(Errand {
+        vc: Vc::new(1, 100)?,
+        program,
+        other,
+        reloads,
+    })
+}
+
+/// While port 0 is at its gate, the desk gives the connection another program, or releases it and sets
+/// it up again. The port waits there until that is done.
+fn changed<S: Ledgers + Send + Sync, R: Threads + Wait + Sync>(
+    rt: &R,
+    alloc: Global,
+    shape: Shape,
+    blanks: Blanks,
+    reloads: bool,
+) -> Result<Seen, Fail>
+    requires names { blanks ≡ S.names }
+    requires for_shape { AreFor shape S.names }
+{
+    let (card, seats, mut desk) = Card::<S>::new(alloc, shape, blanks)?;
+    let errand = prepared(rt, alloc, &card, &mut desk, reloads)?;
+    let (first, _) = both(seats)?;
+    let gate = Until::new();
+    let (port, desk) = thread::join(
+        rt,
+        || arrive_once(rt, &card, first, &gate),
+        || change(rt, &card, desk, errand, &gate),
+    );
+    Ok(Seen {
+        in_time: gate.was_in_time(),
+        program: errand.program,
+        port,
+        desk,
+    })
+}
+
+/// A cell comes to a port, which then tells what it counted on both lines.
+fn arrive_once<S: Ledgers, G: Gate, R: Wait>(
+    rt: &R,
+    card: &Card<S>,
+    seat: PortSeat<S>,
+    gate: &G,
+) -> AtPort {
+    let mut seat = seat;
+    let answer = card.arrive(rt, &mut seat, &cell(DATA), 0, gate);
+    AtPort {
+        answer,
+        first: seat.tally(0),
+        second: seat.tally(1),
+    }
+}
+
+/// Whether the connection was set up once more.
+fn set_up_again<S: Ledgers, R: Wait>(
+    rt: &R,
+    card: &Card<S>,
+    desk: &mut Desk<S>,
+    errand: Errand,
+) -> bool {
+    let Ok(gcra) = Gcra::new(10, 0) else {
+        return false;
+    };
+    let mut contracts = ArrayVec::new();
+    contracts.push(Contract::Cbr1(gcra));
+    let again = Ask {
+        vc: errand.vc,
+        program: errand.program,
+        contracts,
+    };
+    desk.setup(rt, card, again).is_ok()
+}
+
+/// What the desk is to do on a connection of the first program: it gives it the other, or releases it and sets it up again.
+#[derive(Clone, Copy)]
+struct Errand {
+    vc: Vc,
+    program: Id,
+    other: Id,
+    reloads: bool,
+}
+
+/// Whether the errand was done.
+fn done<S: Ledgers, R: Wait>(rt: &R, card: &Card<S>, desk: &mut Desk<S>, errand: Errand) -> bool {
+    if errand.reloads {
+        desk.reload(rt, card, errand.vc, errand.other).is_ok()
+    } else {
+        desk.release(rt, card, errand.vc).is_ok() && set_up_again(rt, card, desk, errand)
+    }
+}
+
+/// Once the cell was picked, the errand is done and port 0 let go. Then the first program is retired twice, the first time
+/// of which waits for the cell, and the connection's journal is cut.
+fn change<S: Ledgers, R: Wait>(
+    rt: &R,
+    card: &Card<S>,
+    desk: Desk<S>,
+    errand: Errand,
+    gate: &Until,
+) -> AtDesk {
+    let mut desk = desk;
+    gate.was_picked();
+    if done(rt, card, &mut desk, errand) {
+        gate.let_go();
+    }
+    AtDesk {
+        retired: desk.retire(rt, card, errand.program).err(),
+        again: desk.retire(rt, card, errand.program).err(),
+        entries: entries(desk.cut(rt, card, errand.vc)),
+    }
+}
+
+/// A port tells that its cell was picked, and looks for a while whether the desk was answered.
+#[derive(Drop)]
+struct Looks {
+    picked: AtomicU64,
+    answered: AtomicU64,
+    early: AtomicU64,
+}
+
+impl Looks {
+    fn new() -> Looks {
+        Looks {
+            picked: AtomicU64::new(0),
+            answered: AtomicU64::new(0),
+            early: AtomicU64::new(0),
+        }
+    }
+}
+
+impl Gate for Looks {
+    fn between(&self, _port: u8) {
+        self.picked.store(1, Ordering::SeqCst);
+        for _ in 0..LOOKS {
+            if self.answered.load(Ordering::SeqCst) != 0 {
+                self.early.store(1, Ordering::SeqCst);
+            }
+            thread::yield_now();
+        }
+    }
+}
+
+#[test]
+fn a_retirement_waits_for_the_cells_that_were_picked(rt: HostRuntime) -> Result<(), Fail> {
+    let shape = shape(2, 1, 2, 16);
+    let blanks = Blanks::new(1, 2);
+    let (early, answer, retired) = waiting::<Brand, HostRuntime>(&rt, rt.alloc(), shape, blanks)?;
+    assert!(rt; !early);
+    assert_eq!(rt; answer, Some((Verdict::Pass, 1)));
+    assert!(rt; retired);
+    Ok(())
+}
+
+/// While port 0 is at its gate, the desk retires a program that no connection names.
+fn waiting<S: Ledgers + Send + Sync, R: Threads + Wait + Sync>(
+    rt: &R,
+    alloc: Global,
+    shape: Shape,
+    blanks: Blanks,
+) -> Result<(bool, Option<(Verdict, u64)>, bool), Fail>
+    requires names { blanks ≡ S.names }
+    requires for_shape { AreFor shape S.names }
+{
+    let (card, seats, mut desk) = Card::<S>::new(alloc, shape, blanks)?;
+    let program = load(rt, &mut desk, &card, constant(alloc, 1)?)?;
+    let unnamed = load(rt, &mut desk, &card, constant(alloc, 2)?)?;
+    set_up(rt, &mut desk, &card, ask(100, program, 0)?)?;
+    let (first, _) = both(seats)?;
+    let gate = Looks::new();
+    let (port, retired) = thread::join(
+        rt,
+        || arrive_once(rt, &card, first, &gate),
+        || retire_once(rt, &card, desk, unnamed, &gate),
+    );
+    Ok((
+        gate.early.load(Ordering::SeqCst) == 1,
+        judged(port.answer),
+        retired,
+    ))
+}
+
+/// Once the cell was picked, the program that gives 2 is retired: whether it came back.
+fn retire_once<S: Ledgers, R: Wait>(
+    rt: &R,
+    card: &Card<S>,
+    desk: Desk<S>,
+    program: Id,
+    gate: &Looks,
+) -> bool {
+    let mut desk = desk;
+    turned_until(&gate.picked);
+    let retired = desk.retire(rt, card, program);
+    gate.answered.store(1, Ordering::SeqCst);
+    match retired {
+        Ok(program) => program.code() == [Instr::RetK(2)].as_slice(),
+        Err(_) => false,
+    }
+}

@@ -1,0 +1,85 @@
+//! The locked sections, on parts that are lent to them without a card.
+
+use super::*;
+use card_core::{Store, admit, load as put_in, name, release, reload, retire, setup};
+use gen_arena::Arena;
+use line_record::{Directory, Line, Owner};
+
+/// A connection is set up on a line that is lent.
+fn seat(
+    store: &Store,
+    directory: &mut Directory,
+    line: &mut Line,
+    asked: Ask,
+) -> Result<Owner, Fail> {
+    let Ok(number) = admit(store, directory, &asked) else {
+        return Err(Fail::from("not admitted"));
+    };
+    match setup(directory, line, number, asked) {
+        Ok(owner) => Ok(owner),
+        Err(_) => Err(Fail::from("not set up")),
+    }
+}
+
+/// A program is put into a store.
+fn put(store: &mut Store, program: Program) -> Result<Id, Fail> {
+    match put_in(store, program) {
+        Ok(id) => Ok(id),
+        Err(_) => Err(Fail::from("not put in")),
+    }
+}
+
+#[test]
+fn a_release_of_another_connections_line_is_stale(rt: HostRuntime) -> Result<(), Fail> {
+    let alloc = rt.alloc();
+    let mut store = Arena::new(alloc, 1)?;
+    let program = put(&mut store, constant(alloc, 1)?)?;
+    let mut directory = Directory::new(alloc, 2, 1)?;
+    let mut first = Line::new(alloc, 4)?;
+    let mut second = Line::new(alloc, 4)?;
+    let asked = ask(100, program, 0)?;
+    let vc = asked.vc;
+    seat(&store, &mut directory, &mut first, asked)?;
+    let other = seat(&store, &mut directory, &mut second, ask(101, program, 0)?)?;
+    let before = directory.find(vc);
+    if before.is_none() {
+        return Err(Fail::from("not found"));
+    }
+    assert_eq!(rt;
+        release(&mut directory, &mut second, vc).err(),
+        Some(DeskFault::Stale)
+    );
+    assert!(rt; directory.find(vc) == before);
+    assert!(rt; second.owner() == Some(other));
+    Ok(())
+}
+
+#[test]
+fn a_worn_store_is_full_and_forgets_what_was_retired(rt: HostRuntime) -> Result<(), Fail> {
+    let alloc = rt.alloc();
+    let mut store = Arena::new_from(alloc, 2, 4294967294)?;
+    let first = put(&mut store, constant(alloc, 1)?)?;
+    let second = put(&mut store, constant(alloc, 2)?)?;
+    assert_eq!(rt;
+        (first.generation, second.generation),
+        (4294967295, 4294967295)
+    );
+    let mut directory = Directory::new(alloc, 1, 1)?;
+    let mut line = Line::new(alloc, 4)?;
+    let asked = ask(100, first, 0)?;
+    let vc = asked.vc;
+    seat(&store, &mut directory, &mut line, asked)?;
+    assert_eq!(rt; reload(&store, &mut directory, vc, second), Ok(first));
+    assert!(rt; retire(&mut store, &directory, first).is_ok());
+    let Err((fault, back)) = put_in(&mut store, constant(alloc, 3)?) else {
+        return Err(Fail::from("a worn slot is filled"));
+    };
+    assert_eq!(rt; fault, DeskFault::ProgramsFull);
+    assert_eq!(rt; back.code().len(), 1);
+    assert_eq!(rt;
+        retire(&mut store, &directory, first).err(),
+        Some(DeskFault::NoProgram)
+    );
+    assert!(rt; name(&store, first, &cell(DATA)).is_none());
+    Ok(())
+}
