@@ -1,5 +1,6 @@
 //! Codes: read, written, assembled and listed.
-use crate::trial::{Call, Outcome, ample_if, refused_if, try_out};
+
+use crate::trial::{Attempt, Call, ample_if, refused_if, try_out};
 use bpf_asm::{AsmKind, ListFault, assemble, listing};
 use bpf_code::{DecodeFault, EncodeFault, Instr, decode, encode};
 use std::alloc::Global;
@@ -22,17 +23,17 @@ struct Decoding {
 }
 
 impl Call for Decoding {
-    fn make(&mut self) -> Outcome {
+    fn make(&mut self) -> Attempt {
         match decode(self.alloc, &OCTETS) {
             Ok(code) => ample_if(code.as_slice() == [Instr::Tax, Instr::RetK(1)].as_slice()),
-            Err(DecodeFault::NoMemory) => Outcome::Refused,
-            Err(_) => Outcome::Otherwise,
+            Err(DecodeFault::NoMemory) => Attempt::Refused,
+            Err(_) => Attempt::Otherwise,
         }
     }
 }
 
 /// `decode`.
-pub fn try_decode(alloc: Global) -> Outcome {
+pub fn try_decode(alloc: Global) -> Attempt {
     try_out(&mut Decoding { alloc })
 }
 
@@ -42,16 +43,16 @@ struct Encoding {
 }
 
 impl Call for Encoding {
-    fn make(&mut self) -> Outcome {
+    fn make(&mut self) -> Attempt {
         match encode(self.alloc, &[Instr::Tax, Instr::RetK(1)]) {
             Ok(octets) => ample_if(octets.as_slice() == OCTETS.as_slice()),
-            Err(EncodeFault::NoMemory) => Outcome::Refused,
+            Err(EncodeFault::NoMemory) => Attempt::Refused,
         }
     }
 }
 
 /// `encode`.
-pub fn try_encode(alloc: Global) -> Outcome {
+pub fn try_encode(alloc: Global) -> Attempt {
     try_out(&mut Encoding { alloc })
 }
 
@@ -61,7 +62,7 @@ struct Assembling {
 }
 
 impl Call for Assembling {
-    fn make(&mut self) -> Outcome {
+    fn make(&mut self) -> Attempt {
         match assemble(self.alloc, SOURCE) {
             Ok(code) => ample_if(code.as_slice() == ASSEMBLED.as_slice()),
             Err(fault) => refused_if(fault.kind == AsmKind::NoMemory),
@@ -70,7 +71,7 @@ impl Call for Assembling {
 }
 
 /// `assemble`.
-pub fn try_assemble(alloc: Global) -> Outcome {
+pub fn try_assemble(alloc: Global) -> Attempt {
     try_out(&mut Assembling { alloc })
 }
 
@@ -80,16 +81,16 @@ struct Listing {
 }
 
 impl Call for Listing {
-    fn make(&mut self) -> Outcome {
+    fn make(&mut self) -> Attempt {
         match listing(self.alloc, &ASSEMBLED) {
             Ok(text) => ample_if(text.as_slice() == LISTING.as_slice()),
-            Err(ListFault::NoMemory) => Outcome::Refused,
-            Err(_) => Outcome::Otherwise,
+            Err(ListFault::NoMemory) => Attempt::Refused,
+            Err(_) => Attempt::Otherwise,
         }
     }
 }
 
 /// `listing`.
-pub fn try_listing(alloc: Global) -> Outcome {
+pub fn try_listing(alloc: Global) -> Attempt {
     try_out(&mut Listing { alloc })
 }

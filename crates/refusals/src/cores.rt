@@ -1,5 +1,6 @@
 //! The card, one step at a time.
-use crate::trial::{Call, Outcome, ample_if, refused_if, try_out};
+
+use crate::trial::{Attempt, Call, ample_if, refused_if, try_out};
 use arrayvec::ArrayVec;
 use bpf_code::Instr;
 use bpf_verify::{Program, verify};
@@ -26,7 +27,7 @@ struct MakingCore {
 }
 
 impl Call for MakingCore {
-    fn make(&mut self) -> Outcome {
+    fn make(&mut self) -> Attempt {
         match Core::new(self.alloc, shape()) {
             Ok(core) => ample_if(core.shape() == shape()),
             Err(fault) => refused_if(fault == CardFault::NoMemory),
@@ -35,7 +36,7 @@ impl Call for MakingCore {
 }
 
 /// `Core::new`.
-pub fn try_new_core(alloc: Global) -> Outcome {
+pub fn try_new_core(alloc: Global) -> Attempt {
     try_out(&mut MakingCore { alloc })
 }
 
@@ -70,19 +71,19 @@ impl Loading<'_> {
 }
 
 impl Call for Loading<'_> {
-    fn make(&mut self) -> Outcome {
+    fn make(&mut self) -> Attempt {
         let Ok(steps) = self.steps() else {
-            return Outcome::Refused;
+            return Attempt::Refused;
         };
         let replies = match self.core.run(self.alloc, steps) {
             Ok(replies) => replies,
             Err(steps) => return refused_if(steps.len() == 2),
         };
         let [Reply::Loaded(first), Reply::Loaded(second)] = replies.as_slice() else {
-            return Outcome::Otherwise;
+            return Attempt::Otherwise;
         };
         self.ids = Some((*first, *second));
-        Outcome::Ample
+        Attempt::Ample
     }
 }
 
@@ -108,9 +109,9 @@ impl SettingUp<'_> {
 }
 
 impl Call for SettingUp<'_> {
-    fn make(&mut self) -> Outcome {
+    fn make(&mut self) -> Attempt {
         let Ok(steps) = self.steps() else {
-            return Outcome::Refused;
+            return Attempt::Refused;
         };
         let replies = match self.core.run(self.alloc, steps) {
             Ok(replies) => replies,
@@ -119,7 +120,7 @@ impl Call for SettingUp<'_> {
         match replies.as_slice() {
             [Reply::SetUp(owner)] => ample_if(owner.vc == vc()),
             [Reply::NotSetUp(DeskFault::NoMemory, ask)] => refused_if(ask.contracts.len() == 1),
-            _ => Outcome::Otherwise,
+            _ => Attempt::Otherwise,
         }
     }
 }
@@ -175,9 +176,9 @@ impl Policing<'_> {
 }
 
 impl Call for Policing<'_> {
-    fn make(&mut self) -> Outcome {
+    fn make(&mut self) -> Attempt {
         let Ok(steps) = self.steps() else {
-            return Outcome::Refused;
+            return Attempt::Refused;
         };
         match self.core.run(self.alloc, steps) {
             Ok(replies) => ample_if(self.is_answered_by(&replies)),
@@ -187,7 +188,7 @@ impl Call for Policing<'_> {
 }
 
 /// Loads two programs, and gives their ids, if that was done.
-fn load_two(alloc: Global, core: &mut Core) -> (Outcome, Option<(Id, Id)>) {
+fn load_two(alloc: Global, core: &mut Core) -> (Attempt, Option<(Id, Id)>) {
     let mut loading = Loading {
         alloc,
         core,
@@ -198,7 +199,7 @@ fn load_two(alloc: Global, core: &mut Core) -> (Outcome, Option<(Id, Id)>) {
 }
 
 /// Sets up the connection, whose cells ask for this program.
-fn set_up(alloc: Global, core: &mut Core, program: Id) -> Outcome {
+fn set_up(alloc: Global, core: &mut Core, program: Id) -> Attempt {
     try_out(&mut SettingUp {
         alloc,
         core,
@@ -207,7 +208,7 @@ fn set_up(alloc: Global, core: &mut Core, program: Id) -> Outcome {
 }
 
 /// Polices a cell, with a reload between its pick and its judgement.
-fn police_one(alloc: Global, core: &mut Core, first: Id, second: Id) -> Outcome {
+fn police_one(alloc: Global, core: &mut Core, first: Id, second: Id) -> Attempt {
     try_out(&mut Policing {
         alloc,
         core,
@@ -217,13 +218,13 @@ fn police_one(alloc: Global, core: &mut Core, first: Id, second: Id) -> Outcome 
 }
 
 /// `Core::run`, of lists that are cut where a step needs an id that an earlier one answered.
-pub fn try_run(alloc: Global) -> Outcome {
+pub fn try_run(alloc: Global) -> Attempt {
     let Ok(mut core) = Core::new(alloc, shape()) else {
-        return Outcome::Refused;
+        return Attempt::Refused;
     };
     let (loaded, ids) = load_two(alloc, &mut core);
     let Some((first, second)) = ids else {
-        return Outcome::Otherwise;
+        return Attempt::Otherwise;
     };
     loaded
         .then(set_up(alloc, &mut core, first))
@@ -232,27 +233,27 @@ pub fn try_run(alloc: Global) -> Outcome {
 
 /// A connection, and five cells of it. Once it is set up neither its cells nor its release are refused for want of memory,
 /// whatever is.
-pub fn try_cells(alloc: Global) -> Outcome {
+pub fn try_cells(alloc: Global) -> Attempt {
     let Ok(mut core) = Core::new(alloc, shape()) else {
-        return Outcome::Refused;
+        return Attempt::Refused;
     };
     let (_, ids) = load_two(alloc, &mut core);
     let Some((first, _)) = ids else {
-        return Outcome::Refused;
+        return Attempt::Refused;
     };
-    if set_up_once(alloc, &mut core, first) != Outcome::Ample {
-        return Outcome::Refused;
+    if set_up_once(alloc, &mut core, first) != Attempt::Ample {
+        return Attempt::Refused;
     }
     for moment in 0..5 {
         if !police(&mut core, moment) {
-            return Outcome::Otherwise;
+            return Attempt::Otherwise;
         }
     }
     ample_if(hands_out_five(&mut core))
 }
 
 /// Sets up the connection, by one call.
-fn set_up_once(alloc: Global, core: &mut Core, program: Id) -> Outcome {
+fn set_up_once(alloc: Global, core: &mut Core, program: Id) -> Attempt {
     let mut setting_up = SettingUp {
         alloc,
         core,

@@ -7,6 +7,7 @@
 
 mod codes;
 mod cores;
+mod running;
 mod stores;
 mod texts;
 mod trial;
@@ -14,10 +15,10 @@ mod trial;
 use std::alloc::Global;
 use std::io;
 use std::process::ExitCode;
-use trial::Outcome;
+use trial::Attempt;
 
 /// A call by its name.
-type Trial = (&'static str, fn(Global) -> Outcome);
+type Trial = (&'static str, fn(Global) -> Attempt);
 
 /// The name that the words ask for, if they ask for one: its trial alone is made.
 fn name_asked(rt: &HostRuntime) -> io::Result<Option<String>> {
@@ -29,7 +30,7 @@ fn main(rt: HostRuntime) -> ExitCode {
         // The words themselves were refused memory.
         return ExitCode::SUCCESS;
     };
-    let trials: [Trial; 17] = [
+    let trials: [Trial; 18] = [
         ("decode", codes::try_decode),
         ("encode", codes::try_encode),
         ("assemble", codes::try_assemble),
@@ -43,6 +44,7 @@ fn main(rt: HostRuntime) -> ExitCode {
         ("Directory::put", stores::try_put),
         ("Core::new", cores::try_new_core),
         ("Core::run", cores::try_run),
+        ("Card::new", running::try_new_card),
         ("eval_bytes", texts::try_eval),
         ("check_source", texts::try_check),
         ("run_script", texts::try_script),
@@ -50,24 +52,39 @@ fn main(rt: HostRuntime) -> ExitCode {
     ];
     let mut ends_well = true;
     for (name, trial) in trials {
-        if asked.as_ref().is_some_and(|asked| asked.as_str() != name) {
-            continue;
+        if is_asked(&asked, name) {
+            ends_well &= tell(&rt, name, trial(rt.alloc()));
         }
-        let said = match trial(rt.alloc()) {
-            Outcome::Ample => "answered",
-            Outcome::Refused => "refused, and answered when made again",
-            Outcome::Otherwise => {
-                ends_well = false;
-                "OTHERWISE"
-            }
-        };
-        if println!(rt; "{name}: {said}").is_err() {
-            ends_well = false;
-        }
+    }
+    // Those that may wait, for a lock or for a thread, are no values of a table.
+    if is_asked(&asked, "Desk::setup, cut, Card::close") {
+        let outcome = running::try_card(&rt, rt.alloc());
+        ends_well &= tell(&rt, "Desk::setup, cut, Card::close", outcome);
+    }
+    if is_asked(&asked, "run_ports") {
+        ends_well &= tell(&rt, "run_ports", texts::try_ports(&rt, rt.alloc()));
     }
     if ends_well {
         ExitCode::SUCCESS
     } else {
         ExitCode::from(1)
     }
+}
+
+/// Whether this trial is made: where no name was asked for each is.
+fn is_asked(asked: &Option<String>, name: &str) -> bool {
+    match asked {
+        Some(asked) => asked.as_str() == name,
+        None => true,
+    }
+}
+
+/// Prints how a trial ended, and says whether it ended well.
+fn tell(rt: &HostRuntime, name: &str, outcome: Attempt) -> bool {
+    let said = match outcome {
+        Attempt::Ample => "answered",
+        Attempt::Refused => "refused, and answered when made again",
+        Attempt::Otherwise => "OTHERWISE",
+    };
+    println!(rt; "{name}: {said}").is_ok() && outcome != Attempt::Otherwise
 }

@@ -1,7 +1,8 @@
 //! Arenas, lines and directories.
-ghost use Rattle.std.specs.Prelude.{◌<◌, length};
 
-use crate::trial::{Call, Outcome, ample_if, refused_if, try_out};
+ghost use Rattle.std.specs.Prelude.{◌≡◌, ◌<◌, length};
+
+use crate::trial::{Attempt, Call, ample_if, refused_if, try_out};
 use arrayvec::ArrayVec;
 use gen_arena::{Arena, ArenaFault, Id};
 use leaky::{Contract, Gcra};
@@ -18,17 +19,17 @@ struct MakingArena {
 }
 
 impl Call for MakingArena {
-    fn make(&mut self) -> Outcome {
+    fn make(&mut self) -> Attempt {
         match Arena::<u64>::new(self.alloc, 3) {
             Ok(arena) => ample_if(arena.free() == 3),
-            Err(ArenaFault::NoMemory) => Outcome::Refused,
-            Err(ArenaFault::NoSlots) => Outcome::Otherwise,
+            Err(ArenaFault::NoMemory) => Attempt::Refused,
+            Err(ArenaFault::NoSlots) => Attempt::Otherwise,
         }
     }
 }
 
 /// `Arena::new`.
-pub fn try_new_arena(alloc: Global) -> Outcome {
+pub fn try_new_arena(alloc: Global) -> Attempt {
     try_out(&mut MakingArena { alloc })
 }
 
@@ -38,7 +39,7 @@ struct MakingLine {
 }
 
 impl Call for MakingLine {
-    fn make(&mut self) -> Outcome {
+    fn make(&mut self) -> Attempt {
         match Line::new(self.alloc, JOURNAL) {
             Ok(line) => ample_if(line.is_free()),
             Err(fault) => refused_if(fault == LineFault::NoMemory),
@@ -47,7 +48,7 @@ impl Call for MakingLine {
 }
 
 /// `Line::new`.
-pub fn try_new_line(alloc: Global) -> Outcome {
+pub fn try_new_line(alloc: Global) -> Attempt {
     try_out(&mut MakingLine { alloc })
 }
 
@@ -57,9 +58,11 @@ struct Preparing {
 }
 
 impl Call for Preparing {
-    fn make(&mut self) -> Outcome {
+    fn make(&mut self) -> Attempt
+        ensures unchanged { result ≡ Attempt.Refused → self.new.line ≡ self.old.line }
+    {
         if self.line.owner().is_some() {
-            return Outcome::Otherwise;
+            return Attempt::Otherwise;
         }
         match self.line.prepare() {
             Ok(()) => ample_if(self.line.is_ready()),
@@ -69,10 +72,10 @@ impl Call for Preparing {
 }
 
 /// `Line::prepare`.
-pub fn try_prepare(alloc: Global) -> Outcome {
+pub fn try_prepare(alloc: Global) -> Attempt {
     match Line::new(alloc, JOURNAL) {
         Ok(line) => try_out(&mut Preparing { line }),
-        Err(_) => Outcome::Refused,
+        Err(_) => Attempt::Refused,
     }
 }
 
@@ -99,9 +102,11 @@ struct Opening {
 }
 
 impl Call for Opening {
-    fn make(&mut self) -> Outcome {
+    fn make(&mut self) -> Attempt
+        ensures unchanged { result ≡ Attempt.Refused → self.new.line ≡ self.old.line }
+    {
         if self.line.owner().is_some() {
-            return Outcome::Otherwise;
+            return Attempt::Otherwise;
         }
         match self.line.open(owner(), contracts()) {
             Ok(()) => ample_if(self.line.owner() == Some(owner())),
@@ -113,10 +118,10 @@ impl Call for Opening {
 }
 
 /// `Line::open`.
-pub fn try_open(alloc: Global) -> Outcome {
+pub fn try_open(alloc: Global) -> Attempt {
     match Line::new(alloc, JOURNAL) {
         Ok(line) => try_out(&mut Opening { line }),
-        Err(_) => Outcome::Refused,
+        Err(_) => Attempt::Refused,
     }
 }
 
@@ -145,9 +150,11 @@ struct Cutting {
 }
 
 impl Call for Cutting {
-    fn make(&mut self) -> Outcome {
+    fn make(&mut self) -> Attempt
+        ensures unchanged { result ≡ Attempt.Refused → self.new.line ≡ self.old.line }
+    {
         if self.line.owner().is_none() {
-            return Outcome::Otherwise;
+            return Attempt::Otherwise;
         }
         match self.line.cut() {
             Ok(piece) => ample_if(piece.entries().len() == 1 && self.line.entries().is_empty()),
@@ -159,10 +166,10 @@ impl Call for Cutting {
 }
 
 /// `Line::cut`.
-pub fn try_cut(alloc: Global) -> Outcome {
+pub fn try_cut(alloc: Global) -> Attempt {
     match line_of_one_cell(alloc) {
         Some(line) => try_out(&mut Cutting { line }),
-        None => Outcome::Refused,
+        None => Attempt::Refused,
     }
 }
 
@@ -172,7 +179,7 @@ struct MakingDirectory {
 }
 
 impl Call for MakingDirectory {
-    fn make(&mut self) -> Outcome {
+    fn make(&mut self) -> Attempt {
         match Directory::new(self.alloc, 2, 1) {
             Ok(directory) => ample_if(directory.free_line().is_some()),
             Err(fault) => refused_if(fault == DirFault::NoMemory),
@@ -181,7 +188,7 @@ impl Call for MakingDirectory {
 }
 
 /// `Directory::new`.
-pub fn try_new_directory(alloc: Global) -> Outcome {
+pub fn try_new_directory(alloc: Global) -> Attempt {
     try_out(&mut MakingDirectory { alloc })
 }
 
@@ -192,13 +199,15 @@ struct Putting {
 }
 
 impl Call for Putting {
-    fn make(&mut self) -> Outcome {
+    fn make(&mut self) -> Attempt
+        ensures unchanged { result ≡ Attempt.Refused → self.new.directory ≡ self.old.directory }
+    {
         let vc = owner().vc;
         let Some(line) = self.directory.free_line() else {
-            return Outcome::Otherwise;
+            return Attempt::Otherwise;
         };
         if self.directory.worn() || self.directory.find(vc).is_some() {
-            return Outcome::Otherwise;
+            return Attempt::Otherwise;
         }
         match self.directory.put(vc, line, self.program) {
             Ok(incarnation) => ample_if(incarnation == 1 && self.directory.find(vc).is_some()),
@@ -210,12 +219,12 @@ impl Call for Putting {
 }
 
 /// `Directory::put`.
-pub fn try_put(alloc: Global) -> Outcome {
+pub fn try_put(alloc: Global) -> Attempt {
     let Some(program) = some_id(alloc) else {
-        return Outcome::Refused;
+        return Attempt::Refused;
     };
     match Directory::new(alloc, 2, 1) {
         Ok(directory) => try_out(&mut Putting { directory, program }),
-        Err(_) => Outcome::Refused,
+        Err(_) => Attempt::Refused,
     }
 }

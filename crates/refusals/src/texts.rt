@@ -1,9 +1,13 @@
 //! The dialogues, over an input and an output in memory.
-use crate::trial::{Call, Outcome, ample_if, refused_if, try_out};
+
+use crate::trial::{Attempt, Call, ample_if, made_again, refused_if, try_out};
 use card_dialogue::run_script;
 use dialogue::{Done, Giving, RunFault, Taking};
+use port_dialogue::run_ports;
 use program_dialogue::{check_source, eval_bytes};
 use std::alloc::Global;
+use std::sync::Wait;
+use std::thread::Threads;
 
 /// A program and two cells, and what `eval` answers.
 const INPUT: &[u8; 83] =
@@ -16,13 +20,19 @@ const SOURCE: &[u8; 13] = b"tax\nret #300\n";
 
 const CHECKED: &[u8; 44] = b"accepted 2\n0007000000000000000600000000012c\n";
 
-/// A script in which each thing that takes memory is done, and what `run` answers.
-const SCRIPT: &[u8; 164] = b"card 2 2 1 4\nload 0006000000000001\nload 0006000000000002\n\
-    setup 1 100 p1 cbr1:10/5\ncell 0 00100640\nreload 1 100 p2\ncell 6 00100640\ncut 1 100\n\
-    retire p1\nrelease 1 100\n";
+/// A script in which each thing that takes memory is done, with refusals of the desk between, and what `run` answers.
+const SCRIPT: &[u8; 341] =
+    b"card 2 1 1 16\nload 0006000000000001\nload 0006000000000001\nload 0006000000000001\n\
+    setup 1 100 p1 cbr1:10/0\ncell 0 00100640\nretire p1\nreload 1 100 p2\ncell 5 00100640\n\
+    retire p1\nload 0006000000000001\nreload 1 100 p1\nsetup 1 100 p3 cbr1:1/0\n\
+    setup 2 100 p3 cbr1:1/0\nrelease 1 100\ncell 10 00100640\nsetup 1 100 p3 cbr1:1/0\n\
+    cell 11 00100640\ncut 1 100\n";
 
-const ANSWERS: &[u8; 153] = b"ready\nloaded p1\nloaded p2\nset 1/100\npass 1/100 p1 1 00100640\n\
-    reloaded 1/100 p2\nrefuse 1/100 p2 2\ncut 1/100 2 1 0 0 1\nretired p1\nreleased 1/100 0 0 0 0 0\n";
+const ANSWERS: &[u8; 334] =
+    b"ready\nloaded p1\nloaded p2\nfault desk 6 ProgramsFull\nset 1/100\npass 1/100 p1 1 00100640\n\
+    fault desk 5 InUse\nreloaded 1/100 p2\ndiscard 1/100 p2 1\nretired p1\nloaded p3\n\
+    fault desk 1 NoProgram\nfault desk 3 Taken\nfault desk 4 NoLine\nreleased 1/100 2 1 0 1 0\n\
+    fault arrive 1 NoConnection\nset 1/100\npass 1/100 p3 1 00100640\ncut 1/100 1 1 0 0 0\n";
 
 /// The dialogues.
 #[derive(Clone, Copy)]
@@ -57,7 +67,7 @@ impl Talking {
 }
 
 impl Call for Talking {
-    fn make(&mut self) -> Outcome {
+    fn make(&mut self) -> Attempt {
         let mut input = Taking::new(self.input());
         let mut output = Giving::new(Vec::new(self.alloc));
         let ended = match self.dialogue {
@@ -65,32 +75,60 @@ impl Call for Talking {
             Dialogue::Check => check_source(self.alloc, &mut input, &mut output),
             Dialogue::Run => run_script(self.alloc, &mut input, &mut output),
         };
-        let written = output.writer.as_slice();
-        match ended {
-            Ok(Done::Whole) => ample_if(written == self.ample_text()),
-            Err(RunFault::NoMemory | RunFault::WriteFailed) => {
-                refused_if(self.ample_text().starts_with(written))
-            }
-            _ => Outcome::Otherwise,
-        }
+        outcome_of(ended, &output.writer, self.ample_text())
     }
 }
 
-fn try_dialogue(alloc: Global, dialogue: Dialogue) -> Outcome {
+/// What a dialogue that ended so, and wrote this, is beside its ample text.
+fn outcome_of(ended: Result<Done, RunFault>, written: &[u8], ample: &[u8]) -> Attempt {
+    match ended {
+        Ok(Done::Whole) => ample_if(written == ample),
+        // An output in memory fails where its growth is refused.
+        Err(RunFault::NoMemory | RunFault::WriteFailed) => refused_if(ample.starts_with(written)),
+        _ => Attempt::Otherwise,
+    }
+}
+
+fn try_dialogue(alloc: Global, dialogue: Dialogue) -> Attempt {
     try_out(&mut Talking { alloc, dialogue })
 }
 
 /// `eval_bytes`.
-pub fn try_eval(alloc: Global) -> Outcome {
+pub fn try_eval(alloc: Global) -> Attempt {
     try_dialogue(alloc, Dialogue::Eval)
 }
 
 /// `check_source`.
-pub fn try_check(alloc: Global) -> Outcome {
+pub fn try_check(alloc: Global) -> Attempt {
     try_dialogue(alloc, Dialogue::Check)
 }
 
 /// `run_script`.
-pub fn try_script(alloc: Global) -> Outcome {
+pub fn try_script(alloc: Global) -> Attempt {
     try_dialogue(alloc, Dialogue::Run)
+}
+
+/// A script whose cells come to two ports, and what `ports` answers.
+const PORTS_SCRIPT: &[u8; 151] = b"card 2 2 2 16\nload 0006000000000001\n\
+    setup 1 100 p1 cbr1:10/0\nsetup 1 101 p1 cbr1:10/0\ncell 0 00100640\ncell 0 00100650\n\
+    cell 5 00100640\ncell 10 00100650\n";
+
+const PORTS_ANSWERS: &[u8; 145] = b"ready\nloaded p1\nset 1/100\nset 1/101\n\
+    pass 1/100 p1 1 00100640\npass 1/101 p1 1 00100650\ndiscard 1/100 p1 1\n\
+    pass 1/101 p1 1 00100650\ntotals 3 0 1 0\n";
+
+/// Runs a script whose ports are threads.
+fn talk_at_ports<R: Threads + Wait + Sync>(rt: &R, alloc: Global) -> Attempt {
+    let mut input = Taking::new(PORTS_SCRIPT.as_slice());
+    let mut output = Giving::new(Vec::new(alloc));
+    let ended = run_ports(rt, alloc, &mut input, &mut output);
+    outcome_of(ended, &output.writer, PORTS_ANSWERS)
+}
+
+/// `run_ports`.
+pub fn try_ports<R: Threads + Wait + Sync>(rt: &R, alloc: Global) -> Attempt {
+    match talk_at_ports(rt, alloc) {
+        Attempt::Refused => made_again(talk_at_ports(rt, alloc)),
+        outcome => outcome,
+    }
 }

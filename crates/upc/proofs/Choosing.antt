@@ -88,7 +88,7 @@ some_named : (name : Option (Bor Text)) → IfSome (option_map (λ text. text.no
 some_named None h = tt
 some_named (Some text) h = h
 
--- a subcommand that is found is in the table
+-- A subcommand that is found is in the table.
 pub named_in : (given : List Text) (found : Result (Option (Bor Text)) Error) → FailsBy (faults_in given) found → IfOk found (λ name. option_map (λ text. text.now) name ≡ subcommand_in given)
     → IfOk found (λ name. IfSome name (λ text. IsSome (choice_named text.now)))
 named_in given (Ok name) none met =
@@ -102,7 +102,7 @@ stops_at given error (Words text) (inl memory) is = absurd (is.1 memory)
 stops_at given error (Words text) (inr among) is = (kind_of error, among, is.0)
 stops_at given error NoMemory h is = tt
 
--- words without a fault are a name and no more
+-- Words without a fault are a name and no more.
 asks_at : (given : List Text) (choice : Choice) (found : Option Text) → IsChoiceOf found choice → Finds is_named given found → Asks given choice
 asks_at given choice found chosen (inl h) = inl (h.0, subst (λ o. IsChoiceOf o choice) h.1 chosen)
 asks_at given choice found chosen (inr h) = inr (h.0, h.1, h.2, subst (λ o. IsChoiceOf o choice) h.3 chosen, h.5)
@@ -130,7 +130,7 @@ row_taken name choice named =
     go None e h = cc
     go (Some row) e h = subst (λ n. is_taken n ≡ true) ((bytes_eq-Decides row.0 name).0 h.1) h.0
 
--- a name and no more has no fault
+-- A name and no more has no fault.
 taken_at : (given : List Text) (choice : Choice) → Asks given choice → faults_in given ≡ []
 taken_at given choice (inl h) = ⊎_elim (λ e. ap faults_in e ∙ nothing_taken) (λ e. ap faults_in e ∙ mark_taken) h.0
 taken_at given choice (inr h) =
@@ -139,7 +139,7 @@ taken_at given choice (inr h) =
     ap faults_in h.2
     ∙ ⊎_elim (λ e. ap (λ rest. faults_in (name ∷ rest)) e ∙ is_nil _ parts.0) (λ e. ap (λ rest. faults_in (name ∷ rest)) e ∙ is_nil _ parts.1) h.4
 
--- words without a fault are refused for want of memory alone
+-- Words without a fault are refused for want of memory alone.
 memory_alone : (kinds : Kinds) (error : Error) (stop : Stop) → HasKind kinds error → IsStopFor (kind_of error) stop → kinds ≡ [] → stop ≡ NoMemory
 memory_alone kinds error (Help text) (inl memory) is none = cc
 memory_alone kinds error (Words text) (inl memory) is none = absurd (is.1 memory)

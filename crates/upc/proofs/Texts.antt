@@ -1,6 +1,6 @@
 -- The texts of the subcommands: each input has one of each, and one alone where it is told whole.
 use Rattle.std.proofs.Common.{◌≡◌, ℕ, List}
-use Rattle.dialogue.specs.declared.outcome.Done.{Done}
+use Rattle.dialogue.specs.declared.ending.Done.{Done}
 use Rattle.upc.specs.Subcommand.{IsTextOf, IsToldWhole}
 use Rattle.upc.specs.declared.choose.Choice.{Choice}
 use Rattle.upc.specs.declared.choose.Choice.TheVariants.{Check, Eval, Run, Ports}

@@ -13,62 +13,62 @@ use Rattle.upc.specs.declared.choose.Choice.TheVariants.{Check, Eval, Run, Ports
 use Rattle.upc.specs.declared.choose.Stop.{Stop}
 use Rattle.upc.specs.declared.choose.Stop.TheVariants.{Help, Words, NoMemory}
 
--- the subcommands: each one's name, and the choice that it stands for
+-- The subcommands: each one's name, and the choice that it stands for.
 abbrev pub subcommands : List (Text × Choice)
 subcommands = (codes "check", Check) ∷ (codes "eval", Eval) ∷ (codes "run", Run) ∷ (codes "ports", Ports) ∷ []
 
--- the command with one more subcommand of this name, which takes no words of its own
+-- The command with one more subcommand of this name, which takes no words of its own.
 unfoldable pub with_name : App → Text → App
 with_name app name = with_subcommand app (new_shape name)
 
--- the command `upc`: these subcommands, and no option but the help that every command has
+-- The command `upc`: these subcommands, and no option but the help that every command has.
 unfoldable pub upc_app : App
 upc_app = fold (λ app row. with_name app row.0) (new_app (codes "upc")) subcommands
 
--- the words as clap reads them, behind the program's own name
+-- The words as clap reads them, behind the program's own name.
 abbrev pub behind_name : List Text → List Text
 behind_name words = codes "upc" ∷ words
 
--- the name of the subcommand that is found in the words
+-- The name of the subcommand that is found in the words.
 unfoldable pub subcommand_in : List Text → Option Text
 subcommand_in words = option_map (λ found. found.0) (subcommand_of upc_app (behind_name words))
 
--- what is wrong with the words, a request for help among it: nothing, or the kinds of which a
--- refusal has one
+-- What is wrong with the words, a request for help among it: nothing, or the kinds of which a
+-- refusal has one.
 unfoldable pub faults_in : List Text → Kinds
 faults_in words = fault_of upc_app (behind_name words)
 
--- the choice that a subcommand's name stands for
+-- The choice that a subcommand's name stands for.
 abbrev pub choice_named : Text → Option Choice
 choice_named name = option_map (λ row. row.1) (find (λ row. bytes_eq row.0 name) subcommands)
 
--- the choice is that of the subcommand of this name, and Eval where there is none
+-- The choice is that of the subcommand of this name, and Eval where there is none.
 abbrev pub IsChoiceOf : Option Text → Choice → Type 0
 IsChoiceOf name choice = MatchOption name (choice ≡ Eval) (λ text. choice_named text ≡ Some choice)
 
--- the choice is that of the subcommand in the words
+-- The choice is that of the subcommand in the words.
 abbrev pub IsChosen : List Text → Choice → Type 0
 IsChosen words = IsChoiceOf (subcommand_in words)
 
--- no word is left, but perhaps the mark `--` that ends a command's options
+-- No word is left, but perhaps the mark `--` that ends a command's options.
 abbrev pub IsEnd : List Text → Type 0
 IsEnd words = (words ≡ []) ⊎ (words ≡ codes "--" ∷ [])
 
--- the words are a subcommand's name, or nothing for `eval`, and no more
+-- The words are a subcommand's name, or nothing for `eval`, and no more.
 abbrev pub Asks : List Text → Choice → Type 0
 Asks words choice = (IsEnd words × (choice ≡ Eval))
     ⊎ ((name : Text) × (rest : List Text) × (words ≡ name ∷ rest) × (choice_named name ≡ Some choice)
     × IsEnd rest)
 
--- the words ask for help
+-- The words ask for help.
 abbrev pub AsksHelp : List Text → Type 0
 AsksHelp words = IsAmong DisplayHelp (faults_in words)
 
--- the words have a fault that is no request for help
+-- The words have a fault that is no request for help.
 abbrev pub IsFaulty : List Text → Type 0
 IsFaulty words = (kind : ErrorKind) × IsAmong kind (faults_in words) × (kind ≢ DisplayHelp)
 
--- why the words lead to no choice
+-- Why the words lead to no choice.
 abbrev pub StopsAt : List Text → Stop → Type 0
 StopsAt words (Help text) = AsksHelp words
 StopsAt words (Words text) = IsFaulty words

@@ -4,10 +4,10 @@ use Rattle.std.specs.String.{string_bytes}
 use Rattle.dialogue.specs.Devices.{Adds, IsPart, TakesEnough, one_more}
 use Rattle.dialogue.specs.Limits.{most_ahead}
 use Rattle.dialogue.specs.Printing.{IsFront}
-use Rattle.dialogue.specs.declared.outcome.Done.{Done}
-use Rattle.dialogue.specs.declared.outcome.RunFault.{RunFault}
-use Rattle.dialogue.specs.declared.outcome.RunFault.TheVariants.{ReadFailed, WriteFailed, NoMemory}
-use Rattle.upc.specs.Outcome.{status_of}
+use Rattle.dialogue.specs.declared.ending.Done.{Done}
+use Rattle.dialogue.specs.declared.ending.RunFault.{RunFault}
+use Rattle.dialogue.specs.declared.ending.RunFault.TheVariants.{ReadFailed, WriteFailed, NoMemory}
+use Rattle.upc.specs.ExitStatus.{status_of}
 use Rattle.upc.specs.Subcommand.{IsTextOf}
 use Rattle.upc.specs.declared.choose.Choice.{Choice}
 use Rattle.upc.specs.declared.choose.Stop.{Stop}

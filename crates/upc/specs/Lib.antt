@@ -1,6 +1,6 @@
 -- The program `upc`. In the order of reading:
 pub mod Choice
 pub mod Subcommand
-pub mod Outcome
+pub mod ExitStatus
 pub mod Invocation
 pub mod inner

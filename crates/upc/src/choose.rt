@@ -1,4 +1,5 @@
 //! What the words after the program's name ask for, as the crate `clap` reads them.
+
 ghost use Rattle.std.specs.Prelude.{◌≡◌, List, ℕ, [], IfOk, IfErr, IfSome, IsErrAnd, IsOkAnd, IsSome, codes, map, option_map};
 ghost use Rattle.std.specs.String.{string_bytes};
 ghost use Rattle.clap.specs.Values.{kind_of};
@@ -62,7 +63,7 @@ pub fn choose(alloc: Global, words: Vec<String>) -> Result<Choice, Stop>
     answer_to(alloc, found)
 }
 
-// `clap` takes the first word for the program's name.
+/// `clap` takes the first word for the program's name.
 fn behind_own_name(alloc: Global, mut words: Vec<String>) -> Result<Vec<String>, AllocError>
     ensures { IfOk result (λ all. map string_bytes all.items ≡ behind_name (map string_bytes words.items)) }
 {
@@ -124,7 +125,7 @@ fn with_subcommand<'a>(
     command.subcommand(Command::new(alloc, name).about(about))
 }
 
-// The name of the subcommand in the words, where `clap` takes them.
+/// The name of the subcommand in the words, where `clap` takes them.
 fn found_in<'a>(command: Command<'a>, words: &'a [String]) -> Result<Option<&'a str>, Error>
     requires { app_of command ≡ upc_app }
     ensures kinds { (given : List (List ℕ)) → map string_bytes words.entry.now ≡ behind_name given

@@ -1,6 +1,7 @@
 //! The exit status of the program.
+
 ghost use Rattle.std.specs.Prelude.{◌≡◌};
-ghost use Rattle.upc.specs.Outcome.{status_of};
+ghost use Rattle.upc.specs.ExitStatus.{status_of};
 
 use dialogue::{Done, RunFault};
 

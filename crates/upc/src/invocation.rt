@@ -1,4 +1,5 @@
 //! The choice that the words came to, carried out between three devices, with the exit status.
+
 ghost use Rattle.std.specs.Prelude.{◌≡◌, ◌≢◌, ◌⊎◌, ◌++◌, Ok as TheOk, OnOk, OnErr, IfOk};
 ghost use Rattle.dialogue.specs.Devices.{IsPart, one_more};
 ghost use Rattle.upc.specs.Invocation.{CarriesOut, IsStatusFor, failure_line};

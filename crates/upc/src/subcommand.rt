@@ -1,8 +1,9 @@
 //! The subcommand that was chosen, between two devices.
+
 ghost use Rattle.std.specs.Prelude.{◌≡◌, ◌≢◌, IfOk, OnErr, ℕ, List, [], Ok};
 ghost use Rattle.dialogue.specs.Devices.{Adds, TakesEnough};
 ghost use Rattle.dialogue.specs.Limits.{most_ahead};
-ghost use Rattle.dialogue.specs.Outcome.{read_failures, write_failures};
+ghost use Rattle.dialogue.specs.Failures.{read_failures, write_failures};
 ghost use Rattle.dialogue.specs.Printing.{IsFront};
 ghost use Rattle.upc.specs.Subcommand.{IsTextOf};
 ghost use Rattle.upc.specs.declared.choose.Choice.TheVariants.{Ports};

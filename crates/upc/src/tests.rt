@@ -1,4 +1,5 @@
 //! What the subcommands print, over whole inputs and over devices that give little or fail.
+
 mod devices;
 mod limits;
 mod rows;

@@ -5,7 +5,7 @@ use Rattle.clap.specs.declared.error.kind.ErrorKind.TheVariants.{DisplayHelp, Ou
 use Rattle.upc.specs.declared.choose.Stop.{Stop}
 use Rattle.upc.specs.declared.choose.Stop.TheVariants.{Help, Words, NoMemory}
 
--- which stop an error of this kind may come to
+-- Which stop an error of this kind may come to.
 abbrev pub IsStopFor : ErrorKind → Stop → Type 0
 IsStopFor kind (Help text) = kind ≡ DisplayHelp
 IsStopFor kind (Words text) = (kind ≢ DisplayHelp) × (kind ≢ OutOfMemory)

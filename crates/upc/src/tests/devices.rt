@@ -1,4 +1,5 @@
 //! Devices that move one octet a call, and fail at a call of one's choice.
+
 ghost use Rattle.std.specs.Prelude.{◌≡◌, drop};
 
 use crate::choose::Choice;
@@ -18,6 +19,13 @@ const TEXT: &[u8; 43] = b"accepted 4\nvalue 1 steps 3\nvalue 2 steps 3\n";
 const SOURCE: &[u8; 13] = b"tax\nret #300\n";
 
 const CHECKED: &[u8; 44] = b"accepted 2\n0007000000000000000600000000012c\n";
+
+/// Two ports with a connection each, and what `ports` answers.
+const SCRIPT: &[u8; 151] = b"card 2 2 2 16\nload 0006000000000001\nsetup 1 100 p1 cbr1:10/0\n\
+    setup 1 101 p1 cbr1:10/0\ncell 0 00100640\ncell 0 00100650\ncell 5 00100640\ncell 10 00100650\n";
+
+const ANSWERED: &[u8; 145] = b"ready\nloaded p1\nset 1/100\nset 1/101\npass 1/100 p1 1 00100640\n\
+    pass 1/101 p1 1 00100650\ndiscard 1/100 p1 1\npass 1/101 p1 1 00100650\ntotals 3 0 1 0\n";
 
 /// Gives one octet a call, and fails once so many calls have gone well.
 #[derive(Drop)]
@@ -129,6 +137,15 @@ fn run_check<R: Threads + Wait + Sync>(
     run_over(rt, alloc, Choice::Check, SOURCE, takes, gives)
 }
 
+fn run_ports<R: Threads + Wait + Sync>(
+    rt: &R,
+    alloc: Global,
+    takes: usize,
+    gives: usize,
+) -> (Result<Done, RunFault>, Vec<u8>) {
+    run_over(rt, alloc, Choice::Ports, SCRIPT, takes, gives)
+}
+
 #[test]
 fn one_octet_a_call_gives_the_same_text(rt: HostRuntime) -> Result<(), Fail> {
     let (ended, text) = run(&rt, rt.alloc(), 1000, 1000);
@@ -182,5 +199,26 @@ fn a_source_is_gathered_whole_before_it_is_answered(rt: HostRuntime) {
         let (ended, text) = run_check(&rt, rt.alloc(), 1000, gives);
         assert_eq!(rt; ended, Err(RunFault::WriteFailed));
         assert_eq!(rt; text.as_slice(), &CHECKED[..gives]);
+    }
+}
+
+#[test]
+fn a_script_of_ports_is_read_whole_before_it_is_run(rt: HostRuntime) {
+    for takes in 0..SCRIPT.len() + 1 {
+        let (ended, text) = run_ports(&rt, rt.alloc(), takes, 1000);
+        assert_eq!(rt; ended, Err(RunFault::ReadFailed));
+        assert_eq!(rt; text.len(), 0);
+    }
+    let (ended, text) = run_ports(&rt, rt.alloc(), 1000, 1000);
+    assert_eq!(rt; ended, Ok(Done::Whole));
+    assert_eq!(rt; text.as_slice(), ANSWERED.as_slice());
+}
+
+#[test]
+fn a_write_that_fails_leaves_a_beginning_of_what_ports_answered(rt: HostRuntime) {
+    for gives in 0..ANSWERED.len() {
+        let (ended, text) = run_ports(&rt, rt.alloc(), 1000, gives);
+        assert_eq!(rt; ended, Err(RunFault::WriteFailed));
+        assert_eq!(rt; text.as_slice(), &ANSWERED[..gives]);
     }
 }

@@ -1,5 +1,7 @@
 //! The most lines of an input, and the most octets of a line.
-use super::expect;
+
+use super::{expect, expect_of};
+use crate::choose::Choice;
 use dialogue::Done;
 use std::alloc::{AllocError, Global};
 use std::test::Fail;
@@ -46,6 +48,71 @@ fn an_input_has_at_most_1000000_lines(rt: HostRuntime) -> Result<(), Fail> {
         b"accepted 1\nfault script 5 TooLong\n",
         Done::Ended,
     )?;
+    Ok(())
+}
+
+/// A script of so many lines: the card's, remarks, and a cell's.
+fn script_of(alloc: Global, lines: usize) -> Result<String, AllocError> {
+    let remarks = "#\n".repeat(alloc, lines.saturating_sub(2))?;
+    format!(in alloc; "card 1 1 1 1\n{remarks}cell 5 00100640\n")
+}
+
+#[test]
+fn a_script_has_at_most_1000000_lines(rt: HostRuntime) -> Result<(), Fail> {
+    let rows: [(usize, &[u8], Done); 2] = [
+        (
+            1000000,
+            b"ready\nfault arrive 1 NoConnection\n",
+            Done::Whole,
+        ),
+        (1000001, b"ready\nfault script 5 TooLong\n", Done::Ended),
+    ];
+    for (lines, text, ends) in rows {
+        let script = script_of(rt.alloc(), lines)?;
+        expect_of(&rt, rt.alloc(), Choice::Run, script.as_bytes(), text, ends)?;
+    }
+    Ok(())
+}
+
+#[test]
+fn a_script_of_ports_has_at_most_1000000_lines(rt: HostRuntime) -> Result<(), Fail> {
+    let rows: [(usize, &[u8], Done); 2] = [
+        (
+            1000000,
+            b"ready\nfault arrive 1 NoConnection\ntotals 0 0 0 0\n",
+            Done::Whole,
+        ),
+        // A script of ports is read whole before anything of it is answered.
+        (1000001, TOO_LONG, Done::Ended),
+    ];
+    for (lines, text, ends) in rows {
+        let script = script_of(rt.alloc(), lines)?;
+        expect_of(
+            &rt,
+            rt.alloc(),
+            Choice::Ports,
+            script.as_bytes(),
+            text,
+            ends,
+        )?;
+    }
+    Ok(())
+}
+
+#[test]
+fn a_script_of_ports_over_the_limits_has_one_line(rt: HostRuntime) -> Result<(), Fail> {
+    let card = b"card 1 1 1 1\n";
+    let rows: [(usize, &[u8], &[u8], Done); 4] = [
+        (69999, b"\n", b"ready\ntotals 0 0 0 0\n", Done::Whole),
+        (70000, b"", b"ready\ntotals 0 0 0 0\n", Done::Whole),
+        (70000, b"\r\n", TOO_LONG, Done::Ended),
+        (70001, b"", TOO_LONG, Done::Ended),
+    ];
+    for (count, end, text, ends) in rows {
+        let mut script = Vec::from_slice(rt.alloc(), card)?;
+        script.extend_from_slice(&line_of(rt.alloc(), b'#', count, end)?)?;
+        expect_of(&rt, rt.alloc(), Choice::Ports, &script, text, ends)?;
+    }
     Ok(())
 }
 

@@ -1,6 +1,8 @@
 //! Programs and cells with the lines that they are answered by.
+
 use super::{evaluated, expect};
 use dialogue::Done;
+use std::alloc::{AllocError, Global};
 use std::test::Fail;
 
 /// User data by PTI against end-to-end OAM: `ldb [3]`; `jeq #0x4a` with jt 0 and jf 1; `ret #2`; `ret #1`.
@@ -159,6 +161,16 @@ fn a_value_for_each_kind_of_instruction(rt: HostRuntime) -> Result<(), Fail> {
             "00b100000000000200870000000000000016000000000000",
             "accepted 3\nvalue 24 steps 3\n",
         ),
+        // ld #len; ret a
+        (
+            "00800000000000000016000000000000",
+            "accepted 2\nvalue 52 steps 2\n",
+        ),
+        // ldx #len; txa; ret a
+        (
+            "008100000000000000870000000000000016000000000000",
+            "accepted 3\nvalue 52 steps 3\n",
+        ),
         // ret #0; ld M[3]; ret a
         (
             "000600000000000000600000000000030016000000000000",
@@ -264,6 +276,65 @@ fn branches_and_stores_on_the_way_to_a_read(rt: HostRuntime) -> Result<(), Fail>
         b"fault verify 8 Unwritten 2001 0\n",
         Done::Ended,
     )?;
+    Ok(())
+}
+
+/// Some digits for each scratch word, and its number behind them.
+fn for_each_word(alloc: Global, digits: &str) -> Result<String, AllocError> {
+    let mut text = String::new(alloc);
+    for word in 0..16 {
+        text.push_str(format!(in alloc; "{digits}{word:08x}")?.as_str())?;
+    }
+    Ok(text)
+}
+
+/// `ld #7`, a store of each word, a branch over a store 2031 times, a read of each word, and `ret a`: 4096
+/// instructions, which have more paths than can be counted.
+#[test]
+fn the_longest_program_with_scratch_words_on_every_path(rt: HostRuntime) -> Result<(), Fail> {
+    let stores = for_each_word(rt.alloc(), "00020000")?;
+    let reads = for_each_word(rt.alloc(), "00600000")?;
+    let branches = "004d0001000000000003000000000003".repeat(rt.alloc(), 2031)?;
+    let back = format!(in rt.alloc(); "{branches}{reads}0016000000000000\n00100640\n")?;
+    let written = format!(in rt.alloc(); "0000000000000007{stores}{back}")?;
+    let text = b"accepted 4096\nvalue 7 steps 2065\n";
+    expect(&rt, rt.alloc(), written.as_bytes(), text, Done::Whole)?;
+    // The store of word 3 in front is missing: it is stored on all paths but one, and read at place 4082.
+    let skipped = stores.replace(rt.alloc(), "0002000000000003", "0087000000000000")?;
+    let unwritten = format!(in rt.alloc(); "0000000000000007{skipped}{back}")?;
+    let text = b"fault verify 8 Unwritten 4082 3\n";
+    expect(&rt, rt.alloc(), unwritten.as_bytes(), text, Done::Ended)?;
+    let longer = format!(in rt.alloc(); "0087000000000000{written}")?;
+    let text = b"fault verify 2 TooLong\n";
+    expect(&rt, rt.alloc(), longer.as_bytes(), text, Done::Ended)?;
+    Ok(())
+}
+
+/// What `eval` answers to a word of so many zeros, under the program `ret #7`.
+fn answer_to_zeros(alloc: Global, digits: usize) -> Result<String, AllocError> {
+    match digits {
+        0 => Ok(String::new(alloc)),
+        8 | 104 => String::from_str(alloc, "value 7 steps 1\n"),
+        _ if digits % 2 == 1 => String::from_str(alloc, "fault script 3 BadHex\n"),
+        _ => format!(in alloc; "fault cell 1 WrongLength {}\n", digits / 2),
+    }
+}
+
+#[test]
+fn a_cell_has_8_digits_or_104_and_no_other_number(rt: HostRuntime) -> Result<(), Fail> {
+    for digits in 0..111 {
+        let zeros = "0".repeat(rt.alloc(), digits)?;
+        let input = format!(in rt.alloc(); "0006000000000007\n{zeros}\n")?;
+        let answer = answer_to_zeros(rt.alloc(), digits)?;
+        let text = format!(in rt.alloc(); "accepted 1\n{answer}")?;
+        expect(
+            &rt,
+            rt.alloc(),
+            input.as_bytes(),
+            text.as_bytes(),
+            Done::Whole,
+        )?;
+    }
     Ok(())
 }
 

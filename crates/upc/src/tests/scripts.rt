@@ -1,4 +1,5 @@
 //! Scripts, with the lines that they are answered by.
+
 use super::devices::run_over;
 use super::{expect_of, printed};
 use crate::choose::Choice;
@@ -182,7 +183,7 @@ fn a_reload_keeps_the_buckets_and_names_stay_for_good(rt: HostRuntime) -> Result
 
 #[test]
 fn a_refused_line_is_told_by_its_first_fault(rt: HostRuntime) -> Result<(), Fail> {
-    let rows: [(&str, &str); 30] = [
+    let rows: [(&str, &str); 36] = [
         ("cell 5", "fault script 1 BadLine\n"),
         ("cell x 00100640", "fault script 1 BadLine\n"),
         ("cell 5 0010064", "fault script 3 BadHex\n"),
@@ -225,6 +226,27 @@ fn a_refused_line_is_told_by_its_first_fault(rt: HostRuntime) -> Result<(), Fail
         ("setup 1 1 p0 cbr1:1/0", "fault desk 1 NoProgram\n"),
         ("setup 1 1 P1 cbr1:1/0", "fault script 1 BadLine\n"),
         ("retire p18446744073709551615", "fault desk 1 NoProgram\n"),
+        (
+            "reload 1 1 p18446744073709551615",
+            "fault desk 1 NoProgram\n",
+        ),
+        (
+            "setup 1 1 p18446744073709551615 cbr1:1/0",
+            "fault desk 1 NoProgram\n",
+        ),
+        ("retire p18446744073709551616", "fault script 1 BadLine\n"),
+        (
+            "reload 1 1 p18446744073709551616",
+            "fault script 1 BadLine\n",
+        ),
+        (
+            "setup 1 1 p18446744073709551616 cbr1:1/0",
+            "fault script 1 BadLine\n",
+        ),
+        (
+            "retire p00000000000000000000000",
+            "fault desk 1 NoProgram\n",
+        ),
         ("release 1 1", "fault desk 2 NoConnection\n"),
         ("load 0016", "fault decode 1 Ragged\n"),
         ("load 00160000", "fault decode 1 Ragged\n"),

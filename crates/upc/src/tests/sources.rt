@@ -1,8 +1,13 @@
 //! Sources with the lines that `check` answers them by.
+
 use super::{expect_of, printed};
 use crate::choose::Choice;
 use dialogue::Done;
+use std::alloc::{AllocError, Global};
+use std::process::Abort;
+use std::sync::Wait;
 use std::test::Fail;
+use std::thread::Threads;
 
 #[test]
 fn an_accepted_source_is_answered_by_its_octets(rt: HostRuntime) -> Result<(), Fail> {
@@ -57,7 +62,7 @@ fn each_fault_of_a_source_has_a_line_of_its_own(rt: HostRuntime) -> Result<(), F
         (b"jeq x, gone\nret a", b"fault asm 4 UnknownLabel 1\n"),
         (b"top: ld #1\nja top\nret a", b"fault asm 5 Backward 2\n"),
         (b"ja end\nend:", b"fault asm 7 DanglingLabel 2\n"),
-        // a source is looked at whole before its code is
+        // A source is looked at whole before its code is.
         (b"div #0\nret #1\nret x", b"fault asm 1 BadLine 3\n"),
         (b"\n\n\n\n\n\n\n\n\n\n\n9a", b"fault asm 2 BadNumber 12\n"),
         (b"\xff", b"fault asm 1 BadLine 1\n"),
@@ -148,5 +153,72 @@ fn a_source_has_at_most_1048576_octets(rt: HostRuntime) -> Result<(), Fail> {
         b"fault script 5 TooLong\n",
         Done::Ended,
     )?;
+    Ok(())
+}
+
+/// A source of so many octets: a text, one octet again and again, and another text.
+fn filled(
+    alloc: Global,
+    (front, octet, back): (&[u8], u8, &[u8]),
+    size: usize,
+) -> Result<Vec<u8>, AllocError> {
+    let count = size.saturating_sub(front.len()).saturating_sub(back.len());
+    let mut source = Vec::from_slice(alloc, front)?;
+    source.extend_from_slice(&vec![in alloc; octet; count]?)?;
+    source.extend_from_slice(back)?;
+    Ok(source)
+}
+
+/// Asks that such a source has one instruction where it is as long as a source may be, or an octet shorter, and that
+/// it is too long with an octet more.
+fn expect_up_to_the_limit<R: Threads + Wait + Sync + Abort>(
+    rt: &R,
+    alloc: Global,
+    parts: (&[u8], u8, &[u8]),
+) -> Result<(), Fail> {
+    let rows: [(usize, &[u8], Done); 3] = [
+        (1048575, b"accepted 1\n0006000000000001\n", Done::Whole),
+        (1048576, b"accepted 1\n0006000000000001\n", Done::Whole),
+        (1048577, b"fault script 5 TooLong\n", Done::Ended),
+    ];
+    for (size, text, ends) in rows {
+        let source = filled(alloc, parts, size)?;
+        expect_of(rt, alloc, Choice::Check, &source, text, ends)?;
+    }
+    Ok(())
+}
+
+#[test]
+fn a_label_is_as_long_as_a_source_lets_it_be(rt: HostRuntime) -> Result<(), Fail> {
+    expect_up_to_the_limit(&rt, rt.alloc(), (b"", b'a', b": ret #1"))
+}
+
+#[test]
+fn a_remark_is_as_long_as_a_source_lets_it_be(rt: HostRuntime) -> Result<(), Fail> {
+    expect_up_to_the_limit(&rt, rt.alloc(), (b"ret #1;", b'#', b""))
+}
+
+#[test]
+fn blanks_are_as_many_as_a_source_lets_them_be(rt: HostRuntime) -> Result<(), Fail> {
+    expect_up_to_the_limit(&rt, rt.alloc(), (b"ret", b' ', b"#1"))
+}
+
+#[test]
+fn a_number_is_as_long_as_a_source_lets_it_be(rt: HostRuntime) -> Result<(), Fail> {
+    expect_up_to_the_limit(&rt, rt.alloc(), (b"ret #", b'0', b"1"))
+}
+
+/// A jump over as many instructions as a program has beside it, and one over one more.
+#[test]
+fn a_jump_goes_over_a_whole_program(rt: HostRuntime) -> Result<(), Fail> {
+    for (between, text) in [
+        (4094, "accepted 4096\n0005000000000ffe"),
+        (4095, "fault verify 2 TooLong\n"),
+    ] {
+        let others = "neg\n".repeat(rt.alloc(), between)?;
+        let source = format!(in rt.alloc(); "ja end\n{others}end: ret a\n")?;
+        let (found, _done) = printed(&rt, rt.alloc(), Choice::Check, source.as_bytes())?;
+        assert!(rt; found.starts_with(text.as_bytes()), "{between}");
+    }
     Ok(())
 }

@@ -1,4 +1,5 @@
 //! The exit status, with what is written and what is told.
+
 use super::devices::{Catcher, Dropper};
 use crate::choose::choose;
 use crate::exit::status;
@@ -56,13 +57,15 @@ fn a_status_for_each_end(rt: HostRuntime) {
 
 #[test]
 fn each_subcommand_ends_with_its_status(rt: HostRuntime) -> Result<(), Fail> {
-    let rows: [(&str, &[u8], u8, &[u8]); 8] = [
+    let rows: [(&str, &[u8], u8, &[u8]); 10] = [
         ("", PROGRAM, 0, b"accepted 1\nvalue 7 steps 1\n"),
         ("eval", PROGRAM, 0, b"accepted 1\nvalue 7 steps 1\n"),
         ("eval --", PROGRAM, 0, b"accepted 1\nvalue 7 steps 1\n"),
         ("eval", b"", 1, b"fault script 4 NoProgram\n"),
         ("check", b"ret #7\n", 0, b"accepted 1\n0006000000000007\n"),
         ("check", PROGRAM, 1, b"fault asm 2 BadNumber 1\n"),
+        ("run", b"card 1 1 1 1\n", 0, b"ready\n"),
+        ("run", PROGRAM, 1, b"fault script 2 NoCard\n"),
         ("ports", b"card 1 1 1 1\n", 0, b"ready\ntotals 0 0 0 0\n"),
         ("ports", PROGRAM, 1, b"fault script 2 NoCard\n"),
     ];
@@ -77,7 +80,7 @@ fn each_subcommand_ends_with_its_status(rt: HostRuntime) -> Result<(), Fail> {
 
 #[test]
 fn a_device_that_fails_is_told_and_ends_with_status_3(rt: HostRuntime) -> Result<(), Fail> {
-    for words in ["", "eval", "check", "ports"] {
+    for words in ["", "eval", "check", "run", "ports"] {
         let left = run_words(&rt, rt.alloc(), words, PROGRAM, 3, 100)?;
         assert_eq!(rt; left.status, 3);
         assert_eq!(rt; left.told.as_slice(), b"upc: reading failed\n".as_slice());
