@@ -7,9 +7,9 @@ from .contract import Contract
 from .faults import Fault
 from .machine import value_and_steps
 
-MOST_MOMENT = 2**62
-MOST_SET_UP = 2**62
-MOST_RATE = 2**48
+LAST_MOMENT = 2**62
+LAST_INCARNATION = 2**62
+MOST_TICKS = 2**48
 
 # The limits of a card's shape, in the order in which they are looked at.
 SHAPE = (("Programs", 1024), ("Lines", 4096), ("Ports", 16), ("Journal", 65536))
@@ -71,7 +71,7 @@ class Card:
             raise Fault("desk", "Taken")
         if len(self.connections) == self.most_connections:
             raise Fault("desk", "NoLine")
-        if self.set_up == MOST_SET_UP:
+        if self.set_up == LAST_INCARNATION:
             raise Fault("desk", "Exhausted")
         self.set_up += 1
         self.connections[vc] = Connection(number, [Contract(kind, rates) for kind, rates in wanted])
@@ -102,7 +102,7 @@ class Card:
         connection = self.connections[vc]
         if moment < connection.last_moment:
             raise Fault("arrive", "MomentBack", connection.last_moment)
-        if moment > MOST_MOMENT:
+        if moment > LAST_MOMENT:
             raise Fault("arrive", "MomentTooLate")
         if connection.tally()[0] == self.most_judged:
             raise Fault("arrive", "JournalFull")
@@ -131,5 +131,5 @@ def check_rate(increment, limit):
     """A bucket has an increment of 1 to 2^48 ticks and a limit of 0 to 2^48."""
     if increment == 0:
         raise Fault("gcra", "ZeroIncrement")
-    if increment > MOST_RATE or limit > MOST_RATE:
+    if increment > MOST_TICKS or limit > MOST_TICKS:
         raise Fault("gcra", "TooLarge")

@@ -5,13 +5,13 @@ from .checking import check
 from .decoding import encoded
 from .faults import Fault
 
-MOST_OCTETS = 1_048_576
+MOST_SOURCE_OCTETS = 1_048_576
 
 
 def checked(source):
     """The octets of the accepted program that the source means, or its fault; and the exit status."""
     try:
-        if len(source) > MOST_OCTETS:
+        if len(source) > MOST_SOURCE_OCTETS:
             raise Fault("script", "TooLong")
         program = assembled(source)
         check(program)

@@ -6,7 +6,7 @@ from .cell import PATH_BITS
 from .faults import Fault
 
 MOST_NUMBER = 2**64 - 1
-MOST_CHANNEL = 65535
+LAST_VCI = 65535
 MOST_CONTRACTS = 4
 
 NUMBER = re.compile(rb"0*([0-9]{0,20})")
@@ -38,7 +38,7 @@ def program_of(word):
 
 def connection_of(path, channel, side):
     """The connection that two words name: a path that the side has, and a channel."""
-    return number_of(path, (1 << PATH_BITS[side]) - 1), number_of(channel, MOST_CHANNEL)
+    return number_of(path, (1 << PATH_BITS[side]) - 1), number_of(channel, LAST_VCI)
 
 
 def rate_of(word):

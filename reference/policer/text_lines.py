@@ -4,8 +4,8 @@ import re
 
 from .faults import Fault
 
-MOST_LINES = 1_000_000
-MOST_OCTETS = 70_000
+MOST_INPUT_LINES = 1_000_000
+MOST_LINE_OCTETS = 70_000
 
 WORD = re.compile(rb"[^ \t]+")
 
@@ -42,7 +42,7 @@ def limited_lines(text):
     There are at most 1,000,000, of at most 70,000 octets each; a carriage return counts, a line feed doesn't.
     """
     for number, (line, is_fed) in enumerate(raw_lines(text), start=1):
-        if number > MOST_LINES or len(line) > MOST_OCTETS:
+        if number > MOST_INPUT_LINES or len(line) > MOST_LINE_OCTETS:
             raise Fault("script", "TooLong")
         yield without_return(line, is_fed)
 

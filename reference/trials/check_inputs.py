@@ -3,7 +3,7 @@
 from . import programs, sources
 from .mutations import mutated
 
-MOST_OCTETS = 1_048_576
+MOST_SOURCE_OCTETS = 1_048_576
 
 
 def make(rng):
@@ -32,6 +32,6 @@ def source_program(rng):
 
 
 def as_long_as_it_may_be(rng, text):
-    wanted = MOST_OCTETS + rng.choice((-1, 0, 1, 1))
+    wanted = MOST_SOURCE_OCTETS + rng.choice((-1, 0, 1, 1))
     filler = rng.choice((b";", b"\n", b" "))
     return text + b";" + filler * (wanted - len(text) - 1)

@@ -4,9 +4,9 @@ from policer.instructions import BRANCHES, CODES, Instruction
 
 from . import programs
 
-MOST_LINES = 1_000_000
-MOST_OCTETS = 70_000
-MOST_SOURCE = 1_048_576
+MOST_INPUT_LINES = 1_000_000
+MOST_LINE_OCTETS = 70_000
+MOST_SOURCE_OCTETS = 1_048_576
 MOST_INSTRUCTIONS = 4096
 
 RETURN = b"0006000000000001"
@@ -29,10 +29,10 @@ def one(mnemonic, form, k=0, jt=0, jf=0):
 def long_lines(first, last):
     """The input with lines about as long as a line may be: blanks, remarks, words, with and without a return."""
     for filler in (b" ", b"#", b"0", b"\r"):
-        for wanted in (MOST_OCTETS - 1, MOST_OCTETS, MOST_OCTETS + 1):
+        for wanted in (MOST_LINE_OCTETS - 1, MOST_LINE_OCTETS, MOST_LINE_OCTETS + 1):
             for end in (b"\n", b"\r\n", b""):
                 yield first + filler * wanted + end + last
-    for wanted in (MOST_OCTETS - 1, MOST_OCTETS, MOST_OCTETS + 1):
+    for wanted in (MOST_LINE_OCTETS - 1, MOST_LINE_OCTETS, MOST_LINE_OCTETS + 1):
         line = first.splitlines()[0]
         yield line + b" " * (wanted - len(line)) + b"\n" + last
         yield last + line + b" " * (wanted - len(line))
@@ -41,11 +41,11 @@ def long_lines(first, last):
 def many_lines(first, last):
     """The input with about as many lines as there may be, behind its first lines."""
     begun = first.count(b"\n")
-    for count in (MOST_LINES - 1, MOST_LINES, MOST_LINES + 1):
+    for count in (MOST_INPUT_LINES - 1, MOST_INPUT_LINES, MOST_INPUT_LINES + 1):
         yield first + b"\n" * (count - begun - 1) + last.split(b"\n")[0]
         yield first + b"\n" * (count - begun)
-    yield first + b"\n" * (MOST_LINES - begun) + b"0" * (MOST_OCTETS + 1)
-    yield b"\n" * MOST_LINES
+    yield first + b"\n" * (MOST_INPUT_LINES - begun) + b"0" * (MOST_LINE_OCTETS + 1)
+    yield b"\n" * MOST_INPUT_LINES
 
 
 def ends():
@@ -120,10 +120,10 @@ def check_edges():
     for octet in range(256):
         yield bytes([octet])
         yield b"ret #1" + bytes([octet]) + b"\n"
-    for wanted in (MOST_SOURCE - 1, MOST_SOURCE, MOST_SOURCE + 1):
+    for wanted in (MOST_SOURCE_OCTETS - 1, MOST_SOURCE_OCTETS, MOST_SOURCE_OCTETS + 1):
         for filler in (b";", b"\n", b" "):
             yield (b"ret a;" if filler == b";" else b"ret a\n") + filler * (wanted - 6)
-    for wanted in (MOST_SOURCE, MOST_SOURCE + 1):
+    for wanted in (MOST_SOURCE_OCTETS, MOST_SOURCE_OCTETS + 1):
         yield (b"neg\n" * wanted)[:wanted]
         yield b"ret #" + b"0" * (wanted - 6) + b"1"
         yield b"a" * (wanted - 7) + b":ret a\n"

@@ -1,7 +1,7 @@
 """How the lines of a script are laid out: blanks, remarks, ends of lines, and lines at the limits."""
 
-MOST_LINES = 1_000_000
-MOST_OCTETS = 70_000
+MOST_INPUT_LINES = 1_000_000
+MOST_LINE_OCTETS = 70_000
 
 REMARKS = (b"", b"  ", b"\t", b"# a remark", b"#", b"  #card 1 1 1 1", b"\r", b" \t # x y")
 
@@ -41,12 +41,12 @@ def stretched(rng, lines):
     """Makes a line as long as a line may be, or longer by one."""
     at = rng.randrange(len(lines))
     filler = rng.choice((b" ", b" ", b" #", b"\r"))
-    wanted = MOST_OCTETS + rng.choice((-1, 0, 0, 1, 1))
+    wanted = MOST_LINE_OCTETS + rng.choice((-1, 0, 0, 1, 1))
     line = lines[at] + filler * wanted
     lines[at] = line[:wanted]
 
 
 def with_many_lines(rng, text, count):
     """The text with as many lines as there may be, or one more."""
-    empty = MOST_LINES - count + rng.choice((0, 0, 1))
+    empty = MOST_INPUT_LINES - count + rng.choice((0, 0, 1))
     return b"\n" * empty + text + rng.choice((b"", b"\n"))

@@ -15,8 +15,8 @@ from . import cells, programs
 from .numbers_at_limits import near
 
 MOST_NUMBER = 2**64 - 1
-MOST_MOMENT = 2**62
-MOST_RATE = 2**48
+LAST_MOMENT = 2**62
+MOST_TICKS = 2**48
 
 KINDS = ("cbr1", "vbr1", "vbr2", "vbr3")
 
@@ -182,12 +182,12 @@ class Script:
         """A bucket: as a rule with one of these increments and a small limit."""
         rng = self.rng
         if rng.random() < odd / 8:
-            increment = rng.choice((0, 1, MOST_RATE + 1, MOST_NUMBER))
-            return "%d/%d" % (increment, rng.choice((0, MOST_RATE + 1, MOST_NUMBER)))
+            increment = rng.choice((0, 1, MOST_TICKS + 1, MOST_NUMBER))
+            return "%d/%d" % (increment, rng.choice((0, MOST_TICKS + 1, MOST_NUMBER)))
         if self.is_large:
             return "%d/%d" % (
-                rng.choice((MOST_RATE, MOST_RATE - 1, 1, rng.getrandbits(48) or 1)),
-                rng.choice((MOST_RATE, MOST_RATE - 1, 0, rng.getrandbits(48))),
+                rng.choice((MOST_TICKS, MOST_TICKS - 1, 1, rng.getrandbits(48) or 1)),
+                rng.choice((MOST_TICKS, MOST_TICKS - 1, 0, rng.getrandbits(48))),
             )
         return "%d/%d" % (rng.choice(increments), rng.choice((0, 1, 2, 5, 12)))
 
@@ -212,15 +212,15 @@ class Script:
         last = connection.last_moment if connection else self.moment
         if rng.random() < odd:
             backs = (0, max(0, last - 1), last // 2)
-            return rng.choice(backs + (MOST_MOMENT + 1, MOST_NUMBER, rng.choice((MOST_MOMENT, MOST_MOMENT - 1))))
-        self.moment = max(self.moment, last) if self.moment <= MOST_MOMENT else last
+            return rng.choice(backs + (LAST_MOMENT + 1, MOST_NUMBER, rng.choice((LAST_MOMENT, LAST_MOMENT - 1))))
+        self.moment = max(self.moment, last) if self.moment <= LAST_MOMENT else last
         way = rng.random()
         if way < 0.35 and connection:
             bucket = rng.choice(rng.choice(connection.contracts).buckets)
             begins = max(last, bucket.last + bucket.level - bucket.limit)
-            self.moment = max(last, near(rng, begins, MOST_MOMENT))
+            self.moment = max(last, near(rng, begins, LAST_MOMENT))
         elif way < 0.9:
             self.moment += rng.choice((0, 0, 1, 1, 2, 3, 5, rng.getrandbits(47) if self.is_large else 11))
         elif self.is_large and way < 0.92:
-            self.moment = MOST_MOMENT - rng.randrange(3)
+            self.moment = LAST_MOMENT - rng.randrange(3)
         return self.moment
