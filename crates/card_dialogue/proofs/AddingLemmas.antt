@@ -1,5 +1,5 @@
 -- Octets that were added are the text that there is.
-use Rattle.std.proofs.Common.{◌≡◌, ℕ, List, ◌++◌, Option, Some, None, refl}
+use Rattle.std.proofs.Common.{◌≡◌, ℕ, List, Option, Some, None, refl}
 use Rattle.dialogue.specs.Devices.{Adds}
 use Rattle.card_dialogue.specs.AddsSome.{AddsSome}
 

@@ -1,37 +1,30 @@
 -- How a cell goes through the card that is kept: in at the port, picked, and judged.
-use Rattle.std.proofs.Common.{◌≡◌, ◌⊎◌, ◌==◌, ℕ, inl, inr, true, List, length, [], ◌∷◌, ◌++◌, Option, Some, None, option_map, Result, OnOk, refl, sym, ap, ◌∙◌, subst}
+use Rattle.std.proofs.Common.{◌≡◌, ◌==◌, ℕ, inl, inr, true, List, length, [], ◌++◌, Option, Some, None, option_map, Result, refl, sym, ap, ◌∙◌, subst}
 use Rattle.std.specs.Bool.{MatchBool}
 use Rattle.std.specs.Option.{IfNone, IfSome, MatchOption}
 use Rattle.std.proofs.lemmas.List.{append-nil}
 use Rattle.gen_arena.specs.declared.id.Id.{Id}
 use Rattle.upc_cell.specs.Connection.{vc_of}
 use Rattle.upc_cell.specs.declared.side.Side.{Side}
-use Rattle.upc_cell.specs.declared.vc.Vc.{Vc}
-use Rattle.card_core.specs.Agreement.{CoreAgrees, CoreView, Follows}
+use Rattle.card_core.specs.Agreement.{Follows}
 use Rattle.card_core.specs.Arrival.{Answers}
-use Rattle.card_core.specs.Log.{Event, Leads}
 use Rattle.card_core.specs.Steps.{WorldStep}
-use Rattle.card_core.specs.World.{Picking, World, entered, picked}
+use Rattle.card_core.specs.World.{World}
 use Rattle.card_core.specs.Sections.{answer_to, unjudged_answer}
 use Rattle.card_core.specs.declared.answer.Answer.{Answer}
 use Rattle.card_core.specs.declared.answer.Judgement.{Judgement}
 use Rattle.card_core.specs.declared.answer.Unjudged.{Unjudged}
 use Rattle.card_core.specs.declared.answer.Unjudged.TheVariants as unjudged
 use Rattle.line_record.specs.declared.fault.LineFault.TheVariants.{TooLate, Back, Full, NoMemory}
-use Rattle.card_core.specs.PortReplies.{reply_of}
-use Rattle.card_core.specs.declared.reply.PortReply.{PortReply}
-use Rattle.card_core.specs.declared.reply.PortReply.TheVariants as port
-use Rattle.card_core.specs.declared.reply.Reply.{Reply}
 use Rattle.card_core.specs.declared.reply.Reply.TheVariants.{Answered, NotNow}
 use Rattle.card_core.specs.declared.step.Step.TheVariants.{Enter, Pick, Judge}
 use Rattle.card_dialogue.specs.Replies.{answer_text, number_of_judging, numbered_answer_text}
 use Rattle.program_dialogue.specs.FaultLines.{bad_hex, wrong_length}
 use Rattle.program_dialogue.specs.Hexadecimal.{cell_of, octets_of}
-use Rattle.card_dialogue.specs.RunText.{Arrives, Card, IsLed, Obeys, Polices, PolicesOctets, Refuses}
+use Rattle.card_dialogue.specs.RunText.{Obeys, Polices, PolicesOctets, Refuses}
 use Rattle.card_dialogue.specs.ScriptCommands.{cell}
 use Rattle.card_dialogue.proofs.MovesLemmas.{moves-map}
-use Rattle.card_dialogue.specs.inner.Policing.{AnswersCell, Held, Moves, ShowsCard}
-use Rattle.card_core.specs.declared.shape.Shape.{Shape}
+use Rattle.card_dialogue.specs.inner.Policing.{AnswersCell, Held, Moves}
 use Rattle.card_dialogue.specs.inner.PortZero.{enter-goes}
 
 -- A cell that goes its whole way is answered by the pick or by its judging.

@@ -1,5 +1,5 @@
 -- How a command moves the card that is kept.
-use Rattle.std.proofs.Common.{◌≡◌, ◌⊎◌, ℕ, List, [], ◌∷◌, ◌++◌, length, Option, Some, None, Result, OnOk, Ok, Err, refl, sym, ap, ◌∙◌, subst}
+use Rattle.std.proofs.Common.{◌≡◌, ℕ, List, [], ◌++◌, length, Option, Some, None, Result, OnOk, Ok, Err, refl, sym, ap, ◌∙◌, subst}
 use Rattle.std.proofs.lemmas.List.{append-nil}
 use Rattle.std.specs.Option.{MatchOption}
 use Rattle.bpf_code.specs.declared.instr.Instr.{Instr}
@@ -9,7 +9,7 @@ use Rattle.leaky.specs.declared.gcra.GcraFault.{GcraFault}
 use Rattle.upc_cell.specs.declared.vc.Vc.{Vc}
 use Rattle.card_core.specs.declared.ask.Ask.{Ask}
 use Rattle.card_core.specs.declared.step.Step.TheVariants.{Load, Setup}
-use Rattle.card_core.specs.Agreement.{CoreView, Follows}
+use Rattle.card_core.specs.Agreement.{Follows}
 use Rattle.card_core.specs.Steps.{WorldStep}
 use Rattle.card_core.specs.World.{World}
 use Rattle.card_core.specs.declared.reply.Reply.{Reply}
@@ -21,7 +21,7 @@ use Rattle.program_dialogue.specs.Hexadecimal.{octets_of}
 use Rattle.program_dialogue.specs.Program.{is_program, ReadsAs}
 use Rattle.card_dialogue.specs.Rates.{AreContracts, first_wanted_fault}
 use Rattle.card_dialogue.specs.Replies.{program_named, reply_text}
-use Rattle.card_dialogue.specs.RunText.{Asks, Card, CommandLine, IsLed, LoadsOctets, Obeys, Refuses, Takes, TakesNamed, id_loaded}
+use Rattle.card_dialogue.specs.RunText.{Asks, Card, CommandLine, LoadsOctets, Obeys, Refuses, Takes, TakesNamed, id_loaded}
 use Rattle.card_dialogue.specs.ScriptCommands.{Command, command_of, load, setup}
 use Rattle.card_dialogue.specs.declared.script_words.Wanted.{Wanted}
 use Rattle.card_dialogue.specs.inner.Policing.{Held, Moves, MovesBy, ShowsCard}

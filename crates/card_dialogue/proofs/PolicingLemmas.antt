@@ -1,5 +1,5 @@
 -- How a line turns the machine of `run`.
-use Rattle.std.proofs.Common.{◌≡◌, ◌⊎◌, ℕ, inl, inr, Bool, true, false, List, [], Option, Some, None, Bor, refl, sym, subst}
+use Rattle.std.proofs.Common.{◌≡◌, ◌⊎◌, ℕ, inl, inr, Bool, false, List, [], Option, Some, None, Bor, sym, subst}
 use Rattle.std.specs.Bool.{MatchBool}
 use Rattle.dialogue.specs.Answering.{Answers, TurnsFrom}
 use Rattle.dialogue.specs.LineWords.{IsLineWords}

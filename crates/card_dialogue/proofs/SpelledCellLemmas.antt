@@ -1,5 +1,5 @@
 -- The words of a cell's line, and the command that they are.
-use Rattle.std.proofs.Common.{◌≡◌, ℕ, zero, suc, ◌+◌, ◌-◌, ◌*◌, ◌<◌, ◌≤◌, Bool, true, false, if◌then◌else◌, List, [], ◌∷◌, ◌++◌, Option, Some, None, length, get_or, refl, sym, ap, subst, ◌∙◌, arith, codes, option_map, append-nil}
+use Rattle.std.proofs.Common.{◌≡◌, ℕ, zero, suc, ◌+◌, ◌-◌, ◌*◌, ◌<◌, Bool, true, false, if◌then◌else◌, List, [], ◌∷◌, ◌++◌, Option, Some, None, length, get_or, refl, sym, ap, subst, ◌∙◌, arith, codes, option_map, append-nil}
 use Rattle.std.proofs.lemmas.Bool.Decides.{nat_tests}
 use Rattle.std.specs.Bool.{MatchBool}
 use Rattle.std.specs.Option.{option_and_then}
@@ -8,7 +8,7 @@ use Rattle.dialogue.proofs.Public.{first-word, one-word}
 use Rattle.program_dialogue.specs.CellWord.{IsCellWord}
 use Rattle.program_dialogue.specs.declared.hexadecimal.CellWord.TheVariants.{OfCell}
 use Rattle.program_dialogue.proofs.Public.{cell-visible}
-use Rattle.card_dialogue.specs.RunText.{Card, CommandLine, Obeys, Polices, RunSteps, RunWorld, Tells}
+use Rattle.card_dialogue.specs.RunText.{Card, CommandLine, Polices, Tells}
 use Rattle.card_dialogue.specs.ScriptCommands.{cell, command_of}
 use Rattle.card_dialogue.specs.ScriptWords.{most_number, number_of, spelled_behind, up_to}
 use Rattle.card_dialogue.specs.inner.SpelledCell.{SpellsCell}

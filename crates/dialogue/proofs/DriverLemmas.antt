@@ -9,7 +9,7 @@ use Rattle.dialogue.specs.Devices.{Adds, IsPart, TakesEnough}
 use Rattle.dialogue.specs.inner.Moving.{Moves}
 use Rattle.dialogue.specs.Printing.{Rules, IsTotal, Prints, IsFront}
 use Rattle.dialogue.specs.Answering.{OfEach}
-use Rattle.dialogue.specs.inner.Progress.{Leads, Passes, Progress, Reaches}
+use Rattle.dialogue.specs.inner.Progress.{Passes, Progress}
 use Rattle.dialogue.specs.declared.ending.Done.{Done}
 use Rattle.dialogue.specs.declared.ending.Done.TheVariants.{Ended}
 use Rattle.dialogue.specs.declared.machine.Turn.TheVariants.{GoesOn, Ends}

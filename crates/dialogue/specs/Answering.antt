@@ -1,6 +1,6 @@
 -- What a machine has done where it answered a line, or the end of the input. A machine need not hold its
 -- world: it shows worlds, by a relation that its laws and its contracts alone speak of.
-use Rattle.std.specs.Prelude.{◌≡◌, ℕ, List, ◌++◌, Option, Some, None}
+use Rattle.std.specs.Prelude.{◌≡◌, ℕ, List, ◌++◌, Some, None}
 use Rattle.dialogue.specs.Printing.{Rules}
 use Rattle.dialogue.specs.declared.ending.Done.{Done}
 use Rattle.dialogue.specs.declared.machine.Turn.{Turn}

@@ -1,5 +1,5 @@
 -- Seatings by connection, as the list of a map's entries.
-use Rattle.std.specs.Prelude.{◌≡◌, ◌≢◌, Option, Some, None, if◌then◌else◌, List, [], ◌∷◌, Contains}
+use Rattle.std.specs.Prelude.{Option, Some, None, if◌then◌else◌, List, [], ◌∷◌}
 use Rattle.upc_cell.specs.declared.vc.Vc.{Vc}
 use Rattle.upc_cell.specs.Connection.{is_same_vc}
 use Rattle.line_record.specs.declared.directory.Seating.{Seating}

@@ -1,5 +1,5 @@
 -- The text of `ports`, from what the reading of a script prints and what its run does.
-use Rattle.std.proofs.Common.{◌≡◌, ℕ, List, [], ◌++◌, Option, Some, None, inl, inr, refl, ap, subst, append-nil, false, ◌∙◌}
+use Rattle.std.proofs.Common.{◌≡◌, ℕ, List, [], ◌++◌, Some, None, inl, inr, refl, ap, subst, append-nil, false, ◌∙◌}
 use Rattle.std.specs.Prelude.{Result, Ok, Err, IfOk}
 use Rattle.dialogue.specs.Devices.{Adds, TakesEnough}
 use Rattle.dialogue.specs.Lines.{lines_of}

@@ -1,12 +1,10 @@
 -- What the reading of a script prints.
-use Rattle.std.proofs.Common.{◌≡◌, ℕ, ◌+◌, Bool, true, false, List, [], ◌∷◌, ◌++◌, Option, Some, None, inl, inr, refl, sym, ap, subst, ◌∙◌}
+use Rattle.std.proofs.Common.{◌≡◌, ℕ, ◌+◌, Bool, true, false, List, [], ◌∷◌, ◌++◌, Option, Some, None, refl, ap, ◌∙◌}
 use Rattle.std.specs.Prelude.{MatchOption, MatchBool}
-use Rattle.dialogue.specs.Devices.{Adds}
 use Rattle.dialogue.specs.Lines.{Line, said, lines_of}
 use Rattle.dialogue.specs.Limits.{is_over}
-use Rattle.dialogue.specs.Printing.{Prints, IsFront}
+use Rattle.dialogue.specs.Printing.{Prints}
 use Rattle.dialogue.specs.Words.{words_of, is_silent}
-use Rattle.dialogue.specs.declared.ending.Done.{Done}
 use Rattle.dialogue.specs.declared.ending.Done.TheVariants.{Whole, Ended}
 use Rattle.card_core.specs.Shapes.{shape_fault}
 use Rattle.card_core.specs.declared.fault.CardFault.{CardFault}

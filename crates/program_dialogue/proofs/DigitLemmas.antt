@@ -1,14 +1,13 @@
 -- How digits are read, and a line of digits alone is answered.
-use Rattle.std.proofs.Common.{◌≡◌, ◌≢◌, ℕ, zero, suc, ◌+◌, ◌-◌, ◌*◌, ◌%◌, ◌<◌, ◌≤◌, ◌==◌, nat_lt, if◌then◌else◌, ◌&&◌, T, eqb, eqb→eq, eq-zero-or-pos, inl, inr, Bool, true, false, List, [], ◌∷◌, ◌++◌, Option, Some, None, Result, Ok, Err, length, get_or, set, take, drop, ap, sym, subst, ◌∙◌, arith, below_more, get_or-set_other, get_or-set_same, bit_or, refl, eq-eqb}
+use Rattle.std.proofs.Common.{◌≡◌, ◌≢◌, ℕ, zero, suc, ◌+◌, ◌-◌, ◌*◌, ◌%◌, ◌<◌, ◌≤◌, ◌==◌, nat_lt, if◌then◌else◌, ◌&&◌, T, eqb, eqb→eq, eq-zero-or-pos, inl, inr, Bool, true, false, List, [], ◌∷◌, Option, Some, None, Result, Ok, Err, length, get_or, set, ap, sym, subst, arith, below_more, get_or-set_other, get_or-set_same, bit_or, refl, eq-eqb}
 use Rattle.std.specs.Bool.{MatchBool}
 use Rattle.std.specs.Option.{MatchOption}
-use Rattle.std.specs.Result.{OnOk, result_ok}
+use Rattle.std.specs.Result.{OnOk}
 use Rattle.std.proofs.lemmas.List.Elements.{All-get_or}
 use Rattle.std.proofs.lemmas.Bool.{lt-ltb}
 use Rattle.std.proofs.lemmas.Nat.{le_or_l, le_or_r}
 use lib.Ieee.Fits.{and_l, and_r}
-use Rattle.hex.specs.Hex.{decode_of, hex_digit_value, is_hex_digit}
-use Rattle.hex.proofs.HexLemmas.{decode_of-ok}
+use Rattle.hex.specs.Hex.{hex_digit_value, is_hex_digit}
 use Rattle.bpf_code.specs.declared.instr.Instr.{Instr}
 use Rattle.dialogue.specs.Devices.{Adds}
 use Rattle.dialogue.specs.Words.{is_blank, is_silent, words_of}

@@ -1,5 +1,5 @@
 -- The fault lines: where the fault was found, its number and its name, and what it says of the place.
-use Rattle.std.specs.Prelude.{ℕ, List, [], ◌++◌, codes, decimal, Option, Some, None, option_map}
+use Rattle.std.specs.Prelude.{ℕ, List, [], ◌++◌, codes, decimal}
 use Rattle.bpf_asm.specs.declared.fault.AsmFault.{AsmFault}
 use Rattle.bpf_asm.specs.declared.fault.AsmKind.{AsmKind}
 use Rattle.bpf_asm.specs.declared.fault.AsmKind.TheVariants as asm

@@ -7,7 +7,7 @@ use Rattle.clap.specs.Simple.{App, new_app, new_shape, subcommand_of, with_subco
 use Rattle.clap.specs.Kinds.{IsAmong, Kinds}
 use Rattle.clap.specs.Faults.{fault_of}
 use Rattle.clap.specs.declared.error.kind.ErrorKind.{ErrorKind}
-use Rattle.clap.specs.declared.error.kind.ErrorKind.TheVariants.{DisplayHelp, OutOfMemory}
+use Rattle.clap.specs.declared.error.kind.ErrorKind.TheVariants.{DisplayHelp}
 use Rattle.upc.specs.declared.choose.Choice.{Choice}
 use Rattle.upc.specs.declared.choose.Choice.TheVariants.{Check, Eval, Run, Ports}
 use Rattle.upc.specs.declared.choose.Stop.{Stop}

@@ -1,5 +1,5 @@
 -- A card as the code keeps it, and what its answers say of the cards that it shows.
-use Rattle.std.specs.Prelude.{◌≡◌, ℕ, List, ◌++◌, Option, Some, None, MatchOption}
+use Rattle.std.specs.Prelude.{◌≡◌, ℕ, List, ◌++◌, Option, Some, None}
 use Rattle.gen_arena.specs.declared.id.Id.{Id}
 use Rattle.card_core.specs.Agreement.{CoreAgrees, CoreView}
 use Rattle.card_core.specs.World.{World}

@@ -12,7 +12,7 @@ use Rattle.dialogue.specs.declared.ending.Done.{Done}
 use Rattle.dialogue.specs.declared.ending.Done.TheVariants.{Whole, Ended}
 use Rattle.card_dialogue.specs.CardLine.{card_of}
 use Rattle.card_dialogue.specs.CardFaults.{no_card, shape_fault_line}
-use Rattle.port_dialogue.specs.PortsText.{EndsBy, OpensOrEnds, ReadsWords, ReadSteps, ReadCloses, reading_rules}
+use Rattle.port_dialogue.specs.PortsText.{EndsBy, OpensOrEnds, ReadsWords, ReadCloses, reading_rules}
 
 shaped : (fault : Option CardFault) → (text : List ℕ) × (next : Option Bool)
     × MatchOption fault ((text ≡ []) × (next ≡ Some true)) (λ f. EndsBy (shape_fault_line f) text next)

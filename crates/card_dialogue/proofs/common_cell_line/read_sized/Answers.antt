@@ -1,5 +1,5 @@
 -- The three words are those of the line.
-use Rattle.std.proofs.Common.{◌≡◌, ◌∷◌, ◌++◌, ◌∙◌, Some, ap, codes, sym}
+use Rattle.std.proofs.Common.{◌≡◌, ◌++◌, ◌∙◌, Some, ap, codes, sym}
 use Rattle.card_dialogue.specs.ScriptWords.{number_of}
 use Rattle.card_dialogue.proofs.SpelledCellLemmas.{cell-line}
 use Rattle.card_dialogue.proofs.common_cell_line.read_sized.Goals as goal

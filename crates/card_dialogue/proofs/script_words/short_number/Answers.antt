@@ -1,6 +1,5 @@
 -- Digits go on to the number, which is never too large.
-use Rattle.std.proofs.Common.{◌≡◌, ◌<◌, ◌≤◌, ◌-◌, ◌^◌, Some, None, length, get_or, sym, ◌∙◌, subst, arith}
-use Rattle.std.proofs.lemmas.Grind.{common_steps}
+use Rattle.std.proofs.Common.{◌≡◌, Some, None, length, get_or, sym, ◌∙◌, arith}
 use Rattle.card_dialogue.specs.inner.Digits.{with_digit}
 use Rattle.card_dialogue.proofs.NumberLemmas.{digit-most, few-begins, few-ends, few-goes_on, few-within, number_begins, number_ends, number_goes_on, number_stops}
 use Rattle.card_dialogue.proofs.script_words.short_number.Goals as goal

@@ -1,6 +1,6 @@
 -- Each turn keeps what the invariant says, and each end is an answer or the front of one.
-use Rattle.std.proofs.Common.{◌≡◌, ◌≤◌, ◌+◌, ℕ, List, Ok, [], ◌∷◌, ◌++◌, length, take, drop, refl, ap, sym, ◌∙◌, subst, arith, append_assoc, append-nil, length-drop}
-use Rattle.std.proofs.lemmas.Result.{IfOk-weaker, IfErr-weaker}
+use Rattle.std.proofs.Common.{◌≡◌, ◌≤◌, ◌+◌, ℕ, List, Ok, [], ◌∷◌, ◌++◌, length, take, drop, refl, ap, sym, ◌∙◌, arith, append_assoc, append-nil, length-drop}
+use Rattle.std.proofs.lemmas.Result.{IfOk-weaker}
 use Rattle.dialogue.specs.Lines.{lines_of}
 use Rattle.dialogue.specs.Limits.{most_ahead}
 use Rattle.dialogue.specs.Printing.{Prints}

@@ -1,5 +1,5 @@
 -- What was taken so far stands in front of the room, and with what is left it is the whole input.
-use Rattle.std.proofs.Common.{◌+◌, ◌-◌, ◌≡◌, ◌++◌, ◌<◌, ◌≤◌, length, take}
+use Rattle.std.proofs.Common.{◌+◌, ◌-◌, ◌≡◌, ◌++◌, ◌≤◌, length, take}
 use Rattle.dialogue.proofs.gathering.gather.Given as goal
 
 abbrev pub invariant-loop-end : goal.invariant-loop-end

@@ -4,7 +4,7 @@ use Rattle.std.proofs.lemmas.Result.{IfOk-weaker, on_err_weaker}
 use Rattle.dialogue.specs.Devices.{Adds, TakesEnough}
 use Rattle.dialogue.specs.Limits.{most_ahead}
 use Rattle.dialogue.specs.declared.ending.Done.{Done}
-use Rattle.dialogue.specs.declared.ending.Done.TheVariants.{Whole, Ended}
+use Rattle.dialogue.specs.declared.ending.Done.TheVariants.{Whole}
 use Rattle.port_dialogue.specs.PortsText.{IsReadingText}
 use Rattle.port_dialogue.proofs.PortsTexts.{broken-front, ended-left, ended-text, of_any, ran-front, ran-left, ran-text}
 use Rattle.port_dialogue.proofs.ports.run_ports_with.Goals as goal

@@ -1,5 +1,5 @@
 -- A digit by its place among the figures or the letters.
-use Rattle.std.proofs.Common.{◌<◌, arith}
+use Rattle.std.proofs.Common.{arith}
 use Rattle.program_dialogue.proofs.DigitLemmas.{figure-read, letter-read}
 use Rattle.program_dialogue.proofs.digits.number_of.Goals as goal
 

@@ -1,5 +1,5 @@
 -- The table has the number of each digit.
-use Rattle.std.proofs.Common.{◌<◌, arith}
+use Rattle.std.proofs.Common.{arith}
 use Rattle.program_dialogue.proofs.DigitLemmas.{digits-of, number-at_most}
 use Rattle.program_dialogue.proofs.digits.octet_of.Goals as goal
 

@@ -1,6 +1,6 @@
 -- Four octets, of two digits each, are a header.
-use Rattle.std.proofs.Common.{◌≡◌, ℕ, [], ◌∷◌, ◌++◌, ◌+◌, ◌*◌, ◌/◌, ◌%◌, ◌<◌, length, replicate, length-append, sym, ◌∙◌, ap, refl, arith}
-use Rattle.program_dialogue.proofs.HexadecimalLemmas.{four-spelled, cell-of_header}
+use Rattle.std.proofs.Common.{◌≡◌, ℕ, [], ◌∷◌, ◌+◌, ◌*◌, ◌/◌, ◌%◌, ◌∙◌, refl, arith}
+use Rattle.program_dialogue.proofs.HexadecimalLemmas.{four-spelled}
 use Rattle.program_dialogue.proofs.digits.read_header.Goals as goal
 
 pub returns : goal.returns

@@ -1,4 +1,4 @@
-use Rattle.std.proofs.Common.{◌≡◌, ◌-◌, Some, slice_get, get_or, length, refl, sym, ◌∙◌, ap, subst, arith}
+use Rattle.std.proofs.Common.{◌≡◌, ◌-◌, Some, slice_get, get_or, length, refl, sym, ◌∙◌, ap, subst}
 use Rattle.std.proofs.lemmas.Option.{slice_get_read}
 use Rattle.card_dialogue.proofs.NamingLemmas.{NotAbove, found-here, not-above-all, not-above-latest, not-here}
 use Rattle.card_dialogue.proofs.names.Names.number_of.Goals.{in-Some, in-None}

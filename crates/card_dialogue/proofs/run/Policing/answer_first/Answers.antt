@@ -1,5 +1,5 @@
 -- A line with words opens the card.
-use Rattle.std.proofs.Common.{None, Some, subst, sym}
+use Rattle.std.proofs.Common.{None, subst, sym}
 use Rattle.dialogue.specs.Answering.{Answers}
 use Rattle.dialogue.specs.Words.{words_of}
 use Rattle.dialogue.specs.declared.machine.Turn.TheVariants.{GoesOn}

@@ -1,8 +1,8 @@
 -- The octets that the digits spell are a program, which is put in.
-use Rattle.std.proofs.Common.{◌≡◌, ◌∙◌, ◌++◌, Some, ap, option_map, subst, sym}
+use Rattle.std.proofs.Common.{◌≡◌, ◌∙◌, Some, ap, option_map, subst, sym}
 use Rattle.card_core.specs.declared.step.Step.TheVariants.{Load}
 use Rattle.program_dialogue.specs.Hexadecimal.{octets_of}
-use Rattle.program_dialogue.specs.Program.{is_program, ReadsAs}
+use Rattle.program_dialogue.specs.Program.{ReadsAs}
 use Rattle.card_dialogue.specs.RunText.{Takes}
 use Rattle.card_dialogue.specs.ScriptCommands.{load}
 use Rattle.program_dialogue.specs.Finding.{Finds}

@@ -1,5 +1,5 @@
 -- The cell's answer is told; there is one.
-use Rattle.std.proofs.Common.{◌≡◌, ◌∙◌, ◌++◌, None, Ok, Err, Option, Some, ap, option_map, subst, sym}
+use Rattle.std.proofs.Common.{◌≡◌, ◌∙◌, Ok, Err, Some, ap, option_map, subst, sym}
 use Rattle.upc_cell.specs.Connection.{vc_of}
 use Rattle.card_core.specs.Sections.{answer_to, unjudged_answer}
 use Rattle.card_dialogue.specs.Replies.{number_of_program, numbered_answer_text}

@@ -5,7 +5,7 @@ use Rattle.card_core.specs.declared.step.Step.TheVariants.{Reload}
 use Rattle.card_dialogue.specs.RunText.{Obeys, Takes}
 use Rattle.card_dialogue.specs.ScriptCommands.{reload}
 use Rattle.card_dialogue.proofs.AddingLemmas.{adds-some}
-use Rattle.card_dialogue.specs.inner.Policing.{Held, Moves}
+use Rattle.card_dialogue.specs.inner.Policing.{Held}
 use Rattle.card_dialogue.proofs.DeskReplies.{reload-replies}
 use Rattle.card_dialogue.proofs.MovesLemmas.{moves-at, moves-named, moves-never, moves-taken, no-name, on-ok, on-tie}
 use Rattle.card_dialogue.proofs.script_card.ScriptCard.reload.Goals.{in-Reloaded, in-Refused, in_default-step}

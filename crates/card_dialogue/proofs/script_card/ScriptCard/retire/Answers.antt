@@ -1,15 +1,13 @@
 -- The program is taken out, or its taking out is refused.
-use Rattle.std.proofs.Common.{◌≡◌, ◌∙◌, List, Some, sym, subst, refl}
-use Rattle.bpf_code.specs.declared.instr.Instr.{Instr}
-use Rattle.gen_arena.specs.declared.id.Id.{Id}
+use Rattle.std.proofs.Common.{◌∙◌, sym, subst, refl}
 use Rattle.card_core.specs.declared.reply.Reply.TheVariants.{Refused, Retired}
 use Rattle.card_core.specs.declared.step.Step.TheVariants.{Retire}
-use Rattle.card_dialogue.specs.RunText.{Card, Obeys, Takes}
+use Rattle.card_dialogue.specs.RunText.{Obeys, Takes}
 use Rattle.card_dialogue.specs.ScriptCommands.{retire}
 use Rattle.card_dialogue.proofs.AddingLemmas.{adds-some}
 use Rattle.card_dialogue.specs.inner.Policing.{Held, Moves}
 use Rattle.card_dialogue.proofs.DeskReplies.{retire-replies}
-use Rattle.card_dialogue.proofs.MovesLemmas.{moves-named, moves-never, moves-taken, moves-unnamed, no-name, on-ok}
+use Rattle.card_dialogue.proofs.MovesLemmas.{moves-named, moves-never, moves-taken, no-name, on-ok}
 use Rattle.card_dialogue.proofs.script_card.ScriptCard.retire.Goals as goal
 
 pub returns-in-Retired : goal.returns-in-Retired

@@ -1,5 +1,5 @@
 -- A number of 32 bits has at most ten digits, and there is room for them.
-use Rattle.std.proofs.Common.{◌≡◌, ◌^◌, ◌<◌, ap, arith, decimal, drop, length, length-append, length-drop}
+use Rattle.std.proofs.Common.{◌≡◌, ap, arith, decimal, drop, length, length-append, length-drop}
 use Rattle.std.proofs.lemmas.Fmt.{length-decimal-le}
 use Rattle.program_dialogue.proofs.text_from_end.TextFromEnd.put_short_number.Goals as goal
 
