@@ -22,11 +22,41 @@ pub(crate) fn load(packet: &[u8; CELL_OCTETS], offset: u64, size: Size) -> Optio
     ensures { result ≡ number_at packet.now offset (octets_of size) }
 {
     match size {
-        Size::Word if offset <= LAST_WORD => Some(BigEndian::read_u32(&packet[offset as usize..])),
-        Size::Half if offset <= LAST_HALF => Some(BigEndian::read_u16(
-            &packet[offset as usize..],
-        ).into()),
-        Size::Octet if offset <= LAST_OCTET => Some(packet[offset as usize].into()),
-        _ => None,
+        Size::Word => word(packet, offset),
+        Size::Half => half(packet, offset),
+        Size::Octet => octet(packet, offset),
+    }
+}
+
+#[inline(always)]
+fn word(packet: &[u8; CELL_OCTETS], offset: u64) -> Option<u32>
+    ensures { result ≡ number_at packet.now offset 4 }
+{
+    if offset <= LAST_WORD {
+        Some(BigEndian::read_u32(&packet[offset as usize..]))
+    } else {
+        None
+    }
+}
+
+#[inline(always)]
+fn half(packet: &[u8; CELL_OCTETS], offset: u64) -> Option<u32>
+    ensures { result ≡ number_at packet.now offset 2 }
+{
+    if offset <= LAST_HALF {
+        Some(BigEndian::read_u16(&packet[offset as usize..]).into())
+    } else {
+        None
+    }
+}
+
+#[inline(always)]
+fn octet(packet: &[u8; CELL_OCTETS], offset: u64) -> Option<u32>
+    ensures { result ≡ number_at packet.now offset 1 }
+{
+    if offset <= LAST_OCTET {
+        Some(packet[offset as usize].into())
+    } else {
+        None
     }
 }

@@ -59,12 +59,13 @@ fn a_program_tells_user_data_from_oam(rt: HostRuntime) -> Result<(), Fail> {
 
 #[test]
 fn loads_end_at_the_end_of_the_cell(rt: HostRuntime) -> Result<(), Fail> {
-    let code = [load(Size::Octet, 52), Instr::RetK(1)];
-    assert_eq!(rt; outcome(rt.alloc(), &code, USER)?, (0, 1));
-    let code = [load(Size::Word, 48), Instr::RetA];
-    assert_eq!(rt; outcome(rt.alloc(), &code, USER)?, (16909060, 2));
-    let code = [load(Size::Word, 49), Instr::RetA];
-    assert_eq!(rt; outcome(rt.alloc(), &code, USER)?, (0, 1));
+    for (first, last, expected) in [
+        (load(Size::Octet, 52), Instr::RetK(1), (0, 1)),
+        (load(Size::Word, 48), Instr::RetA, (16909060, 2)),
+        (load(Size::Word, 49), Instr::RetA, (0, 1)),
+    ] {
+        assert_eq!(rt; outcome(rt.alloc(), &[first, last], USER)?, expected);
+    }
     Ok(())
 }
 
@@ -88,37 +89,43 @@ fn arithmetic_has_its_limits(rt: HostRuntime) -> Result<(), Fail> {
         let by_zero = [Instr::LdxImm(0), alu(op, By::X), Instr::RetK(1)];
         assert_eq!(rt; outcome(rt.alloc(), &by_zero, USER)?, (0, 2));
     }
-    let rest = [Instr::LoadImm(23), alu(Op::Mod, By::Imm(7)), Instr::RetA];
-    assert_eq!(rt; outcome(rt.alloc(), &rest, USER)?, (2, 3));
-    let rest_by_x = [
-        Instr::LoadImm(u32::MAX),
-        Instr::LdxImm(10),
-        alu(Op::Mod, By::X),
-        Instr::RetA,
-    ];
-    assert_eq!(rt; outcome(rt.alloc(), &rest_by_x, USER)?, (5, 4));
-    let differing = [
-        load(Size::Word, 0),
-        alu(Op::Xor, By::Imm(u32::MAX)),
-        Instr::RetA,
-    ];
-    assert_eq!(rt; outcome(rt.alloc(), &differing, USER)?, (4293917119, 3));
-    let same = [
-        load(Size::Word, 0),
-        Instr::Tax,
-        alu(Op::Xor, By::X),
-        Instr::RetA,
-    ];
-    assert_eq!(rt; outcome(rt.alloc(), &same, USER)?, (0, 4));
-    let shifted = [
-        Instr::LdxImm(32),
-        Instr::LoadImm(1),
-        alu(Op::Lsh, By::X),
-        Instr::RetA,
-    ];
-    assert_eq!(rt; outcome(rt.alloc(), &shifted, USER)?, (0, 4));
-    let negative = [Instr::LoadImm(1), Instr::Neg, Instr::RetA];
-    assert_eq!(rt; outcome(rt.alloc(), &negative, USER)?, (4294967295, 3));
+    let word = load(Size::Word, 0);
+    let inverted = alu(Op::Xor, By::Imm(u32::MAX));
+    for (code, expected) in [
+        (
+            &[Instr::LoadImm(23), alu(Op::Mod, By::Imm(7)), Instr::RetA][..],
+            (2, 3),
+        ),
+        (
+            &[
+                Instr::LoadImm(u32::MAX),
+                Instr::LdxImm(10),
+                alu(Op::Mod, By::X),
+                Instr::RetA,
+            ][..],
+            (5, 4),
+        ),
+        (&[word, inverted, Instr::RetA][..], (4293917119, 3)),
+        (
+            &[word, Instr::Tax, alu(Op::Xor, By::X), Instr::RetA][..],
+            (0, 4),
+        ),
+        (
+            &[
+                Instr::LdxImm(32),
+                Instr::LoadImm(1),
+                alu(Op::Lsh, By::X),
+                Instr::RetA,
+            ][..],
+            (0, 4),
+        ),
+        (
+            &[Instr::LoadImm(1), Instr::Neg, Instr::RetA][..],
+            (4294967295, 3),
+        ),
+    ] {
+        assert_eq!(rt; outcome(rt.alloc(), code, USER)?, expected);
+    }
     Ok(())
 }
 

@@ -45,18 +45,10 @@ fn a_tagged_cell_differs_in_its_priority_alone(rt: HostRuntime) -> Result<(), Fa
 
 #[test]
 fn octets_of_another_number_are_no_cell(rt: HostRuntime) -> Result<(), Fail> {
-    assert_eq!(rt;
-        Cell::from_bytes(&[0; 51]).err(),
-        Some(CellFault::WrongLength(51))
-    );
-    assert_eq!(rt;
-        Cell::from_bytes(&[0; 53]).err(),
-        Some(CellFault::WrongLength(53))
-    );
-    assert_eq!(rt;
-        Cell::from_bytes(&[]).err(),
-        Some(CellFault::WrongLength(0))
-    );
+    for octets in [&[0u8; 51][..], &[0; 53], &[]] {
+        let fault = CellFault::WrongLength(octets.len());
+        assert_eq!(rt; Cell::from_bytes(octets).err(), Some(fault));
+    }
     let text = format!(in rt.alloc(); "{}", CellFault::WrongLength(51))?;
     assert_eq!(rt; text.as_str(), "1 WrongLength 51");
     Ok(())
@@ -64,16 +56,26 @@ fn octets_of_another_number_are_no_cell(rt: HostRuntime) -> Result<(), Fail> {
 
 #[test]
 fn the_path_takes_in_the_flow_control_between_nodes_alone(rt: HostRuntime) -> Result<(), Fail> {
-    let cell = cell_of([0xf0, 0x10, 0x06, 0x41])?;
-    assert_eq!(rt; (cell.vpi_at(Side::Uni), cell.vpi_at(Side::Nni)), (1, 3841));
-    assert_eq!(rt; (cell.vpi(), cell.vci(), cell.clp()), (1, 100, true));
-    assert_eq!(rt; cell.vc_at(Side::Uni), Vc::new(1, 100)?);
-    assert_eq!(rt; cell.vc_at(Side::Nni), Vc::new_at(Side::Nni, 3841, 100)?);
-    let highest = cell_of([0xff, 0xff, 0xff, 0xff])?;
-    assert_eq!(rt;
-        highest.vc_at(Side::Nni),
-        Vc::new_at(Side::Nni, 4095, 65535)?
-    );
+    let known = [
+        ([0xf0, 0x10, 0x06, 0x41], (1, 3841), 100),
+        ([0xff, 0xff, 0xff, 0xff], (255, 4095), 65535),
+    ];
+    for (header, (users, nodes), channel) in known {
+        let cell = cell_of(header)?;
+        assert_eq!(rt;
+            (cell.vpi(), cell.vci(), cell.clp()),
+            (users, channel, true)
+        );
+        assert_eq!(rt;
+            (cell.vpi_at(Side::Uni), cell.vpi_at(Side::Nni)),
+            (users, nodes)
+        );
+        assert_eq!(rt; cell.vc_at(Side::Uni), Vc::new(users, channel)?);
+        assert_eq!(rt;
+            cell.vc_at(Side::Nni),
+            Vc::new_at(Side::Nni, nodes, channel)?
+        );
+    }
     Ok(())
 }
 
