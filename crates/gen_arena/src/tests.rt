@@ -12,6 +12,16 @@ fn id(slot: u16, generation: u32) -> Id {
     Id { slot, generation }
 }
 
+/// Asks that an id names this value, or none.
+fn expect_at<T: Copy + Eq + Debug>(rt: &impl Abort, arena: &Arena<T>, id: Id, value: Option<T>) {
+    assert_eq!(rt; arena.get(id).copied(), value, "{id:?}");
+}
+
+/// Asks that so many slots are free.
+fn expect_free<T>(rt: &impl Abort, arena: &Arena<T>, free: usize) {
+    assert_eq!(rt; arena.free(), free);
+}
+
 fn is_key<K: Copy + Ord + Hash + Debug>() {}
 
 fn is_sent<S: Send>() {}
@@ -57,13 +67,13 @@ fn refill_two_slots<T: Copy + Eq + Debug>(
     assert!(rt; first.slot < 2 && second.slot < 2 && first.slot != second.slot);
     assert_eq!(rt; arena.insert(c), Err(c));
     assert_eq!(rt; arena.remove(first), Some(a));
-    assert_eq!(rt; arena.get(first).copied(), None);
+    expect_at(rt, &arena, first, None);
     assert_eq!(rt; arena.remove(first), None);
     assert_eq!(rt; arena.insert(c), Ok(id(first.slot, 2)));
-    assert_eq!(rt; arena.get(first).copied(), None);
-    assert_eq!(rt; arena.get(second).copied(), Some(b));
-    assert_eq!(rt; arena.get(id(first.slot, 2)).copied(), Some(c));
-    assert_eq!(rt; arena.free(), 0);
+    expect_at(rt, &arena, first, None);
+    expect_at(rt, &arena, second, Some(b));
+    expect_at(rt, &arena, id(first.slot, 2), Some(c));
+    expect_free(rt, &arena, 0);
     Ok(())
 }
 
@@ -83,20 +93,18 @@ fn ids_that_were_never_given_name_nothing(rt: HostRuntime) -> Result<(), Fail> {
     assert!(rt; arena.holds(only));
     for stranger in [id(2, 1), id(only.slot, 0), id(only.slot, 2)] {
         assert!(rt; !arena.holds(stranger), "{stranger:?}");
-        assert_eq!(rt; arena.get(stranger).copied(), None, "{stranger:?}");
+        expect_at(&rt, &arena, stranger, None);
     }
     Ok(())
 }
 
 #[test]
 fn an_arena_of_no_slots_is_refused(rt: HostRuntime) -> Result<(), Fail> {
+    let plain = Arena::<u32>::new(rt.alloc(), 0);
+    let used = Arena::<u32>::new_from(rt.alloc(), 0, 3);
     assert_eq!(rt;
-        Arena::<u32>::new(rt.alloc(), 0).err(),
-        Some(ArenaFault::NoSlots)
-    );
-    assert_eq!(rt;
-        Arena::<u32>::new_from(rt.alloc(), 0, 3).err(),
-        Some(ArenaFault::NoSlots)
+        (plain.err(), used.err()),
+        (Some(ArenaFault::NoSlots), Some(ArenaFault::NoSlots))
     );
     let texts = format!(in rt.alloc(); "{}, {}", ArenaFault::NoSlots, ArenaFault::NoMemory)?;
     assert_eq!(rt; texts.as_str(), "1 NoSlots, 2 NoMemory");
@@ -108,31 +116,30 @@ fn a_slot_that_used_the_greatest_generation_is_never_free_again(
     rt: HostRuntime,
 ) -> Result<(), Fail> {
     let mut arena = Arena::new_from(rt.alloc(), 1, 4294967294)?;
-    assert_eq!(rt; arena.free(), 1);
+    expect_free(&rt, &arena, 1);
     let last = arena.insert(7u32)?;
-    assert_eq!(rt; last.generation, 4294967295);
-    assert_eq!(rt; arena.remove(last), Some(7));
-    assert_eq!(rt; arena.free(), 0);
-    assert_eq!(rt; arena.insert(8), Err(8));
+    assert_eq!(rt;
+        (last.generation, arena.remove(last)),
+        (4294967295, Some(7))
+    );
+    assert_eq!(rt; (arena.free(), arena.insert(8)), (0, Err(8)));
     let mut worn = Arena::new_from(rt.alloc(), 2, 4294967295)?;
-    assert_eq!(rt; worn.free(), 0);
-    assert_eq!(rt; worn.insert(9u32), Err(9));
+    assert_eq!(rt; (worn.free(), worn.insert(9u32)), (0, Err(9)));
     Ok(())
 }
 
 #[test]
 fn an_arena_of_the_most_slots_is_filled_to_the_last(rt: HostRuntime) -> Result<(), Fail> {
     let mut arena = Arena::new(rt.alloc(), 65535)?;
-    assert_eq!(rt; arena.free(), 65535);
+    expect_free(&rt, &arena, 65535);
     let mut last = id(0, 0);
     for value in 0..65535u32 {
         last = arena.insert(value)?;
     }
-    assert_eq!(rt; arena.free(), 0);
-    assert_eq!(rt; arena.insert(65535), Err(65535));
-    assert_eq!(rt; arena.get(last).copied(), Some(65534));
+    assert_eq!(rt; (arena.free(), arena.insert(65535)), (0, Err(65535)));
+    expect_at(&rt, &arena, last, Some(65534));
     assert_eq!(rt; arena.remove(last), Some(65534));
-    assert_eq!(rt; arena.free(), 1);
+    expect_free(&rt, &arena, 1);
     Ok(())
 }
 
@@ -148,6 +155,15 @@ impl Drop for Counted<'_> {
     }
 }
 
+/// How many values of each counter were dropped.
+fn drops(removed: &AtomicU64, kept: &AtomicU64, refilled: &AtomicU64) -> [u64; 3] {
+    [
+        removed.load(Ordering::SeqCst),
+        kept.load(Ordering::SeqCst),
+        refilled.load(Ordering::SeqCst),
+    ]
+}
+
 #[test]
 fn each_live_value_is_dropped_once_with_the_arena(rt: HostRuntime) -> Result<(), Fail> {
     let kept = AtomicU64::new(0);
@@ -157,18 +173,11 @@ fn each_live_value_is_dropped_once_with_the_arena(rt: HostRuntime) -> Result<(),
     let first = arena.insert(Counted { drops: &removed })?;
     arena.insert(Counted { drops: &kept })?;
     drop(arena.remove(first));
-    assert_eq!(rt; removed.load(Ordering::SeqCst), 1);
+    assert_eq!(rt; drops(&removed, &kept, &refilled), [1, 0, 0]);
     arena.insert(Counted { drops: &refilled })?;
-    assert_eq!(rt;
-        (kept.load(Ordering::SeqCst), refilled.load(Ordering::SeqCst)),
-        (0, 0)
-    );
+    assert_eq!(rt; drops(&removed, &kept, &refilled), [1, 0, 0]);
     drop(arena);
-    assert_eq!(rt; removed.load(Ordering::SeqCst), 1);
-    assert_eq!(rt;
-        (kept.load(Ordering::SeqCst), refilled.load(Ordering::SeqCst)),
-        (1, 1)
-    );
+    assert_eq!(rt; drops(&removed, &kept, &refilled), [1, 1, 1]);
     Ok(())
 }
 
@@ -186,6 +195,13 @@ fn zeros(alloc: Global, count: u32) -> Result<Vec<AtomicU64>, Fail> {
         counts.push(AtomicU64::new(0))?;
     }
     Ok(counts)
+}
+
+/// Asks that each value was dropped once.
+fn expect_each_once(rt: &impl Abort, counts: &[AtomicU64]) {
+    for count in counts {
+        assert_eq!(rt; count.load(Ordering::SeqCst), 1);
+    }
 }
 
 #[test]
@@ -208,12 +224,8 @@ fn of_many_values_each_is_dropped_once(rt: HostRuntime) -> Result<(), Fail> {
     }
     assert_eq!(rt; (total(&first), total(&later), arena.free()), (500, 0, 300));
     drop(arena);
-    for count in &first {
-        assert_eq!(rt; count.load(Ordering::SeqCst), 1);
-    }
-    for count in &later {
-        assert_eq!(rt; count.load(Ordering::SeqCst), 1);
-    }
+    expect_each_once(&rt, &first);
+    expect_each_once(&rt, &later);
     Ok(())
 }
 

@@ -1,6 +1,6 @@
 //! Connections that are policed, cut and released, and directories.
 
-ghost use Rattle.std.specs.Prelude.{ℕ, ◌≡◌, ◌≤◌, IfOk, IsTrue};
+ghost use Rattle.std.specs.Prelude.{ℕ, ◌≡◌, ◌≤◌, None, Some, IfOk, OnOk, IsTrue};
 ghost use Rattle.line_record.specs.Line.{IsHeld};
 
 use super::*;
@@ -8,6 +8,7 @@ use arrayvec::ArrayVec;
 use gen_arena::Id;
 use leaky::{Contract, Gcra, LAST_MOMENT, Verdict};
 use std::alloc::Global;
+use std::process::Abort;
 use std::test::Fail;
 use upc_cell::{Side, Vc};
 
@@ -18,23 +19,33 @@ fn program(slot: u16) -> Id {
     }
 }
 
-/// A line that serves 1/100 under one contract: a cell in ten ticks, without tolerance.
+/// Opens a line for 1/100 under one contract: a cell in ten ticks, without tolerance.
+fn open_for(line: &mut Line, owner: Owner) -> Result<(), Fail>
+    requires { line.old.owner ≡ None }
+    ensures { OnOk result (line.new.owner ≡ Some owner) }
+{
+    let mut contracts = ArrayVec::new();
+    contracts.push(Contract::Cbr1(Gcra::new(10, 0)?));
+    match line.open(owner, contracts) {
+        Ok(()) => Ok(()),
+        Err((fault, _)) => Err(Fail::from(fault)),
+    }
+}
+
+fn owner(incarnation: u64) -> Result<Owner, Fail> {
+    let vc = Vc::new(1, 100)?;
+    Ok(Owner { vc, incarnation })
+}
+
+/// A line that is open.
 fn policed_line(alloc: Global, journal: u32) -> Result<Line, Fail>
     requires some { 1 ≤ journal }
     requires most { journal ≤ 65536 }
     ensures { IfOk result (λ line. IsHeld line) }
 {
-    let owner = Owner {
-        vc: Vc::new(1, 100)?,
-        incarnation: 1,
-    };
-    let mut contracts = ArrayVec::new();
-    contracts.push(Contract::Cbr1(Gcra::new(10, 0)?));
     let mut line = Line::new(alloc, journal)?;
-    match line.open(owner, contracts) {
-        Ok(()) => Ok(line),
-        Err((fault, _)) => Err(Fail::from(fault)),
-    }
+    open_for(&mut line, owner(1)?)?;
+    Ok(line)
 }
 
 /// The verdict on a cell of cell loss priority 0.
@@ -46,25 +57,43 @@ fn verdict(line: &mut Line, moment: u64, value: u32) -> Result<Verdict, LineFaul
     Ok(entry.verdict)
 }
 
+/// Asks that a cell of cell loss priority 0 is answered so.
+fn expect_verdict(
+    rt: &impl Abort,
+    line: &mut Line,
+    moment: u64,
+    value: u32,
+    answer: Result<Verdict, LineFault>,
+)
+    requires { IsHeld line.old }
+    ensures { line.new.owner ≡ line.old.owner }
+{
+    assert_eq!(rt; verdict(line, moment, value), answer, "at {moment}");
+}
+
+/// Asks that what was found of a connection, or taken, is this seating, or none.
+fn expect_seating(rt: &impl Abort, found: Option<Seating>, seating: Option<Seating>)
+    ensures { found ≡ seating }
+{
+    assert_eq!(rt; found, seating);
+}
+
 fn is_shared<T: Send + Sync>() {}
 
 /// The same cells as one piece after another, and in the wrong order.
 #[test]
 fn a_cut_keeps_the_buckets_and_pieces_chain(rt: HostRuntime) -> Result<(), Fail> {
     let mut line = policed_line(rt.alloc(), 2)?;
-    assert_eq!(rt; verdict(&mut line, 0, 1), Ok(Verdict::Pass));
-    assert_eq!(rt; verdict(&mut line, 5, 1), Ok(Verdict::Discard));
-    assert_eq!(rt; verdict(&mut line, 4, 1), Err(LineFault::Back(5)));
-    assert_eq!(rt; verdict(&mut line, 10, 1), Err(LineFault::Full));
-    assert_eq!(rt;
-        verdict(&mut line, LAST_MOMENT + 1, 1),
-        Err(LineFault::TooLate)
-    );
+    expect_verdict(&rt, &mut line, 0, 1, Ok(Verdict::Pass));
+    expect_verdict(&rt, &mut line, 5, 1, Ok(Verdict::Discard));
+    expect_verdict(&rt, &mut line, 4, 1, Err(LineFault::Back(5)));
+    expect_verdict(&rt, &mut line, 10, 1, Err(LineFault::Full));
+    expect_verdict(&rt, &mut line, LAST_MOMENT + 1, 1, Err(LineFault::TooLate));
     let first = line.cut()?;
     assert_eq!(rt; first.entries().len(), 2);
     assert_eq!(rt; line.entries().len(), 0);
-    assert_eq!(rt; verdict(&mut line, 9, 1), Ok(Verdict::Discard));
-    assert_eq!(rt; verdict(&mut line, 10, 1), Ok(Verdict::Pass));
+    expect_verdict(&rt, &mut line, 9, 1, Ok(Verdict::Discard));
+    expect_verdict(&rt, &mut line, 10, 1, Ok(Verdict::Pass));
     let counts = Tally {
         passed: 2,
         tagged: 0,
@@ -91,13 +120,13 @@ fn a_cut_keeps_the_buckets_and_pieces_chain(rt: HostRuntime) -> Result<(), Fail>
 #[test]
 fn a_refused_cell_charges_no_bucket(rt: HostRuntime) -> Result<(), Fail> {
     let mut line = policed_line(rt.alloc(), 3)?;
-    assert_eq!(rt; verdict(&mut line, 3, 0), Ok(Verdict::Refuse));
-    assert_eq!(rt; verdict(&mut line, 7, 2), Ok(Verdict::Refuse));
-    assert_eq!(rt; verdict(&mut line, 6, 1), Err(LineFault::Back(7)));
+    expect_verdict(&rt, &mut line, 3, 0, Ok(Verdict::Refuse));
+    expect_verdict(&rt, &mut line, 7, 2, Ok(Verdict::Refuse));
+    expect_verdict(&rt, &mut line, 6, 1, Err(LineFault::Back(7)));
     assert_eq!(rt; line.last(), 7);
-    assert_eq!(rt; verdict(&mut line, 7, 1), Ok(Verdict::Pass));
+    expect_verdict(&rt, &mut line, 7, 1, Ok(Verdict::Pass));
     assert_eq!(rt; line.counts().of(Verdict::Refuse), 2);
-    assert_eq!(rt; verdict(&mut line, 17, 1), Err(LineFault::Full));
+    expect_verdict(&rt, &mut line, 17, 1, Err(LineFault::Full));
     Ok(())
 }
 
@@ -109,17 +138,10 @@ fn a_line_serves_one_connection_after_another(rt: HostRuntime) -> Result<(), Fai
     assert!(rt; line.is_ready());
     for incarnation in 1..3 {
         assert!(rt; line.is_free());
-        let owner = Owner {
-            vc: Vc::new(1, 100)?,
-            incarnation,
-        };
-        let mut contracts = ArrayVec::new();
-        contracts.push(Contract::Cbr1(Gcra::new(10, 0)?));
-        if let Err((fault, _)) = line.open(owner, contracts) {
-            return Err(Fail::from(fault));
-        }
+        let owner = owner(incarnation)?;
+        open_for(&mut line, owner)?;
         assert!(rt; !line.is_ready() && line.owner() == Some(owner));
-        assert_eq!(rt; verdict(&mut line, 0, 1), Ok(Verdict::Pass));
+        expect_verdict(&rt, &mut line, 0, 1, Ok(Verdict::Pass));
         assert_eq!(rt; line.counts().cells(), incarnation);
         let piece = line.close();
         assert_eq!(rt; piece.owner(), owner);
@@ -132,18 +154,17 @@ fn a_line_serves_one_connection_after_another(rt: HostRuntime) -> Result<(), Fai
 #[test]
 fn a_directory_gives_incarnations_up_to_the_last(rt: HostRuntime) -> Result<(), Fail> {
     let last = LAST_INCARNATION;
-    assert_eq!(rt;
-        Directory::new(rt.alloc(), 0, 0).err(),
-        Some(DirFault::NoLines)
-    );
-    assert_eq!(rt;
-        Directory::new(rt.alloc(), 1, 0).err(),
-        Some(DirFault::BadFirst)
-    );
-    assert_eq!(rt;
-        Directory::new(rt.alloc(), 1, last + 1).err(),
-        Some(DirFault::BadFirst)
-    );
+    for (lines, first, fault) in [
+        (0, 0, DirFault::NoLines),
+        (1, 0, DirFault::BadFirst),
+        (1, last + 1, DirFault::BadFirst),
+    ] {
+        assert_eq!(rt;
+            Directory::new(rt.alloc(), lines, first).err(),
+            Some(fault),
+            "{lines} {first}"
+        );
+    }
     let mut directory = Directory::new(rt.alloc(), 1, last)?;
     let vc = Vc::new(1, 100)?;
     assert!(rt; !directory.worn());
@@ -163,10 +184,10 @@ fn connections_are_found_moved_and_taken(rt: HostRuntime) -> Result<(), Fail> {
     let mut directory = Directory::new(rt.alloc(), 2, 1)?;
     let one = Vc::new(1, 100)?;
     let other = Vc::new(1, 101)?;
-    assert_eq!(rt; directory.find(one), None);
+    expect_seating(&rt, directory.find(one), None);
     assert_eq!(rt; directory.put(one, 1, program(0)), Ok(1));
     assert_eq!(rt; directory.free_line(), Some(0));
-    assert_eq!(rt; directory.find(other), None);
+    expect_seating(&rt, directory.find(other), None);
     assert_eq!(rt; directory.move_to(other, program(1)), None);
     assert_eq!(rt; directory.move_to(one, program(1)), Some(program(0)));
     assert!(rt; directory.names(program(1)) && !directory.names(program(0)));
@@ -175,9 +196,9 @@ fn connections_are_found_moved_and_taken(rt: HostRuntime) -> Result<(), Fail> {
         incarnation: 1,
         program: program(1),
     };
-    assert_eq!(rt; directory.find(one), Some(seating));
-    assert_eq!(rt; directory.take(one), Some(seating));
-    assert_eq!(rt; directory.take(one), None);
+    expect_seating(&rt, directory.find(one), Some(seating));
+    expect_seating(&rt, directory.take(one), Some(seating));
+    expect_seating(&rt, directory.take(one), None);
     assert!(rt; !directory.names(program(1)));
     Ok(())
 }
@@ -216,10 +237,10 @@ fn the_largest_journal_is_filled_cut_and_closed(rt: HostRuntime) -> Result<(), F
     for moment in 0..u64::from(MOST_ENTRIES) {
         verdict(&mut line, moment, 1)?;
     }
-    assert_eq!(rt; verdict(&mut line, LAST_MOMENT, 1), Err(LineFault::Full));
+    expect_verdict(&rt, &mut line, LAST_MOMENT, 1, Err(LineFault::Full));
     let first = line.cut()?;
     assert_eq!(rt; first.entries().len(), 65536);
-    assert_eq!(rt; verdict(&mut line, LAST_MOMENT, 1), Ok(Verdict::Pass));
+    expect_verdict(&rt, &mut line, LAST_MOMENT, 1, Ok(Verdict::Pass));
     let second = line.close();
     assert_eq!(rt; second.entries().len(), 1);
     assert!(rt; first.end().is_same(second.start()));
@@ -259,7 +280,7 @@ fn connections_between_nodes_are_found_by_their_whole_path(rt: HostRuntime) -> R
     let user = Vc::new(255, 65535)?;
     let node = Vc::new_at(Side::Nni, 4095, 65535)?;
     assert_eq!(rt; directory.put(node, 0, program(0)), Ok(1));
-    assert_eq!(rt; directory.find(user), None);
+    expect_seating(&rt, directory.find(user), None);
     assert_eq!(rt; directory.put(user, 1, program(0)), Ok(2));
     assert_eq!(rt; directory.find(node).map(|seating| seating.line), Some(0));
     assert_eq!(rt; directory.take(user).map(|seating| seating.line), Some(1));
@@ -267,33 +288,13 @@ fn connections_between_nodes_are_found_by_their_whole_path(rt: HostRuntime) -> R
         vc: node,
         incarnation: 1,
     };
-    assert!(rt;
-        same_owner(
-            one,
-            Owner {
-                vc: node,
-                incarnation: 1
-            }
-        )
-    );
-    assert!(rt;
-        !same_owner(
-            one,
-            Owner {
-                vc: node,
-                incarnation: 2
-            }
-        )
-    );
-    assert!(rt;
-        !same_owner(
-            one,
-            Owner {
-                vc: user,
-                incarnation: 1
-            }
-        )
-    );
+    for (vc, incarnation, is_same) in [(node, 1, true), (node, 2, false), (user, 1, false)] {
+        assert_eq!(rt;
+            same_owner(one, Owner { vc, incarnation }),
+            is_same,
+            "{incarnation}"
+        );
+    }
     Ok(())
 }
 
@@ -325,7 +326,7 @@ fn a_directory_of_4096_lines_is_filled(rt: HostRuntime) -> Result<(), Fail> {
     let mut directory = Directory::new(rt.alloc(), 4096, 1)?;
     for number in 0..4096u16 {
         let vc = Vc::new_at(Side::Nni, number, 100)?;
-        assert_eq!(rt; directory.find(vc), None);
+        expect_seating(&rt, directory.find(vc), None);
         let line = directory.free_line().ok_or("a free line")?;
         assert!(rt; !directory.worn());
         assert_eq!(rt;

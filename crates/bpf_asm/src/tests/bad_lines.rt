@@ -114,7 +114,7 @@ ld #Len
 /// Asks that no line of a table is a line of the grammar, between two others that are.
 fn expect_bad_lines(rt: &impl Abort, alloc: Global, table: &str) -> Result<(), Fail> {
     for line in table.lines() {
-        let source = format!(in alloc; "near: ret #1|{line}|far: ret #2")?;
+        let source = ["near: ret #1|", line, "|far: ret #2"].concat(alloc)?;
         expect(rt, alloc, source.as_str(), "1 BadLine 2")?;
     }
     Ok(())

@@ -53,13 +53,25 @@ ret #1|jset #1, on, gone||on: ret a => 4 UnknownLabel 2
 /// A first line, then `near`, so many more instructions, and `far`.
 fn source_over(alloc: Global, line: &str, others: usize) -> Result<String, AllocError> {
     let others = "ret #1|".repeat(alloc, others)?;
-    format!(in alloc; "{line}||near: ret #1 ; a remark|{others};|far:||ret #2|")
+    [
+        line,
+        "||near: ret #1 ; a remark|",
+        others.as_str(),
+        ";|far:||ret #2|",
+    ]
+    .concat(alloc)
 }
 
 /// The answer to that source, where the first line has these octets.
 fn answer_over(alloc: Global, octets: &str, others: usize) -> Result<String, AllocError> {
     let others = "0006000000000001 ".repeat(alloc, others)?;
-    format!(in alloc; "{octets} 0006000000000001 {others}0006000000000002")
+    [
+        octets,
+        " 0006000000000001 ",
+        others.as_str(),
+        "0006000000000002",
+    ]
+    .concat(alloc)
 }
 
 /// Asks that a line that far from `far` has these octets.

@@ -131,8 +131,8 @@ fn with_all_gaps(alloc: Global, tokens: &[&str]) -> Result<String, AllocError> {
 
 /// Asks that a line before the two instructions means these octets.
 fn expect_line(rt: &impl Abort, alloc: Global, line: &str, octets: &str) -> Result<(), Fail> {
-    let source = format!(in alloc; "{line}|near: ret #1|far: ret #2|")?;
-    let answer = format!(in alloc; "{octets} 0006000000000001 0006000000000002")?;
+    let source = [line, "|near: ret #1|far: ret #2|"].concat(alloc)?;
+    let answer = [octets, " 0006000000000001 0006000000000002"].concat(alloc)?;
     expect(rt, alloc, source.as_str(), answer.as_str())
 }
 
@@ -154,10 +154,10 @@ fn expect_tokens(rt: &impl Abort, alloc: Global, tokens: &str, octets: &str) -> 
 /// Asks that tokens are read so with a label before them too, and with a number below zero for `#5`.
 fn expect_forms(rt: &impl Abort, alloc: Global, tokens: &str, octets: &str) -> Result<(), Fail> {
     expect_tokens(rt, alloc, tokens, octets)?;
-    let labelled = format!(in alloc; "here : {tokens}")?;
+    let labelled = ["here : ", tokens].concat(alloc)?;
     expect_tokens(rt, alloc, labelled.as_str(), octets)?;
     if let Some((front, back)) = tokens.split_once("# 5") {
-        let negative = format!(in alloc; "{front}# - 4294967291{back}")?;
+        let negative = [front, "# - 4294967291", back].concat(alloc)?;
         expect_tokens(rt, alloc, negative.as_str(), octets)?;
     }
     Ok(())
@@ -165,9 +165,9 @@ fn expect_forms(rt: &impl Abort, alloc: Global, tokens: &str, octets: &str) -> R
 
 /// Asks that the code of tokens is listed by this spelling.
 fn expect_listed(rt: &impl Abort, alloc: Global, tokens: &str, listed: &str) -> Result<(), Fail> {
-    let source = format!(in alloc; "{tokens}\nnear: ret #1\nfar: ret #2")?;
+    let source = [tokens, "\nnear: ret #1\nfar: ret #2"].concat(alloc)?;
     let code = assemble(alloc, source.as_bytes())?;
-    let expected = format!(in alloc; "L0: {listed}\nL1: ret #1\nL2: ret #2\n")?;
+    let expected = ["L0: ", listed, "\nL1: ret #1\nL2: ret #2\n"].concat(alloc)?;
     let text = listing(alloc, &code)?;
     assert_eq!(rt; text.as_slice(), expected.as_bytes(), "{tokens}");
     Ok(())
