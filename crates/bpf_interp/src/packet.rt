@@ -28,6 +28,7 @@ pub(crate) fn load(packet: &[u8; CELL_OCTETS], offset: u64, size: Size) -> Optio
     }
 }
 
+/// The big-endian number in the four octets from an offset, where all of them lie in the packet.
 #[inline(always)]
 fn word(packet: &[u8; CELL_OCTETS], offset: u64) -> Option<u32>
     ensures { result ≡ number_at packet.now offset 4 }
@@ -39,6 +40,7 @@ fn word(packet: &[u8; CELL_OCTETS], offset: u64) -> Option<u32>
     }
 }
 
+/// The big-endian number in the two octets from an offset, where all of them lie in the packet.
 #[inline(always)]
 fn half(packet: &[u8; CELL_OCTETS], offset: u64) -> Option<u32>
     ensures { result ≡ number_at packet.now offset 2 }
@@ -50,6 +52,7 @@ fn half(packet: &[u8; CELL_OCTETS], offset: u64) -> Option<u32>
     }
 }
 
+/// The octet at an offset, where it lies in the packet.
 #[inline(always)]
 fn octet(packet: &[u8; CELL_OCTETS], offset: u64) -> Option<u32>
     ensures { result ≡ number_at packet.now offset 1 }
