@@ -1,11 +1,11 @@
 -- How digits are read, and a line of digits alone is answered.
-use Rattle.std.proofs.Common.{◌≡◌, ◌≢◌, ℕ, zero, suc, ◌+◌, ◌-◌, ◌*◌, ◌%◌, ◌<◌, ◌≤◌, ◌==◌, nat_lt, if◌then◌else◌, ◌&&◌, T, eqb, eqb→eq, eq-zero-or-pos, inl, inr, Bool, true, false, List, [], ◌∷◌, Option, Some, None, Result, Ok, Err, length, get_or, set, ap, sym, subst, arith, below_more, get_or-set_other, get_or-set_same, bit_or, refl, eq-eqb}
+use Rattle.std.proofs.Common.{◌≡◌, ◌≢◌, ℕ, zero, suc, ◌+◌, ◌-◌, ◌*◌, ◌%◌, ◌<◌, ◌≤◌, ◌==◌, nat_lt, if◌then◌else◌, ◌&&◌, T, eqb, eqb→eq, eq-zero-or-pos, inl, inr, Bool, true, false, List, [], ◌∷◌, Option, Some, None, IsSome, not, Result, Ok, Err, length, get_or, set, ap, sym, subst, arith, below_more, get_or-set_other, get_or-set_same, bit_or, refl, eq-eqb}
 use Rattle.std.specs.Bool.{MatchBool}
 use Rattle.std.specs.Option.{MatchOption}
 use Rattle.std.specs.Result.{OnOk}
 use Rattle.std.proofs.lemmas.List.Elements.{All-get_or}
-use Rattle.std.proofs.lemmas.Bool.{lt-ltb}
-use Rattle.std.proofs.lemmas.Nat.{le_or_l, le_or_r}
+use Rattle.std.proofs.lemmas.Bool.{lt-ltb, le-ltb}
+use Rattle.std.proofs.lemmas.Nat.{le_or_l, le_or_r, or_lt}
 use lib.Ieee.Fits.{and_l, and_r}
 use Rattle.hex.specs.Hex.{hex_digit_value, is_hex_digit}
 use Rattle.bpf_code.specs.declared.instr.Instr.{Instr}
@@ -35,6 +35,13 @@ read-more word numbers at number seen within one before small =
     below_more _ at
     (λ k below. let other : k ≢ at = omega arith in rw (get_or-set_other numbers at k number 0 other) (before earlier k below))
     (rw (get_or-set_same numbers at number 0 within) (one digit, digit))
+
+-- Where it and all before are digits, their numbers together are below 16.
+pub digits-more : (word : List ℕ) (at number seen : ℕ)
+    → (IsSome (hex_digit_value (get_or word at 0)) → number < 16)
+    → (((k : ℕ) → k < at → IsSome (hex_digit_value (get_or word k 0))) → seen < 16)
+    → ((k : ℕ) → k < at + 1 → IsSome (hex_digit_value (get_or word k 0))) → bit_or seen number < 16
+digits-more word at number seen one before digits = or_lt 4 seen number (before (λ k below. digits k (omega arith))) (one (digits at (omega arith)))
 
 hex-value-small : (c v : ℕ) → hex_digit_value c ≡ Some v → v < 16
 hex-value-small c v h = grind (arith)
@@ -72,6 +79,31 @@ digits-of first second below low small = (
   number-of second (get_or NUMBERS second 0) (hex_digit_value second) (number-at second low) (omega arith),
   refl,
 )
+
+number-of_some : (c : ℕ) (found : Option ℕ) → hex_digit_value c ≡ found → IsSome found → number_or_none found < 16
+number-of_some c (Some value) e some = hex-value-small c value e
+number-of_some c None e some = absurd cc
+
+digit-number : (c : ℕ) → c < 256 → IsSome (hex_digit_value c) → get_or NUMBERS c 0 < 16
+digit-number c below digit = omega (arith, number-at c below, number-of_some c (hex_digit_value c) refl digit)
+
+pub digits-small : (first second : ℕ) → first < 256 → second < 256 → IsSome (hex_digit_value first) → IsSome (hex_digit_value second)
+    → 16 * get_or NUMBERS first 0 + get_or NUMBERS second 0 < 256
+digits-small first second below low one other = omega (arith, digit-number first below one, digit-number second low other)
+
+-- Four octets together, bit by bit.
+pub all-octets : (a b c d : ℕ) → bit_or (bit_or (bit_or a b) c) d < 256 → (a < 256) × (b < 256) × (c < 256) × (d < 256)
+all-octets a b c d small =
+    let one = le_or_l a b in
+    let two = le_or_r a b in
+    let three = le_or_l (bit_or a b) c in
+    let four = le_or_r (bit_or a b) c in
+    let front = le_or_l (bit_or (bit_or a b) c) d in
+    let last = le_or_r (bit_or (bit_or a b) c) d in
+    (omega arith, omega arith, omega arith, omega arith)
+
+pub octets-all : (a b c d : ℕ) → (a < 256) × (b < 256) × (c < 256) × (d < 256) → bit_or (bit_or (bit_or a b) c) d < 256
+octets-all a b c d small = or_lt 8 (bit_or (bit_or a b) c) d (or_lt 8 (bit_or a b) c (or_lt 8 a b small.0 small.1) small.2) small.3
 
 number-small : (found : Option ℕ) (c : ℕ) → hex_digit_value c ≡ found → number_or_none found ≤ 256
 number-small (Some value) c e = omega (arith, hex-value-small c value e)
@@ -111,6 +143,29 @@ letter-below (suc n) c t below small =
 
 pub letter-read : (c : ℕ) → c < 256 → (bit_or c 32 + 159) % 256 < 6 → hex_digit_value c ≡ Some ((bit_or c 32 + 159) % 256 + 10)
 letter-read c below small = number-of c ((bit_or c 32 + 159) % 256 + 10) (hex_digit_value c) (sym (letter-below 256 c tt below small)) (omega arith)
+
+-- What is neither a figure nor a letter by its place is no digit, for each octet that there is.
+abbrev is_other : ℕ → Bool
+is_other c = if nat_lt ((c + 208) % 256) 10 then true else if nat_lt (letter_at c) 6 then true else not (is_hex_digit c)
+
+abbrev are_others : ℕ → Bool
+are_others zero = true
+are_others (suc n) = is_other n && are_others n
+
+other-below : (n c : ℕ) → T (are_others n) → c < n → T (is_other c)
+other-below zero c t below = absurd (omega arith)
+other-below (suc n) c t below =
+    elim (eq-zero-or-pos (n - c)) [
+      | inl last ↦ let e : n ≡ c = omega arith in subst (λ (m : ℕ). T (is_other m)) e (and_l _ (are_others n) t)
+      | inr more ↦ other-below n c (and_r _ (are_others n) t) (omega arith)
+    ]
+
+pub other-read : (c : ℕ) → c < 256 → 10 ≤ (c + 208) % 256 → 6 ≤ (bit_or c 32 + 159) % 256 → IsSome (hex_digit_value c) → ⊥
+other-read c below figure letter digit =
+    let Letter : Bool → Type 0 = λ b. T (if b then true else not (is_hex_digit c)) in
+    let Figure : Bool → Type 0 = λ b. T (if b then true else if nat_lt (letter_at c) 6 then true else not (is_hex_digit c)) in
+    let Digit : Bool → Type 0 = λ b. T (not b) in
+    subst Digit digit (subst Letter (le-ltb (letter_at c) 6 letter) (subst Figure (le-ltb ((c + 208) % 256) 10 figure) (other-below 256 c tt below)))
 
 -- A digit is neither a blank nor the sign of a remark.
 digit-visible : (c : ℕ) → is_hex_digit c ≡ true → (is_blank c ≡ false) × ((c == 35) ≡ false)

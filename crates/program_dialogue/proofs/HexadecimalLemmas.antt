@@ -1,10 +1,10 @@
--- How many octets a word spells, and what was decoded into a room.
-use Rattle.std.proofs.Common.{◌≡◌, ◌≢◌, ℕ, suc, ◌+◌, ◌*◌, ◌<◌, if◌then◌else◌, List, [], ◌∷◌, ◌++◌, Some, Result, Ok, Err, length, get_or, replicate, refl, ap, sym, ◌∙◌, arith}
+-- What a word of digits spells.
+use Rattle.std.proofs.Common.{◌≡◌, ◌≢◌, ℕ, suc, ◌+◌, ◌*◌, ◌<◌, if◌then◌else◌, List, [], ◌∷◌, ◌++◌, Some, Result, Ok, Err, length, get_or, replicate, refl, ap, ◌∙◌, arith}
 use Rattle.std.specs.List.{AllPass}
-use Rattle.std.specs.Result.{MatchResult, result_ok}
+use Rattle.std.specs.Result.{result_ok}
 use Rattle.std.proofs.lemmas.Bool.{eq-eqb, ne_eqb}
-use Rattle.hex.specs.Hex.{decode_of, decode_pairs, decode_sized, hex_digit_value, is_hex_digit, pair_value, ◌>>=◌}
-use Rattle.hex.proofs.HexLemmas.{decode_of-even, decode_of-ok, decode_sized-twice}
+use Rattle.hex.specs.Hex.{decode_of, decode_pairs, hex_digit_value, is_hex_digit, pair_value, ◌>>=◌}
+use Rattle.hex.proofs.HexLemmas.{decode_of-even, decode_of-ok}
 use Rattle.hex.specs.declared.error.FromHexError.{FromHexError}
 use Rattle.program_dialogue.specs.Hexadecimal.{octets_of, cell_of}
 use Rattle.program_dialogue.specs.inner.DigitNumbers.{AreDigitsOf, AreJoined, AreNumbers}
@@ -21,16 +21,6 @@ spelled-length word octets e = (decode_of-ok word octets (ok-part (decode_of wor
 -- Each of them is one.
 pub spelled-digits : (word octets : List ℕ) → octets_of word ≡ Some octets → AllPass is_hex_digit word
 spelled-digits word octets e = (decode_of-ok word octets (ok-part (decode_of word) octets e)).1
-
--- What a decoder wrote is what the word spells.
-written-spelled : (d : Result (List ℕ) FromHexError) (r : Result Unit FromHexError) (out : List ℕ) → r ≡ Ok tt
-    → MatchResult d (λ bytes. (r ≡ Ok tt) × (out ≡ bytes)) (λ e. r ≡ Err e) → result_ok d ≡ Some out
-written-spelled (Ok bytes) r out ok m = ap Some (sym m.1)
-written-spelled (Err e) r out ok m = let no : Ok tt ≡ Err e = sym ok ∙ m in cc
-
-pub room-spelled : (word : List ℕ) (n : ℕ) (r : Result Unit FromHexError) (out : List ℕ) → length word ≡ 2 * n → r ≡ Ok tt
-    → MatchResult (decode_sized word n) (λ bytes. (r ≡ Ok tt) × (out ≡ bytes)) (λ e. r ≡ Err e) → octets_of word ≡ Some out
-room-spelled word n r out sized ok m = ap result_ok (sym (decode_sized-twice word n sized)) ∙ written-spelled (decode_sized word n) r out ok m
 
 -- A header stands for a cell with a payload of zeros.
 pub cell-of_header : (octets : List ℕ) → length octets ≡ 4 → cell_of octets ≡ octets ++ replicate 48 0

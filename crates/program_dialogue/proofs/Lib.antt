@@ -1,4 +1,5 @@
 pub mod HexadecimalLemmas
+pub mod CellWordLemmas
 pub mod DigitLemmas
 pub mod OneText
 pub mod CheckText

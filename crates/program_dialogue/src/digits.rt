@@ -1,10 +1,9 @@
-//! Cells read from the digits of a line, as many at a time as the processor takes. What isn't read
-//! here is read again by the library, an octet at a time.
+//! Cells read from the digits of a line, as many at a time as the processor takes.
 
-ghost use Rattle.std.specs.Prelude.{◌≡◌, ◌*◌, ◌<◌, ◌++◌, ℕ, Some, IfSome, IsTrue, length, replicate, slice_index};
+ghost use Rattle.std.specs.Prelude.{◌≡◌, ◌*◌, ◌<◌, ◌++◌, ◌↔◌, ℕ, List, Some, IsSome, IfSome, IfNone, IsTrue, length, replicate, slice_index};
 ghost use Rattle.hex.specs.Hex.{hex_digit_value};
 ghost use Rattle.program_dialogue.specs.CellWord.{IsCellWord};
-ghost use Rattle.program_dialogue.specs.inner.DigitNumbers.{AreDigitsOf, AreJoined, AreNumbers};
+ghost use Rattle.program_dialogue.specs.inner.DigitNumbers.{AreDigits, AreDigitsOf, AreJoined, AreNumbers};
 ghost use Rattle.program_dialogue.specs.declared.hexadecimal.CellWord.TheVariants.{OfCell};
 
 use upc_cell::{CELL_OCTETS, Cell};
@@ -18,7 +17,8 @@ pub const HEADER_DIGITS: usize = 8;
 /// The number of a digit; 255 of an octet that is none.
 #[inline(always)]
 fn number_of(octet: u8) -> u8
-    ensures { result < 16 → hex_digit_value octet ≡ Some result }
+    ensures number { result < 16 → hex_digit_value octet ≡ Some result }
+    ensures digit { IsSome (hex_digit_value octet) → result < 16 }
 {
     let figure = octet.wrapping_sub(b'0');
     if figure < 10 {
@@ -29,12 +29,13 @@ fn number_of(octet: u8) -> u8
     if letter < 6 { letter + 10 } else { 255 }
 }
 
-/// Writes the number of each digit, and answers all numbers together, bit by bit: below 16 where all are
-/// digits. Nothing here depends on an earlier octet, so the compiler takes sixteen of them in one step.
+/// Writes the number of each digit, and answers all numbers together, bit by bit: below 16 exactly where all
+/// are digits. Nothing here depends on an earlier octet, so the compiler takes sixteen of them in one step.
 #[inline(always)]
 fn read_digits(word: &[u8], numbers: &mut [u8]) -> u8
     requires { length numbers.old ≡ length word.now }
-    ensures { result < 16 → AreNumbers word.now numbers.new }
+    ensures numbers { result < 16 → AreNumbers word.now numbers.new }
+    ensures digits { AreDigits word.now → result < 16 }
 {
     let mut seen = 0;
     for at in 0..word.len() {
@@ -61,7 +62,8 @@ fn join(numbers: &[u8], octets: &mut [u8])
 #[inline(always)]
 fn read_whole(word: &[u8], octets: &mut [u8; CELL_OCTETS]) -> bool
     requires { length word.now ≡ CELL_DIGITS }
-    ensures { IsTrue result → IsCellWord word.now (OfCell octets.new) }
+    ensures cell { IsTrue result → IsCellWord word.now (OfCell octets.new) }
+    ensures digits { AreDigits word.now → IsTrue result }
 {
     let mut numbers = [0; CELL_DIGITS];
     if read_digits(word, &mut numbers) > 15 {
@@ -93,16 +95,16 @@ static NUMBERS: [u16; 256] = [
 /// The octet of two digits; 256 and more where one is none.
 #[inline(always)]
 fn octet_of(high: u8, low: u8) -> u16
-    ensures { result < 256 → AreDigitsOf high low result }
+    ensures octet { result < 256 → AreDigitsOf high low result }
+    ensures digits { IsSome (hex_digit_value high) → IsSome (hex_digit_value low) → result < 256 }
 {
     16 * NUMBERS[high as usize] + NUMBERS[low as usize]
 }
 
 /// Whether all four are octets.
 #[inline(always)]
-#[tactic(auto, using(std::proofs::lemmas::Nat::le_or_l, std::proofs::lemmas::Nat::le_or_r))]
 fn are_octets(first: u16, second: u16, third: u16, fourth: u16) -> bool
-    ensures { IsTrue result → (first < 256) × (second < 256) × (third < 256) × (fourth < 256) }
+    ensures { IsTrue result ↔ ((first < 256) × (second < 256) × (third < 256) × (fourth < 256)) }
 {
     first | second | third | fourth < 256
 }
@@ -112,7 +114,8 @@ fn are_octets(first: u16, second: u16, third: u16, fourth: u16) -> bool
 fn read_header(word: &[u8], octets: &mut [u8; CELL_OCTETS]) -> bool
     requires digits { length word.now ≡ HEADER_DIGITS }
     requires payload { octets.old ≡ replicate CELL_OCTETS 0 }
-    ensures { IsTrue result → IsCellWord word.now (OfCell octets.new) }
+    ensures cell { IsTrue result → IsCellWord word.now (OfCell octets.new) }
+    ensures digits { AreDigits word.now → IsTrue result }
 {
     let first = octet_of(word[0], word[1]);
     let second = octet_of(word[2], word[3]);
@@ -134,10 +137,12 @@ fn read_header(word: &[u8], octets: &mut [u8; CELL_OCTETS]) -> bool
     true
 }
 
-/// The cell that a word stands for, if it is all digits and has as many as a cell or a header.
+/// The cell that a word stands for, if it stands for one: if it is all digits, and has as many as a cell or a
+/// header.
 #[inline(always)]
 pub fn cell_of_digits(word: &[u8]) -> Option<Cell>
-    ensures { IfSome result (λ cell. IsCellWord word.now (OfCell cell)) }
+    ensures cell { IfSome result (λ cell. IsCellWord word.now (OfCell cell)) }
+    ensures none { IfNone result ((cell : List ℕ) → IsCellWord word.now (OfCell cell) → ⊥) }
 {
     let mut octets = [0; CELL_OCTETS];
     let read = match word.len() {

@@ -1,6 +1,6 @@
 //! Words of hexadecimal digits, as octets and as cells.
 
-ghost use Rattle.std.specs.Prelude.{◌≡◌, length, IfOk};
+ghost use Rattle.std.specs.Prelude.{◌≡◌, ◌⊎◌, length, IfOk};
 ghost use Rattle.std.specs.Option.{option_map};
 ghost use Rattle.program_dialogue.specs.Hexadecimal.{octets_of};
 ghost use Rattle.program_dialogue.specs.CellWord.{IsCellWord};
@@ -8,7 +8,7 @@ ghost use Rattle.program_dialogue.specs.CellWord.{IsCellWord};
 use crate::digits::{CELL_DIGITS, HEADER_DIGITS, cell_of_digits};
 use hex::FromHexError;
 use std::alloc::{AllocError, Global};
-use upc_cell::{CELL_OCTETS, Cell};
+use upc_cell::Cell;
 
 /// What a word stands for on a cell line.
 pub enum CellWord {
@@ -31,51 +31,27 @@ pub fn octets_of_word(alloc: Global, word: &[u8]) -> Result<Option<Vec<u8>>, All
     }
 }
 
-/// The cell that a word stands for. Memory is taken for a word of a length that no cell has, and for
-/// no other. The library has the last word on what isn't read at once.
+/// What a word stands for on a cell line. Memory is taken for a word of a length that no cell has, and for
+/// no other.
 pub fn cell_of_word(alloc: Global, word: &[u8]) -> Result<CellWord, AllocError>
     ensures { IfOk result (IsCellWord word.now) }
 {
+    if word.len() == CELL_DIGITS || word.len() == HEADER_DIGITS {
+        return Ok(word_of_digits(word));
+    }
+    match octets_of_word(alloc, word)? {
+        Some(octets) => Ok(CellWord::OfOthers(octets.len())),
+        None => Ok(CellWord::NoDigits),
+    }
+}
+
+/// What a word of as many octets as spell a cell or a header stands for.
+fn word_of_digits(word: &[u8]) -> CellWord
+    requires { (length word.now ≡ CELL_DIGITS) ⊎ (length word.now ≡ HEADER_DIGITS) }
+    ensures { IsCellWord word.now result }
+{
     match cell_of_digits(word) {
-        Some(cell) => Ok(CellWord::OfCell(cell)),
-        None => cell_by_library(alloc, word),
-    }
-}
-
-/// The cell that a word stands for, as the library reads it.
-fn cell_by_library(alloc: Global, word: &[u8]) -> Result<CellWord, AllocError>
-    ensures { IfOk result (IsCellWord word.now) }
-{
-    match word.len() {
-        CELL_DIGITS => Ok(whole_cell(word)),
-        HEADER_DIGITS => Ok(header_cell(word)),
-        _ => match octets_of_word(alloc, word)? {
-            Some(octets) => Ok(CellWord::OfOthers(octets.len())),
-            None => Ok(CellWord::NoDigits),
-        },
-    }
-}
-
-/// The cell that 104 digits spell.
-fn whole_cell(word: &[u8]) -> CellWord
-    requires { length word.now ≡ CELL_DIGITS }
-    ensures { IsCellWord word.now result }
-{
-    let mut octets = [0; CELL_OCTETS];
-    match hex::decode_to_slice(word, &mut octets) {
-        Ok(()) => CellWord::OfCell(Cell::from(octets)),
-        Err(_) => CellWord::NoDigits,
-    }
-}
-
-/// The cell whose header eight digits spell, with a payload of zeros.
-fn header_cell(word: &[u8]) -> CellWord
-    requires { length word.now ≡ HEADER_DIGITS }
-    ensures { IsCellWord word.now result }
-{
-    let mut octets = [0; CELL_OCTETS];
-    match hex::decode_to_slice(word, &mut octets[..4]) {
-        Ok(()) => CellWord::OfCell(Cell::from(octets)),
-        Err(_) => CellWord::NoDigits,
+        Some(cell) => CellWord::OfCell(cell),
+        None => CellWord::NoDigits,
     }
 }

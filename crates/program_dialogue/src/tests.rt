@@ -1,4 +1,3 @@
-//! What no clause says of words of digits and of fault lines.
+//! What no clause says of fault lines.
 
-mod digits;
 mod fault_lines;

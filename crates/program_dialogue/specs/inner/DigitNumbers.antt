@@ -1,6 +1,10 @@
 -- The numbers of digits, and the octets that these make.
-use Rattle.std.specs.Prelude.{◌≡◌, ℕ, ◌+◌, ◌*◌, ◌<◌, List, length, slice_index, Some}
+use Rattle.std.specs.Prelude.{◌≡◌, ℕ, ◌+◌, ◌*◌, ◌<◌, List, length, slice_index, Some, IsSome}
 use Rattle.hex.specs.Hex.{hex_digit_value}
+
+-- Each octet of the word is a digit.
+abbrev pub AreDigits : List ℕ → Type 0
+AreDigits word = (k : ℕ) → k < length word → IsSome (hex_digit_value (slice_index word k))
 
 -- Each octet of the word is a digit, and its number stands at the same place of a list.
 abbrev pub AreNumbers : List ℕ → List ℕ → Type 0

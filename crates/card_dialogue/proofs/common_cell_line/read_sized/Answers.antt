@@ -10,4 +10,4 @@ returns c =
     let word = c.in_ok-moment.word.now in
     let reads : number_of number ≡ Some c.in_ok-moment-2.moment = sym c.in_ok-moment-2.ensures in
     cell-line c.args.line.now number word c.in_ok-moment-2.moment c.in_ok-cell.cell
-    (c.in_ok-rest.ensures ∙ ap (λ rest. codes "cell " ++ rest) c.in_ok-moment.ensures) reads c.in_ok-cell.ensures
+    (c.in_ok-rest.ensures ∙ ap (λ rest. codes "cell " ++ rest) c.in_ok-moment.ensures) reads c.in_ok-cell.ensures.cell

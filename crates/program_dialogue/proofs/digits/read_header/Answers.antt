@@ -3,9 +3,9 @@ use Rattle.std.proofs.Common.{◌≡◌, ℕ, [], ◌∷◌, ◌+◌, ◌*◌, �
 use Rattle.program_dialogue.proofs.HexadecimalLemmas.{four-spelled}
 use Rattle.program_dialogue.proofs.digits.read_header.Goals as goal
 
-pub returns : goal.returns
-returns c = λ _.
-    let small = c.are_octets.ensures c.if-not-are_octets.false in
+pub returns-clause-cell : goal.returns-clause-cell
+returns-clause-cell c = λ _.
+    let small = c.are_octets.ensures.0 c.if-not-are_octets.false in
     let a = c.octet_of-first.result in
     let b = c.octet_of-second.result in
     let d = c.octet_of-third.result in
@@ -16,6 +16,6 @@ returns c = λ _.
     let three : number / 256 % 256 ≡ d = omega (arith, small.0, small.1, small.2, small.3, c.from.ensures, c.from-2.ensures, c.from-3.ensures, c.from-4.ensures) in
     let four : number % 256 ≡ e = omega (arith, small.0, small.1, small.2, small.3, c.from.ensures, c.from-2.ensures, c.from-3.ensures, c.from-4.ensures) in
     let octets : c.to_be_bytes.result ≡ a ∷ b ∷ d ∷ e ∷ [] = c.to_be_bytes.ensures ∙ (λ i. one i ∷ two i ∷ three i ∷ four i ∷ []) in
-    let spelled = four-spelled c.args.word.now a b d e (omega arith) (c.octet_of-first.ensures small.0) (c.octet_of-second.ensures small.1)
-    (c.octet_of-third.ensures small.2) (c.octet_of-fourth.ensures small.3) in
+    let spelled = four-spelled c.args.word.now a b d e (omega arith) (c.octet_of-first.ensures.octet small.0) (c.octet_of-second.ensures.octet small.1)
+    (c.octet_of-third.ensures.octet small.2) (c.octet_of-fourth.ensures.octet small.3) in
     (a ∷ b ∷ d ∷ e ∷ [], spelled, rw (octets, c.requires.payload) refl, rw (octets, c.requires.payload) refl)

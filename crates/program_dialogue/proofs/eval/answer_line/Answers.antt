@@ -9,4 +9,4 @@ returns-in-Some c =
     let code = c.args.program.now in
     adds-onward c.answer_cell.result (TellsValue code c.in-Some.cell) (λ here. EvalSteps (Some code) c.args.line.now here (Some (Some code)))
     c.args.answers.now.items c.answer_cell.new.answers.items
-    (λ text. digits-answered code c.args.line.now c.in-Some.cell text c.in-Some.ensures) c.answer_cell.ensures
+    (λ text. digits-answered code c.args.line.now c.in-Some.cell text c.in-Some.ensures.cell) c.answer_cell.ensures
