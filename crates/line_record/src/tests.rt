@@ -32,12 +32,13 @@ fn open_for(line: &mut Line, owner: Owner) -> Result<(), Fail>
     }
 }
 
+/// The connection 1/100, in this incarnation.
 fn owner(incarnation: u64) -> Result<Owner, Fail> {
     let vc = Vc::new(1, 100)?;
     Ok(Owner { vc, incarnation })
 }
 
-/// A line that is open.
+/// A line that was opened so for 1/100.
 fn policed_line(alloc: Global, journal: u32) -> Result<Line, Fail>
     requires some { 1 ≤ journal }
     requires most { journal ≤ 65536 }
