@@ -2,6 +2,7 @@ pub mod AddingLemmas
 pub mod MarkLemmas
 pub mod ArrivalLemmas
 pub mod SpelledCellLemmas
+pub mod CommonLineLemmas
 pub mod DeskReplies
 pub mod MovesLemmas
 pub mod NamingLemmas

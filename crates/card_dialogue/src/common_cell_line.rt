@@ -1,8 +1,8 @@
 //! The line of a cell in its common form, as programs write it: its words with one space between them, and
 //! nothing before and behind. What has another form is read by its words.
 
-ghost use Rattle.std.specs.Prelude.{◌≡◌, ◌∷◌, ◌++◌, codes, length, IfSome};
-ghost use Rattle.card_dialogue.specs.inner.SpelledCell.{SpellsCell};
+ghost use Rattle.std.specs.Prelude.{◌≡◌, ◌∷◌, ◌++◌, ℕ, List, codes, length, IfSome, IfNone};
+ghost use Rattle.card_dialogue.specs.inner.SpelledCell.{IsCommonLine};
 
 use crate::script_words::number;
 use program_dialogue::{CELL_DIGITS, HEADER_DIGITS, cell_of_digits};
@@ -18,7 +18,8 @@ pub struct Arrival {
 /// What stands behind the command of a cell and the space that ends it.
 #[inline(always)]
 fn behind_command(line: &[u8]) -> Option<&[u8]>
-    ensures { IfSome result (λ rest. line.now ≡ codes "cell " ++ rest.now) }
+    ensures rest { IfSome result (λ rest. line.now ≡ codes "cell " ++ rest.now) }
+    ensures none { IfNone result ((rest : List ℕ) → line.now ≡ codes "cell " ++ rest → ⊥) }
 {
     match line {
         [b'c', b'e', b'l', b'l', b' ', rest @ ..] => Some(rest),
@@ -29,7 +30,8 @@ fn behind_command(line: &[u8]) -> Option<&[u8]>
 /// The last octets of a text, so many of them, and what stands before the space in front of them.
 #[inline(always)]
 fn cut_before(text: &[u8], count: usize) -> Option<(&[u8], &[u8])>
-    ensures { IfSome result (λ parts. text.now ≡ parts.0.now ++ 32 ∷ parts.1.now) }
+    ensures parts { IfSome result (λ parts. (text.now ≡ parts.0.now ++ 32 ∷ parts.1.now) × (length parts.1.now ≡ count)) }
+    ensures none { IfNone result ((before last : List ℕ) → text.now ≡ before ++ 32 ∷ last → length last ≡ count → ⊥) }
 {
     if text.len() < count {
         return None;
@@ -41,26 +43,18 @@ fn cut_before(text: &[u8], count: usize) -> Option<(&[u8], &[u8])>
     }
 }
 
-/// The cell of a line whose last word has so many digits.
-#[inline(always)]
-fn read_sized(line: &[u8], digits: usize) -> Option<Arrival>
-    ensures { IfSome result (λ found. SpellsCell line.now found.moment found.cell) }
-{
-    let rest = behind_command(line)?;
-    let (moment, word) = cut_before(rest, digits)?;
-    let moment = number(moment)?;
-    let cell = cell_of_digits(word)?;
-    Some(Arrival { moment, cell })
-}
-
-/// The cell of a line of the common form.
+/// The cell of a line of the common form. No digit is a space, so that one of them tells how long the word is.
 #[inline(always)]
 pub fn read_cell(line: &[u8]) -> Option<Arrival>
-    ensures { IfSome result (λ found. SpellsCell line.now found.moment found.cell) }
+    ensures cell { IfSome result (λ found. IsCommonLine line.now found.moment found.cell) }
+    ensures none { IfNone result ((moment : ℕ) → (cell : List ℕ) → IsCommonLine line.now moment cell → ⊥) }
 {
-    if line.len() < CELL_DIGITS {
-        read_sized(line, HEADER_DIGITS)
-    } else {
-        read_sized(line, CELL_DIGITS)
-    }
+    let rest = behind_command(line)?;
+    let parts = match cut_before(rest, HEADER_DIGITS) {
+        Some(parts) => parts,
+        None => cut_before(rest, CELL_DIGITS)?,
+    };
+    let moment = number(parts.0)?;
+    let cell = cell_of_digits(parts.1)?;
+    Some(Arrival { moment, cell })
 }

@@ -1,5 +1,6 @@
-//! The lines of a card, and the contracts that a script asks for.
+//! The lines of a card and of cells, and the contracts that a script asks for.
 
 mod card_faults;
+mod common_cell_line;
 mod rates;
 mod replies;

@@ -1,5 +1,5 @@
 -- What the crates above may use in their proofs.
-use Rattle.std.proofs.Common.{◌≡◌, ℕ, ◌<◌, List, length, get_or, false}
+use Rattle.std.proofs.Common.{◌≡◌, ℕ, ◌<◌, ◌⊎◌, List, length, get_or, false}
 use Rattle.dialogue.specs.declared.ending.Done.{Done}
 use Rattle.dialogue.specs.Words.{is_blank}
 use Rattle.program_dialogue.specs.CellWord.{IsCellWord}
@@ -8,6 +8,7 @@ use Rattle.program_dialogue.specs.Eval.{IsEvalText}
 use Rattle.program_dialogue.specs.Program.{Reading, ReadsAs}
 use Rattle.program_dialogue.specs.declared.hexadecimal.CellWord.TheVariants.{OfCell}
 use Rattle.program_dialogue.specs.inner.EvalLaws as laws
+use Rattle.program_dialogue.proofs.CellWordLemmas as words
 use Rattle.program_dialogue.proofs.CheckText as check
 use Rattle.program_dialogue.proofs.DigitLemmas as digits
 use Rattle.program_dialogue.proofs.OneText as eval
@@ -16,6 +17,10 @@ use Rattle.program_dialogue.proofs.OneText as eval
 pub cell-visible : (word cell : List ℕ) → IsCellWord word (OfCell cell)
     → (0 < length word) × ((k : ℕ) → k < length word → is_blank (get_or word k 0) ≡ false)
 cell-visible = digits.cell-visible
+
+-- It has 104 octets or eight.
+pub cell-lengths : (word cell : List ℕ) → IsCellWord word (OfCell cell) → (length word ≡ 104) ⊎ (length word ≡ 8)
+cell-lengths = words.cell-lengths
 
 -- Any octets are a program or refused,
 pub reads-as : (octets : List ℕ) → (reading : Reading) × ReadsAs octets reading
