@@ -1,4 +1,4 @@
-"""`bin/pictures`: draws docs/contract-KIND.svg for each kind of contract."""
+"""`tools/pictures`: draws docs/contract-KIND.svg for each kind of contract."""
 
 import os
 import subprocess

@@ -18,9 +18,14 @@ def ported(text):
     if status != 0:
         return (lines[-1] + "\n").encode("ascii"), status
     refuse_meeting(text)
-    given = [line.split(" ")[0] for line in lines]
+    return with_totals(answers), 0
+
+
+def with_totals(answers):
+    """The answers with the totals of their cells behind them."""
+    given = [line.split(" ")[0] for line in answers.decode("ascii").splitlines()]
     totals = "totals %d %d %d %d\n" % tuple(given.count(verdict) for verdict in VERDICTS)
-    return answers + totals.encode("ascii"), 0
+    return answers + totals.encode("ascii")
 
 
 def refuse_meeting(text):

@@ -1,7 +1,7 @@
 //! Makes each call that may be refused memory, and makes it again where it was refused.
 //!
 //! A line is printed for each: its name, and whether it gave its ample answer at once, or was refused and gave it when it
-//! was made again. Anything else is status 1. `bin/refusals` runs this program with its first request for memory
+//! was made again. Anything else is status 1. `tests/refusals` runs this program with its first request for memory
 //! refused, then with its second, and so on.
 #![tactic(auto)]
 

@@ -3,14 +3,14 @@
 ghost use Rattle.std.specs.Prelude.{◌≡◌, IfSome, IsSomeAnd};
 ghost use Rattle.port_card.specs.Names.{AreFor};
 
-use crate::trial::{Attempt, Call, ample_if, refused_if, try_out};
+use crate::trial::{Attempt, Call, ample_if, made_again, refused_if, try_out};
 use arrayvec::ArrayVec;
 use bpf_asm::assemble;
 use bpf_verify::{Program, verify};
 use card_core::{Answer, Ask, CardFault, DeskFault, Shape};
 use gen_arena::Id;
-use leaky::{Contract, Gcra};
-use line_record::Tally;
+use leaky::{Contract, Gcra, Verdict};
+use line_record::{Owner, Piece, Tally};
 use port_card::{Blanks, Card, CloseFault, Closing, Desk, Ledgers, NoWait, PortSeat};
 use std::alloc::Global;
 use std::marker::Brand;
@@ -20,8 +20,15 @@ use upc_cell::{Cell, Side, Vc};
 /// The source of a program that gives 1 for user data and 2 for cells of operation.
 const SOURCE: &[u8; 60] = b"ldb [3]\nand #0xe\njge #8, oam, data\ndata: ret #1\noam: ret #2\n";
 
-/// The cells of the connection 1/100: their moments, and their last header octets. The last one is a cell of operation.
-const CELLS: [(u64, u8); 5] = [(0, 0x40), (6, 0x40), (14, 0x40), (15, 0x40), (15, 0x4a)];
+/// The cells of the connection 1/100: their moments, their last header octets, and their verdicts. The last one is a cell of
+/// operation.
+const CELLS: [(u64, u8, Verdict); 5] = [
+    (0, 0x40, Verdict::Pass),
+    (6, 0x40, Verdict::Pass),
+    (14, 0x40, Verdict::Discard),
+    (15, 0x40, Verdict::Pass),
+    (15, 0x4a, Verdict::Refuse),
+];
 
 /// Two programs, two lines, two ports.
 fn shape() -> Shape
@@ -78,10 +85,11 @@ pub fn try_new_card(alloc: Global) -> Attempt {
     try_out(&mut MakingCard { alloc })
 }
 
-/// A card that is to be closed, with its seats.
+/// A card that is to be closed, with its seats, and the number of the line that judged its cells.
 #[derive(Drop)]
 struct ClosingCard<S: Ledgers> {
     alloc: Global,
+    line: u16,
     unclosed: Option<(Card<S>, Vec<PortSeat<S>>)>,
 }
 
@@ -95,7 +103,7 @@ impl<S: Ledgers> Call for ClosingCard<S> {
             return Attempt::Otherwise;
         };
         match card.close(self.alloc, seats) {
-            Ok(closing) => ample_if(has_the_sums(&closing)),
+            Ok(closing) => ample_if(has_the_sums(&closing, self.line)),
             Err((fault, card, seats)) => {
                 self.unclosed = Some((card, seats));
                 refused_if(fault == CloseFault::NoMemory)
@@ -104,15 +112,23 @@ impl<S: Ledgers> Call for ClosingCard<S> {
     }
 }
 
-/// Whether the card's lines counted its five cells, as its seats did.
-fn has_the_sums(closing: &Closing) -> bool {
-    let sums = Tally {
+/// The verdicts on the five cells.
+fn sums() -> Tally {
+    Tally {
         passed: 3,
         tagged: 0,
         discarded: 1,
         refused: 1,
+    }
+}
+
+/// Whether the line of this number counted the card's five cells, and the other line none, both as its seats did.
+fn has_the_sums(closing: &Closing, line: u16) -> bool {
+    let counts = match (line, closing.lines.as_slice()) {
+        (0, [own, other]) | (1, [other, own]) => (own.counts(), other.counts()),
+        _ => return false,
     };
-    closing.uneven.is_none() && closing.lines.len() == 2 && closing.total() == sums
+    closing.uneven.is_none() && counts == (sums(), Tally::new())
 }
 
 /// The program of `SOURCE`; none where memory was refused.
@@ -126,6 +142,14 @@ fn vc() -> Vc {
     Vc { vpi: 1, vci: 100 }
 }
 
+/// The first incarnation of that connection.
+fn owner() -> Owner {
+    Owner {
+        vc: vc(),
+        incarnation: 1,
+    }
+}
+
 /// The connection 1/100, with a cell every 10 ticks, and none more than 5 too early.
 fn asked(program: Id) -> Option<Ask> {
     let mut contracts = ArrayVec::new();
@@ -137,22 +161,33 @@ fn asked(program: Id) -> Option<Ask> {
     })
 }
 
-/// Lets the cells come to both ports in turn, and says whether each was judged.
-fn police<S: Ledgers, R: Wait>(rt: &R, card: &Card<S>, seats: &mut [PortSeat<S>]) -> bool {
-    for (place, (moment, last)) in CELLS.into_iter().enumerate() {
-        let Some(seat) = seats.get_mut(place % 2) else {
-            return false;
-        };
+/// Whether this is what [`asked`] asks for.
+fn is_asked(ask: &Ask, program: Id) -> bool {
+    match asked(program) {
+        Some(wanted) => {
+            ask.vc == wanted.vc
+                && ask.program == wanted.program
+                && ask.contracts.as_slice() == wanted.contracts.as_slice()
+        }
+        None => false,
+    }
+}
+
+/// Lets the cells come to both ports in turn, and gives the number of the line that judged them, if each got its verdict.
+fn police<S: Ledgers, R: Wait>(rt: &R, card: &Card<S>, seats: &mut [PortSeat<S>]) -> Option<u16> {
+    let mut number = None;
+    for (place, (moment, last, wanted)) in CELLS.into_iter().enumerate() {
+        let seat = seats.get_mut(place % 2)?;
         let mut octets = [0; 52];
         octets[1] = 0x10;
         octets[2] = 0x06;
         octets[3] = last;
-        let answer = card.arrive(rt, seat, &Cell::from(octets), moment, &NoWait);
-        if !matches!(answer, Answer::Judged { .. }) {
-            return false;
+        match card.arrive(rt, seat, &Cell::from(octets), moment, &NoWait) {
+            Answer::Judged { line, verdict, .. } if verdict == wanted => number = Some(line),
+            _ => return None,
         }
     }
-    true
+    number
 }
 
 /// Sets up the connection of a card.
@@ -170,53 +205,60 @@ impl<S: Ledgers, R: Wait> Call for SettingUp<'_, S, R> {
             return Attempt::Otherwise;
         };
         match self.desk.setup(self.rt, self.card, ask) {
-            Ok(owner) => ample_if(owner.vc == vc() && owner.incarnation == 1),
-            Err((fault, ask)) => refused_if(
-                fault == DeskFault::NoMemory && ask.vc == vc() && ask.contracts.len() == 1,
+            Ok(made) => ample_if(made == owner()),
+            Err((fault, back)) => refused_if(
+                fault == DeskFault::NoMemory && is_asked(&back, self.program),
             ),
         }
     }
 }
 
-/// Hands out the connection's journal of five cells.
-#[derive(Drop)]
-struct CuttingOff<'a, S: Ledgers, R: Wait> {
-    rt: &'a R,
-    card: &'a Card<S>,
-    desk: &'a mut Desk<S>,
+/// Whether the piece has the connection's five cells in order, and begins where none was judged.
+fn has_the_cells(piece: &Piece) -> bool {
+    for (place, (moment, _, verdict)) in CELLS.into_iter().enumerate() {
+        match piece.entries().get(place) {
+            Some(entry) if entry.moment == moment && entry.verdict == verdict => {}
+            _ => return false,
+        }
+    }
+    piece.entries().len() == CELLS.len()
+        && piece.owner() == owner()
+        && piece.start().counts == Tally::new()
+        && piece.end().counts == sums()
 }
 
-impl<S: Ledgers, R: Wait> Call for CuttingOff<'_, S, R> {
-    fn make(&mut self) -> Attempt {
-        match self.desk.cut(self.rt, self.card, vc()) {
-            Ok(piece) => ample_if(piece.entries().len() == 5),
-            Err(fault) => refused_if(fault == DeskFault::NoMemory),
-        }
+/// Hands out the connection's journal by a cut, and then releases the connection. A cut that is refused changed nothing:
+/// the release hands out all of the journal.
+fn hand_out<S: Ledgers, R: Wait>(rt: &R, card: &Card<S>, desk: &mut Desk<S>) -> Attempt {
+    let cut = desk.cut(rt, card, vc());
+    let Ok(last) = desk.release(rt, card, vc()) else {
+        return Attempt::Otherwise;
+    };
+    match cut {
+        Ok(piece) => ample_if(has_the_cells(&piece) && last.entries().is_empty()),
+        Err(DeskFault::NoMemory) => made_again(ample_if(has_the_cells(&last))),
+        Err(_) => Attempt::Otherwise,
     }
 }
 
-/// Puts a program in, sets up the connection and lets its cells come, none of which takes memory; and hands out the
-/// journal.
+/// Puts a program in, sets up the connection and lets its cells come, none of which takes memory; hands out the journal,
+/// and ends the connection. The number of the line that judged the cells is given too.
 fn serve<S: Ledgers, R: Wait>(
     rt: &R,
     card: &Card<S>,
     desk: &mut Desk<S>,
     seats: &mut [PortSeat<S>],
     program: Program,
-) -> Attempt {
-    let Ok(program) = desk.load(rt, card, program) else {
-        return Attempt::Otherwise;
-    };
+) -> Option<(Attempt, u16)> {
+    let program = desk.load(rt, card, program).ok()?;
     let set_up = try_out(&mut SettingUp {
         rt,
         card,
         desk,
         program,
     });
-    if !police(rt, card, seats) {
-        return Attempt::Otherwise;
-    }
-    set_up.then(try_out(&mut CuttingOff { rt, card, desk }))
+    let line = police(rt, card, seats)?;
+    Some((set_up.then(hand_out(rt, card, desk)), line))
 }
 
 /// A whole life of a card: it is made, serves a connection, and is closed.
@@ -230,9 +272,15 @@ fn live<S: Ledgers, R: Wait>(rt: &R, alloc: Global, shape: Shape, blanks: Blanks
     let Some(program) = by_payload_type(alloc) else {
         return Attempt::Refused;
     };
-    let served = serve(rt, &card, &mut desk, &mut seats, program);
+    let Some((served, line)) = serve(rt, &card, &mut desk, &mut seats, program) else {
+        return Attempt::Otherwise;
+    };
     let unclosed = Some((card, seats));
-    served.then(try_out(&mut ClosingCard { alloc, unclosed }))
+    served.then(try_out(&mut ClosingCard {
+        alloc,
+        line,
+        unclosed,
+    }))
 }
 
 /// `Desk::setup`, `Desk::cut` and `Card::close`.

@@ -5,27 +5,68 @@ ghost use Rattle.std.specs.Prelude.{◌≡◌, drop};
 use crate::choose::Choice;
 use crate::subcommand::run_subcommand;
 use dialogue::{Done, Failed, Input, Output, RunFault};
-use std::alloc::Global;
+use std::alloc::{AllocError, Global};
+use std::process::Abort;
 use std::sync::Wait;
 use std::test::Fail;
 use std::thread::Threads;
 
-const INPUT: &[u8; 83] =
-    b"0030000000000003001500010000004a00060000000000020006000000000001\n00100640\n0010064a\n";
+/// A subcommand, what it reads, and what it answers.
+#[derive(Clone, Copy)]
+pub struct Talk {
+    pub choice: Choice,
+    pub input: &'static [u8],
+    pub text: &'static [u8],
+    /// The input is read to its end before anything is answered.
+    is_gathered: bool,
+}
 
-const TEXT: &[u8; 43] = b"accepted 4\nvalue 1 steps 3\nvalue 2 steps 3\n";
+/// A program and two cells.
+const PROGRAM: Talk = Talk {
+    choice: Choice::Eval,
+    input: b"0030000000000003001500010000004a00060000000000020006000000000001\n00100640\n0010064a\n",
+    text: b"accepted 4\nvalue 1 steps 3\nvalue 2 steps 3\n",
+    is_gathered: false,
+};
 
-/// A source, and what `check` answers.
-const SOURCE: &[u8; 13] = b"tax\nret #300\n";
+/// A source.
+const SOURCE: Talk = Talk {
+    choice: Choice::Check,
+    input: b"tax\nret #300\n",
+    text: b"accepted 2\n0007000000000000000600000000012c\n",
+    is_gathered: true,
+};
 
-const CHECKED: &[u8; 44] = b"accepted 2\n0007000000000000000600000000012c\n";
+/// Two programs, one connection, and a refusal of the desk of each kind that such a card has.
+const SCRIPT: Talk = Talk {
+    choice: Choice::Run,
+    input: b"card 2 1 1 16\nload 0006000000000001\nload 0006000000000001\nload 0006000000000001\n\
+        setup 1 100 p1 cbr1:10/0\ncell 0 00100640\nretire p1\nreload 1 100 p2\ncell 5 00100640\n\
+        retire p1\nload 0006000000000001\nreload 1 100 p1\nsetup 1 100 p3 cbr1:1/0\n\
+        setup 2 100 p3 cbr1:1/0\nrelease 1 100\ncell 10 00100640\n",
+    text: b"ready\nloaded p1\nloaded p2\nfault desk 6 ProgramsFull\nset 1/100\n\
+        pass 1/100 p1 1 00100640\nfault desk 5 InUse\nreloaded 1/100 p2\ndiscard 1/100 p2 1\n\
+        retired p1\nloaded p3\nfault desk 1 NoProgram\nfault desk 3 Taken\nfault desk 4 NoLine\n\
+        released 1/100 2 1 0 1 0\nfault arrive 1 NoConnection\n",
+    is_gathered: false,
+};
 
-/// Two ports with a connection each, and what `ports` answers.
-const SCRIPT: &[u8; 151] = b"card 2 2 2 16\nload 0006000000000001\nsetup 1 100 p1 cbr1:10/0\n\
-    setup 1 101 p1 cbr1:10/0\ncell 0 00100640\ncell 0 00100650\ncell 5 00100640\ncell 10 00100650\n";
+/// Two ports with a connection each.
+const PORTS: Talk = Talk {
+    choice: Choice::Ports,
+    input: b"card 2 2 2 16\nload 0006000000000001\nsetup 1 100 p1 cbr1:10/0\n\
+        setup 1 101 p1 cbr1:10/0\ncell 0 00100640\ncell 0 00100650\ncell 5 00100640\n\
+        cell 10 00100650\n",
+    text: b"ready\nloaded p1\nset 1/100\nset 1/101\npass 1/100 p1 1 00100640\n\
+        pass 1/101 p1 1 00100650\ndiscard 1/100 p1 1\npass 1/101 p1 1 00100650\n\
+        totals 3 0 1 0\n",
+    is_gathered: true,
+};
 
-const ANSWERED: &[u8; 145] = b"ready\nloaded p1\nset 1/100\nset 1/101\npass 1/100 p1 1 00100640\n\
-    pass 1/101 p1 1 00100650\ndiscard 1/100 p1 1\npass 1/101 p1 1 00100650\ntotals 3 0 1 0\n";
+/// One of each subcommand.
+pub fn talks() -> [Talk; 4] {
+    [PROGRAM, SOURCE, SCRIPT, PORTS]
+}
 
 /// Gives one octet a call, and fails once so many calls have gone well.
 #[derive(Drop)]
@@ -119,106 +160,141 @@ pub fn run_over<R: Threads + Wait + Sync>(
     (ended, output.held)
 }
 
-fn run<R: Threads + Wait + Sync>(
+/// Asks that a subcommand over such devices ends so, and has then written this.
+fn expect<R: Threads + Wait + Sync + Abort>(
     rt: &R,
     alloc: Global,
-    takes: usize,
-    gives: usize,
-) -> (Result<Done, RunFault>, Vec<u8>) {
-    run_over(rt, alloc, Choice::Eval, INPUT, takes, gives)
+    talk: Talk,
+    (takes, gives): (usize, usize),
+    ended: Result<Done, RunFault>,
+    text: &[u8],
+) {
+    let (found, written) = run_over(rt, alloc, talk.choice, talk.input, takes, gives);
+    assert_eq!(rt;
+        (found, written.as_slice()),
+        (ended, text),
+        "{takes} {gives}"
+    );
 }
 
-fn run_check<R: Threads + Wait + Sync>(
-    rt: &R,
-    alloc: Global,
-    takes: usize,
-    gives: usize,
-) -> (Result<Done, RunFault>, Vec<u8>) {
-    run_over(rt, alloc, Choice::Check, SOURCE, takes, gives)
-}
-
-fn run_ports<R: Threads + Wait + Sync>(
-    rt: &R,
-    alloc: Global,
-    takes: usize,
-    gives: usize,
-) -> (Result<Done, RunFault>, Vec<u8>) {
-    run_over(rt, alloc, Choice::Ports, SCRIPT, takes, gives)
-}
-
-#[test]
-fn one_octet_a_call_gives_the_same_text(rt: HostRuntime) -> Result<(), Fail> {
-    let (ended, text) = run(&rt, rt.alloc(), 1000, 1000);
-    assert_eq!(rt; ended, Ok(Done::Whole));
-    assert_eq!(rt; text.as_slice(), TEXT.as_slice());
-    Ok(())
-}
-
-#[test]
-fn a_write_that_fails_leaves_the_octets_before_it(rt: HostRuntime) -> Result<(), Fail> {
-    for gives in 0..TEXT.len() {
-        let (ended, text) = run(&rt, rt.alloc(), 1000, gives);
-        assert_eq!(rt; ended, Err(RunFault::WriteFailed));
-        assert_eq!(rt; text.as_slice(), &TEXT[..gives]);
+/// The text when so many octets were read: an answer for each whole line, or none where all is read first.
+fn answered(alloc: Global, talk: Talk, takes: usize) -> Result<Vec<u8>, AllocError> {
+    let mut front = Vec::new(alloc);
+    if talk.is_gathered {
+        return Ok(front);
     }
-    let (ended, _text) = run(&rt, rt.alloc(), 1000, TEXT.len());
-    assert_eq!(rt; ended, Ok(Done::Whole));
+    let lines = talk
+        .input
+        .iter()
+        .take(takes)
+        .filter(|octet| **octet == b'\n')
+        .count();
+    let mut met = 0usize;
+    for octet in talk.text {
+        if met < lines {
+            front.push(*octet)?;
+        }
+        if *octet == b'\n' {
+            met = met.saturating_add(1);
+        }
+    }
+    Ok(front)
+}
+
+#[test]
+fn one_octet_a_call_gives_the_same_text(rt: HostRuntime) {
+    for talk in talks() {
+        expect(
+            &rt,
+            rt.alloc(),
+            talk,
+            (1000, 1000),
+            Ok(Done::Whole),
+            talk.text,
+        );
+    }
+}
+
+/// Asks that an output which fails at any octet holds those before it.
+fn expect_fronts<R: Threads + Wait + Sync + Abort>(rt: &R, alloc: Global, talk: Talk) {
+    for gives in 0..talk.text.len() {
+        let text = &talk.text[..gives];
+        expect(
+            rt,
+            alloc,
+            talk,
+            (1000, gives),
+            Err(RunFault::WriteFailed),
+            text,
+        );
+    }
+    expect(
+        rt,
+        alloc,
+        talk,
+        (1000, talk.text.len()),
+        Ok(Done::Whole),
+        talk.text,
+    );
+}
+
+#[test]
+fn a_write_that_fails_leaves_the_octets_before_it(rt: HostRuntime) {
+    expect_fronts(&rt, rt.alloc(), PROGRAM);
+    expect_fronts(&rt, rt.alloc(), SOURCE);
+}
+
+#[test]
+fn a_write_that_fails_leaves_a_beginning_of_what_run_answered(rt: HostRuntime) {
+    expect_fronts(&rt, rt.alloc(), SCRIPT);
+}
+
+#[test]
+fn a_write_that_fails_leaves_a_beginning_of_what_ports_answered(rt: HostRuntime) {
+    expect_fronts(&rt, rt.alloc(), PORTS);
+}
+
+/// Asks that an input which fails at any octet was answered as far as its lines came. Once all octets were read, the end
+/// is still to be asked for.
+fn expect_answers<R: Threads + Wait + Sync + Abort>(
+    rt: &R,
+    alloc: Global,
+    talk: Talk,
+) -> Result<(), AllocError> {
+    for takes in 0..=talk.input.len() {
+        let text = answered(alloc, talk, takes)?;
+        expect(
+            rt,
+            alloc,
+            talk,
+            (takes, 1000),
+            Err(RunFault::ReadFailed),
+            &text,
+        );
+    }
     Ok(())
 }
 
 #[test]
 fn a_read_that_fails_leaves_the_answers_before_it(rt: HostRuntime) -> Result<(), Fail> {
-    for takes in 0..INPUT.len() {
-        let (ended, text) = run(&rt, rt.alloc(), takes, 1000);
-        assert_eq!(rt; ended, Err(RunFault::ReadFailed));
-        let answered = if takes < 65 {
-            0
-        } else if takes < 74 {
-            11
-        } else if takes < 83 {
-            27
-        } else {
-            43
-        };
-        assert_eq!(rt; text.as_slice(), &TEXT[..answered]);
-    }
+    expect_answers(&rt, rt.alloc(), PROGRAM)?;
     Ok(())
 }
 
 #[test]
-fn a_source_is_gathered_whole_before_it_is_answered(rt: HostRuntime) {
-    let (ended, text) = run_check(&rt, rt.alloc(), 1000, 1000);
-    assert_eq!(rt; ended, Ok(Done::Whole));
-    assert_eq!(rt; text.as_slice(), CHECKED.as_slice());
-    for takes in 0..SOURCE.len() + 1 {
-        let (ended, text) = run_check(&rt, rt.alloc(), takes, 1000);
-        assert_eq!(rt; ended, Err(RunFault::ReadFailed));
-        assert_eq!(rt; text.len(), 0);
-    }
-    for gives in 0..CHECKED.len() {
-        let (ended, text) = run_check(&rt, rt.alloc(), 1000, gives);
-        assert_eq!(rt; ended, Err(RunFault::WriteFailed));
-        assert_eq!(rt; text.as_slice(), &CHECKED[..gives]);
-    }
+fn a_source_is_read_whole_before_it_is_answered(rt: HostRuntime) -> Result<(), Fail> {
+    expect_answers(&rt, rt.alloc(), SOURCE)?;
+    Ok(())
 }
 
 #[test]
-fn a_script_of_ports_is_read_whole_before_it_is_run(rt: HostRuntime) {
-    for takes in 0..SCRIPT.len() + 1 {
-        let (ended, text) = run_ports(&rt, rt.alloc(), takes, 1000);
-        assert_eq!(rt; ended, Err(RunFault::ReadFailed));
-        assert_eq!(rt; text.len(), 0);
-    }
-    let (ended, text) = run_ports(&rt, rt.alloc(), 1000, 1000);
-    assert_eq!(rt; ended, Ok(Done::Whole));
-    assert_eq!(rt; text.as_slice(), ANSWERED.as_slice());
+fn a_read_that_fails_leaves_the_answers_of_the_scripts_lines(rt: HostRuntime) -> Result<(), Fail> {
+    expect_answers(&rt, rt.alloc(), SCRIPT)?;
+    Ok(())
 }
 
 #[test]
-fn a_write_that_fails_leaves_a_beginning_of_what_ports_answered(rt: HostRuntime) {
-    for gives in 0..ANSWERED.len() {
-        let (ended, text) = run_ports(&rt, rt.alloc(), 1000, gives);
-        assert_eq!(rt; ended, Err(RunFault::WriteFailed));
-        assert_eq!(rt; text.as_slice(), &ANSWERED[..gives]);
-    }
+fn a_script_of_ports_is_read_whole_before_it_is_run(rt: HostRuntime) -> Result<(), Fail> {
+    expect_answers(&rt, rt.alloc(), PORTS)?;
+    Ok(())
 }

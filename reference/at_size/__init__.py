@@ -1,0 +1,1 @@
+"""Scripts of a size that no file has, with their answers (tests/at-size)."""

@@ -1,0 +1,2 @@
+a: ret a
+a: ret a

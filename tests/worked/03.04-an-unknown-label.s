@@ -1,0 +1,2 @@
+jeq x, gone
+ret a

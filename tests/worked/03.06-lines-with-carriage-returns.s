@@ -1,0 +1,2 @@
+ja next
+next: ret #0 ; done

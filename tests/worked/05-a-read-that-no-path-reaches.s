@@ -1,0 +1,3 @@
+ret #0
+ld M[3]
+ret a

@@ -1,0 +1,3 @@
+top: ld #1
+ja top
+ret a

@@ -1,0 +1,2 @@
+ja end
+end:

@@ -1,0 +1,3 @@
+div #0
+ret #1
+ret x

@@ -1,0 +1,4 @@
+here:
+there: ldxb 4 * ( [ 0x3 ] & 017 )
+txa
+ret a

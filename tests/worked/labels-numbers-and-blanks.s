@@ -1,0 +1,6 @@
+; nothing but
+
+	here: ldxb 4 * ( [ 0x3 ] & 15 )
+
+txa
+ret a
