@@ -34,13 +34,11 @@ impl<S: Ledgers> Seatings<S> {
         requires lines { lines ≡ S.names.lines }
         requires some { 0 < lines }
     {
-        match Directory::new(alloc, lines, 1) {
-            Ok(directory) => Some(Seatings {
-                directory,
-                of: PhantomData,
-            }),
-            Err(_) => None,
-        }
+        let directory = Directory::new(alloc, lines, 1).ok()?;
+        Some(Seatings {
+            directory,
+            of: PhantomData,
+        })
     }
 
     /// Where the connection is, if there is one.

@@ -1,3 +1,4 @@
 pub mod ReadingText
 pub mod PortsTexts
+pub mod InOrderLemmas
 pub mod Public

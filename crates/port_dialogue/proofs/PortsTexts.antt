@@ -1,5 +1,5 @@
 -- The text of `ports`, from what the reading of a script prints and what its run does.
-use Rattle.std.proofs.Common.{◌≡◌, ℕ, List, [], ◌++◌, Some, None, inl, inr, refl, ap, subst, append-nil, false, ◌∙◌}
+use Rattle.std.proofs.Common.{◌≡◌, ℕ, List, [], ◌++◌, Some, None, inl, inr, refl, ap, subst, append-nil, ◌∙◌}
 use Rattle.std.specs.Prelude.{Result, Ok, Err, IfOk}
 use Rattle.dialogue.specs.Devices.{Adds, TakesEnough}
 use Rattle.dialogue.specs.Lines.{lines_of}
@@ -8,7 +8,7 @@ use Rattle.dialogue.specs.declared.ending.Done.{Done}
 use Rattle.dialogue.specs.declared.ending.Done.TheVariants.{Whole, Ended}
 use Rattle.dialogue.proofs.Public.{some-text}
 use Rattle.port_dialogue.specs.ClosingText.{closing_text}
-use Rattle.port_dialogue.specs.PortsText.{IsClosedText, IsPortsText, IsReadingText, reading_rules}
+use Rattle.port_dialogue.specs.PortsText.{IsClosedText, IsPortsText, IsReadingText, reading_rules, unread}
 use Rattle.port_dialogue.specs.inner.ReadingLaws.{reading-total}
 use Rattle.port_dialogue.proofs.ReadingText.{reading-silent}
 
@@ -31,7 +31,7 @@ some_from octets (text, Ended, told) = (text, Ended, inl (refl, told))
 some_from octets (text, Whole, told) = ((some-closed Whole).0, Whole, inr (read octets text told, (some-closed Whole).1))
 
 pub some-ports_text : (octets : List ℕ) → (text : List ℕ) × (done : Done) × IsPortsText octets text done
-some-ports_text octets = some_from octets (some-text reading_rules reading-total (lines_of octets) 0 false tt)
+some-ports_text octets = some_from octets (some-text reading_rules reading-total (lines_of octets) 0 unread tt)
 
 -- A reading that a fault ended.
 pub ended-text : (octets held new : List ℕ) → Adds (λ text. IsReadingText octets text Ended) held new

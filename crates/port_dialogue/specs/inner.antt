@@ -2,3 +2,4 @@
 pub mod ReadingLaws
 pub mod CellLine
 pub mod Dealing
+pub mod InOrder

@@ -1,9 +1,10 @@
 //! The cell lines of a script.
 
-ghost use Rattle.std.specs.Prelude.{IfOk};
+ghost use Rattle.std.specs.Prelude.{◌≡◌, ◌++◌, IfOk, OnOk};
 ghost use Rattle.dialogue.specs.Words.{words_of};
 ghost use Rattle.card_dialogue.specs.ScriptCommands.{command_of};
 ghost use Rattle.port_dialogue.specs.inner.CellLine.{IsCellLine};
+ghost use Rattle.port_dialogue.specs.inner.InOrder.{fault_text};
 
 use card_dialogue::{Command, read_command};
 use program_dialogue::{CellWord, add_bad_hex, add_bad_line, add_wrong_length, cell_of_word};
@@ -45,7 +46,9 @@ pub fn read_cell_line(alloc: Global, side: Side, line: &[u8]) -> Result<CellLine
 }
 
 /// Adds the answer to a line that brings no cell.
-pub fn add_cell_line_fault(answers: &mut Vec<u8>, fault: CellLineFault) -> Result<(), AllocError> {
+pub fn add_cell_line_fault(answers: &mut Vec<u8>, fault: CellLineFault) -> Result<(), AllocError>
+    ensures { OnOk result (answers.new.items ≡ answers.old.items ++ fault_text fault) }
+{
     match fault {
         CellLineFault::BadLine => add_bad_line(answers),
         CellLineFault::BadHex => add_bad_hex(answers),

@@ -1,6 +1,9 @@
 //! What ports and desk were answered, in the script's order.
 
-ghost use Rattle.std.specs.Prelude.{OnOk};
+ghost use Rattle.std.specs.Prelude.{◌≡◌, OnOk, map, slice_get};
+ghost use Rattle.std.specs.Option.{option_copied};
+ghost use Rattle.dialogue.specs.Devices.{Adds};
+ghost use Rattle.port_dialogue.specs.inner.InOrder.{AllTell, Tells, cell_at, given_text};
 ghost use Rattle.card_dialogue.specs.AddsSome.{AddsSome};
 ghost use Rattle.card_dialogue.specs.Replies.{answer_text};
 ghost use Rattle.upc_cell.specs.Connection.{vc_of};
@@ -26,6 +29,26 @@ fn add_arrival(
     add_answer(answers, number, arrival.cell.vc_at(side), &arrival.answer)
 }
 
+/// The cell at this place among those of the port of this number, if there is one.
+#[tactic(auto, using(crate::proofs::InOrderLemmas::get_mapped))]
+fn cell_in<S: Ledgers>(ports: &[BusyPort<S>], number: usize, place: usize) -> Option<&DealtCell>
+    ensures { option_copied result
+        ≡ cell_at (slice_get (map (λ port. port.arrivals.items) ports.now) number) place }
+{
+    ports.get(number)?.arrivals.get(place)
+}
+
+/// The text that the desk gave as the one of this number; empty where it gave none.
+#[tactic(auto, using(crate::proofs::InOrderLemmas::get_mapped))]
+fn text_in(told: &[Vec<u8>], number: usize) -> &[u8]
+    ensures { result.now ≡ given_text (slice_get (map (λ text. text.items) told.now) number) }
+{
+    match told.get(number) {
+        Some(text) => text,
+        None => &[],
+    }
+}
+
 /// Adds what one answerer has to tell.
 fn add_from<S: Ledgers>(
     side: Side,
@@ -34,23 +57,19 @@ fn add_from<S: Ledgers>(
     told: &[Vec<u8>],
     names: &Names,
     answers: &mut Vec<u8>,
-) -> Result<(), AllocError> {
+) -> Result<(), AllocError>
+    ensures { OnOk result (Adds
+        (Tells side names.now (map (λ port. port.arrivals.items) ports.now) (map (λ text. text.items) told.now) answerer)
+        answers.old.items answers.new.items) }
+{
     match answerer {
-        Answerer::Port(number, place) => {
-            if let Some(port) = ports.get(number)
-                && let Some(arrival) = port.arrivals.get(place)
-            {
-                add_arrival(side, names, arrival, answers)?;
-            }
-        }
-        Answerer::Desk(number) => {
-            if let Some(text) = told.get(number) {
-                answers.extend_from_slice(text)?;
-            }
-        }
-        Answerer::Fault(fault) => add_cell_line_fault(answers, fault)?,
+        Answerer::Port(number, place) => match cell_in(ports, number, place) {
+            Some(arrival) => add_arrival(side, names, arrival, answers),
+            None => Ok(()),
+        },
+        Answerer::Desk(number) => answers.extend_from_slice(text_in(told, number)),
+        Answerer::Fault(fault) => add_cell_line_fault(answers, fault),
     }
-    Ok(())
 }
 
 /// Adds all answers, in the script's order.
@@ -61,7 +80,11 @@ pub fn add_in_order<S: Ledgers>(
     told: &[Vec<u8>],
     names: &Names,
     answers: &mut Vec<u8>,
-) -> Result<(), AllocError> {
+) -> Result<(), AllocError>
+    ensures { OnOk result (Adds
+        (AllTell side names.now (map (λ port. port.arrivals.items) ports.now) (map (λ text. text.items) told.now) order.now)
+        answers.old.items answers.new.items) }
+{
     for answerer in order {
         add_from(side, *answerer, ports, told, names, answers)?;
     }

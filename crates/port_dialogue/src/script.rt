@@ -1,6 +1,7 @@
 //! The script of `upc ports`, which is read whole before anything of it is run.
 
-ghost use Rattle.std.specs.Prelude.{◌≡◌, false};
+ghost use Rattle.std.specs.Prelude.{◌≡◌};
+ghost use Rattle.port_dialogue.specs.PortsText.{unread};
 
 use card_core::Shape;
 use card_dialogue::{add_no_card, add_shape_fault, read_card};
@@ -23,7 +24,7 @@ pub struct Script {
 impl Script {
     /// A script of which nothing was read.
     pub fn new(alloc: Global) -> Script
-        ensures { result.is_open ≡ false }
+        ensures { record { opened = result.is_open; shape = result.shape; kept = result.lines.items } ≡ unread }
     {
         Script {
             is_open: false,
@@ -40,13 +41,14 @@ impl Script {
 }
 
 impl Machine for Script {
-    ghost use Rattle.std.specs.Prelude.{◌≡◌, Bool};
-    ghost use Rattle.port_dialogue.specs.PortsText.{reading_rules};
+    ghost use Rattle.std.specs.Prelude.{◌≡◌};
+    ghost use Rattle.port_dialogue.specs.PortsText.{Reading, reading_rules};
     ghost use Rattle.port_dialogue.specs.inner.ReadingLaws.{reading-total};
 
-    ghost World = { Bool };
+    ghost World = { Reading };
 
-    ghost shows = { λ script world. world ≡ script.is_open };
+    ghost shows = { λ script world.
+        world ≡ record { opened = script.is_open; shape = script.shape; kept = script.lines.items } };
 
     ghost rules = { reading_rules };
 

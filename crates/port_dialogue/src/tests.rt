@@ -1,11 +1,12 @@
-//! Scripts whose cells come to ports that are threads of their own.
+//! Scripts whose cells come to ports that are threads of their own, with gates; and how a run of them closes.
+//!
+//! Which text answers which script is data: tests/worked/ at the top of the repository.
 
 use crate::closing_lines::{add_closing, done_after};
-use crate::{run_ports, run_ports_with};
+use crate::run_ports_with;
 use dialogue::{Done, Giving, RunFault, Taking};
 use port_card::{CloseFault, Closing, Gate};
 use std::alloc::Global;
-use std::process::Abort;
 use std::sync::Wait;
 use std::sync::atomic::{AtomicU64, Ordering};
 use std::test::Fail;
@@ -47,106 +48,6 @@ fn printed<G: Gate + Sync, R: Threads + Wait + Sync>(
     let mut sink = Giving::new(Vec::new(alloc));
     let done = run_ports_with(rt, alloc, &mut source, &mut sink, gate)?;
     Ok((sink.writer, done))
-}
-
-/// Asks that `ports` prints this text for the script, and ends so.
-fn expect<R: Threads + Wait + Sync + Abort>(
-    rt: &R,
-    alloc: Global,
-    script: &[u8],
-    text: &[u8],
-    ends: Done,
-) -> Result<(), RunFault> {
-    let mut source = Taking::new(script);
-    let mut sink = Giving::new(Vec::new(alloc));
-    let done = run_ports(rt, alloc, &mut source, &mut sink)?;
-    assert_eq!(rt; sink.writer.as_slice(), text);
-    assert_eq!(rt; done, ends);
-    Ok(())
-}
-
-#[test]
-fn cells_are_answered_as_in_a_run_and_counted(rt: HostRuntime) -> Result<(), Fail> {
-    let script = b"card 2 2 2 16
-load 0030000000000003005400000000000e003501000000000800060000000000010006000000000002
-setup 1 100 p1 cbr1:10/5
-cell 0 00100640
-cell 6 00100640
-cell 14 00100640
-cell 15 00100640
-cell 15 0010064a
-";
-    let text = b"ready
-loaded p1
-set 1/100
-pass 1/100 p1 1 00100640
-pass 1/100 p1 1 00100640
-discard 1/100 p1 1
-pass 1/100 p1 1 00100640
-refuse 1/100 p1 2
-totals 3 0 1 1
-";
-    expect(&rt, rt.alloc(), script, text, Done::Whole)?;
-    expect(&rt, rt.alloc(), TWO, TWO_TOLD, Done::Whole)?;
-    Ok(())
-}
-
-#[test]
-fn faulty_cells_and_later_desk_lines_are_told_in_the_scripts_order(
-    rt: HostRuntime,
-) -> Result<(), Fail> {
-    let script = b"# a remark
-card 2 2 3 16
- cell 5
-cell x 00100640
-load 0006000000000001
-cell 5 0010064
-bogus
-cell 5 001006
-setup 1 100 p2 cbr1:1/0
-
-cell 18446744073709551615 00300640
-";
-    let text = b"ready
-fault script 1 BadLine
-fault script 1 BadLine
-loaded p1
-fault script 3 BadHex
-fault script 1 BadLine
-fault cell 1 WrongLength 3
-fault desk 1 NoProgram
-fault arrive 1 NoConnection
-totals 0 0 0 0
-";
-    expect(&rt, rt.alloc(), script, text, Done::Whole)?;
-    Ok(())
-}
-
-#[test]
-fn a_script_that_cannot_be_run_has_one_line(rt: HostRuntime) -> Result<(), Fail> {
-    let rows: [(&[u8], &[u8]); 4] = [
-        (b"", b"fault script 2 NoCard\n"),
-        (b"load 0006000000000001\n", b"fault script 2 NoCard\n"),
-        (
-            b"card 1 1 17 0\ncell 0 00100640\n",
-            b"fault shape 3 Ports\n",
-        ),
-        (b"card 1 1 1\n", b"fault script 2 NoCard\n"),
-    ];
-    for (script, text) in rows {
-        expect(&rt, rt.alloc(), script, text, Done::Ended)?;
-    }
-    let mut long = Vec::new(rt.alloc());
-    long.extend_from_slice(b"card 1 1 1 1\nload 0006000000000001\n")?;
-    long.resize(80_000, b'#')?;
-    expect(
-        &rt,
-        rt.alloc(),
-        &long,
-        b"fault script 5 TooLong\n",
-        Done::Ended,
-    )?;
-    Ok(())
 }
 
 /// Each port, at its first cell, raises its flag and turns until the other's is up.
