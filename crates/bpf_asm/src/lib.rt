@@ -18,6 +18,3 @@ mod token;
 pub use assembler::assemble;
 pub use fault::{AsmFault, AsmKind, ListFault};
 pub use lister::listing;
-
-#[cfg(test)]
-mod tests;

@@ -9,6 +9,3 @@ pub mod laws;
 pub use decoder::{DecodeFault, decode, decode_one};
 pub use encoder::{EncodeFault, encode, encode_one};
 pub use instr::{By, Instr, Op, Size, Test};
-
-#[cfg(test)]
-mod tests;

@@ -10,6 +10,3 @@ mod turn;
 mod twos;
 
 pub use interpreter::{Outcome, run};
-
-#[cfg(test)]
-mod tests;

@@ -15,6 +15,3 @@ pub use flat::{Flat, Row};
 pub use layout::{FLAT_PLACES, MOST_LAID_OUT};
 pub use program::Program;
 pub use verifier::{MOST_INSTRUCTIONS, verify};
-
-#[cfg(test)]
-mod tests;

@@ -25,6 +25,3 @@ pub use reply::{PortReply, Reply};
 pub use serial::Core;
 pub use shape::{MOST_LINES, MOST_PORTS, MOST_PROGRAMS, Shape};
 pub use step::Step;
-
-#[cfg(test)]
-mod tests;

@@ -16,8 +16,6 @@ mod replies;
 mod run;
 mod script_card;
 mod script_words;
-#[cfg(test)]
-mod tests;
 
 pub use card_faults::{
     add_desk_fault, add_gcra_fault, add_no_card, add_no_such_program, add_shape_fault,

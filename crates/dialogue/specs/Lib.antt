@@ -9,4 +9,3 @@ pub mod Printing
 pub mod Answering
 pub mod Gathered
 pub mod inner
-pub mod examples

@@ -19,8 +19,6 @@ pub mod laws;
 mod line_ends;
 mod machine;
 mod stream;
-#[cfg(test)]
-mod tests;
 mod window;
 mod words;
 

@@ -12,6 +12,3 @@ mod place;
 pub use arena::Arena;
 pub use fault::ArenaFault;
 pub use id::Id;
-
-#[cfg(test)]
-mod tests;

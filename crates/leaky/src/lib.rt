@@ -16,6 +16,3 @@ pub use levels::Levels;
 pub use policing::{LAST_MOMENT, judge};
 pub use tolerance::{BtFault, burst_tolerance};
 pub use verdict::Verdict;
-
-#[cfg(test)]
-mod tests;

@@ -23,6 +23,3 @@ pub use owner::Owner;
 pub use piece::{Piece, chain};
 pub use state::State;
 pub use tally::Tally;
-
-#[cfg(test)]
-mod tests;

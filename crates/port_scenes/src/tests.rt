@@ -15,7 +15,7 @@ use bpf_verify::{Program, verify};
 use card_core::{Answer, Ask, DeskFault, Shape};
 use gen_arena::Id;
 use leaky::{Contract, Gcra, Verdict};
-use line_record::{Piece, Tally};
+use line_record::{Entry, Line, Piece, Tally};
 use port_card::{Card, CloseFault, Closing, Desk, Gate, Ledgers, NoWait, PortSeat};
 use std::alloc::Global;
 use std::sync::Wait;
@@ -178,6 +178,17 @@ fn tally(passed: u64, tagged: u64, discarded: u64, refused: u64) -> Tally {
         discarded,
         refused,
     }
+}
+
+/// A line's journal, of at most two cells, and its counts.
+fn kept(line: &Line) -> ([Option<Entry>; 3], Tally) {
+    let entries = line.entries();
+    let journal = [
+        entries.first().copied(),
+        entries.get(1).copied(),
+        entries.get(2).copied(),
+    ];
+    (journal, line.counts())
 }
 
 /// How many cells a journal has that was handed out.

@@ -10,12 +10,11 @@ mod digits;
 mod eval;
 mod hexadecimal;
 mod program_reading;
-#[cfg(test)]
-mod tests;
 mod text_from_end;
 
 pub use answer_texts::{
-    add_bad_hex, add_bad_line, add_number, add_text, add_too_long, add_wrong_length,
+    add_asm_fault, add_bad_hex, add_bad_line, add_decode_fault, add_number, add_text, add_too_long,
+    add_verify_fault, add_wrong_length,
 };
 pub use check::check_source;
 pub use digits::{CELL_DIGITS, HEADER_DIGITS, cell_of_digits};

@@ -11,6 +11,3 @@ pub use cell::{CELL_OCTETS, Cell, CellFault};
 pub use equality::same_vc;
 pub use side::Side;
 pub use vc::{Vc, VcFault};
-
-#[cfg(test)]
-mod tests;

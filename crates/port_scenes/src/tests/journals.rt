@@ -27,36 +27,50 @@ fn answered(answer: Answer) -> &'static str {
     }
 }
 
+/// What came of the cells of one connection, on a card of two ports and two lines.
+#[derive(Debug, Drop)]
+struct Outcome {
+    answers: [&'static str; 5],
+    /// How many cells the journal had that the release gave.
+    entries: usize,
+    /// What both seats counted on the connection's line, and what that line did.
+    own: [Option<Tally>; 3],
+    /// The same of the other line.
+    other: [Option<Tally>; 3],
+    /// How many lines the close gave, and which is uneven.
+    lines: usize,
+    uneven: Option<u16>,
+}
+
 #[test]
 fn lines_count_what_seats_do(rt: HostRuntime) -> Result<(), Fail> {
     let shape = shape(2, 2, 2, 16);
     let blanks = Blanks::new(2, 2);
-    let (answers, entries, closing) = policed::<Brand, HostRuntime>(
-        &rt,
-        rt.alloc(),
-        shape,
-        blanks,
-    )?;
-    assert_eq!(rt; answers, ["pass", "pass", "discard", "pass", "refuse"]);
-    assert_eq!(rt; entries, 5);
-    assert_eq!(rt; closing.lines.len(), 2);
-    let counts = tally(3, 0, 1, 1);
-    let first = closing.lines[0].counts();
-    let second = closing.lines[1].counts();
-    assert!(rt;
-        (first == counts && second == Tally::new()) || (first == Tally::new() && second == counts)
-    );
-    assert_eq!(rt; closing.uneven, None);
+    let seen = policed::<Brand, HostRuntime>(&rt, rt.alloc(), shape, blanks)?;
+    assert_eq!(rt; seen.answers, ["pass", "pass", "discard", "pass", "refuse"]);
+    assert_eq!(rt; (seen.entries, seen.lines, seen.uneven), (5, 2, None));
+    let own = [
+        Some(tally(1, 0, 1, 1)),
+        Some(tally(2, 0, 0, 0)),
+        Some(tally(3, 0, 1, 1)),
+    ];
+    assert_eq!(rt; (seen.own, seen.other), (own, [Some(Tally::new()); 3]));
     Ok(())
 }
 
-/// Five cells at port 0, a cut, a release, and a close.
+/// What the line of this number counted; none where there is no such line.
+fn counts_of(closing: &Closing, number: u16) -> Option<Tally> {
+    let line = closing.lines.get(usize::from(number))?;
+    Some(line.counts())
+}
+
+/// Five cells that come to both ports in turn, a release, and a close.
 fn policed<S: Ledgers, R: Wait>(
     rt: &R,
     alloc: Global,
     shape: Shape,
     blanks: Blanks,
-) -> Result<([&'static str; 5], usize, Closing), Fail>
+) -> Result<Outcome, Fail>
     requires names { blanks ≡ S.names }
     requires for_shape { AreFor shape S.names }
 {
@@ -67,22 +81,31 @@ fn policed<S: Ledgers, R: Wait>(
     if set_up(rt, &mut desk, &card, asked)? != 1 {
         return Err(Fail::from("another incarnation"));
     }
-    let (mut first, second) = both(seats)?;
+    let (mut first, mut second) = both(seats)?;
+    let begun = card.arrive(rt, &mut first, &cell(DATA), 0, &NoWait);
     let answers = [
-        answered(card.arrive(rt, &mut first, &cell(DATA), 0, &NoWait)),
-        answered(card.arrive(rt, &mut first, &cell(DATA), 6, &NoWait)),
+        answered(begun),
+        answered(card.arrive(rt, &mut second, &cell(DATA), 6, &NoWait)),
         answered(card.arrive(rt, &mut first, &cell(DATA), 14, &NoWait)),
-        answered(card.arrive(rt, &mut first, &cell(DATA), 15, &NoWait)),
+        answered(card.arrive(rt, &mut second, &cell(DATA), 15, &NoWait)),
         answered(card.arrive(rt, &mut first, &cell(MANAGEMENT), 15, &NoWait)),
     ];
-    // A cut that lacks memory leaves the journal to the release.
-    let entries = match desk.cut(rt, &card, vc) {
-        Ok(piece) => piece.entries().len() + desk.release(rt, &card, vc)?.entries().len(),
-        Err(DeskFault::NoMemory) => desk.release(rt, &card, vc)?.entries().len(),
-        Err(_) => return Err(Fail::from("not cut")),
+    let Answer::Judged { line, .. } = begun else {
+        return Err(Fail::from("not judged"));
     };
-    let seats = vec![in alloc; first, second]?;
-    Ok((answers, entries, closed(alloc, card, seats)?))
+    let empty = if line == 0 { 1 } else { 0 };
+    let entries = desk.release(rt, &card, vc)?.entries().len();
+    let on_own = [first.tally(line), second.tally(line)];
+    let on_other = [first.tally(empty), second.tally(empty)];
+    let closing = closed(alloc, card, vec![in alloc; first, second]?)?;
+    Ok(Outcome {
+        answers,
+        entries,
+        own: [on_own[0], on_own[1], counts_of(&closing, line)],
+        other: [on_other[0], on_other[1], counts_of(&closing, empty)],
+        lines: closing.lines.len(),
+        uneven: closing.uneven,
+    })
 }
 
 #[test]
@@ -135,31 +158,64 @@ fn filled<S: Ledgers, R: Wait>(
     Ok(([first, second, third, fourth, fifth], cut, counted))
 }
 
+/// A cell of cell loss priority 0 in a journal, for which its program gave 1.
+fn entry(moment: u64, program: Id, verdict: Verdict) -> Entry {
+    Entry {
+        moment,
+        program,
+        value: 1,
+        clp: false,
+        verdict,
+    }
+}
+
 #[test]
 fn a_card_is_closed_with_all_its_seats(rt: HostRuntime) -> Result<(), Fail> {
     let shape = shape(1, 3, 2, 2);
     let blanks = Blanks::new(3, 2);
-    let lines = missed::<Brand>(rt.alloc(), shape, blanks)?;
-    assert_eq!(rt; lines, 3);
+    let (program, own, closing) = missed::<Brand, HostRuntime>(&rt, rt.alloc(), shape, blanks)?;
+    assert_eq!(rt; (closing.lines.len(), closing.uneven), (3, None));
+    let passed = entry(0, program, Verdict::Pass);
+    let discarded = entry(5, program, Verdict::Discard);
+    for (number, line) in closing.lines.iter().enumerate() {
+        let wanted = if number == usize::from(own) {
+            ([Some(passed), Some(discarded), None], tally(1, 0, 1, 0))
+        } else {
+            ([None; 3], Tally::new())
+        };
+        assert_eq!(rt; kept(line), wanted, "line {number}");
+    }
     Ok(())
 }
 
-/// A close with one seat of two, and then with both.
-fn missed<S: Ledgers>(alloc: Global, shape: Shape, blanks: Blanks) -> Result<usize, Fail>
+/// A cell at each port, a close with one seat of two, and then one with both; the program, and the number of the line
+/// that judged the first cell.
+fn missed<S: Ledgers, R: Wait>(
+    rt: &R,
+    alloc: Global,
+    shape: Shape,
+    blanks: Blanks,
+) -> Result<(Id, u16, Closing), Fail>
     requires names { blanks ≡ S.names }
     requires for_shape { AreFor shape S.names }
 {
-    let (card, mut seats, _) = Card::<S>::new(alloc, shape, blanks)?;
-    let Some(second) = seats.pop() else {
-        return Err(Fail::from("no seat"));
+    let (card, seats, mut desk) = Card::<S>::new(alloc, shape, blanks)?;
+    let program = load(rt, &mut desk, &card, constant(alloc, 1)?)?;
+    set_up(rt, &mut desk, &card, ask(100, program, 0)?)?;
+    let (mut first, mut second) = both(seats)?;
+    let answer = card.arrive(rt, &mut first, &cell(DATA), 0, &NoWait);
+    card.arrive(rt, &mut second, &cell(DATA), 5, &NoWait);
+    let Answer::Judged { line, .. } = answer else {
+        return Err(Fail::from("not judged"));
     };
+    let seats = vec![in alloc; first]?;
     let Err((CloseFault::Missing, card, seats)) = card.close(alloc, seats) else {
         return Err(Fail::from("a seat isn't missed"));
     };
     let mut seats = seats;
-    if seats.len() != 1 {
+    if seats.len() != 1 || seats[0].tally(line) != Some(tally(1, 0, 0, 0)) {
         return Err(Fail::from("a seat is gone"));
     }
     seats.push(second)?;
-    Ok(closed(alloc, card, seats)?.lines.len())
+    Ok((program, line, closed(alloc, card, seats)?))
 }

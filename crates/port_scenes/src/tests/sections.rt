@@ -1,9 +1,9 @@
 //! The locked sections, on parts that are lent to them without a card.
 
 use super::*;
-use card_core::{Store, admit, load as put_in, name, release, reload, retire, setup};
+use card_core::{Store, admit, judge_at, load as put_in, name, release, reload, retire, setup};
 use gen_arena::Arena;
-use line_record::{Directory, Line, Owner};
+use line_record::{Directory, Owner, Seating};
 
 /// A connection is set up on a line that is lent.
 fn seat(
@@ -29,28 +29,61 @@ fn put(store: &mut Store, program: Program) -> Result<Id, Fail> {
     }
 }
 
+/// Two cells come to the line that is lent: one passes, and one is discarded.
+fn police(store: &Store, directory: &Directory, line: &mut Line, vc: Vc) -> Result<(), Fail> {
+    let Some(seating) = directory.find(vc) else {
+        return Err(Fail::from("not found"));
+    };
+    let Some(named) = name(store, seating.program, &cell(OTHER)) else {
+        return Err(Fail::from("not named"));
+    };
+    for moment in [3, 5] {
+        if judged(judge_at(line, vc, &seating, &named, moment)).is_none() {
+            return Err(Fail::from("not judged"));
+        }
+    }
+    Ok(())
+}
+
+/// What a directory shows: the places of both connections, whether it names each program, and a free line.
+fn shown(
+    directory: &Directory,
+    vcs: [Vc; 2],
+    programs: [Id; 2],
+) -> ([Option<Seating>; 2], [bool; 2], Option<u16>) {
+    (
+        [directory.find(vcs[0]), directory.find(vcs[1])],
+        [directory.names(programs[0]), directory.names(programs[1])],
+        directory.free_line(),
+    )
+}
+
 #[test]
 fn a_release_of_another_connections_line_is_stale(rt: HostRuntime) -> Result<(), Fail> {
     let alloc = rt.alloc();
-    let mut store = Arena::new(alloc, 1)?;
+    let mut store = Arena::new(alloc, 2)?;
     let program = put(&mut store, constant(alloc, 1)?)?;
-    let mut directory = Directory::new(alloc, 2, 1)?;
+    let another = put(&mut store, constant(alloc, 1)?)?;
+    let mut directory = Directory::new(alloc, 3, 1)?;
     let mut first = Line::new(alloc, 4)?;
     let mut second = Line::new(alloc, 4)?;
     let asked = ask(100, program, 0)?;
     let vc = asked.vc;
     seat(&store, &mut directory, &mut first, asked)?;
-    let other = seat(&store, &mut directory, &mut second, ask(101, program, 0)?)?;
-    let before = directory.find(vc);
-    if before.is_none() {
+    let other = seat(&store, &mut directory, &mut second, ask(101, another, 0)?)?;
+    police(&store, &directory, &mut second, other.vc)?;
+    let (vcs, programs) = ([vc, other.vc], [program, another]);
+    if directory.find(vc).is_none() {
         return Err(Fail::from("not found"));
     }
+    let places = shown(&directory, vcs, programs);
+    let record = (second.owner(), second.last(), kept(&second));
     assert_eq!(rt;
         release(&mut directory, &mut second, vc).err(),
         Some(DeskFault::Stale)
     );
-    assert!(rt; directory.find(vc) == before);
-    assert!(rt; second.owner() == Some(other));
+    assert_eq!(rt; shown(&directory, vcs, programs), places);
+    assert_eq!(rt; (second.owner(), second.last(), kept(&second)), record);
     Ok(())
 }
 
@@ -75,7 +108,7 @@ fn a_worn_store_is_full_and_forgets_what_was_retired(rt: HostRuntime) -> Result<
         return Err(Fail::from("a worn slot is filled"));
     };
     assert_eq!(rt; fault, DeskFault::ProgramsFull);
-    assert_eq!(rt; back.code().len(), 1);
+    assert_eq!(rt; back.code(), [Instr::RetK(3)].as_slice());
     assert_eq!(rt;
         retire(&mut store, &directory, first).err(),
         Some(DeskFault::NoProgram)

@@ -1,0 +1,7 @@
+//! A module for each crate.
+
+mod assembly;
+mod cells;
+mod checks;
+mod instructions;
+mod machine;

@@ -1,0 +1,105 @@
+//! Headers of known cells, at either side, and where octets or numbers are refused.
+
+use std::test::Fail;
+use upc_cell::*;
+
+/// A cell with this header and a payload of zeros.
+fn cell_of(header: [u8; 4]) -> Result<Cell, CellFault> {
+    let mut octets = [0u8; 52];
+    octets[0] = header[0];
+    octets[1] = header[1];
+    octets[2] = header[2];
+    octets[3] = header[3];
+    Cell::from_bytes(&octets)
+}
+
+#[test]
+fn user_data_and_oam_cells_of_one_connection(rt: HostRuntime) -> Result<(), Fail> {
+    let user = cell_of([0x00, 0x10, 0x06, 0x40])?;
+    assert_eq!(rt; (user.gfc(), user.vpi(), user.vci()), (0, 1, 100));
+    assert_eq!(rt; (user.pti(), user.clp()), (0, false));
+    let low = cell_of([0x00, 0x10, 0x06, 0x41])?;
+    assert_eq!(rt; (low.pti(), low.clp()), (0, true));
+    let oam = cell_of([0x00, 0x10, 0x06, 0x4a])?;
+    assert_eq!(rt; (oam.pti(), oam.clp()), (5, false));
+    assert_eq!(rt; oam.vc(), Vc::new(1, 100)?);
+    Ok(())
+}
+
+#[test]
+fn each_field_at_its_highest(rt: HostRuntime) -> Result<(), Fail> {
+    let cell = cell_of([0xff, 0xff, 0xff, 0xff])?;
+    assert_eq!(rt; (cell.gfc(), cell.vpi(), cell.vci()), (15, 255, 65535));
+    assert_eq!(rt; (cell.pti(), cell.clp()), (7, true));
+    Ok(())
+}
+
+#[test]
+fn a_tagged_cell_differs_in_its_priority_alone(rt: HostRuntime) -> Result<(), Fail> {
+    let cell = cell_of([0xf0, 0x10, 0x06, 0x4a])?;
+    assert_eq!(rt; cell.tagged(), cell_of([0xf0, 0x10, 0x06, 0x4b])?);
+    assert_eq!(rt; cell.tagged().tagged(), cell.tagged());
+    assert_eq!(rt; cell.bytes()[3], 0x4a);
+    Ok(())
+}
+
+#[test]
+fn octets_of_another_number_are_no_cell(rt: HostRuntime) -> Result<(), Fail> {
+    for octets in [&[0u8; 51][..], &[0; 53], &[]] {
+        let fault = CellFault::WrongLength(octets.len());
+        assert_eq!(rt; Cell::from_bytes(octets).err(), Some(fault));
+    }
+    let text = format!(in rt.alloc(); "{}", CellFault::WrongLength(51))?;
+    assert_eq!(rt; text.as_str(), "1 WrongLength 51");
+    Ok(())
+}
+
+#[test]
+fn the_path_takes_in_the_flow_control_between_nodes_alone(rt: HostRuntime) -> Result<(), Fail> {
+    let known = [
+        ([0xf0, 0x10, 0x06, 0x41], (1, 3841), 100),
+        ([0xff, 0xff, 0xff, 0xff], (255, 4095), 65535),
+    ];
+    for (header, (users, nodes), channel) in known {
+        let cell = cell_of(header)?;
+        assert_eq!(rt;
+            (cell.vpi(), cell.vci(), cell.clp()),
+            (users, channel, true)
+        );
+        assert_eq!(rt;
+            (cell.vpi_at(Side::Uni), cell.vpi_at(Side::Nni)),
+            (users, nodes)
+        );
+        assert_eq!(rt; cell.vc_at(Side::Uni), Vc::new(users, channel)?);
+        assert_eq!(rt;
+            cell.vc_at(Side::Nni),
+            Vc::new_at(Side::Nni, nodes, channel)?
+        );
+    }
+    Ok(())
+}
+
+#[test]
+fn a_path_above_the_highest_of_its_side_is_refused(rt: HostRuntime) -> Result<(), Fail> {
+    assert_eq!(rt; Vc::new(256, 0), Err(VcFault::VpiTooLarge));
+    assert_eq!(rt; Vc::new_at(Side::Uni, 256, 0), Err(VcFault::VpiTooLarge));
+    assert_eq!(rt; Vc::new_at(Side::Nni, 4096, 0), Err(VcFault::VpiTooLarge));
+    let last = Vc::new(255, 65535)?;
+    assert_eq!(rt; (last.vpi, last.vci), (255, 65535));
+    let last = Vc::new_at(Side::Nni, 4095, 65535)?;
+    assert_eq!(rt; (last.vpi, last.vci), (4095, 65535));
+    let text = format!(in rt.alloc(); "{}", VcFault::VpiTooLarge)?;
+    assert_eq!(rt; text.as_str(), "1 VpiTooLarge");
+    Ok(())
+}
+
+#[test]
+fn connections_stand_in_order_of_path_then_channel(rt: HostRuntime) -> Result<(), Fail> {
+    assert!(rt; Vc::new(1, 200)? < Vc::new(2, 100)?);
+    assert!(rt; Vc::new(1, 100)? < Vc::new(1, 101)?);
+    assert!(rt; Vc::new(255, 65535)? < Vc::new_at(Side::Nni, 256, 0)?);
+    assert!(rt; same_vc(Vc::new(1, 100)?, Vc::new_at(Side::Nni, 1, 100)?));
+    assert!(rt; !same_vc(Vc::new(1, 100)?, Vc::new(1, 101)?));
+    assert!(rt; !same_vc(Vc::new(1, 100)?, Vc::new(2, 100)?));
+    Ok(())
+}

@@ -1,0 +1,223 @@
+//! Codes at the limits of each rule, with their faults.
+
+use bpf_code::{By, Instr, Op, Size, Test};
+use bpf_verify::*;
+use std::alloc::{AllocError, Global};
+use std::process::Abort;
+use std::test::Fail;
+
+/// `ldb [offset]`
+fn load_octet(offset: u32) -> Instr {
+    Instr::LoadAbs {
+        size: Size::Octet,
+        k: offset,
+    }
+}
+
+/// Arithmetic with a constant or with X
+fn alu(op: Op, by: By) -> Instr {
+    Instr::Alu { op, by }
+}
+
+/// `jeq #number` over so many instructions
+fn jump_if_equal(number: u32, jt: u8, jf: u8) -> Instr {
+    Instr::Branch {
+        test: Test::Eq,
+        by: By::Imm(number),
+        jt,
+        jf,
+    }
+}
+
+/// The fault of a code, if it is refused.
+fn fault_in(code: Vec<Instr>) -> Option<Fault> {
+    verify(code).err().map(|refused| refused.fault)
+}
+
+/// That a code comes back with this fault.
+fn assert_refused(rt: &impl Abort, code: Vec<Instr>, fault: Fault) -> Result<(), AllocError> {
+    let copy = code.clone()?;
+    match verify(code) {
+        Ok(_) => assert!(rt; false, "accepted in place of {fault}"),
+        Err(refused) => {
+            assert_eq!(rt; refused.fault, fault);
+            assert_eq!(rt; refused.code.as_slice(), copy.as_slice());
+        }
+    }
+    Ok(())
+}
+
+fn is_shared<T: Send + Sync>() {}
+
+#[test]
+fn a_program_may_pass_between_threads() {
+    is_shared::<Program>();
+}
+
+#[test]
+fn each_fault_prints_its_number_and_name(rt: HostRuntime) -> Result<(), Fail> {
+    let alloc = rt.alloc();
+    for (fault, line) in [
+        (Fault::Empty, "1 Empty"),
+        (Fault::TooLong, "2 TooLong"),
+        (Fault::BadScratch { at: 4095 }, "3 BadScratch 4095"),
+        (Fault::ZeroDivisor { at: 10 }, "4 ZeroDivisor 10"),
+        (Fault::BadShift { at: 1 }, "5 BadShift 1"),
+        (Fault::JumpOutside { at: 0 }, "6 JumpOutside 0"),
+        (Fault::NoReturn, "7 NoReturn"),
+        (Fault::Unwritten { at: 2, word: 15 }, "8 Unwritten 2 15"),
+    ] {
+        assert_eq!(rt; format!(in alloc; "{fault}")?.as_str(), line);
+        let code = vec![in alloc;]?;
+        let refused = Refused { code, fault };
+        assert_eq!(rt; format!(in alloc; "{refused}")?.as_str(), line);
+    }
+    Ok(())
+}
+
+#[test]
+fn each_fault_of_an_instruction_has_its_place(rt: HostRuntime) -> Result<(), Fail> {
+    let alloc = rt.alloc();
+    let divided = alu(Op::Div, By::Imm(0));
+    for (code, fault) in [
+        // The first instruction that is not sound decides, before the return at the end is asked for.
+        (
+            vec![in alloc; Instr::LoadMem(16), divided]?,
+            Fault::BadScratch { at: 0 },
+        ),
+        (
+            vec![in alloc; divided, Instr::RetK(1)]?,
+            Fault::ZeroDivisor { at: 0 },
+        ),
+        (
+            vec![in alloc; alu(Op::Mod, By::Imm(0)), Instr::RetK(1)]?,
+            Fault::ZeroDivisor { at: 0 },
+        ),
+        (
+            vec![in alloc; alu(Op::Lsh, By::Imm(32)), Instr::RetA]?,
+            Fault::BadShift { at: 0 },
+        ),
+        (
+            vec![in alloc; jump_if_equal(0, 1, 0), Instr::RetK(1)]?,
+            Fault::JumpOutside { at: 0 },
+        ),
+        // Nothing is asked of the return at the end where a jump leads outside.
+        (
+            vec![in alloc; load_octet(0), Instr::Jump(0)]?,
+            Fault::JumpOutside { at: 1 },
+        ),
+    ] {
+        assert_refused(&rt, code, fault)?;
+    }
+    Ok(())
+}
+
+#[test]
+fn each_fault_of_a_code_is_found(rt: HostRuntime) -> Result<(), Fail> {
+    let alloc = rt.alloc();
+    let either_way = jump_if_equal(0, 0, 1);
+    for (code, fault) in [
+        (vec![in alloc;]?, Fault::Empty),
+        (vec![in alloc; Instr::RetK(1); 4097]?, Fault::TooLong),
+        (vec![in alloc; load_octet(0)]?, Fault::NoReturn),
+        (
+            vec![in alloc; either_way, Instr::Store(0), Instr::LoadMem(0), Instr::RetA]?,
+            Fault::Unwritten { at: 2, word: 0 },
+        ),
+        // Of two reads of what no path stores, the first is named.
+        (
+            vec![in alloc; Instr::LoadMem(3), Instr::LoadMem(1), Instr::RetA]?,
+            Fault::Unwritten { at: 0, word: 3 },
+        ),
+        (
+            vec![in alloc;
+                Instr::Store(2),
+                Instr::LdxMem(9),
+                Instr::LoadMem(1),
+                Instr::RetA,
+            ]?,
+            Fault::Unwritten { at: 1, word: 9 },
+        ),
+    ] {
+        assert_refused(&rt, code, fault)?;
+    }
+    Ok(())
+}
+
+#[test]
+fn accepted_codes_are_handed_through(rt: HostRuntime) -> Result<(), Fail> {
+    let alloc = rt.alloc();
+    let either_way = jump_if_equal(0x4a, 0, 1);
+    for code in [
+        vec![in alloc; load_octet(3), either_way, Instr::RetK(2), Instr::RetK(1)]?,
+        // No path leads past the first return, so nothing is asked of the read.
+        vec![in alloc; Instr::RetK(0), Instr::LoadMem(3), Instr::RetA]?,
+        // A division by X is the machine's matter.
+        vec![in alloc; Instr::LdxImm(0), alu(Op::Div, By::X), Instr::RetK(1)]?,
+        vec![in alloc; Instr::LdxImm(0), alu(Op::Mod, By::X), Instr::RetK(1)]?,
+        vec![in alloc;
+            alu(Op::Mod, By::Imm(7)),
+            alu(Op::Xor, By::Imm(0)),
+            Instr::RetA,
+        ]?,
+    ] {
+        let copy = code.clone()?;
+        match verify(code) {
+            Ok(program) => assert_eq!(rt; program.code(), copy.as_slice()),
+            Err(refused) => assert!(rt; false, "refused: {refused}"),
+        }
+    }
+    Ok(())
+}
+
+#[test]
+fn jumps_reach_as_far_as_the_code(rt: HostRuntime) -> Result<(), Fail> {
+    let alloc = rt.alloc();
+    for (returns, fault) in [(256, None), (255, Some(Fault::JumpOutside { at: 0 }))] {
+        let mut code = vec![in alloc; jump_if_equal(0, 255, 0)]?;
+        for _ in 0..returns {
+            code.push(Instr::RetK(1))?;
+        }
+        assert_eq!(rt; fault_in(code), fault, "before {returns} returns");
+    }
+    let far = vec![in alloc; Instr::Jump(u32::MAX), Instr::RetK(1)]?;
+    assert_eq!(rt; fault_in(far), Some(Fault::JumpOutside { at: 0 }));
+    Ok(())
+}
+
+#[test]
+fn the_longest_code_has_4096_instructions(rt: HostRuntime) -> Result<(), Fail> {
+    let alloc = rt.alloc();
+    for (jumps, fault) in [(4095, None), (4096, Some(Fault::TooLong))] {
+        let mut code = vec![in alloc; Instr::Jump(0); jumps]?;
+        code.push(Instr::RetK(7))?;
+        assert_eq!(rt; fault_in(code), fault, "behind {jumps} jumps");
+    }
+    Ok(())
+}
+
+/// A store of word 15, a thousand branches each of which may leave out a store of word 0, and a read.
+fn ladder(alloc: Global, read: u32) -> Result<Vec<Instr>, AllocError> {
+    let mut code = vec![in alloc; Instr::Store(15)]?;
+    for _ in 0..1000 {
+        code.push(Instr::Branch {
+            test: Test::Set,
+            by: By::Imm(1),
+            jt: 0,
+            jf: 1,
+        })?;
+        code.push(Instr::Store(0))?;
+    }
+    code.push(Instr::LoadMem(read))?;
+    code.push(Instr::RetA)?;
+    Ok(code)
+}
+
+#[test]
+fn a_word_is_written_where_every_path_stores_it(rt: HostRuntime) -> Result<(), Fail> {
+    let alloc = rt.alloc();
+    let missing = Some(Fault::Unwritten { at: 2001, word: 0 });
+    assert_eq!(rt; fault_in(ladder(alloc, 15)?), None);
+    assert_eq!(rt; fault_in(ladder(alloc, 0)?), missing);
+    Ok(())
+}

@@ -1,0 +1,252 @@
+//! Programs on cells, with their values and steps.
+
+use bpf_code::{By, Instr, Op, Size, Test};
+use bpf_interp::{Outcome, run};
+use bpf_verify::{MOST_LAID_OUT, verify};
+use std::alloc::Global;
+use std::test::Fail;
+use upc_cell::Cell;
+
+/// A cell of user data on VPI 1, VCI 100.
+const USER: [u8; 4] = [0x00, 0x10, 0x06, 0x40];
+
+/// The same connection's end-to-end OAM.
+const OAM: [u8; 4] = [0x00, 0x10, 0x06, 0x4a];
+
+/// The cell with this header, a payload of zeros, and 01 02 03 04 at its end.
+fn cell_of(header: [u8; 4]) -> Result<Cell, Fail> {
+    let mut octets = [0; 52];
+    octets[..4].copy_from_slice(&header);
+    for last in 1..=4u8 {
+        octets[47 + last as usize] = last;
+    }
+    Ok(Cell::from_bytes(&octets)?)
+}
+
+/// The value and the steps of a code on the cell with this header.
+fn outcome(alloc: Global, code: &[Instr], header: [u8; 4]) -> Result<(u32, u32), Fail> {
+    let program = verify(code.to_vec(alloc)?)?;
+    let Outcome { value, steps } = run(&program, &cell_of(header)?);
+    Ok((value, steps))
+}
+
+fn load(size: Size, k: u32) -> Instr {
+    Instr::LoadAbs { size, k }
+}
+
+fn alu(op: Op, by: By) -> Instr {
+    Instr::Alu { op, by }
+}
+
+#[test]
+fn a_program_tells_user_data_from_oam(rt: HostRuntime) -> Result<(), Fail> {
+    let code = [
+        load(Size::Octet, 3),
+        alu(Op::And, By::Imm(0xe)),
+        Instr::Branch {
+            test: Test::Ge,
+            by: By::Imm(8),
+            jt: 1,
+            jf: 0,
+        },
+        Instr::RetK(1),
+        Instr::RetK(2),
+    ];
+    assert_eq!(rt; outcome(rt.alloc(), &code, USER)?, (1, 4));
+    assert_eq!(rt; outcome(rt.alloc(), &code, OAM)?, (2, 4));
+    Ok(())
+}
+
+#[test]
+fn loads_end_at_the_end_of_the_cell(rt: HostRuntime) -> Result<(), Fail> {
+    for (first, last, expected) in [
+        (load(Size::Octet, 52), Instr::RetK(1), (0, 1)),
+        (load(Size::Word, 48), Instr::RetA, (16909060, 2)),
+        (load(Size::Word, 49), Instr::RetA, (0, 1)),
+    ] {
+        assert_eq!(rt; outcome(rt.alloc(), &[first, last], USER)?, expected);
+    }
+    Ok(())
+}
+
+#[test]
+fn an_offset_by_x_does_not_wrap(rt: HostRuntime) -> Result<(), Fail> {
+    let code = [
+        Instr::LdxImm(0xffffffff),
+        Instr::LoadInd {
+            size: Size::Octet,
+            k: 1,
+        },
+        Instr::RetK(7),
+    ];
+    assert_eq!(rt; outcome(rt.alloc(), &code, USER)?, (0, 2));
+    Ok(())
+}
+
+#[test]
+fn arithmetic_has_its_limits(rt: HostRuntime) -> Result<(), Fail> {
+    for op in [Op::Div, Op::Mod] {
+        let by_zero = [Instr::LdxImm(0), alu(op, By::X), Instr::RetK(1)];
+        assert_eq!(rt; outcome(rt.alloc(), &by_zero, USER)?, (0, 2));
+    }
+    let word = load(Size::Word, 0);
+    let inverted = alu(Op::Xor, By::Imm(u32::MAX));
+    for (code, expected) in [
+        (
+            &[Instr::LoadImm(23), alu(Op::Mod, By::Imm(7)), Instr::RetA][..],
+            (2, 3),
+        ),
+        (
+            &[
+                Instr::LoadImm(u32::MAX),
+                Instr::LdxImm(10),
+                alu(Op::Mod, By::X),
+                Instr::RetA,
+            ][..],
+            (5, 4),
+        ),
+        (&[word, inverted, Instr::RetA][..], (4293917119, 3)),
+        (
+            &[word, Instr::Tax, alu(Op::Xor, By::X), Instr::RetA][..],
+            (0, 4),
+        ),
+        (
+            &[
+                Instr::LdxImm(32),
+                Instr::LoadImm(1),
+                alu(Op::Lsh, By::X),
+                Instr::RetA,
+            ][..],
+            (0, 4),
+        ),
+        (
+            &[Instr::LoadImm(1), Instr::Neg, Instr::RetA][..],
+            (4294967295, 3),
+        ),
+    ] {
+        assert_eq!(rt; outcome(rt.alloc(), code, USER)?, expected);
+    }
+    Ok(())
+}
+
+#[test]
+fn a_header_length_is_four_times_four_bits(rt: HostRuntime) -> Result<(), Fail> {
+    let code = [Instr::LdxMsh(2), Instr::Txa, Instr::RetA];
+    assert_eq!(rt; outcome(rt.alloc(), &code, USER)?, (24, 3));
+    Ok(())
+}
+
+#[test]
+fn scratch_words_hold_what_was_stored(rt: HostRuntime) -> Result<(), Fail> {
+    let code = [
+        Instr::LoadImm(5),
+        Instr::Store(15),
+        Instr::LdxImm(9),
+        Instr::StoreX(0),
+        Instr::LdxMem(15),
+        Instr::LoadMem(0),
+        alu(Op::Sub, By::X),
+        Instr::RetA,
+    ];
+    assert_eq!(rt; outcome(rt.alloc(), &code, USER)?, (4, 8));
+    let unreached = [Instr::RetK(0), Instr::LoadMem(3), Instr::RetA];
+    assert_eq!(rt; outcome(rt.alloc(), &unreached, USER)?, (0, 1));
+    Ok(())
+}
+
+#[test]
+fn the_longest_program_takes_a_step_an_instruction(rt: HostRuntime) -> Result<(), Fail> {
+    let mut code = vec![in rt.alloc(); Instr::Jump(0); 4096]?;
+    if let Some(last) = code.last_mut() {
+        *last = Instr::RetK(7);
+    }
+    assert_eq!(rt; outcome(rt.alloc(), &code, USER)?, (7, 4096));
+    Ok(())
+}
+
+/// The outcome of a code, and of the same code with returns behind it that nothing reaches, so many that
+/// it isn't laid out.
+fn both_ways(alloc: Global, code: &[Instr], header: [u8; 4]) -> Result<[(u32, u32); 2], Fail> {
+    let mut longer = code.to_vec(alloc)?;
+    for _ in 0..MOST_LAID_OUT {
+        longer.push(Instr::RetK(0))?;
+    }
+    Ok([
+        outcome(alloc, code, header)?,
+        outcome(alloc, &longer, header)?,
+    ])
+}
+
+fn branch(test: Test, k: u32, jt: u8, jf: u8) -> Instr {
+    let by = By::Imm(k);
+    Instr::Branch { test, by, jt, jf }
+}
+
+#[test]
+fn instructions_run_by_twos_do_what_each_does(rt: HostRuntime) -> Result<(), Fail> {
+    let and = |k| alu(Op::And, By::Imm(k));
+    let add_x = alu(Op::Add, By::X);
+    let half_at_x = Instr::LoadInd {
+        size: Size::Half,
+        k: 46,
+    };
+    for (code, expected) in [
+        ([load(Size::Word, 0), branch(Test::Eq, 0x00100640, 0, 1)], 2),
+        ([load(Size::Half, 50), branch(Test::Eq, 0x0304, 0, 1)], 2),
+        ([load(Size::Octet, 3), branch(Test::Eq, 0x41, 0, 1)], 1),
+        ([load(Size::Half, 50), branch(Test::Set, 0x0100, 1, 0)], 1),
+        ([half_at_x, branch(Test::Eq, 0, 0, 1)], 2),
+        ([load(Size::Word, 0), and(0xff00)], 1),
+        ([load(Size::Half, 2), and(0xf)], 1),
+        ([load(Size::Octet, 52), and(0xff)], 0),
+        ([and(0), branch(Test::Eq, 0, 0, 1)], 2),
+        ([and(0), branch(Test::Ge, 1, 0, 1)], 1),
+        ([Instr::LdxImm(9), Instr::Txa], 1),
+    ] {
+        let [first, second] = code;
+        let whole = [first, second, Instr::RetK(2), Instr::RetK(1)];
+        let [by_twos, singly] = both_ways(rt.alloc(), &whole, USER)?;
+        assert_eq!(rt; by_twos, singly);
+        let [by_twos, singly] = both_ways(rt.alloc(), &whole, OAM)?;
+        assert_eq!(rt; by_twos, singly);
+        let ended = if expected == 0 { 1 } else { 3 };
+        let value = if matches!(second, Instr::Branch { .. }) || expected == 0 {
+            expected
+        } else {
+            2
+        };
+        assert_eq!(rt; outcome(rt.alloc(), &whole, USER)?, (value, ended));
+    }
+    let sums = [
+        load(Size::Half, 50),
+        Instr::Store(3),
+        Instr::LoadMem(3),
+        alu(Op::Rsh, By::Imm(4)),
+        and(0xff),
+        Instr::Tax,
+        Instr::LdxMem(3),
+        Instr::LoadMem(3),
+        add_x,
+        alu(Op::Or, By::Imm(1)),
+        alu(Op::Lsh, By::Imm(1)),
+        Instr::RetA,
+    ];
+    let expected = (((0x0304 + 0x0304) | 1) << 1, 12);
+    assert_eq!(rt; both_ways(rt.alloc(), &sums, USER)?, [expected, expected]);
+    Ok(())
+}
+
+#[test]
+fn the_longest_code_that_is_laid_out_runs_as_a_longer_one(rt: HostRuntime) -> Result<(), Fail> {
+    for length in [MOST_LAID_OUT, MOST_LAID_OUT + 1] {
+        let mut code = vec![in rt.alloc(); alu(Op::Add, By::Imm(2)); length]?;
+        if let Some(last) = code.last_mut() {
+            *last = Instr::RetA;
+        }
+        let steps = length as u32;
+        let (value, counted) = outcome(rt.alloc(), &code, USER)?;
+        assert_eq!(rt; counted, steps);
+        assert_eq!(rt; value, 2u32.wrapping_mul(steps.wrapping_sub(1)));
+    }
+    Ok(())
+}

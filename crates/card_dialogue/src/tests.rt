@@ -1,6 +1,0 @@
-//! The lines of a card and of cells, and the contracts that a script asks for.
-
-mod card_faults;
-mod common_cell_line;
-mod rates;
-mod replies;

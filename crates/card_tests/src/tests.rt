@@ -1,0 +1,6 @@
+//! A module for each crate.
+
+mod arena;
+mod buckets;
+mod cards;
+mod lines;

@@ -1,2 +1,0 @@
--- What the tests' machines cite.
-pub mod Parity

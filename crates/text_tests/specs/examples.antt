@@ -1,0 +1,2 @@
+-- What the machine of the tests answers.
+pub mod Parity

@@ -1,0 +1,5 @@
+//! A module for each crate.
+
+mod lines;
+mod programs;
+mod scripts;
