@@ -1,0 +1,90 @@
+#!/usr/bin/env python3
+"""Proves and builds a program of this repository, after the crates that it stands on, side by side.
+
+    tools/build.py NAME
+
+Standard error says which crate was proved, how many are left, and how long it took so far. The status is 0 where the
+program is built.
+"""
+import os
+import shutil
+import subprocess
+import sys
+import threading
+import time
+from concurrent.futures import FIRST_COMPLETED, ThreadPoolExecutor, wait
+
+import kit
+
+
+def jobs_for(ready, idle):
+    """Returns how many processors a check gets, of those that no other waits for."""
+    return max(1, min(4, idle // max(ready, 1)))
+
+
+def built(crate, jobs):
+    """Proves a library and builds it. Returns what the prover said where it refused, or nothing."""
+    rtlib, stamp = kit.module(), crate.stamp()
+    if crate.is_built():
+        return ""
+    folder = os.path.dirname(crate.rlib)
+    shutil.rmtree(folder, ignore_errors=True)
+    os.makedirs(folder)
+    # What an earlier check kept serves again. Else nothing is kept: that is faster.
+    keeps = crate.has_kept()
+    words = crate.words(["--jobs", str(jobs)], keeps=keeps) + (rtlib.KEPT if keeps else [])
+    whole = [*rtlib.guarded(), rtlib.RATTLE, "build", *words, "-o", crate.rlib]
+    how = {"stdin": subprocess.DEVNULL, "stdout": subprocess.PIPE, "stderr": subprocess.STDOUT, "errors": "replace"}
+    ran = subprocess.run(whole, cwd=crate.folder, **how)
+    if ran.returncode:
+        return ran.stdout
+    with open(f"{folder}/stamp", "w", encoding="utf-8") as it:
+        it.write(stamp)
+    return ""
+
+
+def main(name):
+    rtlib = kit.module()
+    rtlib.guarded()
+    begun, printing = time.time(), threading.Lock()
+    program = next(it for it in kit.crates() if it.name == name)
+    left, ready, running = list(program.below()), set(), {}
+    number, lanes = len(left) + 1, rtlib.cores()
+
+    def tell(said):
+        with printing:
+            print(f"{name}: {said}", file=sys.stderr, flush=True)
+
+    tell(f"proving and building {number} crates on {lanes} processors; the first time this takes some minutes")
+    locks = rtlib.lock([program, *program.below()])
+    with ThreadPoolExecutor(lanes) as pool:
+        while left or running:
+            free = [it for it in left if all(below.name in ready for below in it.below())]
+            while free and len(running) < lanes:
+                crate = free.pop(0)
+                left.remove(crate)
+                jobs = jobs_for(len(free) + 1, lanes - len(running))
+                running[pool.submit(built, crate, jobs)] = crate
+            for it in wait(running, return_when=FIRST_COMPLETED).done:
+                crate = running.pop(it)
+                said = it.result()
+                if said:
+                    tell(f"{crate.name} is not proved\n{said}")
+                    return 1
+                ready.add(crate.name)
+                tell(f"{crate.name} is proved, crate {len(ready)} of {number}, {kit.minutes(time.time() - begun)}")
+    for it in locks:
+        os.close(it)
+    if os.path.exists(f"{program.folder}/out/{name}"):
+        os.remove(f"{program.folder}/out/{name}")
+    # The program is only to be built: with no input it ends at once.
+    ended = subprocess.run(["rt", "run"], cwd=program.folder, stdin=subprocess.DEVNULL, stdout=subprocess.PIPE, stderr=subprocess.STDOUT)
+    if not os.access(f"{program.folder}/out/{name}", os.X_OK):
+        tell("the program is not built\n" + ended.stdout.decode(errors="replace"))
+        return 1
+    tell(f"{name} is proved and built, {kit.minutes(time.time() - begun)}")
+    return 0
+
+
+if __name__ == "__main__":
+    sys.exit(main(sys.argv[1]))
