@@ -1,5 +1,5 @@
 #!/usr/bin/env python3
-"""Proves and builds a program of this repository, after the crates that it stands on, side by side.
+"""Proves and builds a program of this repository, after the crates that it depends on, side by side.
 
     tools/build.py NAME
 

@@ -1,7 +1,7 @@
 """What the toolchain itself knows of this repository's crates.
 
-`rt` is a Python program. Its module tells which crates there are, on what each stands, and with which words the prover
-is called, so that these scripts call it as `rt` does.
+`rt` is a Python program. Its module knows which crates there are, what each depends on, and with which words the prover
+is called. These scripts use it to call the prover as `rt` does.
 """
 import os
 import subprocess

@@ -24,7 +24,7 @@ def header(vpi, vci, payload_type=0, priority=0):
 def connections(subcommand):
     """4096 connections, and 65,536 cells, 16 of each; then, by `run` alone, each is cut and released.
 
-    By `ports` cuts and releases stand before the cells, whose answers they would else meet: each connection is cut,
+    By `ports` cuts and releases come before the cells; beside them the order of answers would be open: each connection is cut,
     released and set up again.
     """
     names = ["%d %d" % (k % 256, 32 + k // 256) for k in range(4096)]

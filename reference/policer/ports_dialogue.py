@@ -22,7 +22,7 @@ def ported(text):
 
 
 def with_totals(answers):
-    """The answers with the totals of their cells behind them."""
+    """The answers, and then the totals of their cells."""
     given = [line.split(" ")[0] for line in answers.decode("ascii").splitlines()]
     totals = "totals %d %d %d %d\n" % tuple(given.count(verdict) for verdict in VERDICTS)
     return answers + totals.encode("ascii")

@@ -1,17 +1,17 @@
 # Inputs of the cases that are too long for a file, and texts that are. `input-NAME` prints the input of the case NAME, and
 # `answers-NAME` its text where there is no file NAME.answers.
 
-# octets OCTET COUNT: an octet so many times.
+# octets OCTET COUNT: an octet COUNT times.
 octets() {
   head -c "$2" /dev/zero | tr '\0' "$1"
 }
 
-# lines LINE COUNT: a line so many times.
+# lines LINE COUNT: a line COUNT times.
 lines() {
   yes "$1" | head -n "$2"
 }
 
-# words WORD COUNT: a word so many times, end to end.
+# words WORD COUNT: a word COUNT times, end to end.
 words() {
   lines "$1" "$2" | tr -d '\n'
 }
@@ -59,7 +59,7 @@ input-13.10-a-source-of-1048576-octets() {
   octets '\n' 1048576
 }
 
-# for_each_word DIGITS: these digits with the number of each scratch word behind them.
+# for_each_word DIGITS: these digits, each time followed by the number of a scratch word.
 for_each_word() {
   local word
   for ((word = 0; word < 16; word++)); do
@@ -128,7 +128,7 @@ input-a-jump-over-4095-instructions() {
   echo 'end: ret a'
 }
 
-# source_of SIZE FRONT OCTET BACK: a source of so many octets, one octet again and again between two texts.
+# source_of SIZE FRONT OCTET BACK: a source of SIZE octets: one octet again and again between two texts.
 source_of() {
   printf '%s' "$2"
   octets "$3" $(($1 - ${#2} - ${#4}))
@@ -148,7 +148,7 @@ input-a-number-up-to-the-limit-less-one() { source_of 1048575 'ret #' 0 1; }
 input-a-number-up-to-the-limit() { source_of 1048576 'ret #' 0 1; }
 input-a-number-over-the-limit() { source_of 1048577 'ret #' 0 1; }
 
-# remark COUNT END: a remark of so many octets, and what ends it.
+# remark COUNT END: a remark of COUNT octets, and its end.
 remark() {
   octets '#' "$1"
   printf '%b' "$2"
@@ -171,7 +171,7 @@ input-a-line-1000001() {
   echo
 }
 
-# script_of COUNT: a script of so many lines, the card's, remarks, and a cell's.
+# script_of COUNT: a script of COUNT lines: the card's, remarks, and a cell's.
 script_of() {
   echo 'card 1 1 1 1'
   lines '#' $(($1 - 2))

@@ -1,5 +1,5 @@
 //! Tests of what a card is made of: buckets, the arena, lines with their journals, and whole cards step by step.
-//! They call what these crates show to all, and stand here so that each of them is proved once.
+//! They call only public items. A crate with tests is proved twice, so the tests have this crate of their own.
 #![tactic(auto)]
 
 #[cfg(test)]

@@ -14,7 +14,7 @@ use Rattle.port_dialogue.specs.inner.InOrder.{Tells, AllTell}
 pub get_mapped : {A : Type 0} → {B : Type 0} (v : A → B) (xs : List A) (k : ℕ) → slice_get (map v xs) k ≡ option_map v (slice_get xs k)
 get_mapped = slice_get-map
 
--- One answerer more tells its text behind those of the others.
+-- One answerer more: its text follows those of the others.
 pub one_more : (side : Side) (names : List Id) (arrivals : List (List DealtCell)) (told : List (List ℕ)) (order : List Answerer) (answerer : Answerer)
     (text here : List ℕ) → AllTell side names arrivals told order text → Tells side names arrivals told answerer here
     → AllTell side names arrivals told (order ++ answerer ∷ []) (text ++ here)

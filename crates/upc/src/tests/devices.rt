@@ -177,7 +177,7 @@ fn expect<R: Threads + Wait + Sync + Abort>(
     );
 }
 
-/// The text when so many octets were read: an answer for each whole line, or none where all is read first.
+/// The text once this number of octets was read: an answer for each whole line, or none where all is read first.
 fn answered(alloc: Global, talk: Talk, takes: usize) -> Result<Vec<u8>, AllocError> {
     let mut front = Vec::new(alloc);
     if talk.is_gathered {

@@ -118,7 +118,7 @@ fn help_is_written_and_nothing_is_read(rt: HostRuntime) -> Result<(), Fail> {
     Ok(())
 }
 
-/// Asks that an input which fails behind so many octets ends with this status.
+/// Asks that an input which fails after this number of octets ends with this status.
 fn expect_status<R: Threads + Wait + Sync + Abort>(
     rt: &R,
     alloc: Global,
@@ -133,7 +133,7 @@ fn expect_status<R: Threads + Wait + Sync + Abort>(
 
 #[test]
 fn nothing_is_read_beyond_the_end_of_a_run(rt: HostRuntime) -> Result<(), Fail> {
-    // The answer needs so many octets of each input.
+    // How many octets of each input the answer needs.
     let rows: [(&[u8], usize); 3] = [
         (b"zz\n0006000000000007\n", 3),
         (b"0006000000000007 00\n\n", 20),

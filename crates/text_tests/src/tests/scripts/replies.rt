@@ -1,4 +1,4 @@
-//! The lines of replies that no script of one port comes to, and the longest ones.
+//! The lines of replies that no script of one port gets, and the longest ones.
 
 use card_core::Answer;
 use card_dialogue::add_answer;
@@ -25,7 +25,7 @@ fn judged(verdict: Verdict) -> Answer {
     }
 }
 
-/// Asks that a cell's answer is this line, behind what was there.
+/// Asks that a cell's answer is this line, added after what was there.
 fn expect_line(
     rt: &impl Abort,
     alloc: Global,
