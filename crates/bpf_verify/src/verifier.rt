@@ -48,6 +48,8 @@ fn first_fault(code: &[Instr]) -> Option<Fault>
 
 /// The fault that comes first of a code of a lawful size, if it has one. What an instruction breaks by itself
 /// and what it reads unwritten are looked for in one pass, so that a processor does one beside the other.
+/// It is called, so that the room of its masks, 8 KiB of stack, is given back before a program is laid out.
+#[inline(never)]
 fn first_in_order(code: &[Instr]) -> Option<Fault>
     requires { IsSized code.now }
     ensures none { IfNone result (IsAccepted code.now) }
