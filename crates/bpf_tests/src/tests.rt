@@ -5,3 +5,11 @@ mod cells;
 mod checks;
 mod instructions;
 mod machine;
+
+use std::alloc::{AllocError, Global};
+use std::fmt::Display;
+
+/// The text that a value is printed as.
+fn text_of(alloc: Global, value: &impl Display) -> Result<String, AllocError> {
+    format!(in alloc; "{value}")
+}

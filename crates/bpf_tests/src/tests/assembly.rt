@@ -21,11 +21,7 @@ use std::test::Fail;
 
 /// The octets of a source in which `|` stands for a line feed.
 fn octets_of(alloc: Global, source: &str) -> Result<Vec<u8>, AllocError> {
-    let mut octets = Vec::new(alloc);
-    for octet in source.bytes() {
-        octets.push(if octet == b'|' { b'\n' } else { octet })?;
-    }
-    Ok(octets)
+    Ok(source.replace(alloc, '|', "\n")?.into_bytes())
 }
 
 /// The digits of each instruction's octets, with blanks between them.

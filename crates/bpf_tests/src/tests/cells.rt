@@ -1,5 +1,6 @@
 //! Headers of known cells, at either side, and where octets or numbers are refused.
 
+use crate::tests::text_of;
 use std::test::Fail;
 use upc_cell::*;
 
@@ -13,24 +14,29 @@ fn cell_of(header: [u8; 4]) -> Result<Cell, CellFault> {
     Cell::from_bytes(&octets)
 }
 
+/// The flow control, path, channel, payload type and priority of the cell with this header, for users.
+fn fields_of(header: [u8; 4]) -> Result<(u8, u16, u16, u8, bool), CellFault> {
+    let cell = cell_of(header)?;
+    Ok((cell.gfc(), cell.vpi(), cell.vci(), cell.pti(), cell.clp()))
+}
+
 #[test]
 fn user_data_and_oam_cells_of_one_connection(rt: HostRuntime) -> Result<(), Fail> {
-    let user = cell_of([0x00, 0x10, 0x06, 0x40])?;
-    assert_eq!(rt; (user.gfc(), user.vpi(), user.vci()), (0, 1, 100));
-    assert_eq!(rt; (user.pti(), user.clp()), (0, false));
-    let low = cell_of([0x00, 0x10, 0x06, 0x41])?;
-    assert_eq!(rt; (low.pti(), low.clp()), (0, true));
+    for (header, fields) in [
+        ([0x00, 0x10, 0x06, 0x40], (0, 1, 100, 0, false)),
+        ([0x00, 0x10, 0x06, 0x41], (0, 1, 100, 0, true)),
+        ([0x00, 0x10, 0x06, 0x4a], (0, 1, 100, 5, false)),
+    ] {
+        assert_eq!(rt; fields_of(header)?, fields);
+    }
     let oam = cell_of([0x00, 0x10, 0x06, 0x4a])?;
-    assert_eq!(rt; (oam.pti(), oam.clp()), (5, false));
     assert_eq!(rt; oam.vc(), Vc::new(1, 100)?);
     Ok(())
 }
 
 #[test]
 fn each_field_at_its_highest(rt: HostRuntime) -> Result<(), Fail> {
-    let cell = cell_of([0xff, 0xff, 0xff, 0xff])?;
-    assert_eq!(rt; (cell.gfc(), cell.vpi(), cell.vci()), (15, 255, 65535));
-    assert_eq!(rt; (cell.pti(), cell.clp()), (7, true));
+    assert_eq!(rt; fields_of([0xff; 4])?, (15, 255, 65535, 7, true));
     Ok(())
 }
 
@@ -49,7 +55,7 @@ fn octets_of_another_number_are_no_cell(rt: HostRuntime) -> Result<(), Fail> {
         let fault = CellFault::WrongLength(octets.len());
         assert_eq!(rt; Cell::from_bytes(octets).err(), Some(fault));
     }
-    let text = format!(in rt.alloc(); "{}", CellFault::WrongLength(51))?;
+    let text = text_of(rt.alloc(), &CellFault::WrongLength(51))?;
     assert_eq!(rt; text.as_str(), "1 WrongLength 51");
     Ok(())
 }
@@ -67,28 +73,34 @@ fn the_path_takes_in_the_flow_control_between_nodes_alone(rt: HostRuntime) -> Re
             (users, channel, true)
         );
         assert_eq!(rt;
-            (cell.vpi_at(Side::Uni), cell.vpi_at(Side::Nni)),
-            (users, nodes)
+            [cell.vpi_at(Side::Uni), cell.vpi_at(Side::Nni)],
+            [users, nodes]
         );
-        assert_eq!(rt; cell.vc_at(Side::Uni), Vc::new(users, channel)?);
-        assert_eq!(rt;
-            cell.vc_at(Side::Nni),
-            Vc::new_at(Side::Nni, nodes, channel)?
-        );
+        let known = [
+            Vc::new(users, channel)?,
+            Vc::new_at(Side::Nni, nodes, channel)?,
+        ];
+        assert_eq!(rt; [cell.vc_at(Side::Uni), cell.vc_at(Side::Nni)], known);
     }
     Ok(())
 }
 
 #[test]
 fn a_path_above_the_highest_of_its_side_is_refused(rt: HostRuntime) -> Result<(), Fail> {
-    assert_eq!(rt; Vc::new(256, 0), Err(VcFault::VpiTooLarge));
-    assert_eq!(rt; Vc::new_at(Side::Uni, 256, 0), Err(VcFault::VpiTooLarge));
-    assert_eq!(rt; Vc::new_at(Side::Nni, 4096, 0), Err(VcFault::VpiTooLarge));
-    let last = Vc::new(255, 65535)?;
-    assert_eq!(rt; (last.vpi, last.vci), (255, 65535));
-    let last = Vc::new_at(Side::Nni, 4095, 65535)?;
-    assert_eq!(rt; (last.vpi, last.vci), (4095, 65535));
-    let text = format!(in rt.alloc(); "{}", VcFault::VpiTooLarge)?;
+    for made in [
+        Vc::new(256, 0),
+        Vc::new_at(Side::Uni, 256, 0),
+        Vc::new_at(Side::Nni, 4096, 0),
+    ] {
+        assert_eq!(rt; made, Err(VcFault::VpiTooLarge));
+    }
+    let users = Vc::new(255, 65535)?;
+    let nodes = Vc::new_at(Side::Nni, 4095, 65535)?;
+    assert_eq!(rt;
+        [users.vpi, users.vci, nodes.vpi, nodes.vci],
+        [255, 65535, 4095, 65535]
+    );
+    let text = text_of(rt.alloc(), &VcFault::VpiTooLarge)?;
     assert_eq!(rt; text.as_str(), "1 VpiTooLarge");
     Ok(())
 }

@@ -1,5 +1,6 @@
 //! Codes at the limits of each rule, with their faults.
 
+use crate::tests::text_of;
 use bpf_code::{By, Instr, Op, Size, Test};
 use bpf_verify::*;
 use std::alloc::{AllocError, Global};
@@ -31,20 +32,42 @@ fn jump_if_equal(number: u32, jt: u8, jf: u8) -> Instr {
 
 /// The fault of a code, if it is refused.
 fn fault_in(code: Vec<Instr>) -> Option<Fault> {
-    verify(code).err().map(|refused| refused.fault)
+    match verify(code) {
+        Ok(_) => None,
+        Err(Refused { fault, code: _ }) => Some(fault),
+    }
+}
+
+/// A code's fault and the code that comes back with it, if it is refused.
+fn refused(code: Vec<Instr>) -> Option<(Fault, Vec<Instr>)> {
+    match verify(code) {
+        Ok(_) => None,
+        Err(Refused { fault, code }) => Some((fault, code)),
+    }
 }
 
 /// That a code comes back with this fault.
-fn assert_refused(rt: &impl Abort, code: Vec<Instr>, fault: Fault) -> Result<(), AllocError> {
-    let copy = code.clone()?;
-    match verify(code) {
-        Ok(_) => assert!(rt; false, "accepted in place of {fault}"),
-        Err(refused) => {
-            assert_eq!(rt; refused.fault, fault);
-            assert_eq!(rt; refused.code.as_slice(), copy.as_slice());
-        }
-    }
+fn assert_refused(
+    rt: &impl Abort,
+    alloc: Global,
+    code: &[Instr],
+    wanted: Fault,
+) -> Result<(), Fail> {
+    let (fault, back) = refused(code.to_vec(alloc)?).ok_or("a faulty code is accepted")?;
+    assert_eq!(rt; fault, wanted);
+    assert_eq!(rt; back.as_slice(), code);
     Ok(())
+}
+
+/// A first instruction before so many others that are alike.
+fn before(
+    alloc: Global,
+    first: Instr,
+    other: Instr,
+    others: usize,
+) -> Result<Vec<Instr>, AllocError> {
+    let others = [other].repeat(alloc, others)?;
+    [&[first][..], others.as_slice()].concat(alloc)
 }
 
 fn is_shared<T: Send + Sync>() {}
@@ -54,94 +77,88 @@ fn a_program_may_pass_between_threads() {
     is_shared::<Program>();
 }
 
+/// Each fault with its line.
+const FAULTS: [(Fault, &str); 8] = [
+    (Fault::Empty, "1 Empty"),
+    (Fault::TooLong, "2 TooLong"),
+    (Fault::BadScratch { at: 4095 }, "3 BadScratch 4095"),
+    (Fault::ZeroDivisor { at: 10 }, "4 ZeroDivisor 10"),
+    (Fault::BadShift { at: 1 }, "5 BadShift 1"),
+    (Fault::JumpOutside { at: 0 }, "6 JumpOutside 0"),
+    (Fault::NoReturn, "7 NoReturn"),
+    (Fault::Unwritten { at: 2, word: 15 }, "8 Unwritten 2 15"),
+];
+
 #[test]
 fn each_fault_prints_its_number_and_name(rt: HostRuntime) -> Result<(), Fail> {
-    let alloc = rt.alloc();
-    for (fault, line) in [
-        (Fault::Empty, "1 Empty"),
-        (Fault::TooLong, "2 TooLong"),
-        (Fault::BadScratch { at: 4095 }, "3 BadScratch 4095"),
-        (Fault::ZeroDivisor { at: 10 }, "4 ZeroDivisor 10"),
-        (Fault::BadShift { at: 1 }, "5 BadShift 1"),
-        (Fault::JumpOutside { at: 0 }, "6 JumpOutside 0"),
-        (Fault::NoReturn, "7 NoReturn"),
-        (Fault::Unwritten { at: 2, word: 15 }, "8 Unwritten 2 15"),
-    ] {
-        assert_eq!(rt; format!(in alloc; "{fault}")?.as_str(), line);
-        let code = vec![in alloc;]?;
+    for (fault, line) in FAULTS {
+        assert_eq!(rt; text_of(rt.alloc(), &fault)?.as_str(), line);
+        let code = Vec::new(rt.alloc());
         let refused = Refused { code, fault };
-        assert_eq!(rt; format!(in alloc; "{refused}")?.as_str(), line);
+        assert_eq!(rt; text_of(rt.alloc(), &refused)?.as_str(), line);
     }
     Ok(())
 }
 
 #[test]
 fn each_fault_of_an_instruction_has_its_place(rt: HostRuntime) -> Result<(), Fail> {
-    let alloc = rt.alloc();
     let divided = alu(Op::Div, By::Imm(0));
     for (code, fault) in [
         // The first instruction that is not sound decides, before the return at the end is asked for.
+        ([Instr::LoadMem(16), divided], Fault::BadScratch { at: 0 }),
+        ([divided, Instr::RetK(1)], Fault::ZeroDivisor { at: 0 }),
         (
-            vec![in alloc; Instr::LoadMem(16), divided]?,
-            Fault::BadScratch { at: 0 },
-        ),
-        (
-            vec![in alloc; divided, Instr::RetK(1)]?,
+            [alu(Op::Mod, By::Imm(0)), Instr::RetK(1)],
             Fault::ZeroDivisor { at: 0 },
         ),
         (
-            vec![in alloc; alu(Op::Mod, By::Imm(0)), Instr::RetK(1)]?,
-            Fault::ZeroDivisor { at: 0 },
-        ),
-        (
-            vec![in alloc; alu(Op::Lsh, By::Imm(32)), Instr::RetA]?,
+            [alu(Op::Lsh, By::Imm(32)), Instr::RetA],
             Fault::BadShift { at: 0 },
         ),
         (
-            vec![in alloc; jump_if_equal(0, 1, 0), Instr::RetK(1)]?,
+            [jump_if_equal(0, 1, 0), Instr::RetK(1)],
             Fault::JumpOutside { at: 0 },
         ),
         // Nothing is asked of the return at the end where a jump leads outside.
         (
-            vec![in alloc; load_octet(0), Instr::Jump(0)]?,
+            [load_octet(0), Instr::Jump(0)],
             Fault::JumpOutside { at: 1 },
         ),
     ] {
-        assert_refused(&rt, code, fault)?;
+        assert_refused(&rt, rt.alloc(), &code, fault)?;
     }
     Ok(())
 }
 
 #[test]
 fn each_fault_of_a_code_is_found(rt: HostRuntime) -> Result<(), Fail> {
-    let alloc = rt.alloc();
     let either_way = jump_if_equal(0, 0, 1);
     for (code, fault) in [
-        (vec![in alloc;]?, Fault::Empty),
-        (vec![in alloc; Instr::RetK(1); 4097]?, Fault::TooLong),
-        (vec![in alloc; load_octet(0)]?, Fault::NoReturn),
+        (&[][..], Fault::Empty),
+        (&[load_octet(0)], Fault::NoReturn),
         (
-            vec![in alloc; either_way, Instr::Store(0), Instr::LoadMem(0), Instr::RetA]?,
+            &[either_way, Instr::Store(0), Instr::LoadMem(0), Instr::RetA],
             Fault::Unwritten { at: 2, word: 0 },
         ),
         // Of two reads of what no path stores, the first is named.
         (
-            vec![in alloc; Instr::LoadMem(3), Instr::LoadMem(1), Instr::RetA]?,
+            &[Instr::LoadMem(3), Instr::LoadMem(1), Instr::RetA],
             Fault::Unwritten { at: 0, word: 3 },
         ),
         (
-            vec![in alloc;
+            &[
                 Instr::Store(2),
                 Instr::LdxMem(9),
                 Instr::LoadMem(1),
                 Instr::RetA,
-            ]?,
+            ],
             Fault::Unwritten { at: 1, word: 9 },
         ),
     ] {
-        assert_refused(&rt, code, fault)?;
+        assert_refused(&rt, rt.alloc(), code, fault)?;
     }
-    Ok(())
+    let long = before(rt.alloc(), Instr::RetK(1), Instr::RetK(1), 4096)?;
+    assert_refused(&rt, rt.alloc(), &long, Fault::TooLong)
 }
 
 #[test]
@@ -172,24 +189,22 @@ fn accepted_codes_are_handed_through(rt: HostRuntime) -> Result<(), Fail> {
 
 #[test]
 fn jumps_reach_as_far_as_the_code(rt: HostRuntime) -> Result<(), Fail> {
-    let alloc = rt.alloc();
-    for (returns, fault) in [(256, None), (255, Some(Fault::JumpOutside { at: 0 }))] {
-        let mut code = vec![in alloc; jump_if_equal(0, 255, 0)]?;
-        for _ in 0..returns {
-            code.push(Instr::RetK(1))?;
-        }
+    let outside = Some(Fault::JumpOutside { at: 0 });
+    for (first, returns, fault) in [
+        (jump_if_equal(0, 255, 0), 256, None),
+        (jump_if_equal(0, 255, 0), 255, outside),
+        (Instr::Jump(u32::MAX), 1, outside),
+    ] {
+        let code = before(rt.alloc(), first, Instr::RetK(1), returns)?;
         assert_eq!(rt; fault_in(code), fault, "before {returns} returns");
     }
-    let far = vec![in alloc; Instr::Jump(u32::MAX), Instr::RetK(1)]?;
-    assert_eq!(rt; fault_in(far), Some(Fault::JumpOutside { at: 0 }));
     Ok(())
 }
 
 #[test]
 fn the_longest_code_has_4096_instructions(rt: HostRuntime) -> Result<(), Fail> {
-    let alloc = rt.alloc();
     for (jumps, fault) in [(4095, None), (4096, Some(Fault::TooLong))] {
-        let mut code = vec![in alloc; Instr::Jump(0); jumps]?;
+        let mut code = [Instr::Jump(0)].repeat(rt.alloc(), jumps)?;
         code.push(Instr::RetK(7))?;
         assert_eq!(rt; fault_in(code), fault, "behind {jumps} jumps");
     }
@@ -198,19 +213,15 @@ fn the_longest_code_has_4096_instructions(rt: HostRuntime) -> Result<(), Fail> {
 
 /// A store of word 15, a thousand branches each of which may leave out a store of word 0, and a read.
 fn ladder(alloc: Global, read: u32) -> Result<Vec<Instr>, AllocError> {
-    let mut code = vec![in alloc; Instr::Store(15)]?;
-    for _ in 0..1000 {
-        code.push(Instr::Branch {
-            test: Test::Set,
-            by: By::Imm(1),
-            jt: 0,
-            jf: 1,
-        })?;
-        code.push(Instr::Store(0))?;
-    }
-    code.push(Instr::LoadMem(read))?;
-    code.push(Instr::RetA)?;
-    Ok(code)
+    let branch = Instr::Branch {
+        test: Test::Set,
+        by: By::Imm(1),
+        jt: 0,
+        jf: 1,
+    };
+    let rungs = [branch, Instr::Store(0)].repeat(alloc, 1000)?;
+    let ends = [Instr::LoadMem(read), Instr::RetA];
+    [&[Instr::Store(15)][..], rungs.as_slice(), &ends].concat(alloc)
 }
 
 #[test]

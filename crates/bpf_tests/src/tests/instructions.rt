@@ -1,5 +1,6 @@
 //! Every row of the instruction table, read and written, and octets that are none.
 
+use crate::tests::text_of;
 use bpf_code::*;
 use std::test::Fail;
 
@@ -158,8 +159,8 @@ const MANY_OCTETS: usize = 80_008;
 fn a_long_code_is_read_and_written(rt: HostRuntime) -> Result<(), Fail> {
     let octets = vec![in rt.alloc(); 0u8; MANY_OCTETS]?;
     let code = decode(rt.alloc(), &octets)?;
-    assert_eq!(rt; code.len(), 10_001);
-    assert!(rt; code.iter().all(|instr| *instr == Instr::LoadImm(0)));
+    let loads = vec![in rt.alloc(); Instr::LoadImm(0); 10_001]?;
+    assert_eq!(rt; code.as_slice(), loads.as_slice());
     let written = encode(rt.alloc(), &code)?;
     assert_eq!(rt; written.as_slice(), octets.as_slice());
     Ok(())
@@ -178,7 +179,6 @@ fn refused_octets_name_their_fault(rt: HostRuntime) -> Result<(), Fail> {
 
 #[test]
 fn each_fault_prints_its_number_and_name(rt: HostRuntime) -> Result<(), Fail> {
-    let alloc = rt.alloc();
     let (at, code) = (1000, 0x000e);
     for (fault, line) in [
         (DecodeFault::Ragged, "1 Ragged"),
@@ -188,9 +188,9 @@ fn each_fault_prints_its_number_and_name(rt: HostRuntime) -> Result<(), Fail> {
         ),
         (DecodeFault::NoMemory, "3 NoMemory"),
     ] {
-        assert_eq!(rt; format!(in alloc; "{fault}")?.as_str(), line);
+        assert_eq!(rt; text_of(rt.alloc(), &fault)?.as_str(), line);
     }
-    let full = EncodeFault::NoMemory;
-    assert_eq!(rt; format!(in alloc; "{full}")?.as_str(), "1 NoMemory");
+    let full = text_of(rt.alloc(), &EncodeFault::NoMemory)?;
+    assert_eq!(rt; full.as_str(), "1 NoMemory");
     Ok(())
 }

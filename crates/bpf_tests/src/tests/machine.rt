@@ -3,7 +3,7 @@
 use bpf_code::{By, Instr, Op, Size, Test};
 use bpf_interp::{Outcome, run};
 use bpf_verify::{MOST_LAID_OUT, verify};
-use std::alloc::Global;
+use std::alloc::{AllocError, Global};
 use std::test::Fail;
 use upc_cell::Cell;
 
@@ -154,12 +154,23 @@ fn scratch_words_hold_what_was_stored(rt: HostRuntime) -> Result<(), Fail> {
     Ok(())
 }
 
+/// So many instructions that are alike, with a last one in place of the last of them.
+fn ended_by(
+    alloc: Global,
+    each: Instr,
+    length: usize,
+    last: Instr,
+) -> Result<Vec<Instr>, AllocError> {
+    let mut code = [each].repeat(alloc, length)?;
+    if let Some(at_end) = code.last_mut() {
+        *at_end = last;
+    }
+    Ok(code)
+}
+
 #[test]
 fn the_longest_program_takes_a_step_an_instruction(rt: HostRuntime) -> Result<(), Fail> {
-    let mut code = vec![in rt.alloc(); Instr::Jump(0); 4096]?;
-    if let Some(last) = code.last_mut() {
-        *last = Instr::RetK(7);
-    }
+    let code = ended_by(rt.alloc(), Instr::Jump(0), 4096, Instr::RetK(7))?;
     assert_eq!(rt; outcome(rt.alloc(), &code, USER)?, (7, 4096));
     Ok(())
 }
@@ -167,10 +178,8 @@ fn the_longest_program_takes_a_step_an_instruction(rt: HostRuntime) -> Result<()
 /// The outcome of a code, and of the same code with returns behind it that nothing reaches, so many that
 /// it isn't laid out.
 fn both_ways(alloc: Global, code: &[Instr], header: [u8; 4]) -> Result<[(u32, u32); 2], Fail> {
-    let mut longer = code.to_vec(alloc)?;
-    for _ in 0..MOST_LAID_OUT {
-        longer.push(Instr::RetK(0))?;
-    }
+    let behind = [Instr::RetK(0)].repeat(alloc, MOST_LAID_OUT)?;
+    let longer = [code, behind.as_slice()].concat(alloc)?;
     Ok([
         outcome(alloc, code, header)?,
         outcome(alloc, &longer, header)?,
@@ -182,42 +191,43 @@ fn branch(test: Test, k: u32, jt: u8, jf: u8) -> Instr {
     Instr::Branch { test, by, jt, jf }
 }
 
-#[test]
-fn instructions_run_by_twos_do_what_each_does(rt: HostRuntime) -> Result<(), Fail> {
-    let and = |k| alu(Op::And, By::Imm(k));
-    let add_x = alu(Op::Add, By::X);
+fn and(k: u32) -> Instr {
+    alu(Op::And, By::Imm(k))
+}
+
+/// Two instructions before `ret #2` and `ret #1`, and the outcome of the four on a cell of user data.
+fn pairs() -> [([Instr; 2], (u32, u32)); 11] {
     let half_at_x = Instr::LoadInd {
         size: Size::Half,
         k: 46,
     };
-    for (code, expected) in [
-        ([load(Size::Word, 0), branch(Test::Eq, 0x00100640, 0, 1)], 2),
-        ([load(Size::Half, 50), branch(Test::Eq, 0x0304, 0, 1)], 2),
-        ([load(Size::Octet, 3), branch(Test::Eq, 0x41, 0, 1)], 1),
-        ([load(Size::Half, 50), branch(Test::Set, 0x0100, 1, 0)], 1),
-        ([half_at_x, branch(Test::Eq, 0, 0, 1)], 2),
-        ([load(Size::Word, 0), and(0xff00)], 1),
-        ([load(Size::Half, 2), and(0xf)], 1),
-        ([load(Size::Octet, 52), and(0xff)], 0),
-        ([and(0), branch(Test::Eq, 0, 0, 1)], 2),
-        ([and(0), branch(Test::Ge, 1, 0, 1)], 1),
-        ([Instr::LdxImm(9), Instr::Txa], 1),
-    ] {
-        let [first, second] = code;
-        let whole = [first, second, Instr::RetK(2), Instr::RetK(1)];
-        let [by_twos, singly] = both_ways(rt.alloc(), &whole, USER)?;
-        assert_eq!(rt; by_twos, singly);
-        let [by_twos, singly] = both_ways(rt.alloc(), &whole, OAM)?;
-        assert_eq!(rt; by_twos, singly);
-        let ended = if expected == 0 { 1 } else { 3 };
-        let value = if matches!(second, Instr::Branch { .. }) || expected == 0 {
-            expected
-        } else {
-            2
-        };
-        assert_eq!(rt; outcome(rt.alloc(), &whole, USER)?, (value, ended));
-    }
-    let sums = [
+    [
+        (
+            [load(Size::Word, 0), branch(Test::Eq, 0x00100640, 0, 1)],
+            (2, 3),
+        ),
+        (
+            [load(Size::Half, 50), branch(Test::Eq, 0x0304, 0, 1)],
+            (2, 3),
+        ),
+        ([load(Size::Octet, 3), branch(Test::Eq, 0x41, 0, 1)], (1, 3)),
+        (
+            [load(Size::Half, 50), branch(Test::Set, 0x0100, 1, 0)],
+            (1, 3),
+        ),
+        ([half_at_x, branch(Test::Eq, 0, 0, 1)], (2, 3)),
+        ([load(Size::Word, 0), and(0xff00)], (2, 3)),
+        ([load(Size::Half, 2), and(0xf)], (2, 3)),
+        ([load(Size::Octet, 52), and(0xff)], (0, 1)),
+        ([and(0), branch(Test::Eq, 0, 0, 1)], (2, 3)),
+        ([and(0), branch(Test::Ge, 1, 0, 1)], (1, 3)),
+        ([Instr::LdxImm(9), Instr::Txa], (2, 3)),
+    ]
+}
+
+/// A code that stores, masks, adds and shifts the last half word of a cell.
+fn sums() -> [Instr; 12] {
+    [
         load(Size::Half, 50),
         Instr::Store(3),
         Instr::LoadMem(3),
@@ -226,27 +236,34 @@ fn instructions_run_by_twos_do_what_each_does(rt: HostRuntime) -> Result<(), Fai
         Instr::Tax,
         Instr::LdxMem(3),
         Instr::LoadMem(3),
-        add_x,
+        alu(Op::Add, By::X),
         alu(Op::Or, By::Imm(1)),
         alu(Op::Lsh, By::Imm(1)),
         Instr::RetA,
-    ];
+    ]
+}
+
+#[test]
+fn instructions_run_by_twos_do_what_each_does(rt: HostRuntime) -> Result<(), Fail> {
+    for ([first, second], expected) in pairs() {
+        let whole = [first, second, Instr::RetK(2), Instr::RetK(1)];
+        assert_eq!(rt; both_ways(rt.alloc(), &whole, USER)?, [expected; 2]);
+        let [by_twos, singly] = both_ways(rt.alloc(), &whole, OAM)?;
+        assert_eq!(rt; by_twos, singly);
+    }
     let expected = (((0x0304 + 0x0304) | 1) << 1, 12);
-    assert_eq!(rt; both_ways(rt.alloc(), &sums, USER)?, [expected, expected]);
+    assert_eq!(rt; both_ways(rt.alloc(), &sums(), USER)?, [expected; 2]);
     Ok(())
 }
 
 #[test]
 fn the_longest_code_that_is_laid_out_runs_as_a_longer_one(rt: HostRuntime) -> Result<(), Fail> {
-    for length in [MOST_LAID_OUT, MOST_LAID_OUT + 1] {
-        let mut code = vec![in rt.alloc(); alu(Op::Add, By::Imm(2)); length]?;
-        if let Some(last) = code.last_mut() {
-            *last = Instr::RetA;
-        }
-        let steps = length as u32;
-        let (value, counted) = outcome(rt.alloc(), &code, USER)?;
-        assert_eq!(rt; counted, steps);
-        assert_eq!(rt; value, 2u32.wrapping_mul(steps.wrapping_sub(1)));
+    for (length, expected) in [
+        (MOST_LAID_OUT, (1022, 512)),
+        (MOST_LAID_OUT + 1, (1024, 513)),
+    ] {
+        let code = ended_by(rt.alloc(), alu(Op::Add, By::Imm(2)), length, Instr::RetA)?;
+        assert_eq!(rt; outcome(rt.alloc(), &code, USER)?, expected);
     }
     Ok(())
 }

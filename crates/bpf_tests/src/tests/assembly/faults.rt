@@ -1,5 +1,6 @@
 //! The texts of all faults.
 
+use crate::tests::text_of;
 use bpf_asm::{AsmFault, AsmKind, ListFault};
 use std::test::Fail;
 
@@ -50,8 +51,7 @@ const LIST_FAULTS: [(ListFault, &str); 3] = [
 #[test]
 fn each_kind_has_its_text(rt: HostRuntime) -> Result<(), Fail> {
     for (kind, text) in KINDS {
-        let found = format!(in rt.alloc(); "{kind}")?;
-        assert_eq!(rt; found.as_str(), text);
+        assert_eq!(rt; text_of(rt.alloc(), &kind)?.as_str(), text);
     }
     Ok(())
 }
@@ -59,8 +59,7 @@ fn each_kind_has_its_text(rt: HostRuntime) -> Result<(), Fail> {
 #[test]
 fn a_fault_of_a_source_has_its_line(rt: HostRuntime) -> Result<(), Fail> {
     for (fault, text) in FAULTS {
-        let found = format!(in rt.alloc(); "{fault}")?;
-        assert_eq!(rt; found.as_str(), text);
+        assert_eq!(rt; text_of(rt.alloc(), &fault)?.as_str(), text);
     }
     Ok(())
 }
@@ -68,8 +67,7 @@ fn a_fault_of_a_source_has_its_line(rt: HostRuntime) -> Result<(), Fail> {
 #[test]
 fn each_fault_of_a_code_has_its_text(rt: HostRuntime) -> Result<(), Fail> {
     for (fault, text) in LIST_FAULTS {
-        let found = format!(in rt.alloc(); "{fault}")?;
-        assert_eq!(rt; found.as_str(), text);
+        assert_eq!(rt; text_of(rt.alloc(), &fault)?.as_str(), text);
     }
     Ok(())
 }

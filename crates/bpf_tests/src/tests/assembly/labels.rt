@@ -79,17 +79,21 @@ ja gone|ret x => 1 BadLine 2
 a: ja a|a: 1x => 2 BadNumber 2
 ";
 
+/// Jumps to a label `N` beside an instruction.
+const BESIDE: &str = "N0: ja N|jeq x, N, N|jne #1, N|N: ret a";
+
+/// The same jumps to a label `N` alone in a line, with other blanks.
+const ALONE: &str = "ja N|jeq x,N ,N|jneq#1,N|\tN :;||ret a";
+
+/// The octets of both.
+const THEIR_OCTETS: &str = "0005000000000002 001d010100000000 0015000000000001 0016000000000000";
+
 /// Asks that jumps find the label of this name, beside an instruction and alone in a line.
 fn expect_name(rt: &impl Abort, alloc: Global, name: &str) -> Result<(), Fail> {
-    let answer = "0005000000000002 001d010100000000 0015000000000001 0016000000000000";
-    let beside = format!(in alloc;
-        "{name}0: ja {name}|jeq x, {name}, {name}|jne #1, {name}|{name}: ret a"
-    )?;
-    expect(rt, alloc, beside.as_str(), answer)?;
-    let alone = format!(in alloc;
-        "ja {name}|jeq x,{name} ,{name}|jneq#1,{name}|\t{name} :;||ret a"
-    )?;
-    expect(rt, alloc, alone.as_str(), answer)
+    let beside = BESIDE.replace(alloc, 'N', name)?;
+    expect(rt, alloc, beside.as_str(), THEIR_OCTETS)?;
+    let alone = ALONE.replace(alloc, 'N', name)?;
+    expect(rt, alloc, alone.as_str(), THEIR_OCTETS)
 }
 
 #[test]

@@ -71,12 +71,12 @@ fn lines_end_by_feeds_and_comments_begin_at_semicolons(rt: HostRuntime) -> Resul
 fn expect_around(
     rt: &impl Abort,
     alloc: Global,
-    (front, octet, back): (&str, u8, &str),
+    front: &str,
+    octet: u8,
+    back: &str,
     answer: &str,
 ) -> Result<(), Fail> {
-    let mut source = Vec::from_slice(alloc, front.as_bytes())?;
-    source.push(octet)?;
-    source.extend_from_slice(back.as_bytes())?;
+    let source = [front.as_bytes(), &[octet], back.as_bytes()].concat(alloc)?;
     let found = answer_to(alloc, &source)?;
     assert_eq!(rt; found.as_str(), answer, "{octet} behind {front:?}");
     Ok(())
@@ -91,9 +91,9 @@ fn an_octet_that_is_no_token_makes_a_bad_line(rt: HostRuntime) -> Result<(), Fai
             b';' => ("no code", "no code", "0016000000000000"),
             _ => ("1 BadLine 1", "2 BadNumber 1", "1 BadLine 1"),
         };
-        expect_around(&rt, rt.alloc(), ("", octet, ""), alone)?;
-        expect_around(&rt, rt.alloc(), ("", octet, " 9a"), before)?;
-        expect_around(&rt, rt.alloc(), ("ret a", octet, ""), behind)?;
+        expect_around(&rt, rt.alloc(), "", octet, "", alone)?;
+        expect_around(&rt, rt.alloc(), "", octet, " 9a", before)?;
+        expect_around(&rt, rt.alloc(), "ret a", octet, "", behind)?;
     }
     Ok(())
 }

@@ -35,14 +35,17 @@ const ITS_OCTETS: &str =
 /// Its listing.
 const ITS_LISTING: &str = "L0: ldb [3]|L1: and #14|L2: jge #8, L4, L3|L3: ret #1|L4: ret #2|";
 
-/// The instructions that digits spell.
+/// The instruction that digits spell.
+fn instr_of(word: &str) -> Option<Instr> {
+    let octets = u64::from_str_radix(word, 16).ok()?;
+    decode_one(&octets.to_be_bytes()).ok()
+}
+
+/// The instructions that words of digits spell.
 fn code_of(alloc: Global, digits: &str) -> Result<Vec<Instr>, Fail> {
     let mut code = Vec::new(alloc);
     for word in digits.split_whitespace() {
-        let octets = u64::from_str_radix(word, 16)?;
-        let instr = decode_one(&octets.to_be_bytes())
-            .ok()
-            .ok_or("an unknown code")?;
+        let instr = instr_of(word).ok_or("an unknown code")?;
         code.push(instr)?;
     }
     Ok(code)

@@ -2,23 +2,35 @@
 
 use bpf_asm::{assemble, listing};
 use bpf_code::Instr;
+use std::alloc::{AllocError, Global};
+use std::process::Abort;
 use std::test::Fail;
 
 /// How many instructions without labels the source has.
 const PLAIN: u32 = 65536;
 
-#[test]
-fn a_long_source_is_assembled_and_listed(rt: HostRuntime) -> Result<(), Fail> {
-    let mut source = Vec::new(rt.alloc());
-    source.extend_from_slice(b"ja end\n")?;
-    for _ in 0..PLAIN {
-        source.extend_from_slice(b"tax\n\n; nothing\n")?;
-    }
-    source.extend_from_slice(b"end: ret a")?;
-    let code = assemble(rt.alloc(), &source)?;
+/// A jump over them all, so many instructions with blank lines and remarks between them, and a return.
+fn long_source(alloc: Global) -> Result<Vec<u8>, AllocError> {
+    let plain = "tax\n\n; nothing\n".repeat(alloc, PLAIN as usize)?;
+    Ok(
+        ["ja end\n", plain.as_str(), "end: ret a"]
+            .concat(alloc)?
+            .into_bytes(),
+    )
+}
+
+/// Asks that a code is that of the source: as many instructions, the jump first, the return last.
+fn expect_long(rt: &impl Abort, code: &[Instr]) {
     assert_eq!(rt; code.len(), PLAIN as usize + 2);
     assert_eq!(rt; code.first().copied(), Some(Instr::Jump(PLAIN)));
     assert_eq!(rt; code.last().copied(), Some(Instr::RetA));
+}
+
+#[test]
+fn a_long_source_is_assembled_and_listed(rt: HostRuntime) -> Result<(), Fail> {
+    let source = long_source(rt.alloc())?;
+    let code = assemble(rt.alloc(), &source)?;
+    expect_long(&rt, &code);
     let text = listing(rt.alloc(), &code)?;
     let again = assemble(rt.alloc(), &text)?;
     assert_eq!(rt; again.as_slice(), code.as_slice());

@@ -115,23 +115,34 @@ ja -1 => 1 BadLine 1
 jeq -1, a|a: ret a => 1 BadLine 1
 ";
 
-/// Asks that each word has its value, and each bad number none, in this place.
-fn expect_place(
+/// Asks that a line with a number in the place of `N` has this answer; a return follows it.
+fn expect_number(
     rt: &impl Abort,
     alloc: Global,
-    front: &str,
-    back: &str,
-    octets: &str,
+    line: &str,
+    number: &str,
+    answer: &str,
 ) -> Result<(), Fail> {
+    let line = line.replace(alloc, 'N', number)?;
+    let source = [line.as_str(), "|last: ret a"].concat(alloc)?;
+    expect(rt, alloc, source.as_str(), answer)
+}
+
+/// Asks that each word has its value in this place.
+fn expect_values(rt: &impl Abort, alloc: Global, line: &str, octets: &str) -> Result<(), Fail> {
     for row in NUMBERS.lines() {
         let (number, value) = parts_of(row)?;
-        let source = format!(in alloc; "{front}{number}{back}|last: ret a")?;
-        let answer = format!(in alloc; "{octets}{value} 0016000000000000")?;
-        expect(rt, alloc, source.as_str(), answer.as_str())?;
+        let answer = [octets, value, " 0016000000000000"].concat(alloc)?;
+        expect_number(rt, alloc, line, number, answer.as_str())?;
     }
+    Ok(())
+}
+
+/// Asks that no bad number is a number in this place, in the second line of a source.
+fn expect_no_values(rt: &impl Abort, alloc: Global, line: &str) -> Result<(), Fail> {
+    let second = ["|", line].concat(alloc)?;
     for number in BAD_NUMBERS.split_whitespace() {
-        let source = format!(in alloc; "|{front}{number}{back}|last: ret a")?;
-        expect(rt, alloc, source.as_str(), "2 BadNumber 2")?;
+        expect_number(rt, alloc, second.as_str(), number, "2 BadNumber 2")?;
     }
     Ok(())
 }
@@ -140,8 +151,8 @@ fn expect_place(
 fn a_number_is_decimal_or_hexadecimal_wherever_it_stands(rt: HostRuntime) -> Result<(), Fail> {
     for row in PLACES.lines() {
         let (line, octets) = parts_of(row)?;
-        let (front, back) = line.split_once("N").ok_or("no place for a number")?;
-        expect_place(&rt, rt.alloc(), front, back, octets)?;
+        expect_values(&rt, rt.alloc(), line, octets)?;
+        expect_no_values(&rt, rt.alloc(), line)?;
     }
     Ok(())
 }
@@ -164,9 +175,9 @@ fn expect_header(
     last: &str,
     answer: &str,
 ) -> Result<(), Fail> {
-    let own = format!(in alloc; "ldxb {first}*([9]&{last})")?;
+    let own = ["ldxb ", first, "*([9]&", last, ")"].concat(alloc)?;
     expect(rt, alloc, own.as_str(), answer)?;
-    let shared = format!(in alloc; "ldx {first}*([9]&{last})")?;
+    let shared = ["ldx ", first, "*([9]&", last, ")"].concat(alloc)?;
     expect(rt, alloc, shared.as_str(), answer)
 }
 
