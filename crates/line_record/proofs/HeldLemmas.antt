@@ -9,12 +9,13 @@ use Rattle.upc_cell.specs.declared.vc.Vc.{Vc}
 use Rattle.line_record.specs.declared.directory.Seating.{Seating}
 use Rattle.line_record.specs.Seatings.{seating_in}
 use Rattle.line_record.specs.inner.SeatingChanges.{ChangesAt}
-use Rattle.line_record.specs.Directory.{DirectoryView, seating_at, IsOpenLine, IsTakenLine, IsSoundDirectory}
+use Rattle.line_record.specs.Directory.{DirectoryView, seating_at, IsOpenLine, IsTakenLine}
+use Rattle.line_record.specs.inner.HeldLines.{KnowsLines}
 use Rattle.line_record.proofs.NumberLemmas.{slice_get-set_same, slice_get-set_other}
 use Rattle.upc_cell.proofs.Public.{vc_cases}
 use Rattle.line_record.proofs.SeatingLemmas.{Suits, IsDirectory-changed, IsDirectory-moved}
 
-module _ (old : DirectoryView) (held : List Bool) (sound : IsSoundDirectory old held)
+module _ (old : DirectoryView) (held : List Bool) (sound : KnowsLines old held)
     (new : List (Vc × Seating)) (vc : Vc) (used : ℕ) where
   abbrev After : DirectoryView
   After = record { seatings = new; lines = old.lines; used = used }
@@ -40,10 +41,10 @@ module _ (old : DirectoryView) (held : List Bool) (sound : IsSoundDirectory old 
     | inr apart ↦ free other another (sym (changes.others other apart) ∙ at)
   ]
 
-  pub IsSoundDirectory-put : (seating : Seating) → seating_at old vc ≡ None → ChangesAt old.seatings new vc (Some seating)
+  pub KnowsLines-put : (seating : Seating) → seating_at old vc ≡ None → ChangesAt old.seatings new vc (Some seating)
       → Suits old vc seating used → old.used ≤ used → used ≤ 2 ^ 62
-      → IsSoundDirectory After (set held seating.line true)
-  IsSoundDirectory-put seating absent changes suits grows most =
+      → KnowsLines After (set held seating.line true)
+  KnowsLines-put seating absent changes suits grows most =
       let within : seating.line < length held = omega (arith, sound.sized, suits.within) in
       record {
         kept = IsDirectory-changed old new vc (Some seating) used sound.kept changes
@@ -68,9 +69,9 @@ module _ (old : DirectoryView) (held : List Bool) (sound : IsSoundDirectory old 
         ];
       }
 
-  pub IsSoundDirectory-take : (seating : Seating) → seating_at old vc ≡ Some seating → ChangesAt old.seatings new vc None
-      → old.used ≡ used → IsSoundDirectory After (set held seating.line false)
-  IsSoundDirectory-take seating there changes same_used =
+  pub KnowsLines-take : (seating : Seating) → seating_at old vc ≡ Some seating → ChangesAt old.seatings new vc None
+      → old.used ≡ used → KnowsLines After (set held seating.line false)
+  KnowsLines-take seating there changes same_used =
       let within : seating.line < length held = omega (arith, sound.sized, sound.kept.within vc seating there) in
       record {
         kept = IsDirectory-changed old new vc None used sound.kept changes (λ given same. cc)
@@ -101,18 +102,18 @@ module _ (old : DirectoryView) (held : List Bool) (sound : IsSoundDirectory old 
       }
 
 -- Another program moves no line.
-pub IsSoundDirectory-moved : (old : DirectoryView) (held : List Bool) → IsSoundDirectory old held
+pub KnowsLines-moved : (old : DirectoryView) (held : List Bool) → KnowsLines old held
     → (new : List (Vc × Seating)) (vc : Vc) (program : Id)
     → IfSome (seating_at old vc) (λ seating. ChangesAt old.seatings new vc (Some (record seating { program = program })))
     → (seating_at old vc ≡ None → new ≡ old.seatings)
-    → IsSoundDirectory (record { seatings = new; lines = old.lines; used = old.used }) held
-IsSoundDirectory-moved old held sound new vc program moved unmoved =
+    → KnowsLines (record { seatings = new; lines = old.lines; used = old.used }) held
+KnowsLines-moved old held sound new vc program moved unmoved =
     let After : List (Vc × Seating) → DirectoryView = λ seatings.
     record { seatings = seatings; lines = old.lines; used = old.used } in
     let Moved : Option Seating → Type 0 = λ found.
     IfSome found (λ seating. ChangesAt old.seatings new vc (Some (record seating { program = program }))) in
-    let choice : (found : Option Seating) → seating_at old vc ≡ found → IsSoundDirectory (After new) held = elim [
-      | None ↦ λ e. subst (λ seatings. IsSoundDirectory (After seatings) held) (sym (unmoved e)) sound
+    let choice : (found : Option Seating) → seating_at old vc ≡ found → KnowsLines (After new) held = elim [
+      | None ↦ λ e. subst (λ seatings. KnowsLines (After seatings) held) (sym (unmoved e)) sound
       | Some seating ↦ λ e.
           let after : Seating = record seating { program = program } in
           let changes : ChangesAt old.seatings new vc (Some after) = subst Moved e moved in

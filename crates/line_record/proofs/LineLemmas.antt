@@ -16,7 +16,8 @@ use Rattle.line_record.specs.Tally.{counted, cells_in}
 use Rattle.line_record.specs.History.{numbered, buckets_after, empty_buckets}
 use Rattle.line_record.specs.JournalRun.{IsRun}
 use Rattle.line_record.specs.StateAfter.{IsStateAfter}
-use Rattle.line_record.specs.Line.{LineView, view_of, line_refusal, IsOpening, IsSound}
+use Rattle.line_record.specs.Line.{LineView, line_refusal, IsOpening}
+use Rattle.line_record.specs.inner.LineFields.{view_of, KeepsRoom}
 use Rattle.line_record.proofs.NumberLemmas.{numbered-All}
 use Rattle.line_record.proofs.HistoryLemmas.{buckets_under-nil}
 use Rattle.line_record.proofs.RunLemmas.{IsRun-append}
@@ -43,20 +44,21 @@ IsAdmitted-refusal line moment none = record {
 }
 
 -- A line that gained a cell.
-pub IsSound-gains : (owner : Option Owner) (contracts : List Contract) (journal : ℕ) (start : State) (entries : List Entry) (state : State) (capacity : ℕ)
+pub KeepsRoom-gains : (owner : Option Owner) (contracts : List Contract) (journal : ℕ) (start : State) (entries : List Entry) (state : State) (capacity : ℕ)
     → (entry : Entry) (next : State)
-    → IsSound (view_of owner contracts journal start entries state capacity) capacity
+    → KeepsRoom (view_of owner contracts journal start entries state capacity) capacity
     → IsSome owner
     → line_refusal (view_of owner contracts journal start entries state capacity) entry.moment ≡ None
     → IsRun contracts state (entry ∷ []) next
-    → IsSound (view_of owner contracts journal start (entries ++ entry ∷ []) next capacity) capacity
-IsSound-gains owner contracts journal start entries state capacity entry next sound held none run =
+    → KeepsRoom (view_of owner contracts journal start (entries ++ entry ∷ []) next capacity) capacity
+KeepsRoom-gains owner contracts journal start entries state capacity entry next sound held none run =
     let admitted = IsAdmitted-refusal (view_of owner contracts journal start entries state capacity) entry.moment none in
     let counts : cells_in next.counts ≡ cells_in state.counts + 1 =
     ap cells_in run.counts ∙ cells_in-counted state.counts entry.verdict in
     record {
       kept = record {
         run = IsRun-append contracts start state next entries (entry ∷ []) sound.kept.run run;
+        few = sound.kept.few;
         some = sound.kept.some;
         journal = sound.kept.journal;
         short = omega (arith, length_push entries entry, admitted.short);

@@ -1,9 +1,9 @@
 -- What has a number in a list, after a write to the list too.
-use Rattle.std.proofs.Common.{◌≡◌, ◌≢◌, ℕ, zero, suc, ◌-◌, ◌<◌, List, [], ◌∷◌, length, set, Some, None, All, get_or, refl, sym, ap, subst, ◌∙◌, arith}
+use Rattle.std.proofs.Common.{◌≡◌, ◌≢◌, ℕ, zero, suc, ◌-◌, ◌<◌, ◌≤◌, inl, inr, List, [], ◌∷◌, length, set, Some, None, All, get_or, refl, sym, ap, subst, ◌∙◌, arith}
 use Rattle.std.specs.Prelude.{slice_get}
 use Rattle.std.proofs.lemmas.Bool.Decides.{nat_tests}
-use Rattle.std.proofs.lemmas.Option.{slice_get_within, get_or_from_slice_get}
-use Rattle.line_record.specs.History.{numbered}
+use Rattle.std.proofs.lemmas.Option.{slice_get_within, slice_get_past, get_or_from_slice_get}
+use Rattle.line_record.specs.History.{numbered, IsNoNumber}
 
 module _ {X : Type 0} where
   pub slice_get-set_same : (xs : List X) (k : ℕ) (x : X) → k < length xs → slice_get (set xs k x) k ≡ Some x
@@ -36,6 +36,12 @@ module _ {X : Type 0} where
   pub numbered-set_other : (xs : List X) (n m : ℕ) (x : X) → n ≢ 0 → m ≢ n → numbered (set xs (n - 1) x) m ≡ numbered xs m
   numbered-set_other xs n zero x some apart = refl
   numbered-set_other xs n (suc m) x some apart = numbered-set_above xs n (suc m) x some (omega arith) apart
+
+  -- No list of four has such a number.
+  pub numbered-none : (xs : List X) (n : ℕ) → length xs ≤ 4 → IsNoNumber n → numbered xs n ≡ None
+  numbered-none xs n few (inl none) = numbered-zero xs n none
+  numbered-none xs n few (inr past) =
+      numbered-above xs n (omega arith) ∙ slice_get_past xs (n - 1) (omega arith)
 
   -- Lists of one length have the same numbers.
   pub numbered-within : (xs : List X) (n : ℕ) (x : X) → numbered xs n ≡ Some x → (n ≢ 0) × (n - 1 < length xs)

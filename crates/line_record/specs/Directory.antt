@@ -1,5 +1,5 @@
 -- Which line serves which connection. A directory is seen through its look-ups.
-use Rattle.std.specs.Prelude.{◌≡◌, ◌≢◌, ℕ, suc, ◌^◌, ◌<◌, ◌≤◌, Bool, true, false, Option, Some, None, List, length, slice_get}
+use Rattle.std.specs.Prelude.{◌≡◌, ◌≢◌, ℕ, suc, ◌^◌, ◌<◌, ◌≤◌, Option, Some, None, List}
 use Rattle.gen_arena.specs.declared.id.Id.{Id}
 use Rattle.upc_cell.specs.declared.vc.Vc.{Vc}
 use Rattle.line_record.specs.declared.directory.Seating.{Seating}
@@ -56,10 +56,3 @@ pub record IsDirectory (directory : DirectoryView) : Type 0 where
   pub given : (vc : Vc) (seating : Seating) → seating_at directory vc ≡ Some seating
       → (1 ≤ seating.incarnation) × (seating.incarnation ≤ directory.used)
   pub most : directory.used ≤ 2 ^ 62
-
--- And it knows of each line whether it is some connection's.
-pub record IsSoundDirectory (directory : DirectoryView) (held : List Bool) : Type 0 where
-  pub kept : IsDirectory directory
-  pub sized : length held ≡ directory.lines
-  pub taken : (line : ℕ) → slice_get held line ≡ Some true → IsTakenLine directory line
-  pub free : (line : ℕ) → slice_get held line ≡ Some false → IsOpenLine directory line

@@ -1,7 +1,7 @@
 -- What the contracts of a connection say of its cells. A history is the list of the connection's
 -- cells so far, the earliest first, whose moments don't go back. Each contract has buckets of its
 -- own, and only the cells that named it reach them.
-use Rattle.std.specs.Prelude.{ℕ, ◌-◌, ◌==◌, Bool, Option, Some, None, if◌then◌else◌, List, [], ◌∷◌, ◌++◌, map, filter, slice_get}
+use Rattle.std.specs.Prelude.{◌≡◌, ℕ, ◌-◌, ◌<◌, ◌⊎◌, ◌==◌, Bool, Option, Some, None, if◌then◌else◌, List, [], ◌∷◌, ◌++◌, map, filter, slice_get}
 use Rattle.gen_arena.specs.declared.id.Id.{Id}
 use Rattle.leaky.specs.declared.contract.Contract.{Contract}
 use Rattle.leaky.specs.declared.verdict.Verdict.{Verdict}
@@ -31,6 +31,10 @@ IsHistory cells = GoesOn 0 (moments_of cells)
 abbrev pub last_moment : ℕ → List NamedCell → ℕ
 last_moment earlier [] = earlier
 last_moment earlier (cell ∷ later) = last_moment cell.moment later
+
+-- No connection has a contract of this number: they are counted from 1 to 4 at most.
+abbrev pub IsNoNumber : ℕ → Type 0
+IsNoNumber value = (value ≡ 0) ⊎ (4 < value)
 
 -- What has this number in the list, counted from 1.
 abbrev pub numbered : {X : Type 0} → List X → ℕ → Option X

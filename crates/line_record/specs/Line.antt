@@ -1,5 +1,5 @@
 -- A line of the card as its callers see it.
-use Rattle.std.specs.Prelude.{◌≡◌, ℕ, ◌^◌, ◌≤◌, ◌<◌, nat_le, nat_lt, Bool, ◌&&◌, false, Option, Some, None, IsSome, is_none, if◌then◌else◌, List, [], ◌∷◌, ◌++◌, length, All}
+use Rattle.std.specs.Prelude.{◌≡◌, ℕ, ◌^◌, ◌≤◌, ◌<◌, nat_le, nat_lt, Bool, ◌&&◌, false, Option, Some, None, IsSome, if◌then◌else◌, List, [], ◌∷◌, ◌++◌, length, All}
 use Rattle.leaky.specs.declared.contract.Contract.{Contract}
 use Rattle.line_record.specs.declared.entry.Entry.{Entry}
 use Rattle.line_record.specs.declared.state.State.{State}
@@ -38,22 +38,6 @@ free_line journal counts ready = record {
   ready = ready;
 }
 
--- A free line has room for a journal, which holds so many entries.
-abbrev pub has_room : Option Owner → ℕ → ℕ → Bool
-has_room owner journal capacity = is_none owner && nat_le journal capacity
-
--- A line of these parts, whose journal has this capacity.
-abbrev pub view_of : Option Owner → List Contract → ℕ → State → List Entry → State → ℕ → LineView
-view_of owner contracts journal start entries state capacity = record {
-  owner = owner;
-  contracts = contracts;
-  journal = journal;
-  start = start;
-  entries = entries;
-  state = state;
-  ready = has_room owner journal capacity;
-}
-
 -- Why a cell of this moment is not judged: it is later than 2^62, or earlier than the last judged
 -- cell, or the journal is full or the line has judged 2^62 cells.
 abbrev pub line_refusal : LineView → ℕ → Option LineFault
@@ -90,9 +74,12 @@ pub record Opens (old : LineView) (holder : Owner) (under : List Contract) (new 
   pub state : IsOpening under old.state.counts new.state
   pub ready : new.ready ≡ false
 
--- What every line keeps: its entries are a run from the start to the present state.
+-- What every line keeps: its entries are a run from the start to the present state, it has at most
+-- four contracts, and its numbers are within their limits.
 pub record IsLine (line : LineView) : Type 0 where
   pub run : IsRun line.contracts line.start line.entries line.state
+  -- It has at most four contracts.
+  pub few : length line.contracts ≤ 4
   pub some : 1 ≤ line.journal
   pub journal : line.journal ≤ 65536
   pub short : length line.entries ≤ line.journal
@@ -100,8 +87,3 @@ pub record IsLine (line : LineView) : Type 0 where
   pub last : line.state.last ≤ 2 ^ 62
   pub held : IsSome line.owner → 0 < length line.contracts
   pub free : line.owner ≡ None → line ≡ free_line line.journal line.state.counts line.ready
-
--- And a line that serves a connection has the room for its whole journal.
-pub record IsSound (line : LineView) (capacity : ℕ) : Type 0 where
-  pub kept : IsLine line
-  pub room : IsSome line.owner → line.journal ≤ capacity

@@ -1,2 +1,4 @@
 -- What only private functions and proofs need.
 pub mod SeatingChanges
+pub mod LineFields
+pub mod HeldLines

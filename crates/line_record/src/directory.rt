@@ -45,13 +45,14 @@ pub struct Directory {
 }
 
 impl Model for Directory {
-    ghost use Rattle.line_record.specs.Directory.{DirectoryView, IsSoundDirectory};
+    ghost use Rattle.line_record.specs.Directory.{DirectoryView};
+    ghost use Rattle.line_record.specs.inner.HeldLines.{KnowsLines};
 
     ghost Value = { DirectoryView };
 
     ghost view = { λ d. record { seatings = d.seatings.entries; lines = d.lines; used = d.used } };
 
-    ghost invariant = { λ d. IsSoundDirectory
+    ghost invariant = { λ d. KnowsLines
         (record { seatings = d.seatings.entries; lines = d.lines; used = d.used })
         d.held.items };
 }

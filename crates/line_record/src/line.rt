@@ -10,7 +10,7 @@ use crate::state::State;
 use crate::tally::Tally;
 use arrayvec::ArrayVec;
 use gen_arena::Id;
-use leaky::{Contract, LAST_MOMENT};
+use leaky::{Contract, LAST_MOMENT, Verdict};
 use std::alloc::Global;
 use std::marker::Model;
 use std::mem;
@@ -40,14 +40,15 @@ pub struct Line {
 
 impl Model for Line {
     ghost use Rattle.std.specs.Prelude.{vec_capacity};
-    ghost use Rattle.line_record.specs.Line.{LineView, view_of, IsSound};
+    ghost use Rattle.line_record.specs.Line.{LineView};
+    ghost use Rattle.line_record.specs.inner.LineFields.{view_of, KeepsRoom};
 
     ghost Value = { LineView };
 
     ghost view = { λ l. view_of l.owner l.contracts.items l.journal l.start
         l.entries.items l.state (vec_capacity l.entries) };
 
-    ghost invariant = { λ l. IsSound
+    ghost invariant = { λ l. KeepsRoom
         (view_of l.owner l.contracts.items l.journal l.start
         l.entries.items l.state (vec_capacity l.entries))
         (vec_capacity l.entries) };
@@ -56,7 +57,7 @@ impl Model for Line {
 impl Line {
     ghost use Rattle.std.specs.Prelude.{◌≡◌, ℕ, ◌^◌, ◌<◌, ◌≤◌, ◌↔◌, List, [], ◌∷◌, ◌++◌, length, true, false, Some, None, IsTrue, IsOk, IfOk, IfErr, OnOk, OnErr, MatchResult, IsSome};
     ghost use Rattle.line_record.specs.Tally.{nothing, counted, cells_in};
-    ghost use Rattle.line_record.specs.History.{NamedCell, cell_of, empty_buckets, verdict_after};
+    ghost use Rattle.line_record.specs.History.{NamedCell, cell_of, empty_buckets, verdict_after, IsNoNumber};
     ghost use Rattle.line_record.specs.StateAfter.{IsStateAfter};
     ghost use Rattle.line_record.specs.Line.{free_line, line_refusal, IsHeld, Gains, Opens, IsLine};
     ghost use Rattle.line_record.specs.Piece.{IsJournalOf, IsPiece};
@@ -253,6 +254,9 @@ impl Line {
         ensures cell { IfOk result (λ entry. cell_of entry
             ≡ record { moment = moment; clp = clp; value = value; program = program }) }
         ensures gained { IfOk result (λ entry. Gains self.old entry self.new) }
+
+        // A line has four contracts at most, so that no other value is the number of one.
+        ensures unnamed { IfOk result (λ entry. IsNoNumber value → entry.verdict ≡ Verdict.Refuse) }
 
         // After whatever history the line was, the verdict is that history's, and the line is after
         // one more cell.

@@ -6,7 +6,7 @@ use crate::named_contract::judge_named;
 use crate::tally::Tally;
 use arrayvec::ArrayVec;
 use gen_arena::Id;
-use leaky::{Contract, Levels};
+use leaky::{Contract, Levels, Verdict};
 
 /// What a line knows of its connection between two cells.
 #[derive(Debug, PartialEq, Eq, Drop)]
@@ -20,9 +20,9 @@ pub struct State {
 }
 
 impl State {
-    ghost use Rattle.std.specs.Prelude.{◌≡◌, ◌↔◌, ◌^◌, ◌<◌, ◌≤◌, [], ◌∷◌, length, IsTrue};
+    ghost use Rattle.std.specs.Prelude.{◌≡◌, ◌↔◌, ◌^◌, ◌<◌, ◌≤◌, [], ◌∷◌, length, None, IsTrue};
     ghost use Rattle.line_record.specs.Tally.{cells_in};
-    ghost use Rattle.line_record.specs.History.{cell_of};
+    ghost use Rattle.line_record.specs.History.{cell_of, numbered};
     ghost use Rattle.line_record.specs.JournalRun.{IsRun};
     ghost use Rattle.line_record.specs.Line.{resting, IsOpening};
 
@@ -93,6 +93,7 @@ impl State {
         ensures cell { cell_of result
             ≡ record { moment = moment; clp = clp; value = value; program = program } }
         ensures run { IsRun contracts.now self.old (result ∷ []) self.new }
+        ensures unnamed { numbered contracts.now value ≡ None → result.verdict ≡ Verdict.Refuse }
     {
         let verdict = judge_named(contracts, &mut self.levels, moment, clp, value);
         self.last = moment;

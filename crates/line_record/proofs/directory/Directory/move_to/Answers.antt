@@ -3,14 +3,14 @@ use Rattle.std.specs.Prelude.{option_map, IfNone}
 use Rattle.gen_arena.specs.declared.id.Id.{Id}
 use Rattle.line_record.specs.declared.directory.Seating.{Seating}
 use Rattle.line_record.specs.Directory.{DirectoryView}
-use Rattle.line_record.proofs.HeldLemmas.{IsSoundDirectory-moved}
+use Rattle.line_record.proofs.HeldLemmas.{KnowsLines-moved}
 use Rattle.line_record.proofs.directory.Directory.move_to.Goals as goal
 
 pub invariant_of-self : goal.invariant_of-self
 invariant_of-self c =
     let l = c.self.inside in
     let old : DirectoryView = record { seatings = l.seatings.entries; lines = l.lines; used = l.used } in
-    IsSoundDirectory-moved old l.held.items c.self.invariant c.reprogram.new.seatings.entries c.args.vc c.args.program c.reprogram.ensures.moved
+    KnowsLines-moved old l.held.items c.self.invariant c.reprogram.new.seatings.entries c.args.vc c.args.program c.reprogram.ensures.moved
     (λ none.
     let gone : c.reprogram.result ≡ None =
     c.reprogram.ensures.before ∙ ap (option_map (λ (seating : Seating). seating.program)) none in

@@ -1,8 +1,9 @@
 use Rattle.std.proofs.Common.{◌≡◌, ℕ, ◌+◌, ◌^◌, ◌<◌, None, true, set, Some, refl, sym, subst, arith}
 use Rattle.line_record.specs.declared.directory.Seating.{Seating}
-use Rattle.line_record.specs.Directory.{DirectoryView, IsOpenLine, IsSoundDirectory, Sits, seating_at}
+use Rattle.line_record.specs.Directory.{DirectoryView, IsOpenLine, Sits, seating_at}
+use Rattle.line_record.specs.inner.HeldLines.{KnowsLines}
 use Rattle.line_record.proofs.SeatingLemmas.{ChangesAt-updates, Suits-new}
-use Rattle.line_record.proofs.HeldLemmas.{IsSoundDirectory-put}
+use Rattle.line_record.proofs.HeldLemmas.{KnowsLines-put}
 use Rattle.line_record.proofs.directory.Directory.put.Goals as goal
 
 pub invariant_of-self : goal.invariant_of-self
@@ -20,8 +21,8 @@ invariant_of-self c =
     let suits = Suits-new old vc seating c.self.invariant.kept within free refl in
     let new = c.insert.new.self.entries in
     let after : DirectoryView = record { seatings = new; lines = l.lines; used = l.used + 1 } in
-    subst (λ (line : ℕ). IsSoundDirectory after (set l.held.items line true)) (sym c.from.ensures)
-    (IsSoundDirectory-put old l.held.items c.self.invariant new vc (l.used + 1) seating absent changes suits
+    subst (λ (line : ℕ). KnowsLines after (set l.held.items line true)) (sym c.from.ensures)
+    (KnowsLines-put old l.held.items c.self.invariant new vc (l.used + 1) seating absent changes suits
     (omega arith) (omega (arith, unworn)))
 
 pub returns-in-Ok-clause-seating : goal.returns-in-Ok-clause-seating

@@ -1,8 +1,9 @@
 use Rattle.std.proofs.Common.{◌≡◌, ℕ, Some, None, false, set, refl, ap, sym, subst, ◌∙◌, arith}
 use Rattle.line_record.specs.Seatings.{seating_in}
-use Rattle.line_record.specs.Directory.{DirectoryView, IsSoundDirectory, seating_at, Sits}
+use Rattle.line_record.specs.Directory.{DirectoryView, seating_at, Sits}
+use Rattle.line_record.specs.inner.HeldLines.{KnowsLines}
 use Rattle.line_record.proofs.SeatingLemmas.{ChangesAt-updates, lookup-seating}
-use Rattle.line_record.proofs.HeldLemmas.{IsSoundDirectory-take}
+use Rattle.line_record.proofs.HeldLemmas.{KnowsLines-take}
 use Rattle.line_record.proofs.directory.Directory.take.Goals as goal
 
 pub returns-in_err-seating-clause-before : goal.returns-in_err-seating-clause-before
@@ -37,8 +38,8 @@ invariant_of-self-2 c =
     let changes = ChangesAt-updates l.seatings c.remove.new.self c.args.vc None c.remove.ensures.updates in
     let new = c.remove.new.self.entries in
     let after : DirectoryView = record { seatings = new; lines = l.lines; used = l.used } in
-    subst (λ (line : ℕ). IsSoundDirectory after (set l.held.items line false)) (sym c.from.ensures)
-    (IsSoundDirectory-take old l.held.items c.self.invariant new c.args.vc l.used seating there changes refl)
+    subst (λ (line : ℕ). KnowsLines after (set l.held.items line false)) (sym c.from.ensures)
+    (KnowsLines-take old l.held.items c.self.invariant new c.args.vc l.used seating there changes refl)
 
 pub returns-clause-before : goal.returns-clause-before
 returns-clause-before c =

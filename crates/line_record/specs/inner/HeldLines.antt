@@ -1,0 +1,10 @@
+-- What a directory knows of each line.
+use Rattle.std.specs.Prelude.{◌≡◌, ℕ, Bool, true, false, Some, List, length, slice_get}
+use Rattle.line_record.specs.Directory.{DirectoryView, IsDirectory, IsOpenLine, IsTakenLine}
+
+-- It is a directory, and the list says of each line whether it is some connection's.
+pub record KnowsLines (directory : DirectoryView) (held : List Bool) : Type 0 where
+  pub kept : IsDirectory directory
+  pub sized : length held ≡ directory.lines
+  pub taken : (line : ℕ) → slice_get held line ≡ Some true → IsTakenLine directory line
+  pub free : (line : ℕ) → slice_get held line ≡ Some false → IsOpenLine directory line
