@@ -1,11 +1,11 @@
 -- Pieces, and a line at its connection's setup and cut.
-use Rattle.std.proofs.Common.{◌≡◌, ◌≢◌, ℕ, ◌-◌, false, Some, None, List, [], ◌∷◌, length, take, drop, refl, sym, ap, subst, ◌∙◌, arith}
+use Rattle.std.proofs.Common.{◌≡◌, ◌≢◌, ℕ, false, Some, None, List, [], ◌∷◌, length, take, drop, refl, sym, ap, subst, ◌∙◌, inl, inr, arith}
 use Rattle.std.specs.Prelude.{Result, Ok, Err, MatchResult, IfOk, OnOk, OnErr}
 use Rattle.line_record.specs.declared.directory.Seating.{Seating}
 use Rattle.line_record.specs.Directory.{DirectoryView, Sits}
 use Rattle.card_core.specs.declared.fault.DeskFault.{DeskFault}
 use Rattle.card_core.specs.declared.fault.DeskFault.TheVariants.{Stale}
-use Rattle.card_core.specs.Sections.{holder}
+use Rattle.card_core.specs.Sections.{holder, MayBecomeReady}
 use Rattle.card_core.specs.inner.Parts.{ReleasesOrRefuses}
 use Rattle.leaky.specs.declared.verdict.Verdict.{Verdict}
 use Rattle.upc_cell.specs.declared.vc.Vc.{Vc}
@@ -14,6 +14,7 @@ use Rattle.line_record.specs.declared.state.State.{State}
 use Rattle.line_record.specs.History.{NamedCell, empty_buckets, judged}
 use Rattle.line_record.specs.Line.{LineView, Opens, free_line}
 use Rattle.line_record.specs.Piece.{PieceView, IsJournalOf}
+use Rattle.line_record.specs.JournalRun.{tallied}
 use Rattle.line_record.specs.StateAfter.{IsStateAfter}
 use Rattle.line_record.specs.Tally.{tally_of}
 use Rattle.card_core.specs.declared.ask.Ask.{Ask}
@@ -30,9 +31,6 @@ drop-all : {X : Type 0} (xs : List X) → drop (length xs) xs ≡ []
 drop-all [] = refl
 drop-all (x ∷ xs) = drop-all xs
 
-take-less : {X : Type 0} (xs : List X) → take (length xs - 0) xs ≡ xs
-take-less xs = ap (λ (n : ℕ). take n xs) (let e : length xs - 0 ≡ length xs = omega arith in e) ∙ take-all xs
-
 -- The journal of a line that serves a connection is a piece of the connection's record.
 pub piece-is : (world : World) (vc : Vc) (connection : Connection) (line : LineView) (piece : PieceView)
     → Serves line vc connection (world.judged connection.line) → line.state.counts ≡ tally_of (world.judged connection.line)
@@ -43,7 +41,8 @@ piece-is world vc connection line piece serves counts journal = record {
   entries = journal.entries ∙ serves.entries;
   start = subst (λ (state : State). IsStateAfter connection.contracts (handed_cells connection) state) (sym journal.start) serves.start;
   end = subst (λ (state : State). IsStateAfter connection.contracts connection.history state) (sym journal.end) serves.state;
-  counts_before = ap (λ (state : State). state.counts) journal.start ∙ serves.counts_before;
+  together = ap (λ (state : State). tallied state.counts piece.entries) journal.start
+      ∙ ap (tallied line.start.counts) journal.entries ∙ serves.together;
   counts = ap (λ (state : State). state.counts) journal.end ∙ counts;
 }
 
@@ -59,8 +58,7 @@ cut-serves vc connection line verdicts serves counts =
       contracts = serves.contracts;
       entries = sym (ap (judged connection.contracts empty_buckets (take (length history) history)) none);
       start = subst (λ (cells : List NamedCell). IsStateAfter connection.contracts cells line.state) (sym (take-all history)) serves.state;
-      counts_before = counts ∙ sym (ap (λ (cells : List NamedCell). tally_of (take (length verdicts - length cells) verdicts)) none
-          ∙ ap tally_of (take-less verdicts));
+      together = counts;
       state = serves.state;
     }
 
@@ -74,9 +72,15 @@ open-serves ask number incarnation line next owner verdicts given opens history 
   contracts = opens.contracts;
   entries = opens.entries;
   start = subst (λ (state : State). IsStateAfter ask.contracts.items [] state) (sym opens.start) history;
-  counts_before = ap (λ (state : State). state.counts) opens.start ∙ opens.state.counts ∙ counts ∙ ap tally_of (sym (take-less verdicts));
+  together = ap (λ (state : State). tallied state.counts next.entries) opens.start
+      ∙ ap (tallied next.state.counts) opens.entries ∙ opens.state.counts ∙ counts;
   state = history;
 }
+
+-- A line that may have become ready is the line before but for its room.
+pub readied : (line next : LineView) → MayBecomeReady line next → next ≡ record line { ready = next.ready }
+readied line next (inl same) = subst (λ (l : LineView). l ≡ record line { ready = l.ready }) (sym same) refl
+readied line next (inr became) = subst (λ (l : LineView). l ≡ record line { ready = l.ready }) (sym became.1) refl
 
 -- What a release on lent parts did, in one match.
 pub releases : (old new : DirectoryView) (vc : Vc) (seating : Seating) (line next : LineView) (result : Result PieceView DeskFault)

@@ -248,8 +248,8 @@ module _ (shape : Shape) (store : List (Slot (List Instr))) (directory : Directo
         contracts = serving.2.contracts;
         entries = serving.2.entries;
         start = serving.2.start;
-        counts_before = serving.2.counts_before;
         state = serving.2.state;
+        together = serving.2.together;
       } in
       let lines_after = lines-with before.shape lines before.connections before.judged agrees.lines number line line before.judged changed
       vc later refl served

@@ -1,13 +1,14 @@
 -- How a step of the core is proved: from a sound world.
-use Rattle.std.proofs.Common.{◌≡◌, List, [], ◌∷◌, ◌++◌, Some, None, refl, subst, inl, inr}
+use Rattle.std.proofs.Common.{◌≡◌, List, [], ◌∷◌, ◌++◌, Some, None, refl, sym, subst, inl, inr}
 use Rattle.card_core.specs.declared.reply.Reply.{Reply}
 use Rattle.card_core.specs.declared.step.Step.{Step}
 use Rattle.card_core.specs.World.{World}
 use Rattle.card_core.specs.Refusals.{refusal}
-use Rattle.card_core.specs.Steps.{WorldStep, Succeeds, without_memory, left_by}
+use Rattle.card_core.specs.Steps.{WorldStep, Succeeds, without_memory}
 use Rattle.card_core.specs.Log.{Event, Run}
 use Rattle.card_core.specs.Agreement.{CoreView, CoreAgrees, Follows}
 use Rattle.card_core.proofs.Sound.{IsSound}
+use Rattle.card_core.proofs.LeftLemmas.{left_with, left-as}
 use Rattle.card_core.proofs.SoundSteps.{reached-sound}
 
 -- A log goes on by one event.
@@ -21,8 +22,8 @@ Run-next start before after (event ∷ later) step reply run goes =
 
 -- A step that is refused.
 pub step-refused : (before : World) (step : Step) (reply : Reply) → refusal before step ≡ Some reply
-    → WorldStep before step reply (left_by before step reply)
-step-refused before step reply e = rw e (record { answer = refl; world = refl })
+    → WorldStep before step reply (left_with before step reply)
+step-refused before step reply e = rw e (record { answer = refl; world = sym (left-as before step reply e) })
 
 -- A step that succeeds.
 pub step-taken : (before after : World) (step : Step) (reply : Reply) → refusal before step ≡ None

@@ -6,11 +6,10 @@ use Rattle.gen_arena.specs.declared.id.Id.{Id}
 use Rattle.gen_arena.specs.SameId.{is_same_id}
 use Rattle.gen_arena.proofs.Public.{id_itself, id_differs}
 use Rattle.card_core.specs.declared.reply.Reply.{Reply}
-use Rattle.card_core.specs.declared.reply.Reply.TheVariants.{Answered}
 use Rattle.card_core.specs.declared.step.Step.{Step}
 use Rattle.card_core.specs.declared.step.Step.TheVariants.{Enter, Pick, Judge, Load, Retire, Setup, Reload, Release, Cut}
-use Rattle.card_core.specs.World.{World, Loading, code_in, times_given, opening_world}
-use Rattle.card_core.specs.Steps.{Succeeds, WorldStep, left_by, with_answered}
+use Rattle.card_core.specs.World.{World, Loading, PortState, entered, picked, code_in, times_given, opening_world}
+use Rattle.card_core.specs.Steps.{Succeeds, WorldStep, left_by, left_by_pick, left_by_judge}
 use Rattle.card_core.specs.Log.{Event, Run}
 use Rattle.card_core.specs.Laws.{IdsAreGivenOnce, IdsNameOneCode}
 use Rattle.card_core.proofs.Sound.{IsSound}
@@ -26,14 +25,18 @@ pub data GivenCase (before after : List Loading) : Type 0 where
   one_more : (loading : Loading) → after ≡ loading ∷ before → IsAccepted loading.code
       → code_in before loading.id ≡ None → GivenCase before after
 
-given-answered : (before : World) (port : ℕ) (reply : Reply) → (with_answered before port reply).given ≡ before.given
-given-answered before port (Answered answer) = refl
-given-answered before port _ = refl
+given-left_by_pick : (before : World) (port : ℕ) (o : Option PortState) → (left_by_pick before port o).given ≡ before.given
+given-left_by_pick before port (Some (entered cell moment)) = refl
+given-left_by_pick before port _ = refl
 
-given-left : (before : World) (step : Step) (refused : Reply) → (left_by before step refused).given ≡ before.given
-given-left before (Pick port) refused = given-answered before port refused
-given-left before (Judge port) refused = given-answered before port refused
-given-left before _ refused = refl
+given-left_by_judge : (before : World) (port : ℕ) (o : Option PortState) → (left_by_judge before port o).given ≡ before.given
+given-left_by_judge before port (Some (picked picking)) = refl
+given-left_by_judge before port _ = refl
+
+given-left : (before : World) (step : Step) → (left_by before step).given ≡ before.given
+given-left before (Pick port) = given-left_by_pick before port (slice_get before.ports port)
+given-left before (Judge port) = given-left_by_judge before port (slice_get before.ports port)
+given-left before _ = refl
 
 -- An id that is of the next generation of its slot was not given.
 pub new-id : (world : World) → IsSound world → (id : Id) → id.generation ≡ times_given world.given id.slot + 1
@@ -64,7 +67,7 @@ pub given-step : (before : World) (step : Step) (reply : Reply) (after : World) 
 given-step before step reply after sound w = elim (step-case before step reply after w) [
   | succeeded allowed success ↦ given-success before step reply after sound success
   | starved memory ↦ as_before (ap (λ (v : World). v.given) memory.world)
-  | rejected refused e refusing ↦ as_before (ap (λ (v : World). v.given) refusing.world ∙ given-left before step refused)
+  | rejected refused e refusing ↦ as_before (ap (λ (v : World). v.given) refusing.world ∙ given-left before step)
 ]
 
 -- An id names one code.

@@ -1,5 +1,5 @@
 -- What a judged cell is to the line and to the connection's history.
-use Rattle.std.proofs.Common.{◌≡◌, ◌≢◌, ℕ, ◌+◌, ◌-◌, ◌^◌, ◌≤◌, Bool, true, false, cond, Option, Some, None, List, [], ◌∷◌, ◌++◌, length, take, refl, sym, ap, subst, ◌∙◌, arith, length-append}
+use Rattle.std.proofs.Common.{◌≡◌, ◌≢◌, ℕ, ◌^◌, ◌≤◌, Bool, true, false, cond, Option, Some, None, List, [], ◌∷◌, ◌++◌, length, refl, sym, ap, subst, ◌∙◌, arith}
 use Rattle.std.specs.Prelude.{option_map, nat_lt, nat_le, ◌==◌, MatchOption}
 use Rattle.std.proofs.lemmas.Bool.Decides.{nat_tests, Decides-eqb}
 use Rattle.std.proofs.lemmas.List.{take-append-drop, take-append-le, drop-append-le}
@@ -8,11 +8,13 @@ use Rattle.line_record.specs.declared.entry.Entry.{Entry}
 use Rattle.line_record.specs.declared.fault.LineFault.TheVariants.{TooLate, Back, Full}
 use Rattle.line_record.specs.History.{NamedCell, last_moment, cell_of, entry_of, empty_buckets, verdict_after, judged}
 use Rattle.line_record.specs.Line.{LineView, line_refusal}
-use Rattle.line_record.specs.Tally.{cells_in}
-use Rattle.line_record.proofs.Public.{cells_are_judged_in_turn}
+use Rattle.line_record.specs.declared.tally.Tally.{Tally}
+use Rattle.line_record.specs.JournalRun.{tallied}
+use Rattle.line_record.specs.Tally.{cells_in, counted, tally_of}
+use Rattle.line_record.proofs.Public.{cells_are_judged_in_turn, verdicts_count}
 use Rattle.card_core.specs.declared.answer.Answer.{Answer}
 use Rattle.card_core.specs.declared.answer.Answer.TheVariants.{MomentTooLate, MomentBack, JournalFull}
-use Rattle.card_core.specs.World.{World, Connection, kept_cells, handed_cells, verdicts_before, with_verdict}
+use Rattle.card_core.specs.World.{World, Connection, kept_cells, handed_cells, with_verdict}
 use Rattle.card_core.specs.Refusals.{cell_refusal}
 use Rattle.card_core.specs.Steps.{with_cell}
 use Rattle.card_core.specs.Sections.{answer_for}
@@ -94,15 +96,18 @@ with_verdict-other verdicts line verdict other apart =
     let differs : (other == line) ≡ false = grind (arith, nat_tests) in
     ap (λ (b : Bool). cond b (verdicts other ++ verdict ∷ []) (verdicts other)) differs
 
--- The verdicts before the cells that no cut has handed out stay.
-pub verdicts_before-with_cell : (verdicts : List Verdict) (verdict : Verdict) (connection : Connection) (cell : NamedCell)
-    → connection.handed ≤ length connection.history
-    → verdicts_before (verdicts ++ verdict ∷ []) (with_cell connection cell) ≡ verdicts_before verdicts connection
-verdicts_before-with_cell verdicts verdict connection cell within =
-    let kept : length (kept_cells (with_cell connection cell)) ≡ length (kept_cells connection) + 1 =
-    ap length (kept-with_cell connection cell within) ∙ length-append (kept_cells connection) (cell ∷ []) in
-    let all : length (verdicts ++ verdict ∷ []) ≡ length verdicts + 1 = length-append verdicts (verdict ∷ []) in
-    let same : length (verdicts ++ verdict ∷ []) - length (kept_cells (with_cell connection cell))
-    ≡ length verdicts - length (kept_cells connection) = omega (arith, kept, all) in
-    ap (λ (n : ℕ). take n (verdicts ++ verdict ∷ [])) same
-    ∙ take-append-le (length verdicts - length (kept_cells connection)) verdicts (verdict ∷ []) (omega arith)
+-- The counts after two lists of entries.
+pub tallied-append : (counts : Tally) (entries later : List Entry)
+    → tallied counts (entries ++ later) ≡ tallied (tallied counts entries) later
+tallied-append counts [] later = refl
+tallied-append counts (entry ∷ entries) later = tallied-append (counted counts entry.verdict) entries later
+
+-- One more entry and its verdict are counted alike.
+pub tallied-more : (counts : Tally) (entries : List Entry) (verdicts : List Verdict) (entry : Entry) (verdict : Verdict)
+    → entry.verdict ≡ verdict → tallied counts entries ≡ tally_of verdicts
+    → tallied counts (entries ++ entry ∷ []) ≡ tally_of (verdicts ++ verdict ∷ [])
+tallied-more counts entries verdicts entry verdict same as_many =
+    tallied-append counts entries (entry ∷ [])
+    ∙ ap (λ (tally : Tally). counted tally entry.verdict) as_many
+    ∙ ap (counted (tally_of verdicts)) same
+    ∙ sym (verdicts_count.next verdicts verdict)

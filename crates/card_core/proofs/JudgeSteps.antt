@@ -13,6 +13,7 @@ use Rattle.line_record.specs.declared.state.State.{State}
 use Rattle.line_record.specs.Directory.{DirectoryView}
 use Rattle.line_record.specs.History.{NamedCell, cell_of, empty_buckets, verdict_after}
 use Rattle.line_record.specs.Line.{LineView, line_refusal}
+use Rattle.line_record.specs.JournalRun.{tallied}
 use Rattle.line_record.specs.StateAfter.{IsStateAfter}
 use Rattle.line_record.specs.Tally.{tally_of, counted, count_of, cells_in}
 use Rattle.line_record.proofs.Public.{each_cell_is_judged, verdicts_count}
@@ -38,7 +39,7 @@ use Rattle.card_core.proofs.LineLemmas.{Change, set-again, lines-with, seatings-
 use Rattle.card_core.proofs.OwnerLemmas.{owned, owned-itself}
 use Rattle.card_core.proofs.PortLemmas.{core_of, found_there, moved, CoreAgrees-moved}
 use Rattle.card_core.proofs.PortSteps.{at-port}
-use Rattle.card_core.proofs.JudgeLemmas.{match_some, match_none, refusals_agree, judged-with_cell, handed-with_cell, with_verdict-here, with_verdict-other, verdicts_before-with_cell}
+use Rattle.card_core.proofs.JudgeLemmas.{match_some, match_none, refusals_agree, judged-with_cell, handed-with_cell, with_verdict-here, with_verdict-other, tallied-more}
 
 -- A line that serves a connection, once it has judged the connection's next cell.
 module _ (line next : LineView) (vc : Vc) (connection : Connection) (verdicts : List Verdict) (found : Found) (answer : Answer)
@@ -75,8 +76,8 @@ module _ (line next : LineView) (vc : Vc) (connection : Connection) (verdicts : 
         (sym (handed-with_cell connection Cell within))
         (subst (λ (state : State). IsStateAfter connection.contracts (handed_cells connection) state)
         (sym (ap (λ (l : LineView). l.start) judges.gains.after)) serves.start);
-    counts_before = ap (λ (l : LineView). l.start.counts) judges.gains.after ∙ serves.counts_before
-        ∙ ap tally_of (sym (verdicts_before-with_cell verdicts (verdict_on connection Cell) connection Cell within));
+    together = ap (λ (l : LineView). tallied l.start.counts l.entries) judges.gains.after
+        ∙ tallied-more line.start.counts line.entries verdicts judges.entry (verdict_on connection Cell) judged-verdict serves.together;
     state = subst (λ (under : List Contract). IsStateAfter under (connection.history ++ Cell ∷ []) next.state)
         (ap (λ (l : LineView). l.contracts) judges.gains.after ∙ serves.contracts)
         (subst (λ (cell : NamedCell). IsStateAfter next.contracts (connection.history ++ cell ∷ []) next.state) judges.cell

@@ -1,5 +1,5 @@
 -- What a log tells of the world that it leads to: of its codes, its connections, its ports and its verdicts.
-use Rattle.std.proofs.Common.{◌≡◌, ℕ, List, [], ◌∷◌, ◌++◌, Some, slice_get, option_to_list, append_assoc, append-nil, refl, sym, ap, ◌∙◌, subst, inl, inr, arith}
+use Rattle.std.proofs.Common.{◌≡◌, ℕ, List, [], ◌∷◌, ◌++◌, Some, false, slice_get, append_assoc, append-nil, refl, sym, ap, ◌∙◌, subst, inl, inr, arith}
 use Rattle.upc_cell.specs.declared.vc.Vc.{Vc}
 use Rattle.bpf_code.specs.declared.instr.Instr.{Instr}
 use Rattle.gen_arena.specs.declared.id.Id.{Id}
@@ -12,7 +12,7 @@ use Rattle.card_core.specs.declared.step.Step.TheVariants.{Enter, Pick, Setup}
 use Rattle.card_core.specs.World.{World, Loading, Connection, Picking, outside, entered, picked, code_in, connection_in, opening_world}
 use Rattle.card_core.specs.Steps.{Gives, WorldStep}
 use Rattle.card_core.specs.Log.{Event, Run, Leads}
-use Rattle.card_core.specs.Headline.{codes_loaded, only_of, connection_changed, program_named, programs_named, latest, judgement_told, verdicts_on, verdicts_given, on_line, cells_on, on_connection, cells_of, only_port, port_moved, moves_of, entering, picking, setting_up, HasEntered, StandsSince}
+use Rattle.card_core.specs.Headline.{Never, moves, changes, loads, retires, named_after, program_named, verdicts_on, cells_on, cells_of, entering, picking, setting_up, HasEntered, StandsSince, IsLoadedOnce}
 use Rattle.card_core.proofs.Sound.{IsSound}
 use Rattle.card_core.proofs.GivenOnce.{given-step, code-kept}
 use Rattle.card_core.proofs.Told.{Kept, IsFresh, kept, fresh, IsPickedNow, StepTold}
@@ -20,7 +20,8 @@ use Rattle.card_core.proofs.Telling.{step-tells}
 use Rattle.card_core.proofs.LookUps.{same_some, replicated}
 use Rattle.card_core.proofs.SoundChanges.{opening-sound}
 use Rattle.card_core.proofs.SoundSteps.{sound-step}
-use Rattle.card_core.proofs.KnowsCodes.{told-more, told-none, latest-append, cut-more, event_of, KnowsCodes, codes-step}
+use Rattle.card_core.proofs.LogLemmas.{event_of, cut-more, never-nothing, never-more, verdicts_on-append, cells_on-append, cells_of-append, program_named-append}
+use Rattle.card_core.proofs.KnowsCodes.{KnowsCodes, codes-step}
 
 -- A connection was set up, and what was told since then is what it has; but for its program.
 pub record Stood (shape : Shape) (log : List Event) (vc : Vc) (connection : Connection) (ask : Ask) (since : List Event) : Type 0 where
@@ -35,7 +36,7 @@ pub record KnowsConnection (shape : Shape) (log : List Event) (vc : Vc) (connect
   pub ask : Ask
   pub since : List Event
   pub stood : Stood shape log vc connection ask since
-  pub program : connection.program ≡ latest ask.program (programs_named vc since)
+  pub program : connection.program ≡ program_named vc ask.program since
 
 -- One more event.
 pub stood-more : (shape : Shape) (log : List Event) (vc : Vc) (old connection : Connection) (ask : Ask) (since : List Event) (step : Step) (reply : Reply)
@@ -49,16 +50,15 @@ stood-more shape log vc old connection ask since step reply keeps known =
         incarnation = known.stands.incarnation;
         asked = known.stands.asked;
         cut = cut-more log known.stands.earlier since (setting_up ask known.stands.incarnation) event known.stands.cut;
-        standing = told-none (λ (e : Event). only_of vc (connection_changed e.reply e.step)) since event
-            known.stands.standing keeps.standing;
+        standing = never-more (changes vc) since event known.stands.standing keeps.standing;
       };
       incarnation = known.incarnation ∙ sym keeps.incarnation;
       contracts = keeps.contracts ∙ known.contracts;
-      cells = keeps.cells ∙ ap (λ cells. cells ++ on_connection shape vc (judgement_told reply)) known.cells
-          ∙ sym (told-more (λ (e : Event). on_connection shape vc (judgement_told e.reply)) since event);
+      cells = keeps.cells ∙ ap (λ cells. cells ++ cells_of shape vc (event ∷ [])) known.cells
+          ∙ sym (cells_of-append shape vc since (event ∷ []));
       held = subst (λ line. connection.history ≡ cells_on line (since ++ event ∷ [])) (sym keeps.line)
-          (keeps.held ∙ ap (λ cells. cells ++ on_line old.line (judgement_told reply)) known.held
-          ∙ sym (told-more (λ (e : Event). on_line old.line (judgement_told e.reply)) since event));
+          (keeps.held ∙ ap (λ cells. cells ++ cells_on old.line (event ∷ [])) known.held
+          ∙ sym (cells_on-append old.line since (event ∷ [])));
     }
 
 connection-more : (shape : Shape) (log : List Event) (vc : Vc) (old connection : Connection) (step : Step) (reply : Reply)
@@ -68,10 +68,8 @@ connection-more shape log vc old connection step reply keeps known = record {
   ask = known.ask;
   since = known.since ++ event_of step reply ∷ [];
   stood = stood-more shape log vc old connection known.ask known.since step reply keeps known.stood;
-  program = keeps.program ∙ ap (λ (p : Id). latest p (program_named vc reply step)) known.program
-      ∙ sym (latest-append known.ask.program (programs_named vc known.since) (program_named vc reply step))
-      ∙ ap (latest known.ask.program)
-      (sym (told-more (λ (e : Event). program_named vc e.reply e.step) known.since (event_of step reply)));
+  program = keeps.program ∙ ap (λ (p : Id). named_after vc p reply step) known.program
+      ∙ sym (program_named-append vc known.ask.program known.since (event_of step reply ∷ []));
 }
 
 connection-fresh : (shape : Shape) (log : List Event) (used : ℕ) (vc : Vc) (connection : Connection) (step : Step) (reply : Reply)
@@ -86,7 +84,7 @@ connection-fresh shape log used vc connection step reply new =
           incarnation = connection.incarnation;
           asked = new.asked;
           cut = refl;
-          standing = refl;
+          standing = never-nothing (changes vc);
         };
         incarnation = refl;
         contracts = new.contracts;
@@ -100,13 +98,13 @@ connection-fresh shape log used vc connection step reply new =
 
 -- A cell entered, and its port hasn't moved since.
 entered-more : (log : List Event) (port : ℕ) (cell : List ℕ) (moment : ℕ) (step : Step) (reply : Reply)
-    → only_port port (port_moved reply step) ≡ [] → HasEntered log port cell moment
+    → moves port (event_of step reply) ≡ false → HasEntered log port cell moment
     → HasEntered (log ++ event_of step reply ∷ []) port cell moment
 entered-more log port cell moment step reply still known = record {
   earlier = known.earlier;
   later = known.later ++ event_of step reply ∷ [];
   cut = cut-more log known.earlier known.later (entering port cell moment) (event_of step reply) known.cut;
-  alone = told-none (λ (e : Event). only_port port (port_moved e.reply e.step)) known.later (event_of step reply) known.alone still;
+  alone = never-more (moves port) known.later (event_of step reply) known.alone still;
 }
 
 entered-now : (log : List Event) (port : ℕ) (cell : List ℕ) (moment : ℕ) (step : Step) (reply : Reply)
@@ -116,7 +114,7 @@ entered-now log port cell moment step reply step_is reply_is =
       earlier = log;
       later = [];
       cut = refl;
-      alone = refl;
+      alone = never-nothing (moves port);
     } in
     subst (λ (s : Step). HasEntered (log ++ event_of s reply ∷ []) port cell moment) (sym step_is)
     (subst (λ (r : Reply). HasEntered (log ++ event_of (Enter port cell moment) r ∷ []) port cell moment) (sym reply_is) now)
@@ -127,17 +125,17 @@ pub record KnowsPickedOn (shape : Shape) (log since : List Event) (port : ℕ) (
   pub ask : Ask
   pub until : List Event
   pub stood : Stood shape log pick.vc connection ask (until ++ picking port ∷ since)
-  pub named : pick.program ≡ latest ask.program (programs_named pick.vc until)
+  pub named : pick.program ≡ program_named pick.vc ask.program until
 
 pub record KnowsPick (shape : Shape) (log : List Event) (given : List Loading) (connections : List (Vc × Connection)) (port : ℕ) (pick : Picking) : Type 0 where
   pub at_pick : List Event
   pub since : List Event
   pub cut : log ≡ at_pick ++ picking port ∷ since
-  pub alone : moves_of port since ≡ []
+  pub alone : Never (moves port) since
   pub arrived : HasEntered at_pick port pick.cell pick.moment
   pub code : List Instr
   pub given_code : code_in given pick.program ≡ Some code
-  pub loaded : codes_loaded pick.program at_pick ≡ code ∷ []
+  pub loaded : IsLoadedOnce at_pick pick.program code
   pub gives : Gives code pick.cell pick.value
   pub standing : (connection : Connection) → connection_in connections pick.vc ≡ Some connection
       → connection.incarnation ≡ pick.incarnation → KnowsPickedOn shape log since port pick connection
@@ -146,7 +144,7 @@ pub record KnowsPick (shape : Shape) (log : List Event) (given : List Loading) (
 pick-more : (shape : Shape) (log : List Event) (before after : World) (step : Step) (reply : Reply) (port : ℕ) (pick : Picking)
     → IsSound before → StepTold shape before step reply after
     → ((id : Id) (code : List Instr) → code_in before.given id ≡ Some code → code_in after.given id ≡ Some code)
-    → slice_get before.ports port ≡ Some (picked pick) → only_port port (port_moved reply step) ≡ []
+    → slice_get before.ports port ≡ Some (picked pick) → moves port (event_of step reply) ≡ false
     → KnowsPick shape log before.given before.connections port pick
     → KnowsPick shape (log ++ event_of step reply ∷ []) after.given after.connections port pick
 pick-more shape log before after step reply port pick sound tells keeps_codes had still known =
@@ -155,7 +153,7 @@ pick-more shape log before after step reply port pick sound tells keeps_codes ha
       at_pick = known.at_pick;
       since = known.since ++ event ∷ [];
       cut = cut-more log known.at_pick known.since (picking port) event known.cut;
-      alone = told-none (λ (e : Event). only_port port (port_moved e.reply e.step)) known.since event known.alone still;
+      alone = never-more (moves port) known.since event known.alone still;
       arrived = known.arrived;
       code = known.code;
       given_code = keeps_codes pick.program known.code known.given_code;
@@ -194,11 +192,11 @@ pick-now shape log before after step reply port pick tells keeps_codes codes con
       at_pick = log;
       since = [];
       cut = ap (λ (e : Event). log ++ e ∷ []) event_is;
-      alone = refl;
+      alone = never-nothing (moves port);
       arrived = arrived;
       code = now.code;
       given_code = keeps_codes pick.program now.code now.given;
-      loaded = codes.loaded pick.program ∙ ap option_to_list now.given;
+      loaded = codes.loaded pick.program now.code now.given;
       gives = now.gives;
       standing = λ connection found same. elim (tells.connections pick.vc connection found) [
         | kept old at keeps ↦
@@ -229,15 +227,16 @@ pub record Knows (shape : Shape) (log : List Event) (world : World) : Type 0 whe
       → HasEntered log port cell moment
   pub picked_ports : (port : ℕ) (pick : Picking) → slice_get world.ports port ≡ Some (picked pick)
       → KnowsPick shape log world.given world.connections port pick
-  pub verdicts : (line : ℕ) → world.judged line ≡ verdicts_given line log
+  pub verdicts : (line : ℕ) → world.judged line ≡ verdicts_on line log
 
 knows-opening : (shape : Shape) → Knows shape [] (opening_world shape)
 knows-opening shape = record {
   shape_is = refl;
   codes = record {
-    loaded = λ id. refl;
-    kept = λ id code e. refl;
-    untouched = λ id e. refl;
+    loaded = λ id code e. absurd (cc);
+    unloaded = λ id e. never-nothing (loads id);
+    kept = λ id code e. absurd (cc);
+    untouched = λ id e. never-nothing (retires id);
   };
   connections = λ vc connection e. absurd (cc);
   entered_ports = λ port cell moment e.
@@ -272,8 +271,8 @@ knows-step shape log before after step reply sound known w =
             (known.entered_ports port pick.cell pick.moment now.had) sound now
       ];
       verdicts = λ line.
-          tells.verdicts line ∙ ap (λ verdicts. verdicts ++ verdicts_on line (judgement_told reply)) (known.verdicts line)
-          ∙ sym (told-more (λ (e : Event). verdicts_on line (judgement_told e.reply)) log (event_of step reply));
+          tells.verdicts line ∙ ap (λ verdicts. verdicts ++ verdicts_on line (event_of step reply ∷ [])) (known.verdicts line)
+          ∙ sym (verdicts_on-append line log (event_of step reply ∷ []));
     }
 
 pub knows-run : (shape : Shape) (log : List Event) (before : World) (further : List Event) (after : World) → IsSound before

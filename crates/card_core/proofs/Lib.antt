@@ -9,10 +9,13 @@ pub mod Follow
 pub mod GivenOnce
 pub mod JudgeLemmas
 pub mod JudgeSteps
+pub mod Keeping
 pub mod Knows
 pub mod KnowsCodes
+pub mod LeftLemmas
 pub mod LineLemmas
 pub mod LogBursts
+pub mod LogLemmas
 pub mod LookUps
 pub mod OneAnswer
 pub mod OpeningLemmas

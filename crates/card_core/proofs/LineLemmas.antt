@@ -174,8 +174,8 @@ serves-ready line ready vc connection verdicts serves = record {
   contracts = serves.contracts;
   entries = serves.entries;
   start = serves.start;
-  counts_before = serves.counts_before;
   state = serves.state;
+  together = serves.together;
 }
 
 -- And the lines agree as before.

@@ -1,6 +1,7 @@
 -- Each step has a reply that says nothing of memory.
-use Rattle.std.proofs.Common.{◌≡◌, ◌⊎◌, ℕ, zero, suc, ◌+◌, ◌^◌, ◌<◌, ◌≤◌, ◌==◌, Bool, true, false, not, List, [], ◌∷◌, length, take, Option, Some, None, is_none, is_some, slice_get, MatchOption, refl, sym, subst, inl, inr, arith}
+use Rattle.std.proofs.Common.{◌≡◌, ◌⊎◌, ℕ, zero, suc, ◌+◌, ◌^◌, ◌<◌, ◌≤◌, ◌==◌, Bool, true, false, not, List, [], ◌∷◌, length, take, Option, Some, None, is_none, is_some, slice_get, MatchOption, refl, sym, ap, ◌∙◌, subst, inl, inr, arith}
 use Rattle.std.proofs.lemmas.Bool.{or_cases, not-false}
+use Rattle.std.proofs.lemmas.List.{take-append-drop}
 use Rattle.std.proofs.lemmas.List.Elements.{All-take}
 use Rattle.upc_cell.specs.declared.vc.Vc.{Vc}
 use Rattle.upc_cell.specs.Connection.{vc_of}
@@ -12,18 +13,21 @@ use Rattle.leaky.specs.Moments.{GoesOn}
 use Rattle.line_record.specs.declared.owner.Owner.{Owner}
 use Rattle.line_record.specs.History.{NamedCell, moments_of, empty_buckets, judged}
 use Rattle.line_record.specs.Piece.{PieceView}
+use Rattle.line_record.specs.declared.tally.Tally.{Tally}
+use Rattle.line_record.specs.JournalRun.{tallied}
 use Rattle.line_record.specs.Tally.{tally_of}
-use Rattle.line_record.proofs.Public.{histories_have_states}
+use Rattle.line_record.proofs.Public.{histories_have_states, cells_are_judged_in_turn}
 use Rattle.card_core.specs.declared.ask.Ask.{Ask}
 use Rattle.card_core.specs.declared.reply.Reply.{Reply}
 use Rattle.card_core.specs.declared.reply.Reply.TheVariants.{Entered, Picked, Answered, Loaded, Retired, SetUp, Reloaded, Released, Cut as CutOff}
 use Rattle.card_core.specs.declared.step.Step.{Step}
 use Rattle.card_core.specs.declared.step.Step.TheVariants.{Enter, Pick, Judge, Load, Retire, Setup, Reload, Release, Cut}
-use Rattle.card_core.specs.World.{World, Connection, PortState, outside, entered, picked, code_in, without_code, times_given, handed_cells, kept_cells, verdicts_before, connection_in, without_connection, with_connection, with_port, is_busy, any_below, is_open_slot, is_open_line}
+use Rattle.card_core.specs.World.{World, Connection, PortState, outside, entered, picked, code_in, without_code, times_given, handed_cells, kept_cells, connection_in, without_connection, with_connection, with_port, is_busy, any_below, is_open_slot, is_open_line}
 use Rattle.card_core.specs.Refusals.{refusal, pick_refusal, judge_refusal, picking_refusal, load_fault, retire_fault, setup_fault, reload_fault, missing_fault}
 use Rattle.card_core.specs.Steps.{IsPieceOf, Succeeds, FindsNoMemory, IsRefused, WorldStep, left_by, picking_of, judgement_of, judged_world, new_connection}
 use Rattle.card_core.specs.Laws.{is_of_memory, LoadsAccepted, StepsHaveReplies}
 use Rattle.card_core.proofs.Sound.{IsSound, SoundConnection}
+use Rattle.card_core.proofs.JudgeLemmas.{tallied-append}
 use Rattle.card_core.proofs.LookUps.{passed_on, unmapped, is_there, there_is}
 use Rattle.card_core.proofs.SoundSteps.{reached-sound}
 use Rattle.card_core.proofs.Spares.{refused-spares}
@@ -51,7 +55,7 @@ piece-of : (world : World) (vc : Vc) (connection : Connection) → SoundConnecti
     → (piece : PieceView) × IsPieceOf world vc connection piece
 piece-of world vc connection sound =
     let before = histories_have_states connection.contracts (handed_cells connection)
-    (tally_of (verdicts_before (world.judged connection.line) connection))
+    (tallied sound.opening (judged connection.contracts empty_buckets [] (handed_cells connection)))
     (front-goes_on 0 connection.handed connection.history sound.history)
     (All-take (λ (cell : NamedCell). cell.moment ≤ 2 ^ 62) connection.handed connection.history sound.early) in
     let after = histories_have_states connection.contracts connection.history (tally_of (world.judged connection.line))
@@ -71,8 +75,13 @@ piece-of world vc connection sound =
         entries = refl;
         start = before.2;
         end = after.2;
-        counts_before = before.1;
         counts = after.1;
+        together = ap (λ (counts : Tally). tallied counts (judged connection.contracts empty_buckets (handed_cells connection) (kept_cells connection))) before.1
+            ∙ sym (tallied-append sound.opening (judged connection.contracts empty_buckets [] (handed_cells connection))
+            (judged connection.contracts empty_buckets (handed_cells connection) (kept_cells connection)))
+            ∙ ap (tallied sound.opening) (sym (cells_are_judged_in_turn connection.contracts empty_buckets [] (handed_cells connection) (kept_cells connection)))
+            ∙ ap (λ (cells : List NamedCell). tallied sound.opening (judged connection.contracts empty_buckets [] cells)) (take-append-drop connection.handed connection.history)
+            ∙ sound.counted;
       },
     )
 
@@ -260,8 +269,8 @@ sound-replied world step sound accepted =
           (done.0, done.1, step-with world step done.0 done.1 None e (inl done.2), done.3)
       | Some refused ↦ λ e. (
         refused,
-        left_by world step refused,
-        step-with world step refused (left_by world step refused) (Some refused) e (record { answer = refl; world = refl }),
+        left_by world step,
+        step-with world step refused (left_by world step) (Some refused) e (record { answer = refl; world = refl }),
         (refused-spares world step refused e).0,
       )
     ] in

@@ -33,7 +33,7 @@ use Rattle.card_core.proofs.ConnectionLemmas.{connection_passes}
 use Rattle.card_core.proofs.LineLemmas.{Change, lines-with, lines-ready, seatings-with}
 use Rattle.card_core.proofs.StoreLemmas.{below-passes, below-fails}
 use Rattle.card_core.proofs.StoreSteps.{tested-connection}
-use Rattle.card_core.proofs.DeskLemmas.{open-serves}
+use Rattle.card_core.proofs.DeskLemmas.{open-serves, readied}
 use Rattle.card_core.proofs.PortLemmas.{core_of}
 
 module _ (shape : Shape) (store : List (Slot (List Instr))) (directory : DirectoryView) (lines : List LineView) (ports : List Port) (ask : Ask) where
@@ -251,7 +251,7 @@ module _ (shape : Shape) (store : List (Slot (List Instr))) (directory : Directo
             store = agrees.store;
             seatings = subst (λ (d : DirectoryView). SeatingsAgree before.shape d before.connections before.used) (sym did.2) agrees.seatings;
             lines = subst (λ (list : List LineView). LinesAgree before.shape list before.connections before.judged) (sym change.after)
-                (lines-ready before.shape lines before.connections before.judged agrees.lines number change.line change.next change.there did.3);
+                (lines-ready before.shape lines before.connections before.judged agrees.lines number change.line change.next change.there (readied change.line change.next did.4));
             ports = agrees.ports;
           },
         ))

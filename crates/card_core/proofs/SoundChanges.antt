@@ -6,6 +6,7 @@ use Rattle.upc_cell.proofs.Public.{vc_cases}
 use Rattle.gen_arena.specs.declared.id.Id.{Id}
 use Rattle.gen_arena.specs.SameId.{is_same_id}
 use Rattle.leaky.specs.declared.verdict.Verdict.{Verdict}
+use Rattle.line_record.specs.Tally.{tally_of}
 use Rattle.card_core.specs.declared.shape.Shape.{Shape}
 use Rattle.card_core.specs.World.{World, Loading, Connection, Picking, PortState, outside, entered, picked, code_in, connection_in, with_connection, opening_world, with_port}
 use Rattle.card_core.proofs.Sound.{SoundPrograms, SoundConnection, SoundPicking, IsSound}
@@ -74,6 +75,7 @@ sound-ported before ports sound sized picks = record {
           history = s.history;
           early = s.early;
           handed = s.handed;
+          opening = s.opening;
           counted = s.counted;
         };
     lines_apart = sound.connections.lines_apart;
@@ -112,7 +114,8 @@ pub record OneChanges (before : World) (connections : List (Vc × Connection)) (
   pub once : IsOnce connections
   pub grows : before.used ≤ used
   pub most : used ≤ 2 ^ 62
-  pub verdicts : (line : ℕ) → length (before.judged line) ≤ length (judged line)
+  pub verdicts : (other : Vc) (another : Connection) → other ≢ vc → connection_in before.connections other ≡ Some another
+      → judged another.line ≡ before.judged another.line
   pub sized : length ports ≡ before.shape.ports
   pub picks : (port : ℕ) (picking : Picking) → slice_get ports port ≡ Some (picked picking) → SoundPicking before picking
   pub sound : (connection : Connection) → new ≡ Some connection
@@ -144,7 +147,8 @@ module _ (before : World) (connections : List (Vc × Connection)) (used : ℕ) (
           history = s.history;
           early = s.early;
           handed = s.handed;
-          counted = omega (arith, s.counted, c.verdicts connection.line);
+          opening = s.opening;
+          counted = s.counted ∙ ap tally_of (sym (c.verdicts other connection apart (found_old other connection apart e)));
         }
   ]
 
@@ -243,7 +247,7 @@ sound-rewritten before vc connection new sound found same_incarnation same_line 
       once = once-with before.connections vc new sound.connections.once;
       grows = omega arith;
       most = sound.used;
-      verdicts = λ line. omega arith;
+      verdicts = λ other another apart found. refl;
       sized = sound.sized;
       picks = sound.ports;
       sound = λ found e. subst (λ (c : Connection). SoundConnection (changed before connections before.used before.judged before.ports) c) (same_some new found e) one;
@@ -283,6 +287,7 @@ sound-programs before given live sound programs named picks = record {
           history = s.history;
           early = s.early;
           handed = s.handed;
+          opening = s.opening;
           counted = s.counted;
         };
     lines_apart = sound.connections.lines_apart;

@@ -1,6 +1,5 @@
 -- Each step keeps what every world keeps that a log leads to.
-use Rattle.std.proofs.Common.{◌≡◌, ◌≢◌, ℕ, suc, ◌+◌, ◌^◌, ◌≤◌, ◌==◌, Bool, true, false, cond, List, [], ◌∷◌, ◌++◌, length, length-set, length-append, set, Some, None, is_none, is_some, refl, sym, ap, ◌∙◌, subst, inl, inr, arith}
-use Rattle.std.proofs.lemmas.Bool.{eq-eqb}
+use Rattle.std.proofs.Common.{◌≡◌, ◌≢◌, ℕ, suc, ◌+◌, ◌^◌, ◌≤◌, true, List, [], ◌∷◌, ◌++◌, length, length-set, length-append, set, Option, Some, None, slice_get, is_none, is_some, refl, sym, ap, ◌∙◌, subst, inl, inr, arith}
 use Rattle.std.proofs.lemmas.List.Elements.{All-nil, All-push}
 use Rattle.upc_cell.specs.declared.vc.Vc.{Vc}
 use Rattle.upc_cell.specs.Connection.{vc_of}
@@ -11,20 +10,24 @@ use Rattle.gen_arena.specs.SameId.{is_same_id}
 use Rattle.gen_arena.proofs.Public.{id_itself, id_differs}
 use Rattle.leaky.specs.declared.verdict.Verdict.{Verdict}
 use Rattle.leaky.specs.Moments.{GoesOn}
-use Rattle.line_record.specs.History.{NamedCell, moments_of, last_moment}
+use Rattle.line_record.specs.declared.entry.Entry.{Entry}
+use Rattle.line_record.specs.History.{NamedCell, moments_of, last_moment, empty_buckets, entry_of, judged}
+use Rattle.line_record.specs.JournalRun.{tallied}
+use Rattle.line_record.specs.Tally.{tally_of}
+use Rattle.line_record.proofs.Public.{cells_are_judged_in_turn}
 use Rattle.card_core.specs.declared.ask.Ask.{Ask}
 use Rattle.card_core.specs.declared.reply.Reply.{Reply}
-use Rattle.card_core.specs.declared.reply.Reply.TheVariants.{Answered}
 use Rattle.card_core.specs.declared.step.Step.{Step}
 use Rattle.card_core.specs.declared.step.Step.TheVariants.{Enter, Pick, Judge, Load, Retire, Setup, Reload, Release, Cut}
 use Rattle.card_core.specs.World.{World, Loading, Connection, Picking, PortState, outside, entered, picked, code_in, without_code, times_given, connection_in, without_connection, with_connection, opening_world, with_verdict}
 use Rattle.card_core.specs.Refusals.{refusal, reload_fault}
-use Rattle.card_core.specs.Steps.{Enters, Picks, Judges, Loads, Retires, SetsUp, Reloads, Releases, Cuts, Succeeds, WorldStep, left_by, with_answered, picking_of, cell_of_picking, with_cell, verdict_on, new_connection}
+use Rattle.card_core.specs.Steps.{Enters, Picks, Judges, Loads, Retires, SetsUp, Reloads, Releases, Cuts, Succeeds, WorldStep, left_by, left_by_pick, left_by_judge, picking_of, cell_of_picking, with_cell, verdict_on, new_connection}
 use Rattle.card_core.specs.Log.{Event, Run}
 use Rattle.card_core.proofs.Sound.{SoundPrograms, SoundConnection, SoundPicking, IsSound, ReachedWorldsAreSound}
 use Rattle.card_core.proofs.LookUps.{same_some, passed_on, unmapped, is_there, IsSome-of}
 use Rattle.card_core.proofs.ConnectionLemmas.{changes-with, changes-without, connection_passes, once-with, once-without}
 use Rattle.card_core.proofs.CodeLemmas.{code-first, code-later, code-cases, without_code-was, without_code-others, times-same, times-grow}
+use Rattle.card_core.proofs.JudgeLemmas.{with_verdict-here, with_verdict-other, tallied-more}
 use Rattle.card_core.proofs.SoundChanges.{opening-sound, picked_same, picks-set, sound-port, IsNewOrKept, changed, sound-changed, sound-rewritten, some-more, sound-programs}
 use Rattle.card_core.proofs.Allowed.{succeeded, starved, rejected, step-case, picking-allowed, setup-allowed, line-held, none_picked, retire-allowed}
 
@@ -57,19 +60,9 @@ pub history-more : (earliest : ℕ) (history : List NamedCell) (cell : NamedCell
 history-more earliest [] cell goes last = (last, tt)
 history-more earliest (first ∷ later) cell goes last = (goes.0, history-more first.moment later cell goes.1 last)
 
-pub verdict-here : (judged : ℕ → List Verdict) (line : ℕ) (verdict : Verdict)
-    → with_verdict judged line verdict line ≡ judged line ++ verdict ∷ []
-verdict-here judged line verdict =
-    ap (λ b. cond b (judged line ++ verdict ∷ []) (judged line)) (eq-eqb line line refl)
-
-verdicts-grow : (judged : ℕ → List Verdict) (line : ℕ) (verdict : Verdict) (other : ℕ)
-    → length (judged other) ≤ length (with_verdict judged line verdict other)
-verdicts-grow judged line verdict other =
-    let choice : (b : Bool) → length (judged other) ≤ length (cond b (judged other ++ verdict ∷ []) (judged other)) = elim [
-      | true ↦ omega (arith, length-append (judged other) (verdict ∷ []))
-      | false ↦ omega arith
-    ] in
-    choice (other == line)
+-- The entries of a connection's whole history.
+abbrev judged_so : Connection → List Entry
+judged_so connection = judged connection.contracts empty_buckets [] connection.history
 
 sound-judges : (before : World) (port : ℕ) (reply : Reply) (after : World) → IsSound before
     → refusal before (Judge port) ≡ None → Judges before port reply after → IsSound after
@@ -79,14 +72,11 @@ sound-judges before port reply after sound allowed w =
     let new : Connection = with_cell connection cell in
     let may = picking-allowed before port w.picking connection w.had w.found allowed in
     let s = sound.connections.each w.picking.vc connection w.found in
-    let judged : ℕ → List Verdict = with_verdict before.judged connection.line (verdict_on connection cell) in
+    let verdicts : ℕ → List Verdict = with_verdict before.judged connection.line (verdict_on connection cell) in
     let connections : List (Vc × Connection) = with_connection before.connections w.picking.vc new in
     let ports : List PortState = set before.ports port outside in
     let longer : length new.history ≡ length connection.history + 1 = length-append connection.history (cell ∷ []) in
-    let more : length (judged connection.line) ≡ length (before.judged connection.line) + 1 =
-    ap length (verdict-here before.judged connection.line (verdict_on connection cell))
-    ∙ length-append (before.judged connection.line) (verdict_on connection cell ∷ []) in
-    let one : SoundConnection (changed before connections before.used judged ports) new = record {
+    let one : SoundConnection (changed before connections before.used verdicts ports) new = record {
       within = s.within;
       first = s.first;
       old = s.old;
@@ -95,17 +85,23 @@ sound-judges before port reply after sound allowed w =
       history = history-more 0 connection.history cell s.history may.1.forward;
       early = All-push (λ (c : NamedCell). c.moment ≤ 2 ^ 62) connection.history cell s.early may.1.early;
       handed = omega (arith, longer, s.handed);
-      counted = omega (arith, longer, more, s.counted);
+      opening = s.opening;
+      counted = ap (tallied s.opening) (cells_are_judged_in_turn connection.contracts empty_buckets [] connection.history (cell ∷ []))
+          ∙ tallied-more s.opening (judged_so connection) (before.judged connection.line)
+          (entry_of cell (verdict_on connection cell)) (verdict_on connection cell) refl s.counted
+          ∙ ap tally_of (sym (with_verdict-here before.judged connection.line (verdict_on connection cell)));
     } in
-    subst IsSound (sym w.world) (sound-changed before connections before.used judged ports w.picking.vc (Some new) sound (record {
+    subst IsSound (sym w.world) (sound-changed before connections before.used verdicts ports w.picking.vc (Some new) sound (record {
       changes = changes-with before.connections w.picking.vc new;
       once = once-with before.connections w.picking.vc new sound.connections.once;
       grows = omega arith;
       most = sound.used;
-      verdicts = verdicts-grow before.judged connection.line (verdict_on connection cell);
+      verdicts = λ other another apart found.
+          with_verdict-other before.judged connection.line (verdict_on connection cell) another.line
+          (λ same. apart (sound.connections.lines_apart other w.picking.vc another connection found w.found same));
       sized = length-set before.ports port outside ∙ sound.sized;
       picks = picks-set before port outside sound (λ picking e. absurd (cc));
-      sound = λ found e. subst (λ (c : Connection). SoundConnection (changed before connections before.used judged ports) c) (same_some new found e) one;
+      sound = λ found e. subst (λ (c : Connection). SoundConnection (changed before connections before.used verdicts ports) c) (same_some new found e) one;
       kept = λ found e. subst (λ (c : Connection). IsNewOrKept before w.picking.vc c) (same_some new found e)
           (inr (connection, w.found, refl, refl));
     }))
@@ -130,6 +126,7 @@ sound-reloads before vc program reply after sound allowed w =
       history = s.history;
       early = s.early;
       handed = s.handed;
+      opening = s.opening;
       counted = s.counted;
     }))
 
@@ -148,6 +145,7 @@ sound-cuts before vc reply after sound w =
       history = s.history;
       early = s.early;
       handed = omega arith;
+      opening = s.opening;
       counted = s.counted;
     }))
 
@@ -160,7 +158,7 @@ sound-releases before vc reply after sound w =
       once = once-without before.connections vc sound.connections.once;
       grows = omega arith;
       most = sound.used;
-      verdicts = λ line. omega arith;
+      verdicts = λ other another apart found. refl;
       sized = sound.sized;
       picks = sound.ports;
       sound = λ found e. absurd (cc);
@@ -182,14 +180,15 @@ sound-sets_up before ask reply after sound allowed w =
       history = tt;
       early = All-nil (λ (c : NamedCell). c.moment ≤ 2 ^ 62);
       handed = omega arith;
-      counted = omega arith;
+      opening = tally_of (before.judged w.line);
+      counted = refl;
     } in
     subst IsSound (sym w.world) (sound-changed before connections (before.used + 1) before.judged before.ports ask.vc (Some new) sound (record {
       changes = changes-with before.connections ask.vc new;
       once = once-with before.connections ask.vc new sound.connections.once;
       grows = omega arith;
       most = omega (arith, may.used);
-      verdicts = λ line. omega arith;
+      verdicts = λ other another apart found. refl;
       sized = sound.sized;
       picks = sound.ports;
       sound = λ found e. subst (λ (c : Connection). SoundConnection (changed before connections (before.used + 1) before.judged before.ports) c) (same_some new found e) one;
@@ -258,14 +257,18 @@ sound-retires before id reply after sound allowed w =
 
 -- Whatever step is taken and however it is answered, it is kept.
 
-sound-answered : (before : World) (port : ℕ) (reply : Reply) → IsSound before → IsSound (with_answered before port reply)
-sound-answered before port (Answered answer) sound = sound-port before port outside sound (λ picking e. absurd (cc))
-sound-answered before port _ sound = sound
+sound-left_by_pick : (before : World) (port : ℕ) (o : Option PortState) → IsSound before → IsSound (left_by_pick before port o)
+sound-left_by_pick before port (Some (entered cell moment)) sound = sound-port before port outside sound (λ picking e. absurd (cc))
+sound-left_by_pick before port _ sound = sound
 
-sound-left : (before : World) (step : Step) (refused : Reply) → IsSound before → IsSound (left_by before step refused)
-sound-left before (Pick port) refused sound = sound-answered before port refused sound
-sound-left before (Judge port) refused sound = sound-answered before port refused sound
-sound-left before _ refused sound = sound
+sound-left_by_judge : (before : World) (port : ℕ) (o : Option PortState) → IsSound before → IsSound (left_by_judge before port o)
+sound-left_by_judge before port (Some (picked picking)) sound = sound-port before port outside sound (λ picking e. absurd (cc))
+sound-left_by_judge before port _ sound = sound
+
+sound-left : (before : World) (step : Step) → IsSound before → IsSound (left_by before step)
+sound-left before (Pick port) sound = sound-left_by_pick before port (slice_get before.ports port) sound
+sound-left before (Judge port) sound = sound-left_by_judge before port (slice_get before.ports port) sound
+sound-left before _ sound = sound
 
 sound-success : (before : World) (step : Step) (reply : Reply) (after : World) → IsSound before
     → refusal before step ≡ None → Succeeds before step reply after → IsSound after
@@ -284,7 +287,7 @@ pub sound-step : (before : World) (step : Step) (reply : Reply) (after : World) 
 sound-step before step reply after sound w = elim (step-case before step reply after w) [
   | succeeded allowed success ↦ sound-success before step reply after sound allowed success
   | starved memory ↦ subst IsSound (sym memory.world) sound
-  | rejected refused e refusing ↦ subst IsSound (sym refusing.world) (sound-left before step refused sound)
+  | rejected refused e refusing ↦ subst IsSound (sym refusing.world) (sound-left before step sound)
 ]
 
 pub sound-run : (before : World) (log : List Event) (after : World) → IsSound before → Run before log after → IsSound after

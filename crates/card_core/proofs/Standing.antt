@@ -1,5 +1,5 @@
 -- The connections of a world are those of which its log tells.
-use Rattle.std.proofs.Common.{◌≡◌, ◌≢◌, ℕ, ◌+◌, Bool, true, false, cond, List, [], ◌∷◌, ◌++◌, Some, IsSome, is_some, refl, sym, ap, ◌∙◌, subst, inl, inr}
+use Rattle.std.proofs.Common.{◌≡◌, ◌≢◌, ℕ, ◌+◌, Bool, true, false, List, [], ◌∷◌, ◌++◌, Option, Some, IsSome, slice_get, is_some, sym, ap, ◌∙◌, subst, inl, inr}
 use Rattle.upc_cell.specs.declared.vc.Vc.{Vc}
 use Rattle.upc_cell.specs.Connection.{is_same_vc}
 use Rattle.upc_cell.proofs.Public.{vc_itself, vc_cases}
@@ -7,31 +7,22 @@ use Rattle.line_record.specs.declared.owner.Owner.{Owner}
 use Rattle.card_core.specs.declared.ask.Ask.{Ask}
 use Rattle.card_core.specs.declared.fault.DeskFault.TheVariants.{NoMemory}
 use Rattle.card_core.specs.declared.reply.Reply.{Reply}
-use Rattle.card_core.specs.declared.reply.Reply.TheVariants.{Answered, SetUp, NotSetUp}
+use Rattle.card_core.specs.declared.reply.Reply.TheVariants.{SetUp, NotSetUp}
 use Rattle.card_core.specs.declared.shape.Shape.{Shape}
 use Rattle.card_core.specs.declared.step.Step.{Step}
 use Rattle.card_core.specs.declared.step.Step.TheVariants.{Enter, Pick, Judge, Load, Retire, Setup, Reload, Release, Cut}
-use Rattle.card_core.specs.World.{World, Connection, connection_in, with_connection, opening_world}
+use Rattle.card_core.specs.World.{World, Connection, PortState, entered, picked, connection_in, with_connection, opening_world}
 use Rattle.card_core.specs.Refusals.{setup_fault}
-use Rattle.card_core.specs.Steps.{Succeeds, WorldStep, left_by, with_answered, new_connection}
+use Rattle.card_core.specs.Steps.{Succeeds, WorldStep, left_by, left_by_pick, left_by_judge, new_connection}
 use Rattle.card_core.specs.Log.{Event, Run, Leads}
-use Rattle.card_core.specs.Headline.{connection_changed, only_of, changes_of, setting_up, StandsSince}
+use Rattle.card_core.specs.Headline.{Never, changes, setting_up, StandsSince}
 use Rattle.card_core.specs.Laws.{IsAsTold, ConnectionsAreAsTold}
 use Rattle.card_core.proofs.LookUps.{mapped}
+use Rattle.card_core.proofs.LogLemmas.{event_of, never-first, never-later}
 use Rattle.card_core.proofs.ConnectionLemmas.{with-here, with-others, without-others}
 use Rattle.card_core.proofs.Allowed.{succeeded, starved, rejected, step-case}
 use Rattle.card_core.proofs.Knows.{KnowsConnection, leads-knows}
 use Rattle.card_core.proofs.Promise.{run-parts}
-
--- Both of two lists are empty if they are together.
-
-nothing-first : {X : Type 0} (xs ys : List X) → xs ++ ys ≡ [] → xs ≡ []
-nothing-first [] ys e = refl
-nothing-first (x ∷ xs) ys e = absurd (cc)
-
-nothing-second : {X : Type 0} (xs ys : List X) → xs ++ ys ≡ [] → ys ≡ []
-nothing-second [] ys e = e
-nothing-second (x ∷ xs) ys e = absurd (cc)
 
 -- A connection that is there stays, unless it is released.
 
@@ -44,18 +35,17 @@ there-with connections other new vc there = elim (vc_cases vc other) [
   | inr apart ↦ ap is_some (with-others connections other new vc apart) ∙ there
 ]
 
-apart-from : (vc other : Vc) → only_of vc (other ∷ []) ≡ [] → vc ≢ other
+apart-from : (vc other : Vc) → is_same_vc vc other ≡ false → vc ≢ other
 apart-from vc other none same =
     let at : is_same_vc vc other ≡ true = subst (λ (v : Vc). is_same_vc vc v ≡ true) same (vc_itself vc) in
-    let some : only_of vc (other ∷ []) ≡ other ∷ [] = ap (λ b. cond b (other ∷ []) []) at in
     absurd (cc)
 
 abbrev IsThere : World → Vc → Type 0
 IsThere world vc = IsSome (connection_in world.connections vc)
 
--- What a reply and a step tell of the connections.
+-- The step with its reply doesn't change the virtual connection.
 abbrev Unchanged : Vc → Step → Reply → Type 0
-Unchanged vc step reply = only_of vc (connection_changed reply step) ≡ []
+Unchanged vc step reply = changes vc (event_of step reply) ≡ false
 
 stays-success : (before : World) (step : Step) (reply : Reply) (after : World) (vc : Vc) → IsThere before vc
     → Succeeds before step reply after → Unchanged vc step reply → IsThere after vc
@@ -70,37 +60,40 @@ stays-success before (Setup ask) reply after vc there w still =
 stays-success before (Reload other program) reply after vc there w still =
     subst (λ (v : World). IsThere v vc) (sym w.world) (there-with before.connections other _ vc there)
 stays-success before (Release other) reply after vc there w still =
-    let told : only_of vc (other ∷ []) ≡ [] = subst (λ (r : Reply). Unchanged vc (Release other) r) w.answer still in
+    let told : is_same_vc vc other ≡ false = subst (λ (r : Reply). Unchanged vc (Release other) r) w.answer still in
     subst (λ (v : World). IsThere v vc) (sym w.world)
     (ap is_some (without-others before.connections other vc (apart-from vc other told)) ∙ there)
 stays-success before (Cut other) reply after vc there w still =
     subst (λ (v : World). IsThere v vc) (sym w.world) (there-with before.connections other _ vc there)
 
-there-answered : (before : World) (port : ℕ) (reply : Reply) (vc : Vc) → IsThere before vc → IsThere (with_answered before port reply) vc
-there-answered before port (Answered answer) vc there = there
-there-answered before port _ vc there = there
+there-left_by_pick : (before : World) (port : ℕ) (o : Option PortState) (vc : Vc) → IsThere before vc → IsThere (left_by_pick before port o) vc
+there-left_by_pick before port (Some (entered cell moment)) vc there = there
+there-left_by_pick before port _ vc there = there
 
-there-left : (before : World) (step : Step) (refused : Reply) (vc : Vc) → IsThere before vc → IsThere (left_by before step refused) vc
-there-left before (Pick port) refused vc there = there-answered before port refused vc there
-there-left before (Judge port) refused vc there = there-answered before port refused vc there
-there-left before _ refused vc there = there
+there-left_by_judge : (before : World) (port : ℕ) (o : Option PortState) (vc : Vc) → IsThere before vc → IsThere (left_by_judge before port o) vc
+there-left_by_judge before port (Some (picked picking)) vc there = there
+there-left_by_judge before port _ vc there = there
+
+there-left : (before : World) (step : Step) (vc : Vc) → IsThere before vc → IsThere (left_by before step) vc
+there-left before (Pick port) vc there = there-left_by_pick before port (slice_get before.ports port) vc there
+there-left before (Judge port) vc there = there-left_by_judge before port (slice_get before.ports port) vc there
+there-left before _ vc there = there
 
 stays : (before : World) (step : Step) (reply : Reply) (after : World) (vc : Vc) → IsThere before vc
     → WorldStep before step reply after → Unchanged vc step reply → IsThere after vc
 stays before step reply after vc there w still = elim (step-case before step reply after w) [
   | succeeded allowed success ↦ stays-success before step reply after vc there success still
   | starved memory ↦ subst (λ (v : World). IsThere v vc) (sym memory.world) there
-  | rejected refused e refusing ↦ subst (λ (v : World). IsThere v vc) (sym refusing.world) (there-left before step refused vc there)
+  | rejected refused e refusing ↦ subst (λ (v : World). IsThere v vc) (sym refusing.world) (there-left before step vc there)
 ]
 
 stays-run : (before : World) (log : List Event) (after : World) (vc : Vc) → IsThere before vc
-    → Run before log after → changes_of vc log ≡ [] → IsThere after vc
+    → Run before log after → Never (changes vc) log → IsThere after vc
 stays-run before [] after vc there run still = subst (λ (v : World). IsThere v vc) (sym run) there
 stays-run before (event ∷ later) after vc there run still =
     stays-run run.0 later after vc
-    (stays before event.step event.reply run.0 vc there run.1
-    (nothing-first (only_of vc (connection_changed event.reply event.step)) (changes_of vc later) still))
-    run.2 (nothing-second (only_of vc (connection_changed event.reply event.step)) (changes_of vc later) still)
+    (stays before event.step event.reply run.0 vc there run.1 (never-first (changes vc) event later still))
+    run.2 (never-later (changes vc) event later still)
 
 -- A connection that was set up is there.
 

@@ -1,5 +1,5 @@
 -- Each step tells what it does: at the desk, and all steps.
-use Rattle.std.proofs.Common.{◌≡◌, ◌≢◌, ◌+◌, cond, List, [], ◌∷◌, length, Some, append-nil, refl, sym, ap, ◌∙◌, subst, inl, inr, arith}
+use Rattle.std.proofs.Common.{◌≡◌, ◌+◌, cond, List, ◌∷◌, length, Some, append-nil, refl, sym, ap, ◌∙◌, subst, inl, inr, arith}
 use Rattle.upc_cell.specs.declared.vc.Vc.{Vc}
 use Rattle.upc_cell.proofs.Public.{vc_itself, vc_differs, vc_cases}
 use Rattle.bpf_code.specs.declared.instr.Instr.{Instr}
@@ -11,13 +11,14 @@ use Rattle.card_core.specs.declared.shape.Shape.{Shape}
 use Rattle.card_core.specs.declared.step.Step.{Step}
 use Rattle.card_core.specs.declared.step.Step.TheVariants.{Enter, Pick, Judge, Load, Retire, Setup, Reload, Release, Cut}
 use Rattle.card_core.specs.World.{World, Connection, without_code, times_given, connection_in, with_connection, without_connection}
-use Rattle.card_core.specs.Steps.{Loads, Retires, SetsUp, Reloads, Releases, Cuts, Succeeds, WorldStep, left_by, new_connection}
-use Rattle.card_core.specs.Headline.{only_of, program_named, latest}
+use Rattle.card_core.specs.Steps.{Loads, Retires, SetsUp, Reloads, Releases, Cuts, Succeeds, WorldStep, new_connection}
+use Rattle.card_core.specs.Headline.{named_after}
 use Rattle.card_core.proofs.Sound.{IsSound}
 use Rattle.card_core.proofs.GivenOnce.{new-id}
 use Rattle.card_core.proofs.Told.{store_same, store_loaded, store_retired, Kept, IsFresh, kept, fresh, IsSilent, kept-silent, same-silent, connections-same, connections-with, ports-same, StepTold}
 use Rattle.card_core.proofs.ConnectionLemmas.{without-here, without-others}
 use Rattle.card_core.proofs.Allowed.{succeeded, starved, rejected, step-case}
+use Rattle.card_core.proofs.LeftLemmas.{left_with, left-as}
 use Rattle.card_core.proofs.TellingCells.{no-verdicts, tells-at, tells-enters, tells-picks, tells-judges}
 use Rattle.card_core.proofs.TellingRefusals.{tells-refused, tells-starved}
 
@@ -34,9 +35,9 @@ tells-loads shape before code reply after sound w =
     tells-at shape before (Load code) reply (Loaded w.id) after later w.answer w.world (record {
       shape_same = refl;
       store = store_loaded w.id code refl refl refl refl (new-id before sound w.id next);
-      connections = connections-same shape before later (Load code) (Loaded w.id) (λ vc. record { standing = refl; programs = refl; cells = refl }) refl;
-      ports = ports-same before later (Load code) (Loaded w.id) refl refl;
-      verdicts = λ line. no-verdicts (before.judged line) line (Loaded w.id) refl;
+      connections = connections-same shape before later (Load code) (Loaded w.id) (λ vc. record { standing = refl; programs = λ program. refl; cells = refl }) refl;
+      ports = ports-same before later (Load code) (Loaded w.id) refl (λ port. refl);
+      verdicts = λ line. no-verdicts (before.judged line) line (Load code) (Loaded w.id) refl;
     })
 
 tells-retires : (shape : Shape) (before : World) (id : Id) (reply : Reply) (after : World)
@@ -46,14 +47,10 @@ tells-retires shape before id reply after w =
     tells-at shape before (Retire id) reply (Retired w.code) after later w.answer w.world (record {
       shape_same = refl;
       store = store_retired id w.code refl refl refl refl w.was;
-      connections = connections-same shape before later (Retire id) (Retired w.code) (λ vc. record { standing = refl; programs = refl; cells = refl }) refl;
-      ports = ports-same before later (Retire id) (Retired w.code) refl refl;
-      verdicts = λ line. no-verdicts (before.judged line) line (Retired w.code) refl;
+      connections = connections-same shape before later (Retire id) (Retired w.code) (λ vc. record { standing = refl; programs = λ program. refl; cells = refl }) refl;
+      ports = ports-same before later (Retire id) (Retired w.code) refl (λ port. refl);
+      verdicts = λ line. no-verdicts (before.judged line) line (Retire id) (Retired w.code) refl;
     })
-
--- A connection isn't another's.
-not-of : (other vc : Vc) → other ≢ vc → only_of other (vc ∷ []) ≡ []
-not-of other vc apart = ap (λ b. cond b (vc ∷ []) []) (vc_differs other vc apart)
 
 tells-sets_up : (shape : Shape) (before : World) (ask : Ask) (reply : Reply) (after : World)
     → SetsUp before ask reply after → StepTold shape before (Setup ask) reply after
@@ -79,9 +76,9 @@ tells-sets_up shape before ask reply after w =
       store = store_same refl refl (λ id. refl) (λ id. refl);
       connections = connections-with shape before later (Setup ask) told ask.vc new refl (fresh now)
           (λ other apart old at. same-silent shape old old other (Setup ask) told
-          (record { standing = not-of other ask.vc apart; programs = refl; cells = refl }) refl);
-      ports = ports-same before later (Setup ask) told refl refl;
-      verdicts = λ line. no-verdicts (before.judged line) line told refl;
+          (record { standing = vc_differs other ask.vc apart; programs = λ program. refl; cells = refl }) refl);
+      ports = ports-same before later (Setup ask) told refl (λ port. refl);
+      verdicts = λ line. no-verdicts (before.judged line) line (Setup ask) told refl;
     })
 
 tells-reloads : (shape : Shape) (before : World) (vc : Vc) (program : Id) (reply : Reply) (after : World)
@@ -91,8 +88,8 @@ tells-reloads shape before vc program reply after w =
     let new : Connection = record connection { program = program } in
     let told : Reply = Reloaded connection.program in
     let later : World = record before { connections = with_connection before.connections vc new } in
-    let named : latest connection.program (program_named vc told (Reload vc program)) ≡ program =
-    ap (λ b. latest connection.program (cond b (program ∷ []) [])) (vc_itself vc) in
+    let named : named_after vc connection.program told (Reload vc program) ≡ program =
+    ap (λ b. cond b program connection.program) (vc_itself vc) in
     let now : Kept shape connection new vc (Reload vc program) told = record {
       incarnation = refl;
       line = refl;
@@ -107,9 +104,9 @@ tells-reloads shape before vc program reply after w =
       store = store_same refl refl (λ id. refl) (λ id. refl);
       connections = connections-with shape before later (Reload vc program) told vc new refl (kept connection w.found now)
           (λ other apart old at. same-silent shape old old other (Reload vc program) told
-          (record { standing = refl; programs = ap (λ b. cond b (program ∷ []) []) (vc_differs other vc apart); cells = refl }) refl);
-      ports = ports-same before later (Reload vc program) told refl refl;
-      verdicts = λ line. no-verdicts (before.judged line) line told refl;
+          (record { standing = refl; programs = λ named. ap (λ b. cond b program named) (vc_differs other vc apart); cells = refl }) refl);
+      ports = ports-same before later (Reload vc program) told refl (λ port. refl);
+      verdicts = λ line. no-verdicts (before.judged line) line (Reload vc program) told refl;
     })
 
 tells-releases : (shape : Shape) (before : World) (vc : Vc) (reply : Reply) (after : World)
@@ -129,10 +126,10 @@ tells-releases shape before vc reply after w =
         | inr apart ↦
             kept connection (sym (without-others before.connections vc other apart) ∙ at)
             (same-silent shape connection connection other (Release vc) told
-            (record { standing = not-of other vc apart; programs = refl; cells = refl }) refl)
+            (record { standing = vc_differs other vc apart; programs = λ program. refl; cells = refl }) refl)
       ];
-      ports = ports-same before later (Release vc) told refl refl;
-      verdicts = λ line. no-verdicts (before.judged line) line told refl;
+      ports = ports-same before later (Release vc) told refl (λ port. refl);
+      verdicts = λ line. no-verdicts (before.judged line) line (Release vc) told refl;
     })
 
 tells-cuts : (shape : Shape) (before : World) (vc : Vc) (reply : Reply) (after : World)
@@ -142,15 +139,15 @@ tells-cuts shape before vc reply after w =
     let new : Connection = record connection { handed = length connection.history } in
     let told : Reply = CutOff w.piece in
     let later : World = record before { connections = with_connection before.connections vc new } in
-    let silent : (other : Vc) → IsSilent other (Cut vc) told = λ other. record { standing = refl; programs = refl; cells = refl } in
+    let silent : (other : Vc) → IsSilent other (Cut vc) told = λ other. record { standing = refl; programs = λ program. refl; cells = refl } in
     tells-at shape before (Cut vc) reply told after later w.answer w.world (record {
       shape_same = refl;
       store = store_same refl refl (λ id. refl) (λ id. refl);
       connections = connections-with shape before later (Cut vc) told vc new refl
           (kept connection w.found (kept-silent shape connection new vc (Cut vc) told (silent vc) refl refl refl refl refl))
           (λ other apart old at. same-silent shape old old other (Cut vc) told (silent other) refl);
-      ports = ports-same before later (Cut vc) told refl refl;
-      verdicts = λ line. no-verdicts (before.judged line) line told refl;
+      ports = ports-same before later (Cut vc) told refl (λ port. refl);
+      verdicts = λ line. no-verdicts (before.judged line) line (Cut vc) told refl;
     })
 
 -- Whatever step is taken and however it is answered, it tells what it does.
@@ -174,6 +171,7 @@ step-tells shape before step reply after sound same w = elim (step-case before s
   | starved memory ↦
       subst (λ (v : World). StepTold shape before step reply v) (sym memory.world) (tells-starved shape before step reply memory.answer)
   | rejected refused e refusing ↦
-      tells-at shape before step reply refused after (left_by before step refused) refusing.answer refusing.world
+      tells-at shape before step reply refused after (left_with before step refused) refusing.answer
+      (refusing.world ∙ left-as before step refused e)
       (tells-refused shape before step refused e)
 ]

@@ -1,5 +1,5 @@
 -- Each step at a port tells what it does.
-use Rattle.std.proofs.Common.{◌≡◌, ◌≢◌, ℕ, Bool, true, cond, List, [], ◌∷◌, ◌++◌, Some, slice_get, append-nil, refl, sym, ap, ◌∙◌, subst, inl, inr}
+use Rattle.std.proofs.Common.{◌≡◌, ◌≢◌, ℕ, ◌==◌, Bool, true, false, cond, List, [], ◌∷◌, ◌++◌, map, filter, Some, None, slice_get, append-nil, refl, sym, ap, ◌∙◌, subst, inl, inr}
 use Rattle.std.proofs.lemmas.Bool.{eq-eqb, ne_eqb, cases_eq}
 use Rattle.upc_cell.specs.declared.vc.Vc.{Vc}
 use Rattle.upc_cell.specs.Connection.{vc_of, is_same_vc}
@@ -17,8 +17,10 @@ use Rattle.card_core.specs.declared.shape.Shape.{Shape}
 use Rattle.card_core.specs.declared.step.Step.{Step}
 use Rattle.card_core.specs.declared.step.Step.TheVariants.{Enter, Pick, Judge}
 use Rattle.card_core.specs.World.{World, Connection, Picking, PortState, outside, entered, picked, connection_in, with_port, with_verdict}
-use Rattle.card_core.specs.Steps.{Enters, Picks, Judges, cell_after, cell_of_picking, with_cell, verdict_on, judgement_of, picking_of, judged_world}
-use Rattle.card_core.specs.Headline.{code_loaded, code_retired, connection_changed, only_of, program_named, JudgedCell, came_with, judgement_told, verdicts_on, on_line, on_connection}
+use Rattle.card_core.specs.Steps.{Enters, Picks, Judges, cell_after, cell_of_picking, with_cell, verdict_on, judgement_of, picking_of, judged_world, number_with}
+use Rattle.card_core.specs.Judged.{JudgedView, told}
+use Rattle.card_core.specs.Headline.{loads, retires, changes, named_after, judged_in, as_it_came, verdicts_on, cells_on, cells_of}
+use Rattle.card_core.proofs.LogLemmas.{event_of, none-judged}
 use Rattle.card_core.proofs.Sound.{IsSound}
 use Rattle.card_core.proofs.CellLemmas.{vc-after, came}
 use Rattle.card_core.proofs.Told.{store_same, Kept, kept, IsSilent, connections-same, connections-with, IsPickedNow, PortsTold, ports-moved, StepTold}
@@ -27,27 +29,27 @@ use Rattle.card_core.proofs.SoundChanges.{picked_same}
 -- Some answers tell nothing.
 
 pub record IsQuiet (reply : Reply) : Type 0 where
-  pub no_code : (id : Id) (step : Step) → code_loaded id reply step ≡ []
-  pub none_retired : (id : Id) (step : Step) → code_retired id reply step ≡ []
-  pub no_change : (step : Step) → connection_changed reply step ≡ []
-  pub no_program : (vc : Vc) (step : Step) → program_named vc reply step ≡ []
-  pub no_cell : judgement_told reply ≡ []
+  pub no_code : (id : Id) (step : Step) → loads id (event_of step reply) ≡ false
+  pub none_retired : (id : Id) (step : Step) → retires id (event_of step reply) ≡ false
+  pub no_change : (vc : Vc) (step : Step) → changes vc (event_of step reply) ≡ false
+  pub no_program : (vc : Vc) (program : Id) (step : Step) → named_after vc program reply step ≡ program
+  pub no_cell : judged_in reply ≡ None
 
 pub quiet-not_now : IsQuiet NotNow
 quiet-not_now = record {
   no_code = λ id step. refl;
   none_retired = λ id step. refl;
-  no_change = λ step. refl;
-  no_program = λ vc step. refl;
+  no_change = λ vc step. refl;
+  no_program = λ vc program step. refl;
   no_cell = refl;
 }
 
-pub quiet-answered : (answer : Answer) → judgement_told (Answered answer) ≡ [] → IsQuiet (Answered answer)
+pub quiet-answered : (answer : Answer) → told answer ≡ None → IsQuiet (Answered answer)
 quiet-answered answer unjudged = record {
   no_code = λ id step. refl;
   none_retired = λ id step. refl;
-  no_change = λ step. refl;
-  no_program = λ vc step. refl;
+  no_change = λ vc step. refl;
+  no_program = λ vc program step. refl;
   no_cell = unjudged;
 }
 
@@ -55,8 +57,8 @@ pub quiet-refused : (fault : DeskFault) → IsQuiet (Refused fault)
 quiet-refused fault = record {
   no_code = λ id step. refl;
   none_retired = λ id step. refl;
-  no_change = λ step. refl;
-  no_program = λ vc step. refl;
+  no_change = λ vc step. refl;
+  no_program = λ vc program step. refl;
   no_cell = refl;
 }
 
@@ -64,8 +66,8 @@ pub quiet-not_loaded : (fault : DeskFault) (code : List Instr) → IsQuiet (NotL
 quiet-not_loaded fault code = record {
   no_code = λ id step. refl;
   none_retired = λ id step. refl;
-  no_change = λ step. refl;
-  no_program = λ vc step. refl;
+  no_change = λ vc step. refl;
+  no_program = λ vc program step. refl;
   no_cell = refl;
 }
 
@@ -73,21 +75,23 @@ pub quiet-not_set_up : (fault : DeskFault) (ask : Ask) → IsQuiet (NotSetUp fau
 quiet-not_set_up fault ask = record {
   no_code = λ id step. refl;
   none_retired = λ id step. refl;
-  no_change = λ step. refl;
-  no_program = λ vc step. refl;
+  no_change = λ vc step. refl;
+  no_program = λ vc program step. refl;
   no_cell = refl;
 }
 
 pub silent-quiet : (vc : Vc) (step : Step) (reply : Reply) → IsQuiet reply → IsSilent vc step reply
 silent-quiet vc step reply quiet = record {
-  standing = ap (only_of vc) (quiet.no_change step);
-  programs = quiet.no_program vc step;
-  cells = quiet.no_cell;
+  standing = quiet.no_change vc step;
+  programs = λ program. quiet.no_program vc program step;
+  cells = none-judged step reply quiet.no_cell;
 }
 
-pub no-verdicts : (judged : List Verdict) (line : ℕ) (reply : Reply) → judgement_told reply ≡ []
-    → judged ≡ judged ++ verdicts_on line (judgement_told reply)
-no-verdicts judged line reply none = sym (ap (λ told. judged ++ verdicts_on line told) none ∙ append-nil judged)
+pub no-verdicts : (judged : List Verdict) (line : ℕ) (step : Step) (reply : Reply) → judged_in reply ≡ None
+    → judged ≡ judged ++ verdicts_on line (event_of step reply ∷ [])
+no-verdicts given line step reply none =
+    sym (ap (λ (told : List JudgedView). given ++ map (λ judged. judged.verdict) (filter (λ judged. judged.line == line) told)) (none-judged step reply none)
+    ∙ append-nil given)
 
 pub tells-quiet : (shape : Shape) (before : World) (step : Step) (reply : Reply) (ports : List PortState) → IsQuiet reply
     → PortsTold before (record before { ports = ports }) step reply
@@ -97,7 +101,7 @@ tells-quiet shape before step reply ports quiet moves = record {
   store = store_same refl refl (λ id. quiet.no_code id step) (λ id. quiet.none_retired id step);
   connections = connections-same shape before (record before { ports = ports }) step reply (λ vc. silent-quiet vc step reply quiet) refl;
   ports = moves;
-  verdicts = λ line. no-verdicts (before.judged line) line reply quiet.no_cell;
+  verdicts = λ line. no-verdicts (before.judged line) line step reply quiet.no_cell;
 }
 
 -- The reply and the world that a step led to are those that are known.
@@ -127,11 +131,11 @@ tells-enters shape before port cell moment reply after w =
     tells-at shape before step reply Entered after later w.answer w.world (record {
       shape_same = refl;
       store = store_same refl refl (λ id. refl) (λ id. refl);
-      connections = connections-same shape before later step Entered (λ vc. record { standing = refl; programs = refl; cells = refl }) refl;
-      ports = ports-moved before later step Entered port (entered cell moment) refl refl
+      connections = connections-same shape before later step Entered (λ vc. record { standing = refl; programs = λ program. refl; cells = refl }) refl;
+      ports = ports-moved before later step Entered port (entered cell moment) refl (λ other. refl)
           (λ other another e. (enter_same port cell other moment another e, refl))
           (λ picking e. absurd (cc));
-      verdicts = λ line. no-verdicts (before.judged line) line Entered refl;
+      verdicts = λ line. no-verdicts (before.judged line) line step Entered refl;
     })
 
 pub tells-picks : (shape : Shape) (before : World) (port : ℕ) (reply : Reply) (after : World)
@@ -156,30 +160,28 @@ tells-picks shape before port reply after w =
     tells-at shape before step reply Picked after later w.answer w.world (record {
       shape_same = refl;
       store = store_same refl refl (λ id. refl) (λ id. refl);
-      connections = connections-same shape before later step Picked (λ vc. record { standing = refl; programs = refl; cells = refl }) refl;
-      ports = ports-moved before later step Picked port (picked new) refl refl
+      connections = connections-same shape before later step Picked (λ vc. record { standing = refl; programs = λ program. refl; cells = refl }) refl;
+      ports = ports-moved before later step Picked port (picked new) refl (λ other. refl)
           (λ cell moment e. absurd (cc))
           (λ picking e. subst (λ (p : Picking). IsPickedNow before port p step Picked) (picked_same new picking e) now);
-      verdicts = λ line. no-verdicts (before.judged line) line Picked refl;
+      verdicts = λ line. no-verdicts (before.judged line) line step Picked refl;
     })
 
 -- What the answer to a judged cell tells.
-abbrev pub judgement_on : World → Picking → Connection → JudgedCell
+abbrev pub judgement_on : World → Picking → Connection → JudgedView
 judgement_on before picking connection = record {
   line = connection.line;
+  number = number_with (before.judged connection.line) (verdict_on connection (cell_of_picking picking));
+  moment = picking.moment;
+  value = picking.value;
+  program = picking.program;
   verdict = verdict_on connection (cell_of_picking picking);
-  leaving = cell_after (verdict_on connection (cell_of_picking picking)) picking.cell;
-  cell = record {
-    moment = picking.moment;
-    clp = came_with (verdict_on connection (cell_of_picking picking)) (cell_after (verdict_on connection (cell_of_picking picking)) picking.cell);
-    value = picking.value;
-    program = picking.program;
-  };
+  cell = cell_after (verdict_on connection (cell_of_picking picking)) picking.cell;
 }
 
 -- It tells the cell as the history has it.
 pub told-cell : (before : World) (picking : Picking) (connection : Connection)
-    → (judgement_on before picking connection).cell ≡ cell_of_picking picking
+    → as_it_came (judgement_on before picking connection) ≡ cell_of_picking picking
 told-cell before picking connection =
     let as_told : Bool → NamedCell = λ clp. record {
       moment = picking.moment;
@@ -194,32 +196,41 @@ module _ (shape : Shape) (before : World) (sound : IsSound before) (same_shape :
   judged_reply : Reply
   judged_reply = Answered (judgement_of before picking connection)
 
-  told_vc : vc_of shape.side (judgement_on before picking connection).leaving ≡ picking.vc
+  judgement : JudgedView
+  judgement = judgement_on before picking connection
+
+  -- What a log with this event alone has of it, where the test is so.
+  shown : {X : Type 0} → (JudgedView → X) → Bool → List X
+  shown show test = map show (cond test (judgement ∷ []) [])
+
+  told_vc : vc_of shape.side (judgement_on before picking connection).cell ≡ picking.vc
   told_vc =
       vc-after shape.side (verdict_on connection (cell_of_picking picking)) picking.cell
       ∙ ap (λ (s : Shape). vc_of s.side picking.cell) (sym same_shape)
       ∙ sym (sound.ports port picking had).own
 
-  told_here : on_connection shape picking.vc (judgement_on before picking connection ∷ []) ≡ cell_of_picking picking ∷ []
+  told_here : cells_of shape picking.vc (event_of (Judge port) judged_reply ∷ []) ≡ cell_of_picking picking ∷ []
+  unfolding judged_reply judgement shown
   told_here =
-      let at : is_same_vc picking.vc (vc_of shape.side (judgement_on before picking connection).leaving) ≡ true =
+      let at : is_same_vc picking.vc (vc_of shape.side (judgement_on before picking connection).cell) ≡ true =
       subst (λ (v : Vc). is_same_vc picking.vc v ≡ true) (sym told_vc) (vc_itself picking.vc) in
-      ap (λ b. cond b ((judgement_on before picking connection).cell ∷ []) []) at
-      ∙ ap (λ (c : NamedCell). c ∷ []) (told-cell before picking connection)
+      ap (shown as_it_came) at ∙ ap (λ (c : NamedCell). c ∷ []) (told-cell before picking connection)
 
-  told_others : (other : Vc) → other ≢ picking.vc → on_connection shape other (judgement_on before picking connection ∷ []) ≡ []
+  told_others : (other : Vc) → other ≢ picking.vc → cells_of shape other (event_of (Judge port) judged_reply ∷ []) ≡ []
+  unfolding judged_reply judgement shown
   told_others other apart =
-      ap (λ b. cond b ((judgement_on before picking connection).cell ∷ []) [])
-      (vc_differs other (vc_of shape.side (judgement_on before picking connection).leaving) (λ same. apart (same ∙ told_vc)))
+      ap (shown as_it_came)
+      (vc_differs other (vc_of shape.side (judgement_on before picking connection).cell) (λ same. apart (same ∙ told_vc)))
 
-  told_on_line : on_line connection.line (judgement_on before picking connection ∷ []) ≡ cell_of_picking picking ∷ []
+  told_on_line : cells_on connection.line (event_of (Judge port) judged_reply ∷ []) ≡ cell_of_picking picking ∷ []
+  unfolding judged_reply judgement shown
   told_on_line =
-      ap (λ b. cond b ((judgement_on before picking connection).cell ∷ []) []) (eq-eqb connection.line connection.line refl)
+      ap (shown as_it_came) (eq-eqb connection.line connection.line refl)
       ∙ ap (λ (c : NamedCell). c ∷ []) (told-cell before picking connection)
 
-  told_on_others : (line : ℕ) → connection.line ≢ line → on_line line (judgement_on before picking connection ∷ []) ≡ []
-  told_on_others line apart =
-      ap (λ b. cond b ((judgement_on before picking connection).cell ∷ []) []) (ne_eqb connection.line line apart)
+  told_on_others : (line : ℕ) → connection.line ≢ line → cells_on line (event_of (Judge port) judged_reply ∷ []) ≡ []
+  unfolding judged_reply judgement shown
+  told_on_others line apart = ap (shown as_it_came) (ne_eqb connection.line line apart)
 
   judged-here : Kept shape connection (with_cell connection (cell_of_picking picking)) picking.vc (Judge port) judged_reply
   unfolding judged_reply
@@ -249,17 +260,18 @@ module _ (shape : Shape) (before : World) (sound : IsSound before) (same_shape :
   }
 
   told_verdict : (line : ℕ) → with_verdict before.judged connection.line (verdict_on connection (cell_of_picking picking)) line
-      ≡ before.judged line ++ verdicts_on line (judgement_on before picking connection ∷ [])
+      ≡ before.judged line ++ verdicts_on line (event_of (Judge port) judged_reply ∷ [])
+  unfolding judged_reply judgement shown
   told_verdict line =
       let verdict : Verdict = verdict_on connection (cell_of_picking picking) in
       elim (cases_eq line connection.line) [
         | inl same ↦
             ap (λ b. cond b (before.judged line ++ verdict ∷ []) (before.judged line)) (eq-eqb line connection.line same)
-            ∙ ap (λ b. before.judged line ++ cond b (verdict ∷ []) []) (sym (eq-eqb connection.line line (sym same)))
+            ∙ ap (λ b. before.judged line ++ shown (λ judged. judged.verdict) b) (sym (eq-eqb connection.line line (sym same)))
         | inr apart ↦
             ap (λ b. cond b (before.judged line ++ verdict ∷ []) (before.judged line)) (ne_eqb line connection.line apart)
             ∙ sym (append-nil (before.judged line))
-            ∙ ap (λ b. before.judged line ++ cond b (verdict ∷ []) []) (sym (ne_eqb connection.line line (λ same. apart (sym same))))
+            ∙ ap (λ b. before.judged line ++ shown (λ judged. judged.verdict) b) (sym (ne_eqb connection.line line (λ same. apart (sym same))))
       ]
 
   judged-tells : StepTold shape before (Judge port) judged_reply (judged_world before port picking connection)
@@ -269,7 +281,7 @@ module _ (shape : Shape) (before : World) (sound : IsSound before) (same_shape :
     store = store_same refl refl (λ id. refl) (λ id. refl);
     connections = connections-with shape before (judged_world before port picking connection) (Judge port) judged_reply picking.vc
         (with_cell connection (cell_of_picking picking)) refl (kept connection found judged-here) judged-others;
-    ports = ports-moved before (judged_world before port picking connection) (Judge port) judged_reply port outside refl refl
+    ports = ports-moved before (judged_world before port picking connection) (Judge port) judged_reply port outside refl (λ other. refl)
         (λ cell moment e. absurd (cc)) (λ picking e. absurd (cc));
     verdicts = told_verdict;
   }

@@ -1,5 +1,5 @@
 -- What is refused, and what finds no memory, tells nothing but that a port moved.
-use Rattle.std.proofs.Common.{◌≡◌, ℕ, ◌^◌, ◌==◌, Bool, true, false, cond, [], ◌∷◌, length, set, Option, Some, None, slice_get, is_none, nat_lt, nat_le, refl, sym, subst}
+use Rattle.std.proofs.Common.{◌≡◌, ℕ, ◌^◌, ◌==◌, Bool, true, false, cond, length, set, Option, Some, None, slice_get, is_none, nat_lt, nat_le, refl, sym, subst}
 use Rattle.upc_cell.specs.Connection.{vc_of}
 use Rattle.line_record.specs.History.{last_moment}
 use Rattle.card_core.specs.declared.answer.Answer.{Answer}
@@ -12,14 +12,17 @@ use Rattle.card_core.specs.declared.step.Step.{Step}
 use Rattle.card_core.specs.declared.step.Step.TheVariants.{Enter, Pick, Judge, Load, Retire, Setup, Reload, Release, Cut}
 use Rattle.card_core.specs.World.{World, Connection, Picking, PortState, outside, entered, picked, kept_cells, connection_in, with_port}
 use Rattle.card_core.specs.Refusals.{refusal, enter_refusal, pick_refusal, judge_refusal, picking_refusal, cell_refusal, load_fault, retire_fault, setup_fault, reload_fault, missing_fault}
-use Rattle.card_core.specs.Steps.{without_memory, left_by, with_answered}
-use Rattle.card_core.specs.Headline.{judgement_told, port_of, port_moved}
+use Rattle.card_core.specs.Steps.{without_memory}
+use Rattle.card_core.proofs.LeftLemmas.{with_answered, left_with}
+use Rattle.card_core.specs.Judged.{told}
+use Rattle.card_core.specs.Headline.{is_at, moves}
+use Rattle.card_core.proofs.LogLemmas.{event_of}
 use Rattle.card_core.proofs.Told.{ports-same, ports-moved, StepTold}
 use Rattle.card_core.proofs.LookUps.{same_some, refused_by, mapped}
 use Rattle.card_core.proofs.TellingCells.{IsQuiet, quiet-not_now, quiet-answered, quiet-refused, quiet-not_loaded, quiet-not_set_up, tells-quiet}
 
 abbrev pub IsUnjudged : Answer → Type 0
-IsUnjudged answer = judgement_told (Answered answer) ≡ []
+IsUnjudged answer = told answer ≡ None
 
 -- What a Pick or a Judge is refused with.
 pub data CellRefused (refused : Reply) : Type 0 where
@@ -69,17 +72,17 @@ judge-refused before (Some (picked picking)) refused e =
     with_answer found.0 found.2 (picking-refused before picking (connection_in before.connections picking.vc) found.0 found.1)
 
 -- A step that leaves the world as it was, with an answer that tells nothing.
-tells-nothing : (shape : Shape) (before : World) (step : Step) (reply : Reply) → IsQuiet reply → port_moved reply step ≡ []
+tells-nothing : (shape : Shape) (before : World) (step : Step) (reply : Reply) → IsQuiet reply → ((port : ℕ) → moves port (event_of step reply) ≡ false)
     → StepTold shape before step reply before
 tells-nothing shape before step reply quiet still =
     tells-quiet shape before step reply before.ports quiet (ports-same before before step reply refl still)
 
 -- A Pick or a Judge that is refused.
-tells-cell_refused : (shape : Shape) (before : World) (step : Step) (port : ℕ) (refused : Reply) → port_of step ≡ port ∷ []
+tells-cell_refused : (shape : Shape) (before : World) (step : Step) (port : ℕ) (refused : Reply) → ((other : ℕ) → is_at other step ≡ (other == port))
     → CellRefused refused → StepTold shape before step refused (with_answered before port refused)
 tells-cell_refused shape before step port refused at (at_no_time is) =
     subst (λ (r : Reply). StepTold shape before step r (with_answered before port r)) (sym is)
-    (tells-nothing shape before step NotNow quiet-not_now refl)
+    (tells-nothing shape before step NotNow quiet-not_now (λ port. refl))
 tells-cell_refused shape before step port refused at (with_answer answer is unjudged) =
     subst (λ (r : Reply). StepTold shape before step r (with_answered before port r)) (sym is)
     (tells-quiet shape before step (Answered answer) (set before.ports port outside) (quiet-answered answer unjudged)
@@ -87,46 +90,46 @@ tells-cell_refused shape before step port refused at (with_answer answer is unju
     (λ cell moment e. absurd (cc)) (λ picking e. absurd (cc))))
 
 pub tells-refused : (shape : Shape) (before : World) (step : Step) (refused : Reply) → refusal before step ≡ Some refused
-    → StepTold shape before step refused (left_by before step refused)
+    → StepTold shape before step refused (left_with before step refused)
 tells-refused shape before (Enter port cell moment) refused e =
     subst (λ (r : Reply). StepTold shape before (Enter port cell moment) r before)
     (sym (enter-refused (slice_get before.ports port) refused e))
-    (tells-nothing shape before (Enter port cell moment) NotNow quiet-not_now refl)
+    (tells-nothing shape before (Enter port cell moment) NotNow quiet-not_now (λ port. refl))
 tells-refused shape before (Pick port) refused e =
-    tells-cell_refused shape before (Pick port) port refused refl (pick-refused before (slice_get before.ports port) refused e)
+    tells-cell_refused shape before (Pick port) port refused (λ other. refl) (pick-refused before (slice_get before.ports port) refused e)
 tells-refused shape before (Judge port) refused e =
-    tells-cell_refused shape before (Judge port) port refused refl (judge-refused before (slice_get before.ports port) refused e)
+    tells-cell_refused shape before (Judge port) port refused (λ other. refl) (judge-refused before (slice_get before.ports port) refused e)
 tells-refused shape before (Load code) refused e =
     let found = mapped (λ fault. NotLoaded fault code) (load_fault before) refused e in
     subst (λ (r : Reply). StepTold shape before (Load code) r before) (sym found.2)
-    (tells-nothing shape before (Load code) (NotLoaded found.0 code) (quiet-not_loaded found.0 code) refl)
+    (tells-nothing shape before (Load code) (NotLoaded found.0 code) (quiet-not_loaded found.0 code) (λ port. refl))
 tells-refused shape before (Retire id) refused e =
     let found = mapped Refused (retire_fault before id) refused e in
     subst (λ (r : Reply). StepTold shape before (Retire id) r before) (sym found.2)
-    (tells-nothing shape before (Retire id) (Refused found.0) (quiet-refused found.0) refl)
+    (tells-nothing shape before (Retire id) (Refused found.0) (quiet-refused found.0) (λ port. refl))
 tells-refused shape before (Setup ask) refused e =
     let found = mapped (λ fault. NotSetUp fault ask) (setup_fault before ask) refused e in
     subst (λ (r : Reply). StepTold shape before (Setup ask) r before) (sym found.2)
-    (tells-nothing shape before (Setup ask) (NotSetUp found.0 ask) (quiet-not_set_up found.0 ask) refl)
+    (tells-nothing shape before (Setup ask) (NotSetUp found.0 ask) (quiet-not_set_up found.0 ask) (λ port. refl))
 tells-refused shape before (Reload vc program) refused e =
     let found = mapped Refused (reload_fault before vc program) refused e in
     subst (λ (r : Reply). StepTold shape before (Reload vc program) r before) (sym found.2)
-    (tells-nothing shape before (Reload vc program) (Refused found.0) (quiet-refused found.0) refl)
+    (tells-nothing shape before (Reload vc program) (Refused found.0) (quiet-refused found.0) (λ port. refl))
 tells-refused shape before (Release vc) refused e =
     let found = mapped Refused (missing_fault before vc) refused e in
     subst (λ (r : Reply). StepTold shape before (Release vc) r before) (sym found.2)
-    (tells-nothing shape before (Release vc) (Refused found.0) (quiet-refused found.0) refl)
+    (tells-nothing shape before (Release vc) (Refused found.0) (quiet-refused found.0) (λ port. refl))
 tells-refused shape before (Cut vc) refused e =
     let found = mapped Refused (missing_fault before vc) refused e in
     subst (λ (r : Reply). StepTold shape before (Cut vc) r before) (sym found.2)
-    (tells-nothing shape before (Cut vc) (Refused found.0) (quiet-refused found.0) refl)
+    (tells-nothing shape before (Cut vc) (Refused found.0) (quiet-refused found.0) (λ port. refl))
 
 pub tells-starved : (shape : Shape) (before : World) (step : Step) (reply : Reply) → without_memory step ≡ Some reply
     → StepTold shape before step reply before
 tells-starved shape before (Setup ask) reply e =
     subst (λ (r : Reply). StepTold shape before (Setup ask) r before) (same_some (NotSetUp NoMemory ask) reply e)
-    (tells-nothing shape before (Setup ask) (NotSetUp NoMemory ask) (quiet-not_set_up NoMemory ask) refl)
+    (tells-nothing shape before (Setup ask) (NotSetUp NoMemory ask) (quiet-not_set_up NoMemory ask) (λ port. refl))
 tells-starved shape before (Cut vc) reply e =
     subst (λ (r : Reply). StepTold shape before (Cut vc) r before) (same_some (Refused NoMemory) reply e)
-    (tells-nothing shape before (Cut vc) (Refused NoMemory) (quiet-refused NoMemory) refl)
+    (tells-nothing shape before (Cut vc) (Refused NoMemory) (quiet-refused NoMemory) (λ port. refl))
 tells-starved shape before _ reply e = absurd (cc)

@@ -1,7 +1,8 @@
 -- What each step tells by its reply, of the codes, of the connections, of the ports and of the verdicts.
-use Rattle.std.proofs.Common.{◌≡◌, ◌≢◌, ◌⊎◌, ℕ, ◌<◌, cond, List, [], ◌∷◌, ◌++◌, set, Some, None, slice_get, append-nil, refl, sym, ap, ◌∙◌, subst, inl, inr}
+use Rattle.std.proofs.Common.{◌≡◌, ◌≢◌, ◌⊎◌, ℕ, ◌<◌, ◌==◌, false, List, [], ◌∷◌, ◌++◌, map, filter, set, Some, None, slice_get, append-nil, refl, sym, ap, ◌∙◌, subst, inl, inr}
 use Rattle.std.proofs.lemmas.Bool.{ne_eqb}
 use Rattle.upc_cell.specs.declared.vc.Vc.{Vc}
+use Rattle.upc_cell.specs.Connection.{vc_of, is_same_vc}
 use Rattle.upc_cell.proofs.Public.{vc_cases}
 use Rattle.bpf_code.specs.declared.instr.Instr.{Instr}
 use Rattle.gen_arena.specs.declared.id.Id.{Id}
@@ -13,14 +14,16 @@ use Rattle.card_core.specs.declared.step.Step.{Step}
 use Rattle.card_core.specs.declared.step.Step.TheVariants.{Enter, Pick, Load, Retire, Setup}
 use Rattle.card_core.specs.World.{World, Connection, Picking, PortState, entered, picked, code_in, without_code, connection_in, with_connection}
 use Rattle.card_core.specs.Steps.{Gives}
-use Rattle.card_core.specs.Headline.{code_loaded, code_retired, connection_changed, only_of, program_named, latest, judgement_told, verdicts_on, on_line, on_connection, only_port, port_moved}
+use Rattle.card_core.specs.Headline.{loads, retires, changes, moves, named_after, judged_cells, verdicts_on, cells_on, cells_of, as_it_came}
+use Rattle.card_core.specs.Judged.{JudgedView}
+use Rattle.card_core.proofs.LogLemmas.{event_of}
 use Rattle.card_core.proofs.LookUps.{same_some, slice_get-set}
 use Rattle.card_core.proofs.ConnectionLemmas.{with-here, with-others}
 
 -- What is told of the codes: nothing, or that one was put in, or that one was retired.
 pub data StoreTold (before after : World) (step : Step) (reply : Reply) : Type 0 where
   store_same : after.given ≡ before.given → after.live ≡ before.live
-      → ((id : Id) → code_loaded id reply step ≡ []) → ((id : Id) → code_retired id reply step ≡ [])
+      → ((id : Id) → loads id (event_of step reply) ≡ false) → ((id : Id) → retires id (event_of step reply) ≡ false)
       → StoreTold before after step reply
   store_loaded : (id : Id) (code : List Instr) → step ≡ Load code → reply ≡ Loaded id
       → after.given ≡ record { id = id; code = code } ∷ before.given
@@ -37,10 +40,10 @@ pub record Kept (shape : Shape) (old connection : Connection) (vc : Vc) (step : 
   pub incarnation : connection.incarnation ≡ old.incarnation
   pub line : connection.line ≡ old.line
   pub contracts : connection.contracts ≡ old.contracts
-  pub standing : only_of vc (connection_changed reply step) ≡ []
-  pub program : connection.program ≡ latest old.program (program_named vc reply step)
-  pub cells : connection.history ≡ old.history ++ on_connection shape vc (judgement_told reply)
-  pub held : connection.history ≡ old.history ++ on_line old.line (judgement_told reply)
+  pub standing : changes vc (event_of step reply) ≡ false
+  pub program : connection.program ≡ named_after vc old.program reply step
+  pub cells : connection.history ≡ old.history ++ cells_of shape vc (event_of step reply ∷ [])
+  pub held : connection.history ≡ old.history ++ cells_on old.line (event_of step reply ∷ [])
 
 -- A connection that is there since this step.
 pub record IsFresh (used : ℕ) (connection : Connection) (vc : Vc) (step : Step) (reply : Reply) : Type 0 where
@@ -64,9 +67,9 @@ ConnectionsTold shape before after step reply = (vc : Vc) (connection : Connecti
 
 -- Nothing is told of the connection.
 pub record IsSilent (vc : Vc) (step : Step) (reply : Reply) : Type 0 where
-  pub standing : only_of vc (connection_changed reply step) ≡ []
-  pub programs : program_named vc reply step ≡ []
-  pub cells : judgement_told reply ≡ []
+  pub standing : changes vc (event_of step reply) ≡ false
+  pub programs : (program : Id) → named_after vc program reply step ≡ program
+  pub cells : judged_cells (event_of step reply ∷ []) ≡ []
 
 -- Then it is as it was, but for what the log doesn't tell.
 pub kept-silent : (shape : Shape) (old connection : Connection) (vc : Vc) (step : Step) (reply : Reply) → IsSilent vc step reply
@@ -77,9 +80,13 @@ kept-silent shape old connection vc step reply silent incarnation line contracts
   line = line;
   contracts = contracts;
   standing = silent.standing;
-  program = program ∙ sym (ap (latest old.program) silent.programs);
-  cells = history ∙ sym (ap (λ told. old.history ++ on_connection shape vc told) silent.cells ∙ append-nil old.history);
-  held = history ∙ sym (ap (λ told. old.history ++ on_line old.line told) silent.cells ∙ append-nil old.history);
+  program = program ∙ sym (silent.programs old.program);
+  cells = history
+      ∙ sym (ap (λ (told : List JudgedView). old.history ++ map as_it_came (filter (λ judged. is_same_vc vc (vc_of shape.side judged.cell)) told)) silent.cells
+      ∙ append-nil old.history);
+  held = history
+      ∙ sym (ap (λ (told : List JudgedView). old.history ++ map as_it_came (filter (λ judged. judged.line == old.line) told)) silent.cells
+      ∙ append-nil old.history);
 }
 
 pub same-silent : (shape : Shape) (old connection : Connection) (vc : Vc) (step : Step) (reply : Reply) → IsSilent vc step reply
@@ -120,7 +127,7 @@ connections-with shape before after step reply vc new same here others other con
 -- A port keeps its state, and didn't move.
 abbrev pub PortStays : World → ℕ → PortState → Step → Reply → Type 0
 PortStays before port state step reply =
-    (slice_get before.ports port ≡ Some state) × (only_port port (port_moved reply step) ≡ [])
+    (slice_get before.ports port ≡ Some state) × (moves port (event_of step reply) ≡ false)
 
 -- A port's cell is picked in this step.
 pub record IsPickedNow (before : World) (port : ℕ) (picking : Picking) (step : Step) (reply : Reply) : Type 0 where
@@ -142,19 +149,16 @@ pub record PortsTold (before after : World) (step : Step) (reply : Reply) : Type
       → PortStays before port (picked picking) step reply ⊎ IsPickedNow before port picking step reply
 
 pub ports-same : (before after : World) (step : Step) (reply : Reply) → after.ports ≡ before.ports
-    → port_moved reply step ≡ [] → PortsTold before after step reply
+    → ((port : ℕ) → moves port (event_of step reply) ≡ false) → PortsTold before after step reply
 ports-same before after step reply same still = record {
   entered_ports = λ port cell moment e.
-      inl (subst (λ (l : List PortState). slice_get l port ≡ Some (entered cell moment)) same e, ap (only_port port) still);
+      inl (subst (λ (l : List PortState). slice_get l port ≡ Some (entered cell moment)) same e, still port);
   picked_ports = λ port picking e.
-      inl (subst (λ (l : List PortState). slice_get l port ≡ Some (picked picking)) same e, ap (only_port port) still);
+      inl (subst (λ (l : List PortState). slice_get l port ≡ Some (picked picking)) same e, still port);
 }
 
-others-still : (other port : ℕ) → other ≢ port → only_port other (port ∷ []) ≡ []
-others-still other port apart = ap (λ b. cond b (port ∷ []) []) (ne_eqb other port apart)
-
 pub ports-moved : (before after : World) (step : Step) (reply : Reply) (port : ℕ) (state : PortState)
-    → after.ports ≡ set before.ports port state → port_moved reply step ≡ port ∷ []
+    → after.ports ≡ set before.ports port state → ((other : ℕ) → moves other (event_of step reply) ≡ (other == port))
     → ((cell : List ℕ) (moment : ℕ) → state ≡ entered cell moment → (step ≡ Enter port cell moment) × (reply ≡ Entered))
     → ((picking : Picking) → state ≡ picked picking → IsPickedNow before port picking step reply)
     → PortsTold before after step reply
@@ -165,7 +169,7 @@ ports-moved before after step reply port state same moved enters picks = record 
         | inl here ↦
             subst (λ place. PortStays before place (entered cell moment) step reply ⊎ ((step ≡ Enter place cell moment) × (reply ≡ Entered)))
             (sym here.0) (inr (enters cell moment here.1))
-        | inr there ↦ inl (there.1, ap (only_port other) moved ∙ others-still other port there.0)
+        | inr there ↦ inl (there.1, moved other ∙ ne_eqb other port there.0)
       ];
   picked_ports = λ other picking e.
       elim (slice_get-set before.ports port other state (picked picking)
@@ -173,7 +177,7 @@ ports-moved before after step reply port state same moved enters picks = record 
         | inl here ↦
             subst (λ place. PortStays before place (picked picking) step reply ⊎ IsPickedNow before place picking step reply)
             (sym here.0) (inr (picks picking here.1))
-        | inr there ↦ inl (there.1, ap (only_port other) moved ∙ others-still other port there.0)
+        | inr there ↦ inl (there.1, moved other ∙ ne_eqb other port there.0)
       ];
 }
 
@@ -183,4 +187,4 @@ pub record StepTold (shape : Shape) (before : World) (step : Step) (reply : Repl
   pub store : StoreTold before after step reply
   pub connections : ConnectionsTold shape before after step reply
   pub ports : PortsTold before after step reply
-  pub verdicts : (line : ℕ) → after.judged line ≡ before.judged line ++ verdicts_on line (judgement_told reply)
+  pub verdicts : (line : ℕ) → after.judged line ≡ before.judged line ++ verdicts_on line (event_of step reply ∷ [])

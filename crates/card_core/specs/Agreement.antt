@@ -12,6 +12,7 @@ use Rattle.line_record.specs.declared.directory.Seating.{Seating}
 use Rattle.line_record.specs.Directory.{DirectoryView, seating_at}
 use Rattle.line_record.specs.History.{empty_buckets, judged}
 use Rattle.line_record.specs.Line.{LineView}
+use Rattle.line_record.specs.JournalRun.{tallied}
 use Rattle.line_record.specs.StateAfter.{IsStateAfter}
 use Rattle.card_core.specs.declared.shape.Shape.{Shape}
 use Rattle.line_record.specs.Tally.{tally_of}
@@ -19,7 +20,7 @@ use Rattle.card_core.specs.declared.reply.Reply.{Reply}
 use Rattle.card_core.specs.declared.step.Step.{Step}
 use Rattle.card_core.specs.Log.{Event, Run, Leads}
 use Rattle.card_core.specs.Steps.{WorldStep}
-use Rattle.card_core.specs.World.{World, Loading, Connection, PortState, code_in, times_given, connection_in, handed_cells, kept_cells, verdicts_before}
+use Rattle.card_core.specs.World.{World, Loading, Connection, PortState, code_in, times_given, connection_in, handed_cells, kept_cells}
 
 -- What contracts see of a core: its shape, the slots for programs, the directory, the lines, and the
 -- ports.
@@ -57,15 +58,16 @@ abbrev pub owner_of : Vc → Connection → Owner
 owner_of vc connection = record { vc = vc; incarnation = connection.incarnation }
 
 -- The line, on which these verdicts were given, serves the connection under its contracts; its journal
--- has the cells that no cut has handed out, with their verdicts; and its states are those after the
--- cells that were handed out and after all.
+-- has the cells that no cut has handed out, with their verdicts; its states are those after the cells
+-- that were handed out and after all; and the counts at the journal's beginning and those of its entries
+-- are together the counts of these verdicts.
 pub record Serves (line : LineView) (vc : Vc) (connection : Connection) (verdicts : List Verdict) : Type 0 where
   pub owner : line.owner ≡ Some (owner_of vc connection)
   pub contracts : line.contracts ≡ connection.contracts
   pub entries : line.entries ≡ judged connection.contracts empty_buckets (handed_cells connection) (kept_cells connection)
   pub start : IsStateAfter connection.contracts (handed_cells connection) line.start
-  pub counts_before : line.start.counts ≡ tally_of (verdicts_before verdicts connection)
   pub state : IsStateAfter connection.contracts connection.history line.state
+  pub together : tallied line.start.counts line.entries ≡ tally_of verdicts
 
 -- The line of this number and its owner are those of a connection.
 pub record IsLineOf (connections : List (Vc × Connection)) (number : ℕ) (owner : Owner) : Type 0 where

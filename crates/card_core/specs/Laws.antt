@@ -5,7 +5,6 @@ use Rattle.bpf_code.specs.declared.instr.Instr.{Instr}
 use Rattle.bpf_verify.specs.Accepted.{IsAccepted}
 use Rattle.gen_arena.specs.declared.id.Id.{Id}
 use Rattle.leaky.specs.declared.contract.Contract.{Contract}
-use Rattle.leaky.specs.declared.verdict.Verdict.{Verdict}
 use Rattle.leaky.specs.Contract.{peak_of}
 use Rattle.leaky.specs.Laws.{IsBounded}
 use Rattle.line_record.specs.History.{numbered, empty_buckets, judged}
@@ -22,7 +21,8 @@ use Rattle.card_core.specs.World.{World, Loading, Connection, Picking, picked, c
 use Rattle.card_core.specs.Steps.{WorldStep}
 use Rattle.card_core.specs.Log.{Event, Run, Leads, IsLog}
 use Rattle.card_core.specs.Stale.{is_stale}
-use Rattle.card_core.specs.Headline.{latest, programs_named, cells_of, cells_on, StandsSince, IsPromised}
+use Rattle.card_core.specs.Judged.{JudgedView}
+use Rattle.card_core.specs.Headline.{program_named, cells_of, cells_on, StandsSince, IsPromised}
 
 -- The program of each connection is live, and so is that of each port's picked cell, although its
 -- connection may have been given another since, or released, or set up again.
@@ -122,7 +122,7 @@ pub record IsAsTold (shape : Shape) (log : List Event) (vc : Vc) (connection : C
   pub stands : StandsSince log vc ask since
   pub incarnation : connection.incarnation ≡ stands.incarnation
   pub contracts : connection.contracts ≡ ask.contracts.items
-  pub program : connection.program ≡ latest ask.program (programs_named vc since)
+  pub program : connection.program ≡ program_named vc ask.program since
   pub cells : connection.history ≡ cells_of shape vc since
   pub held : connection.history ≡ cells_on connection.line since
 
@@ -148,21 +148,9 @@ LogsBoundBursts = (shape : Shape) (log : List Event) → IsLog shape log
     → (first span : ℕ)
     → IsBounded first span (peak_charges number (judged ask.contracts.items empty_buckets [] (cells_of shape vc since))) (peak_of contract)
 
--- All that an answer to a judged cell says but the line.
-pub record AreOneAnswer (number another moment other_moment value other_value : ℕ) (program other : Id) (verdict other_verdict : Verdict) (leaving other_leaving : List ℕ) : Type 0 where
-  pub numbers : number ≡ another
-  pub moments : moment ≡ other_moment
-  pub values : value ≡ other_value
-  pub programs : program ≡ other
-  pub verdicts : verdict ≡ other_verdict
-  pub cells : leaving ≡ other_leaving
-
--- The headline leaves one answer: of a cell that is judged at this port after these events, on this
--- line, it promises one number, moment, value, program, verdict and leaving cell, and no others.
+-- The headline leaves one answer: two judged cells of one line that are both promised at this port after
+-- these events are the same, in number, moment, value, program, verdict and leaving cell.
 abbrev pub PromisesLeaveOneAnswer : Type 0
-PromisesLeaveOneAnswer = (shape : Shape) (before : List Event) (port line : ℕ)
-    → (number another moment other_moment value other_value : ℕ) (program other : Id)
-    → (verdict other_verdict : Verdict) (leaving other_leaving : List ℕ)
-    → IsPromised shape before port line number moment value program verdict leaving
-    → IsPromised shape before port line another other_moment other_value other other_verdict other_leaving
-    → AreOneAnswer number another moment other_moment value other_value program other verdict other_verdict leaving other_leaving
+PromisesLeaveOneAnswer = (shape : Shape) (before : List Event) (port : ℕ) (one other : JudgedView)
+    → IsPromised shape before port one → IsPromised shape before port other
+    → one.line ≡ other.line → one ≡ other

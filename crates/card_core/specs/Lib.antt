@@ -10,7 +10,9 @@ pub mod PortReplies
 pub mod Agreement
 pub mod Arrival
 pub mod Stale
+pub mod Judged
 pub mod Headline
 pub mod Laws
 pub mod Sections
+pub mod Kept
 pub mod inner

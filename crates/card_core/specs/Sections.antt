@@ -1,12 +1,11 @@
 -- What the locked sections do to the parts that they are lent.
-use Rattle.std.specs.Prelude.{◌≡◌, ◌≢◌, ℕ, ◌+◌, ◌^◌, ◌<◌, ◌==◌, ◌&&◌, Bool, false, if◌then◌else◌, List, [], ◌∷◌, ◌++◌, length, Option, Some, None, option_map, IsSome, Result, Ok, Err}
+use Rattle.std.specs.Prelude.{◌≡◌, ◌≢◌, ℕ, ◌+◌, ◌^◌, ◌<◌, ◌==◌, ◌&&◌, ◌⊎◌, Bool, true, false, if◌then◌else◌, List, [], ◌∷◌, ◌++◌, length, Option, Some, None, option_map, IsSome, Result, Ok, Err}
 use Rattle.upc_cell.specs.declared.vc.Vc.{Vc}
 use Rattle.upc_cell.specs.Connection.{is_same_vc}
 use Rattle.bpf_code.specs.declared.instr.Instr.{Instr}
 use Rattle.gen_arena.specs.declared.id.Id.{Id}
 use Rattle.gen_arena.specs.Slot.{Slot}
 use Rattle.gen_arena.specs.Live.{live_value, IsLive}
-use Rattle.leaky.specs.declared.verdict.Verdict.{Verdict}
 use Rattle.line_record.specs.declared.directory.Seating.{Seating}
 use Rattle.line_record.specs.declared.entry.Entry.{Entry}
 use Rattle.line_record.specs.declared.owner.Owner.{Owner}
@@ -26,6 +25,7 @@ use Rattle.card_core.specs.declared.ask.Ask.{Ask}
 use Rattle.card_core.specs.declared.fault.DeskFault.{DeskFault}
 use Rattle.card_core.specs.declared.fault.DeskFault.TheVariants.{NoProgram, Taken, BadContracts, NoLine, Exhausted, Stale, NoMemory as DeskNoMemory}
 use Rattle.card_core.specs.Steps.{Gives, cell_after, named_cell}
+pub use Rattle.card_core.specs.Judged.{JudgedView, told}
 
 -- A program's value for a cell: the program, the cell and the value.
 pub record NamedView : Type 0 where
@@ -78,29 +78,6 @@ pub record JudgesAt (old : LineView) (seating : Seating) (named : NamedView) (mo
   pub answered : answer ≡ Judged seating.line (count_of old.state.counts entry.verdict + 1)
       moment named.value named.program entry.verdict (cell_after entry.verdict named.cell)
 
--- What is told of a judged cell.
-pub record JudgedView : Type 0 where
-  pub line : ℕ
-  pub number : ℕ
-  pub moment : ℕ
-  pub value : ℕ
-  pub program : Id
-  pub verdict : Verdict
-  pub cell : List ℕ
-
--- What an answer tells of a judged cell, where it is that one was judged.
-abbrev pub told : Answer → Option JudgedView
-told (Judged line number moment value program verdict cell) = Some (record {
-  line = line;
-  number = number;
-  moment = moment;
-  value = value;
-  program = program;
-  verdict = verdict;
-  cell = cell;
-})
-told _ = None
-
 -- What a cell that isn't judged is answered.
 abbrev pub unjudged_answer : Unjudged → Answer
 unjudged_answer unjudged.NoConnection = NoConnection
@@ -147,6 +124,10 @@ abbrev pub IsUnready : LineView → DeskFault → Type 0
 IsUnready line Stale = IsSome line.owner
 IsUnready line DeskNoMemory = line.owner ≡ None
 IsUnready line _ = ⊥
+
+-- The line is as before; or it was free, and nothing has changed but that it is ready now.
+abbrev pub MayBecomeReady : LineView → LineView → Type 0
+MayBecomeReady old new = (new ≡ old) ⊎ ((old.owner ≡ None) × (new ≡ record old { ready = true }))
 
 -- Why a line that is lent for a cut is refused: it isn't this owner's, or else its memory was.
 abbrev pub IsUncut : LineView → Owner → DeskFault → Type 0

@@ -10,6 +10,7 @@ use Rattle.leaky.specs.declared.verdict.Verdict.{Verdict}
 use Rattle.leaky.specs.declared.verdict.Verdict.TheVariants.{Pass, Tag, Discard, Refuse}
 use Rattle.line_record.specs.Tally.{count_of}
 use Rattle.line_record.specs.History.{NamedCell, empty_buckets, verdict_after, judged}
+use Rattle.line_record.specs.JournalRun.{tallied}
 use Rattle.line_record.specs.StateAfter.{IsStateAfter}
 use Rattle.line_record.specs.Piece.{PieceView}
 use Rattle.card_core.specs.declared.answer.Answer.{Answer}
@@ -23,7 +24,7 @@ use Rattle.card_core.specs.declared.step.Step.TheVariants.{Enter, Pick, Judge, L
 use Rattle.upc_cell.specs.Connection.{vc_of}
 use Rattle.upc_cell.specs.Header.{has_low_priority}
 use Rattle.line_record.specs.Tally.{tally_of}
-use Rattle.card_core.specs.World.{World, Connection, Picking, outside, entered, picked, code_in, without_code, times_given, handed_cells, kept_cells, verdicts_before, connection_in, without_connection, with_connection, with_port, with_verdict, is_open_slot, is_open_line}
+use Rattle.card_core.specs.World.{World, Connection, Picking, PortState, outside, entered, picked, code_in, without_code, times_given, handed_cells, kept_cells, connection_in, without_connection, with_connection, with_port, with_verdict, is_open_slot, is_open_line}
 use Rattle.card_core.specs.Refusals.{refusal}
 
 -- The code gives this value for the cell, within as many steps as it has instructions.
@@ -174,15 +175,16 @@ pub record Reloads (before : World) (vc : Vc) (program : Id) (reply : Reply) (af
   }
 
 -- A piece of a connection's record: the cells that no cut has handed out, with their verdicts, and
--- the states before and after them, each with the counts of the line at that time.
+-- the states before and after them. The counts at its end are those of all verdicts ever given on the
+-- line; the counts at its start and those of its entries are together as many.
 pub record IsPieceOf (world : World) (vc : Vc) (connection : Connection) (piece : PieceView) : Type 0 where
   pub owner : piece.owner ≡ record { vc = vc; incarnation = connection.incarnation }
   pub contracts : piece.contracts ≡ connection.contracts
   pub entries : piece.entries ≡ judged connection.contracts empty_buckets (handed_cells connection) (kept_cells connection)
   pub start : IsStateAfter connection.contracts (handed_cells connection) piece.start
   pub end : IsStateAfter connection.contracts connection.history piece.end
-  pub counts_before : piece.start.counts ≡ tally_of (verdicts_before (world.judged connection.line) connection)
   pub counts : piece.end.counts ≡ tally_of (world.judged connection.line)
+  pub together : tallied piece.start.counts piece.entries ≡ tally_of (world.judged connection.line)
 
 -- Release: the connection is gone, and its last piece is answered. The line's verdicts stay.
 pub record Releases (before : World) (vc : Vc) (reply : Reply) (after : World) : Type 0 where
@@ -227,22 +229,29 @@ pub record FindsNoMemory (before : World) (step : Step) (reply : Reply) (after :
   pub answer : without_memory step ≡ Some reply
   pub world : after ≡ before
 
--- The world with the port outside, where its cell was answered.
-abbrev pub with_answered : World → ℕ → Reply → World
-with_answered before port (Answered answer) = with_port before port outside
-with_answered before port _ = before
+-- What a refused Pick leaves: a cell that had entered the port is answered, and the port is outside; a port
+-- in another state stays as it was.
+abbrev pub left_by_pick : World → ℕ → Option PortState → World
+left_by_pick before port (Some (entered cell moment)) = with_port before port outside
+left_by_pick before port _ = before
 
--- A refusal leaves the world as it was; but a Pick or a Judge of a port in the right state, which is
--- answered, leaves that port outside.
-abbrev pub left_by : World → Step → Reply → World
-left_by before (Pick port) refused = with_answered before port refused
-left_by before (Judge port) refused = with_answered before port refused
-left_by before _ refused = before
+-- What a refused Judge leaves: a cell of the port that was picked is answered, and the port is outside; a
+-- port in another state stays as it was.
+abbrev pub left_by_judge : World → ℕ → Option PortState → World
+left_by_judge before port (Some (picked picking)) = with_port before port outside
+left_by_judge before port _ = before
+
+-- What a refused step leaves: a Pick and a Judge by the state in which the port was, and every other step
+-- the world as it was.
+abbrev pub left_by : World → Step → World
+left_by before (Pick port) = left_by_pick before port (slice_get before.ports port)
+left_by before (Judge port) = left_by_judge before port (slice_get before.ports port)
+left_by before _ = before
 
 -- A step is answered by this refusal.
 pub record IsRefused (before : World) (step : Step) (refused reply : Reply) (after : World) : Type 0 where
   pub answer : reply ≡ refused
-  pub world : after ≡ left_by before step refused
+  pub world : after ≡ left_by before step
 
 -- From the world the step may lead with the reply to the other world. Where it has a reason to be
 -- refused it is; where it has none it succeeds, or finds no memory.

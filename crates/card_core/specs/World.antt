@@ -1,7 +1,7 @@
 -- The card as its callers may think of it: which programs were ever put in and which are live, the
 -- whole history of each connection, all verdicts of each line, and what each port has. It knows
 -- nothing of slots' contents, arrival times, journals or how connections are looked up.
-use Rattle.std.specs.Prelude.{ℕ, ◌-◌, ◌==◌, nat_lt, Bool, true, false, not, ◌&&◌, ◌||◌, zero, suc, if◌then◌else◌, List, [], ◌∷◌, ◌++◌, length, take, drop, replicate, Option, Some, None, slice_set}
+use Rattle.std.specs.Prelude.{ℕ, ◌==◌, nat_lt, Bool, true, false, not, ◌&&◌, ◌||◌, zero, suc, if◌then◌else◌, List, [], ◌∷◌, ◌++◌, take, drop, replicate, Option, Some, None, slice_set}
 use Rattle.std.specs.List.{list_any, list_all}
 use Rattle.upc_cell.specs.declared.vc.Vc.{Vc}
 use Rattle.bpf_code.specs.declared.instr.Instr.{Instr}
@@ -54,10 +54,6 @@ handed_cells connection = take connection.handed connection.history
 -- The cells that were judged since.
 abbrev pub kept_cells : Connection → List NamedCell
 kept_cells connection = drop connection.handed connection.history
-
--- The verdicts given on its line, of all these, before those on the cells that were judged since.
-abbrev pub verdicts_before : List Verdict → Connection → List Verdict
-verdicts_before verdicts connection = take (length verdicts - length (kept_cells connection)) verdicts
 
 -- The connection that the list has at this virtual connection.
 abbrev pub connection_in : List (Vc × Connection) → Vc → Option Connection

@@ -12,7 +12,7 @@ ghost use Rattle.line_record.specs.Line.{Opens, free_line};
 ghost use Rattle.line_record.specs.Piece.{IsJournalOf, IsPiece};
 ghost use Rattle.line_record.specs.StateAfter.{IsStateAfter};
 ghost use Rattle.line_record.specs.declared.directory.Seating.{Seating};
-ghost use Rattle.card_core.specs.Sections.{holder, Admits, IsUnfit, IsUnready, IsUncut};
+ghost use Rattle.card_core.specs.Sections.{holder, Admits, IsUnfit, IsUnready, MayBecomeReady, IsUncut};
 
 use crate::ask::Ask;
 use crate::fault::DeskFault;
@@ -107,8 +107,9 @@ pub fn admit(store: &Store, directory: &Directory, ask: &Ask) -> Result<u16, Des
 ///
 /// # Errors
 ///
-/// With what was asked: `Stale` where the line isn't free, then `NoMemory` where memory is refused.
-/// The line may then have room for its next journal, and all else is as before.
+/// With what was asked: `Stale` where the line isn't free, and then nothing changes; then `NoMemory`
+/// where memory is refused. The line may then have got the room for its next journal, and all else is
+/// as before: a line that was ready is still ready.
 pub fn setup(
     directory: &mut Directory,
     line: &mut Line,
@@ -132,11 +133,13 @@ pub fn setup(
     ensures opened { IfOk result (λ owner. Opens line.old owner ask.contracts.items line.new) }
     ensures history { OnOk result (IsStateAfter ask.contracts.items [] line.new.state) }
 
-    // It is refused for one of two reasons, and then nothing changes but a free line's room.
+    // It is refused for one of two reasons. Stale changes nothing, and NoMemory nothing but that the
+    // line may be ready now.
     ensures refused { IfErr result (λ refused. IsUnready line.old refused.0) }
     ensures returned { IfErr result (λ refused. refused.1 ≡ ask) }
     ensures directory_unchanged { OnErr result (directory.new ≡ directory.old) }
-    ensures line_unchanged { OnErr result (line.new ≡ record line.old { ready = line.new.ready }) }
+    ensures line_stale { IfErr result (λ refused. refused.0 ≡ DeskFault.Stale → line.new ≡ line.old) }
+    ensures line_unchanged { OnErr result (MayBecomeReady line.old line.new) }
 
     ensures lines { directory.new.lines ≡ directory.old.lines }
     ensures counts { line.new.state.counts ≡ line.old.state.counts }

@@ -1,6 +1,8 @@
 //! The judging of a named cell, on the line that is lent.
 
 ghost use Rattle.std.specs.Prelude.{◌≡◌, ◌≢◌, ◌+◌, ◌↔◌, IsTrue, IfSome, IfNone, IfOk, IfErr, OnErr, MatchOption, Some, None, Err};
+ghost use Rattle.line_record.specs.History.{IsNoNumber};
+ghost use Rattle.line_record.specs.Line.{IsLine};
 ghost use Rattle.line_record.specs.Tally.{counted, count_of};
 ghost use Rattle.card_core.specs.Steps.{cell_after};
 ghost use Rattle.card_core.specs.Sections.{holder, is_owned_by, answer_to, judging_refusal, JudgesAt, told};
@@ -32,7 +34,12 @@ pub fn judge_at(line: &mut Line, vc: Vc, seating: &Seating, named: &Named, momen
     ensures program { IfSome (told result) (λ judged. judged.program ≡ named.now.program) }
     ensures cell { IfSome (told result) (λ judged. judged.cell ≡ cell_after judged.verdict named.now.cell) }
 
-    // The line's owner stays, and it counts a judged cell and no other.
+    // No connection has more than four contracts.
+    ensures unnamed { IfSome (told result) (λ judged.
+        IsNoNumber judged.value → judged.verdict ≡ Verdict.Refuse) }
+
+    // The line keeps its run. Its owner stays, and it counts a judged cell and no other.
+    ensures kept { IsLine line.old }
     ensures owner { line.new.owner ≡ line.old.owner }
     ensures counts { IfSome (told result) (λ judged.
         line.new.state.counts ≡ counted line.old.state.counts judged.verdict) }
@@ -77,6 +84,9 @@ pub(crate) fn tell_at(
     ensures moment { IfOk result (λ judged. judged.moment ≡ moment) }
     ensures value { IfOk result (λ judged. judged.value ≡ named.now.value) }
     ensures program { IfOk result (λ judged. judged.program ≡ named.now.program) }
+    ensures unnamed { IfOk result (λ judged.
+        IsNoNumber judged.value → judged.verdict ≡ Verdict.Refuse) }
+    ensures kept { IsLine line.old }
     ensures owner { line.new.owner ≡ line.old.owner }
     ensures counts { IfOk result (λ judged.
         line.new.state.counts ≡ counted line.old.state.counts judged.verdict) }
@@ -105,6 +115,7 @@ pub(crate) fn tell_at(
 pub(crate) fn serves(line: &Line, vc: Vc, seating: &Seating) -> bool
     ensures test { result ≡ is_owned_by line.now.owner (holder vc seating.now) }
     ensures owner { IsTrue result ↔ (line.now.owner ≡ Some (holder vc seating.now)) }
+    ensures kept { IsLine line.now }
 {
     match line.owner() {
         Some(owner) => same_vc(owner.vc, vc) && owner.incarnation == seating.incarnation,

@@ -81,10 +81,7 @@ pub fn name(store: &Store, program: Id, cell: &Cell) -> Option<Named>
     ensures named { IfSome result (λ named. IsNaming store.now program cell.now named) }
     ensures accepted { (code : List Instr) → live_value store.now program ≡ Some code → IsAccepted code }
 {
-    let code = store.get(program)?;
-    // That the code is accepted, as the contract says, is what this call promises.
-    let _ = code.code();
-    let outcome = run(code, cell);
+    let outcome = run(store.get(program)?, cell);
     Some(Named {
         program,
         cell: *cell,

@@ -55,6 +55,7 @@ impl Core {
     ghost use Rattle.card_core.specs.declared.step.Step.TheVariants.{Enter, Pick, Judge, Load, Retire, Setup, Reload, Release, Cut};
     ghost use Rattle.card_core.specs.Agreement.{CoreAgrees, Follows, FollowsAll};
     ghost use Rattle.card_core.specs.Arrival.{Answers};
+    ghost use Rattle.card_core.specs.Kept.{RefusalKeeps};
     ghost use Rattle.card_core.specs.Sections.{answer_to};
     ghost use Rattle.card_core.specs.PortReplies.{reply_of};
     ghost use Rattle.card_core.specs.Stale.{IsNeverStale};
@@ -106,6 +107,7 @@ impl Core {
     /// Takes one step of a port or of the desk, and answers it.
     pub fn step(&mut self, step: Step) -> Reply
         ensures follows { Follows self.old step result self.new }
+        ensures unchanged { RefusalKeeps result step self.old self.new }
 
         // No cell takes memory, and what a pick found stays what it was found to be.
         ensures judged { (port : ℕ) → step ≡ Judge port → result ≢ Reply.Answered Answer.NoMemory }
@@ -117,6 +119,7 @@ impl Core {
     /// The step. That its reply is never stale follows from what this promises, and [`Core::step`] says it.
     fn take(&mut self, step: Step) -> Reply
         ensures follows { Follows self.old step result self.new }
+        ensures unchanged { RefusalKeeps result step self.old self.new }
         ensures judged { (port : ℕ) → step ≡ Judge port → result ≢ Reply.Answered Answer.NoMemory }
     {
         match step {
@@ -155,7 +158,8 @@ impl Core {
 
     /// A cell comes to a port: the step `Enter`.
     pub fn enter(&mut self, port: u8, cell: Cell, moment: u64) -> PortReply
-        ensures { Follows self.old (Enter port cell moment) (reply_of result) self.new }
+        ensures follows { Follows self.old (Enter port cell moment) (reply_of result) self.new }
+        ensures unchanged { RefusalKeeps (reply_of result) (Enter port cell moment) self.old self.new }
     {
         if !is_idle_at(&self.ports, port) {
             return PortReply::NotNow;
@@ -166,7 +170,8 @@ impl Core {
 
     /// The cell's connection is looked up, and its program names a contract: the step `Pick`.
     pub fn pick(&mut self, port: u8) -> PortReply
-        ensures { Follows self.old (Pick port) (reply_of result) self.new }
+        ensures follows { Follows self.old (Pick port) (reply_of result) self.new }
+        ensures unchanged { RefusalKeeps (reply_of result) (Pick port) self.old self.new }
     {
         let Some(came) = entered_at(&self.ports, port) else {
             return PortReply::NotNow;
@@ -187,6 +192,7 @@ impl Core {
     /// The cell is judged by the contract that was named: the step `Judge`.
     pub fn judge(&mut self, port: u8) -> PortReply
         ensures follows { Follows self.old (Judge port) (reply_of result) self.new }
+        ensures unchanged { RefusalKeeps (reply_of result) (Judge port) self.old self.new }
         ensures memory { reply_of result ≢ Reply.Answered Answer.NoMemory }
     {
         let Some(found) = picked_at(&self.ports, port) else {
@@ -229,7 +235,8 @@ impl Core {
     /// The step `Load`. Programs come and go only while every port is outside, so that a cell on its way is
     /// judged by programs that are there all the time.
     fn load(&mut self, program: Program) -> Reply
-        ensures { Follows self.old (Load program) result self.new }
+        ensures follows { Follows self.old (Load program) result self.new }
+        ensures unchanged { RefusalKeeps result (Load program) self.old self.new }
     {
         if !are_outside(&self.ports) {
             return Reply::NotLoaded(DeskFault::Busy, program);
@@ -242,7 +249,8 @@ impl Core {
 
     /// The step `Retire`, to be taken while every port is outside, as `Load` is.
     fn retire(&mut self, id: Id) -> Reply
-        ensures { Follows self.old (Retire id) result self.new }
+        ensures follows { Follows self.old (Retire id) result self.new }
+        ensures unchanged { RefusalKeeps result (Retire id) self.old self.new }
     {
         if !are_outside(&self.ports) {
             return Reply::Refused(DeskFault::Busy);
@@ -255,7 +263,8 @@ impl Core {
 
     /// The step `Setup`. What has no reason to be refused may still find no memory.
     fn setup(&mut self, ask: Ask) -> Reply
-        ensures { Follows self.old (Setup ask) result self.new }
+        ensures follows { Follows self.old (Setup ask) result self.new }
+        ensures unchanged { RefusalKeeps result (Setup ask) self.old self.new }
     {
         let number = match desk::admit(&self.store, &self.directory, &ask) {
             Ok(number) => number,
@@ -269,7 +278,8 @@ impl Core {
 
     /// The step `Reload`.
     fn reload(&mut self, vc: Vc, program: Id) -> Reply
-        ensures { Follows self.old (Reload vc program) result self.new }
+        ensures follows { Follows self.old (Reload vc program) result self.new }
+        ensures unchanged { RefusalKeeps result (Reload vc program) self.old self.new }
     {
         match desk::reload(&self.store, &mut self.directory, vc, program) {
             Ok(before) => Reply::Reloaded(before),
@@ -279,7 +289,8 @@ impl Core {
 
     /// The step `Release`.
     fn release(&mut self, vc: Vc) -> Reply
-        ensures { Follows self.old (Release vc) result self.new }
+        ensures follows { Follows self.old (Release vc) result self.new }
+        ensures unchanged { RefusalKeeps result (Release vc) self.old self.new }
     {
         let Some(seating) = pick(&self.directory, vc) else {
             return Reply::Refused(DeskFault::NoConnection);
@@ -292,7 +303,8 @@ impl Core {
 
     /// The step `Cut`.
     fn cut(&mut self, vc: Vc) -> Reply
-        ensures { Follows self.old (Cut vc) result self.new }
+        ensures follows { Follows self.old (Cut vc) result self.new }
+        ensures unchanged { RefusalKeeps result (Cut vc) self.old self.new }
     {
         let Some(seating) = pick(&self.directory, vc) else {
             return Reply::Refused(DeskFault::NoConnection);

@@ -19,7 +19,7 @@ use Rattle.card_core.specs.declared.answer.Answer.TheVariants.{NoConnection, Sta
 use Rattle.card_core.specs.declared.ask.Ask.{Ask}
 use Rattle.card_core.specs.declared.fault.DeskFault.{DeskFault}
 use Rattle.card_core.specs.declared.fault.DeskFault.TheVariants.{Stale as DeskStale}
-use Rattle.card_core.specs.Sections.{IsNaming, judging_refusal, JudgesAt, holder, IsUnready, IsUncut}
+use Rattle.card_core.specs.Sections.{IsNaming, judging_refusal, JudgesAt, holder, IsUnready, MayBecomeReady, IsUncut}
 
 -- The directory has a seating for the cell's connection, and its program names a contract for the cell.
 pub record IsFound (store : List (Slot (List Instr))) (directory : DirectoryView) (side : Side) (came : Came) (found : Found) : Type 0 where
@@ -67,7 +67,8 @@ pub record IsReleased (old new : DirectoryView) (vc : Vc) (piece : PieceView) (l
 abbrev pub SetsUpOrRefuses : DirectoryView → DirectoryView → ℕ → Ask → Result Owner (DeskFault × Ask) → LineView → LineView → Type 0
 SetsUpOrRefuses old new number ask result line next = MatchResult result
     (λ owner. IsSetUp old new number ask owner line next)
-    (λ refused. IsUnready line refused.0 × (refused.1 ≡ ask) × (new ≡ old) × (next ≡ record line { ready = next.ready }))
+    (λ refused. IsUnready line refused.0 × (refused.1 ≡ ask) × (new ≡ old)
+    × (refused.0 ≡ DeskStale → next ≡ line) × MayBecomeReady line next)
 
 -- The connection ends on the line, or the line isn't its own.
 abbrev pub ReleasesOrRefuses : DirectoryView → DirectoryView → Vc → Seating → Result PieceView DeskFault → LineView → LineView → Type 0

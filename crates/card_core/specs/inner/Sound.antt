@@ -1,12 +1,15 @@
 -- What every world keeps that a log leads to. Each step is proved to keep it, and the proofs of the
 -- core use it.
-use Rattle.std.specs.Prelude.{◌≡◌, ℕ, ◌^◌, ◌<◌, ◌≤◌, List, length, Some, IsSome, All, Contains, slice_get}
+use Rattle.std.specs.Prelude.{◌≡◌, ℕ, ◌^◌, ◌<◌, ◌≤◌, List, [], length, Some, IsSome, All, Contains, slice_get}
 use Rattle.upc_cell.specs.declared.vc.Vc.{Vc}
 use Rattle.upc_cell.specs.Connection.{vc_of}
 use Rattle.bpf_code.specs.declared.instr.Instr.{Instr}
 use Rattle.bpf_verify.specs.Accepted.{IsAccepted}
 use Rattle.gen_arena.specs.declared.id.Id.{Id}
-use Rattle.line_record.specs.History.{IsHistory}
+use Rattle.line_record.specs.declared.tally.Tally.{Tally}
+use Rattle.line_record.specs.History.{IsHistory, empty_buckets, judged}
+use Rattle.line_record.specs.JournalRun.{tallied}
+use Rattle.line_record.specs.Tally.{tally_of}
 use Rattle.card_core.specs.declared.shape.Shape.{Shape}
 use Rattle.card_core.specs.World.{World, Connection, Picking, picked, code_in, times_given, connection_in}
 use Rattle.card_core.specs.Log.{Event, Leads}
@@ -21,7 +24,8 @@ pub record SoundPrograms (world : World) : Type 0 where
   pub accepted : (id : Id) (code : List Instr) → code_in world.given id ≡ Some code → IsAccepted code
 
 -- One connection: its line is one of the card's, its incarnation one of those that were given, its
--- program is live, it has a contract, and its history's moments don't go back and are at most 2^62.
+-- program is live, it has a contract, its history's moments don't go back and are at most 2^62, and the
+-- counts that its line had when it was set up and those of its history's verdicts are together the line's.
 pub record SoundConnection (world : World) (connection : Connection) : Type 0 where
   pub within : connection.line < world.shape.lines
   pub first : 1 ≤ connection.incarnation
@@ -31,7 +35,8 @@ pub record SoundConnection (world : World) (connection : Connection) : Type 0 wh
   pub history : IsHistory connection.history
   pub early : All (λ cell. cell.moment ≤ 2 ^ 62) connection.history
   pub handed : connection.handed ≤ length connection.history
-  pub counted : length connection.history ≤ length (world.judged connection.line)
+  pub opening : Tally
+  pub counted : tallied opening (judged connection.contracts empty_buckets [] connection.history) ≡ tally_of (world.judged connection.line)
 
 -- The connections: each virtual connection stands once in their list, and no two share a line or an
 -- incarnation.

@@ -7,6 +7,8 @@ use Rattle.card_core.specs.declared.step.Step.TheVariants.{Cut}
 use Rattle.card_core.specs.Agreement.{CoreView, Follows}
 use Rattle.card_core.proofs.PortLemmas.{core_of, IsCore-kept}
 use Rattle.card_core.proofs.DeskSteps.{cut-missing, cut-goes, cut-refused}
+use Rattle.card_core.proofs.Keeping.{cut_line-keeps}
+use Rattle.card_core.specs.Kept.{RefusalKeeps}
 use Rattle.card_core.proofs.serial.Core.cut.Goals as goal
 use Rattle.card_core.proofs.serial.Core.cut.Goals.{in-Ok, in-Err}
 
@@ -17,8 +19,8 @@ cut_line-requires c =
     let within = c.in-Some.ensures.directory.within c.args.vc c.in-Some.seating there in
     omega (arith, within, c.self.invariant.sized)
 
-pub returns-in_default : goal.returns-in_default
-returns-in_default c =
+pub returns-in_default-clause-follows : goal.returns-in_default-clause-follows
+returns-in_default-clause-follows c =
     let l = c.self.inside in
     let none : seating_at l.directory c.args.vc ≡ None = sym c.in_default.ensures.seating in
     subst (λ (core : CoreView). Follows core (Cut c.args.vc) (Refused NoConnection) core) c.self.view_is
@@ -30,8 +32,8 @@ invariant_of-self c =
     IsCore-kept l.directory l.directory l.lines.items c.cut_line.new.lines.items l.ports.items c.in-Some.seating.line
     c.cut_line.ensures.next c.self.invariant refl c.cut_line.ensures.after
 
-pub returns : goal.returns
-returns c =
+pub returns-clause-follows : goal.returns-clause-follows
+returns-clause-follows c =
     let l = c.self.inside in
     let there : seating_at l.directory c.args.vc ≡ Some c.in-Some.seating = sym c.in-Some.ensures.seating in
     let after = c.cut_line.new.lines.items in
@@ -46,4 +48,17 @@ returns c =
           (subst (Goal (Refused w.in-Err.fault)) c.self.view_is
           (cut-refused l.shape l.store l.directory l.lines.items l.ports.items c.args.vc c.in-Some.seating c.cut_line.result after
           there c.cut_line.ensures w.in-Err.fault w.in-Err.is))
+    ]
+
+pub returns-clause-unchanged : goal.returns-clause-unchanged
+returns-clause-unchanged c =
+    let l = c.self.inside in
+    let New : CoreView = core_of l.shape l.store l.directory c.cut_line.new.lines.items l.ports.items in
+    let Goal : Reply → Type 0 = λ reply. RefusalKeeps reply (Cut c.args.vc) c.args.self.now New in
+    elim c.match-cut_line.branch [
+      | in-Ok w ↦ subst Goal (sym w.result-is) tt
+      | in-Err w ↦ subst Goal (sym w.result-is)
+          (subst (λ (old : CoreView). New ≡ old) c.self.view_is
+          (cut_line-keeps l.shape l.store l.directory l.lines.items l.ports.items c.args.vc c.in-Some.seating
+          c.cut_line.result c.cut_line.new.lines.items w.in-Err.fault c.cut_line.ensures w.in-Err.is))
     ]

@@ -10,8 +10,8 @@ use Rattle.card_core.proofs.PortLemmas.{core_of, IsCore-moved}
 use Rattle.card_core.proofs.PortSteps.{enter-not, enter-goes}
 use Rattle.card_core.proofs.serial.Core.enter.Goals as goal
 
-pub returns-then-not-is_idle_at : goal.returns-then-not-is_idle_at
-returns-then-not-is_idle_at c =
+pub returns-then-not-is_idle_at-clause-follows : goal.returns-then-not-is_idle_at-clause-follows
+returns-then-not-is_idle_at-clause-follows c =
     let l = c.self.inside in
     let busy : is_idle (slice_get l.ports.items c.args.port) ≡ false =
     let test = c.is_idle_at.ensures in let same = c.deref.ensures.value in let is = c.if-not-is_idle_at.true in cc in
@@ -25,8 +25,8 @@ invariant_of-self c =
     (EnteredPort (record { cell = c.args.cell; moment = c.args.moment })) c.self.invariant refl refl c.move_port.ensures
     (λ found there. absurd (cc))
 
-pub returns : goal.returns
-returns c =
+pub returns-clause-follows : goal.returns-clause-follows
+returns-clause-follows c =
     let l = c.self.inside in
     let free : is_idle (slice_get l.ports.items c.args.port) ≡ true =
     let test = c.is_idle_at.ensures in let same = c.deref.ensures.value in let is = c.if-not-is_idle_at.false in cc in

@@ -9,6 +9,8 @@ use Rattle.card_core.specs.inner.Ports.{found_in}
 use Rattle.card_core.proofs.PortLemmas.{core_of, IsCore-left}
 use Rattle.card_core.proofs.PortSteps.{judge-not}
 use Rattle.card_core.proofs.JudgeSteps.{judge-goes}
+use Rattle.card_core.proofs.Keeping.{judge-keeps, left-outside}
+use Rattle.card_core.specs.Kept.{AnswerKeeps}
 use Rattle.card_core.proofs.serial.Core.judge.Goals as goal
 
 pub judge_line-answer-requires : goal.judge_line-answer-requires
@@ -46,3 +48,14 @@ returns-clause-follows c =
     let New : List Port → CoreView = λ ports. core_of l.shape l.store l.directory after ports in
     subst (λ (core : CoreView). Follows core (Judge c.args.port) (Answered answer) (New c.move_port.new.ports.items)) c.self.view_is
     (subst (λ (ports : List Port). Follows Old (Judge c.args.port) (Answered answer) (New ports)) (sym c.move_port.ensures) goes)
+
+pub returns-clause-unchanged : goal.returns-clause-unchanged
+returns-clause-unchanged c =
+    let l = c.self.inside in
+    let after = c.judge_line-answer.new.lines.items in
+    let moved = c.move_port.new.ports.items in
+    let New : CoreView = core_of l.shape l.store l.directory after moved in
+    subst (λ (old : CoreView). AnswerKeeps c.judge_line-answer.result c.args.port old New) c.self.view_is
+    (judge-keeps l.lines.items after c.in-Some.found c.judge_line-answer.result c.args.port
+    (core_of l.shape l.store l.directory l.lines.items l.ports.items) New c.judge_line-answer.ensures.line
+    (λ same. left-outside l.shape l.store l.directory l.lines.items l.ports.items after moved c.args.port same c.move_port.ensures))

@@ -14,16 +14,16 @@ use Rattle.card_core.proofs.StoreSteps.{load-busy, load-full, load-goes}
 use Rattle.card_core.proofs.serial.Core.load.Goals as goal
 use Rattle.card_core.proofs.serial.Core.load.Goals.{in-Ok, in-Err}
 
-pub returns-then-not-are_outside : goal.returns-then-not-are_outside
-returns-then-not-are_outside c =
+pub returns-then-not-are_outside-clause-follows : goal.returns-then-not-are_outside-clause-follows
+returns-then-not-are_outside-clause-follows c =
     let l = c.self.inside in
     let some : list_all is_free_port l.ports.items ≡ false =
     let test = c.are_outside.ensures in let same = c.deref.ensures.value in let is = c.if-not-are_outside.true in cc in
     subst (λ (core : CoreView). Follows core (Load c.args.program) (NotLoaded Busy c.args.program) core) c.self.view_is
     (load-busy l.shape l.store l.directory l.lines.items l.ports.items c.args.program some)
 
-pub returns : goal.returns
-returns c =
+pub returns-clause-follows : goal.returns-clause-follows
+returns-clause-follows c =
     let l = c.self.inside in
     let code = c.args.program in
     let free : list_all is_free_port l.ports.items ≡ true =

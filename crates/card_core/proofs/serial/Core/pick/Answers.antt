@@ -13,10 +13,12 @@ use Rattle.card_core.proofs.LookUps.{same_some}
 use Rattle.card_core.proofs.PortLemmas.{core_of, IsCore-moved, IsCore-left}
 use Rattle.card_core.proofs.PortSteps.{pick-not}
 use Rattle.card_core.proofs.PickSteps.{pick-goes, pick-missed}
+use Rattle.card_core.proofs.Keeping.{answer-keeps, left-outside}
+use Rattle.card_core.specs.Kept.{AnswerKeeps}
 use Rattle.card_core.proofs.serial.Core.pick.Goals as goal
 
-pub returns-in_default : goal.returns-in_default
-returns-in_default c =
+pub returns-in_default-clause-follows : goal.returns-in_default-clause-follows
+returns-in_default-clause-follows c =
     let l = c.self.inside in
     let none : came_in (slice_get l.ports.items c.args.port) ≡ None =
     let test = c.entered_at.ensures in let same = c.deref.ensures.value in let is = c.in_default.is in cc in
@@ -38,8 +40,8 @@ invariant_of-self-in-Err c =
     IsCore-left l.directory l.directory l.lines.items l.lines.items l.ports.items c.move_port-in-Err.new.ports.items c.args.port
     c.self.invariant refl refl c.move_port-in-Err.ensures
 
-pub returns-in-Ok : goal.returns-in-Ok
-returns-in-Ok c =
+pub returns-in-Ok-clause-follows : goal.returns-in-Ok-clause-follows
+returns-in-Ok-clause-follows c =
     let l = c.self.inside in
     let there : came_in (slice_get l.ports.items c.args.port) ≡ Some c.in-Some.came =
     let test = c.entered_at.ensures in let same = c.deref.ensures.value in let is = c.in-Some.is in cc in
@@ -49,8 +51,8 @@ returns-in-Ok c =
     subst (λ (core : CoreView). Follows core (Pick c.args.port) Picked (New c.move_port.new.ports.items)) c.self.view_is
     (subst (λ (ports : List Port). Follows (New l.ports.items) (Pick c.args.port) Picked (New ports)) (sym c.move_port.ensures) goes)
 
-pub returns-in-Err : goal.returns-in-Err
-returns-in-Err c =
+pub returns-in-Err-clause-follows : goal.returns-in-Err-clause-follows
+returns-in-Err-clause-follows c =
     let l = c.self.inside in
     let there : came_in (slice_get l.ports.items c.args.port) ≡ Some c.in-Some.came =
     let test = c.entered_at.ensures in let same = c.deref.ensures.value in let is = c.in-Some.is in cc in
@@ -61,3 +63,12 @@ returns-in-Err c =
     subst (λ (core : CoreView). Follows core (Pick c.args.port) (Answered c.answer.result) (New c.move_port-in-Err.new.ports.items)) c.self.view_is
     (subst (λ (given : Answer). Follows (New l.ports.items) (Pick c.args.port) (Answered given) (New c.move_port-in-Err.new.ports.items)) (sym c.answer.ensures)
     (subst (λ (ports : List Port). Follows (New l.ports.items) (Pick c.args.port) (Answered answer) (New ports)) (sym c.move_port-in-Err.ensures) goes))
+
+pub returns-in-Err-clause-unchanged : goal.returns-in-Err-clause-unchanged
+returns-in-Err-clause-unchanged c =
+    let l = c.self.inside in
+    let moved = c.move_port-in-Err.new.ports.items in
+    let New : CoreView = core_of l.shape l.store l.directory l.lines.items moved in
+    subst (λ (old : CoreView). AnswerKeeps c.answer.result c.args.port old New) c.self.view_is
+    (answer-keeps c.answer.result c.args.port (core_of l.shape l.store l.directory l.lines.items l.ports.items) New
+    (left-outside l.shape l.store l.directory l.lines.items l.ports.items l.lines.items moved c.args.port refl c.move_port-in-Err.ensures))

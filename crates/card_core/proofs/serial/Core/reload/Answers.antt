@@ -10,8 +10,8 @@ use Rattle.card_core.proofs.DeskSteps.{reload-goes, reload-refused}
 use Rattle.card_core.proofs.serial.Core.reload.Goals as goal
 use Rattle.card_core.proofs.serial.Core.reload.Goals.{in-Ok, in-Err}
 
-pub returns : goal.returns
-returns c =
+pub returns-clause-follows : goal.returns-clause-follows
+returns-clause-follows c =
     let l = c.self.inside in
     let vc = c.args.vc in
     let program = c.args.program in

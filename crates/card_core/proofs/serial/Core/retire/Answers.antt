@@ -13,16 +13,16 @@ use Rattle.card_core.proofs.StoreSteps.{retire-busy, retire-refused, retire-goes
 use Rattle.card_core.proofs.serial.Core.retire.Goals as goal
 use Rattle.card_core.proofs.serial.Core.retire.Goals.{in-Ok, in-Err}
 
-pub returns-then-not-are_outside : goal.returns-then-not-are_outside
-returns-then-not-are_outside c =
+pub returns-then-not-are_outside-clause-follows : goal.returns-then-not-are_outside-clause-follows
+returns-then-not-are_outside-clause-follows c =
     let l = c.self.inside in
     let some : list_all is_free_port l.ports.items ≡ false =
     let test = c.are_outside.ensures in let same = c.deref.ensures.value in let is = c.if-not-are_outside.true in cc in
     subst (λ (core : CoreView). Follows core (Retire c.args.id) (Refused Busy) core) c.self.view_is
     (retire-busy l.shape l.store l.directory l.lines.items l.ports.items c.args.id some)
 
-pub returns : goal.returns
-returns c =
+pub returns-clause-follows : goal.returns-clause-follows
+returns-clause-follows c =
     let l = c.self.inside in
     let id = c.args.id in
     let free : list_all is_free_port l.ports.items ≡ true =
