@@ -8,7 +8,7 @@ use Rattle.program_dialogue.specs.CellWord.{IsCellWord}
 use Rattle.program_dialogue.specs.declared.hexadecimal.CellWord.TheVariants.{OfCell}
 use Rattle.program_dialogue.proofs.Public.{cell-lengths, cell-visible}
 use Rattle.card_dialogue.specs.ScriptWords.{number_of}
-use Rattle.card_dialogue.specs.inner.SpelledCell.{IsCommonLine}
+use Rattle.card_dialogue.specs.CommonLine.{IsCommonLine}
 
 -- Two cuts of a text before as many octets are one.
 one-cut : (before last front word : List ℕ) → before ++ 32 ∷ last ≡ front ++ 32 ∷ word → length last ≡ length word

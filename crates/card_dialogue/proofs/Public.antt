@@ -1,5 +1,13 @@
 -- What the crates above may use in their proofs.
-use Rattle.std.proofs.Common.{◌≡◌, ℕ, List}
+use Rattle.std.proofs.Common.{◌≡◌, ◌∙◌, ℕ, List, Option, Some, ap}
+use Rattle.std.specs.Option.{option_map}
+use Rattle.dialogue.specs.Words.{words_of}
+use Rattle.program_dialogue.specs.CellWord.{IsCellWord}
+use Rattle.program_dialogue.specs.declared.hexadecimal.CellWord.TheVariants.{OfCell}
+use Rattle.upc_cell.specs.declared.side.Side.{Side}
+use Rattle.card_dialogue.specs.CommonLine.{IsCommonLine}
+use Rattle.card_dialogue.specs.ScriptCommands.{cell, command_of}
+use Rattle.card_dialogue.proofs.SpelledCellLemmas.{cell-line}
 use Rattle.dialogue.specs.declared.ending.Done.{Done}
 use Rattle.card_dialogue.specs.RunText.{IsRunText}
 use Rattle.card_dialogue.proofs.one_script.OneScript as run
@@ -12,3 +20,10 @@ some-run_text = run.some-run_text
 pub one-run_text : (octets one other : List ℕ) (ends other_ends : Done) → IsRunText octets one ends → IsRunText octets other other_ends
     → (one ≡ other) × (ends ≡ other_ends)
 one-run_text = run.one-run_text
+
+-- A line of the common form is the command that brings its cell, on a card of either side.
+pub common-command : (side : Side) (line : List ℕ) (moment : ℕ) (here : List ℕ) → IsCommonLine line moment here
+    → (word : List ℕ) × (command_of side (words_of line) ≡ Some (cell moment word)) × IsCellWord word (OfCell here)
+common-command side line moment here is =
+    let spells = cell-line line is.0 is.1 moment here is.2 is.3 is.4 in
+    (spells.1, ap (command_of side) spells.2 ∙ ap (λ (found : Option ℕ). option_map (λ ticks. cell ticks spells.1) found) spells.3, spells.4)

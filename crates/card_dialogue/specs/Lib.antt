@@ -1,6 +1,7 @@
 -- The dialogue with a card. In the order of reading:
 pub mod ScriptWords
 pub mod ScriptCommands
+pub mod CommonLine
 pub mod CommandSeen
 pub mod CardLine
 pub mod Rates

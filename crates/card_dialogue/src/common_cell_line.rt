@@ -1,8 +1,8 @@
 //! The line of a cell in its common form, as programs write it: its words with one space between them, and
-//! nothing before and behind. What has another form is read by its words.
+//! nothing before and after. A line of another form is read by its words.
 
 ghost use Rattle.std.specs.Prelude.{◌≡◌, ◌∷◌, ◌++◌, ℕ, List, codes, length, IfSome, IfNone};
-ghost use Rattle.card_dialogue.specs.inner.SpelledCell.{IsCommonLine};
+ghost use Rattle.card_dialogue.specs.CommonLine.{IsCommonLine};
 
 use crate::script_words::number;
 use program_dialogue::{CELL_DIGITS, HEADER_DIGITS, cell_of_digits};
@@ -43,7 +43,8 @@ fn cut_before(text: &[u8], count: usize) -> Option<(&[u8], &[u8])>
     }
 }
 
-/// The cell of a line of the common form. No digit is a space, so that one of them tells how long the word is.
+/// The cell of a line of the common form: none where the line has another form. No digit is a space, so the place
+/// of the last space tells how long the word is.
 #[inline(always)]
 pub fn read_cell(line: &[u8]) -> Option<Arrival>
     ensures cell { IfSome result (λ found. IsCommonLine line.now found.moment found.cell) }

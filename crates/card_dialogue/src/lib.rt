@@ -22,6 +22,7 @@ pub use card_faults::{
 };
 pub use card_line::read_card;
 pub use commands::{Command, read_command};
+pub use common_cell_line::{Arrival, read_cell};
 pub use names::Names;
 pub use rates::contracts_of;
 pub use replies::{

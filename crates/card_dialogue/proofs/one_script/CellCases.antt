@@ -7,7 +7,7 @@ use Rattle.std.proofs.lemmas.Option.{same_Some}
 use Rattle.upc_cell.specs.Connection.{vc_of}
 use Rattle.bpf_code.specs.declared.instr.Instr.{Instr}
 use Rattle.card_core.specs.Refusals.{cell_refusal, enter_refusal, judge_refusal, pick_refusal, picking_refusal, refusal}
-use Rattle.card_core.specs.Steps.{Enters, FindsNoMemory, Gives, IsRefused, Judges, Picks, WorldStep, judged_world, judgement_of, picking_of}
+use Rattle.card_core.specs.Steps.{Enters, FindsNoMemory, Gives, IsRefused, Judges, Picks, WorldStep, judged_world, judgement_of, left_by_judge, left_by_pick, picking_of}
 use Rattle.card_core.specs.World.{Connection, Picking, PortState, World, code_in, connection_in, entered, outside, picked, with_port}
 use Rattle.card_core.specs.declared.answer.Answer.{Answer}
 use Rattle.card_core.specs.declared.answer.Answer.TheVariants as answer
@@ -80,7 +80,7 @@ pick-case before after cell moment reply had step =
         → MatchOption (if b then Some (Answered answer.NoConnection) else None)
         (Picks before 0 reply after ⊎ FindsNoMemory before (Pick 0) reply after) (λ refused. IsRefused before (Pick 0) refused reply after)
         → PickCase before cell moment reply after
-    by true e is = missed_so (is-missing (connection_in before.connections (vc_of before.shape.side cell)) e) is.answer is.world
+    by true e is = missed_so (is-missing (connection_in before.connections (vc_of before.shape.side cell)) e) is.answer (is.world ∙ ap (left_by_pick before 0) had)
     by false e (inl goes) = picks-case before after cell moment reply had goes
     by false e (inr lacks) = let no = lacks.answer in absurd (cc)
 
@@ -124,4 +124,4 @@ judge-case before after picking connection reply had found same step =
         → JudgeCase before picking connection reply after
     by None e (inl goes) = judges-case before after picking connection reply had found e goes
     by None e (inr lacks) = let no = lacks.answer in absurd (cc)
-    by (Some given) e is = refused_so given e is.answer is.world
+    by (Some given) e is = refused_so given e is.answer (is.world ∙ ap (left_by_judge before 0) had)

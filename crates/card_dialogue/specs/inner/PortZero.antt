@@ -1,5 +1,5 @@
 -- Port 0, which every cell of a script comes to: it is free before each command and after it.
-use Rattle.std.proofs.Common.{◌≡◌, ◌⊎◌, ℕ, inl, inr, Bool, true, false, if◌then◌else◌, List, [], ◌∷◌, Option, Some, None, slice_get, option_map, refl, sym, ap, subst}
+use Rattle.std.proofs.Common.{◌≡◌, ◌⊎◌, ℕ, inl, inr, Bool, true, false, if◌then◌else◌, List, [], ◌∷◌, Option, Some, None, slice_get, option_map, refl, sym, ap, ◌∙◌, subst}
 use Rattle.std.specs.Prelude.{is_none, slice_set}
 use Rattle.std.specs.Option.{MatchOption}
 use Rattle.upc_cell.specs.Connection.{vc_of}
@@ -7,7 +7,7 @@ use Rattle.upc_cell.specs.declared.vc.Vc.{Vc}
 use Rattle.bpf_code.specs.declared.instr.Instr.{Instr}
 use Rattle.gen_arena.specs.declared.id.Id.{Id}
 use Rattle.card_core.specs.Refusals.{enter_refusal, judge_refusal, load_fault, missing_fault, pick_refusal, picking_refusal, reload_fault, retire_fault, setup_fault}
-use Rattle.card_core.specs.Steps.{Enters, FindsNoMemory, IsRefused, Judges, Picks, WorldStep, judgement_of, picking_of}
+use Rattle.card_core.specs.Steps.{Enters, FindsNoMemory, IsRefused, Judges, Picks, WorldStep, judgement_of, left_by_judge, left_by_pick, picking_of}
 use Rattle.card_core.specs.World.{Picking, PortState, World, connection_in, entered, outside, picked}
 use Rattle.card_core.specs.declared.answer.Answer.{Answer}
 use Rattle.card_core.specs.declared.answer.Answer.TheVariants as answer
@@ -89,7 +89,7 @@ pick-goes before after cell moment reply had step =
     by : (b : Bool) → MatchOption (if b then Some (Answered answer.NoConnection) else None)
         (Picks before 0 reply after ⊎ FindsNoMemory before (Pick 0) reply after) (λ refused. IsRefused before (Pick 0) refused reply after)
         → PickComesTo reply after
-    by true is = inl (answer.NoConnection, is.answer, subst (λ (w : World). PortIs w outside) (sym is.world) (put-there before.ports (entered cell moment) outside had))
+    by true is = inl (answer.NoConnection, is.answer, subst (λ (w : World). PortIs w outside) (sym (is.world ∙ ap (left_by_pick before 0) had)) (put-there before.ports (entered cell moment) outside had))
     by false (inl goes) =
         let picking = picking_of goes.cell goes.moment (vc_of before.shape.side goes.cell) goes.connection goes.value in
         inr (picking, goes.answer, subst (λ (w : World). PortIs w (picked picking)) (sym goes.world) (put-there before.ports (entered cell moment) (picked picking) had))
@@ -108,4 +108,4 @@ judge-goes before after picking reply had step =
         → (given : Answer) × (reply ≡ Answered given) × PortIs after outside
     by None (inl goes) = (judgement_of before goes.picking goes.connection, goes.answer, subst (λ (w : World). PortIs w outside) (sym goes.world) (put-there before.ports (picked picking) outside had))
     by None (inr lacks) = let no = lacks.answer in cc
-    by (Some given) is = (given, is.answer, subst (λ (w : World). PortIs w outside) (sym is.world) (put-there before.ports (picked picking) outside had))
+    by (Some given) is = (given, is.answer, subst (λ (w : World). PortIs w outside) (sym (is.world ∙ ap (left_by_judge before 0) had)) (put-there before.ports (picked picking) outside had))

@@ -1,5 +1,5 @@
 -- The line of a cell, as it was read.
-use Rattle.std.specs.Prelude.{◌≡◌, ℕ, List, [], ◌∷◌, ◌++◌, codes, Some}
+use Rattle.std.specs.Prelude.{◌≡◌, ℕ, List, [], ◌∷◌, codes, Some}
 use Rattle.dialogue.specs.Words.{words_of}
 use Rattle.program_dialogue.specs.CellWord.{IsCellWord}
 use Rattle.program_dialogue.specs.declared.hexadecimal.CellWord.TheVariants.{OfCell}
@@ -9,9 +9,3 @@ use Rattle.card_dialogue.specs.ScriptWords.{number_of}
 abbrev pub SpellsCell : List ℕ → ℕ → List ℕ → Type 0
 SpellsCell line moment cell = (number : List ℕ) × (word : List ℕ)
     × (words_of line ≡ codes "cell" ∷ number ∷ word ∷ []) × (number_of number ≡ Some moment) × IsCellWord word (OfCell cell)
-
--- The line's common form: the command, a number of this value, and a word that spells the cell, with one space
--- between them, and nothing before and behind.
-abbrev pub IsCommonLine : List ℕ → ℕ → List ℕ → Type 0
-IsCommonLine line moment cell = (number : List ℕ) × (word : List ℕ)
-    × (line ≡ codes "cell " ++ (number ++ 32 ∷ word)) × (number_of number ≡ Some moment) × IsCellWord word (OfCell cell)
