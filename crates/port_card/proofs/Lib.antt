@@ -1,5 +1,4 @@
 pub mod Columns
 pub mod Counting
-pub mod Judging
 pub mod Gathering
 pub mod Releasing

@@ -1,18 +1,15 @@
 -- What an answer of a running card tells.
-use Rattle.std.specs.Prelude.{◌≡◌, ◌<◌, ◌^◌, ◌≤◌, ℕ, ◌⊎◌, ⊤, List}
+use Rattle.std.specs.Prelude.{◌≡◌, ◌<◌, ◌^◌, ◌≤◌, ℕ, ⊤, List}
 use Rattle.bpf_code.specs.declared.instr.Instr.{Instr}
 use Rattle.bpf_verify.specs.Accepted.{IsAccepted}
 use Rattle.leaky.specs.declared.verdict.Verdict.TheVariants.{Refuse}
+use Rattle.line_record.specs.History.{IsNoNumber}
 use Rattle.card_core.specs.declared.answer.Answer.{Answer}
 use Rattle.card_core.specs.declared.answer.Answer.TheVariants.{MomentTooLate, MomentBack}
 use Rattle.card_core.specs.declared.fault.DeskFault.{DeskFault}
 use Rattle.card_core.specs.declared.fault.DeskFault.TheVariants.{NoProgram, NoConnection, Taken, BadContracts, NoLine, InUse, Exhausted, Stale, NoMemory}
 use Rattle.card_core.specs.Sections.{JudgedView}
 use Rattle.card_core.specs.Steps.{Gives, cell_after}
-
--- No connection has a contract of this number: they are counted from 1 to 4 at most.
-abbrev pub IsNoNumber : ℕ → Type 0
-IsNoNumber value = (value ≡ 0) ⊎ (4 < value)
 
 -- One accepted code gives the value for the cell.
 pub record IsGiven (cell : List ℕ) (value : ℕ) : Type 0 where

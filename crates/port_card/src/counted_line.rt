@@ -26,13 +26,14 @@ pub(crate) struct CountedLine<S: Ledgers> {
 impl<S: Ledgers> CountedLine<S> {
     ghost use Rattle.std.specs.Prelude.{◌≡◌, ◌≢◌, ◌+◌, ◌<◌, ◌≤◌, ◌^◌, [], length, Some, None, IfOk, IfErr, IfSome, IsSome, MatchOption, MatchResult, OnErr, OnOk};
     ghost use Rattle.line_record.specs.Directory.{seating_at, IsOpenLine, Sits};
+    ghost use Rattle.line_record.specs.History.{IsNoNumber};
     ghost use Rattle.line_record.specs.Line.{IsLine, Opens};
     ghost use Rattle.line_record.specs.Piece.{IsJournalOf, IsPiece};
     ghost use Rattle.line_record.specs.Tally.{nothing, HasRoom};
-    ghost use Rattle.card_core.specs.Sections.{holder, judging_refusal, IsUncut, IsUnready, JudgesAt, told};
+    ghost use Rattle.card_core.specs.Sections.{holder, judging_refusal, IsUncut, IsUnready, MayBecomeReady, JudgesAt, told};
     ghost use Rattle.card_core.specs.Steps.{cell_after};
     ghost use Rattle.port_card.specs.Seats.{seat_after};
-    ghost use Rattle.port_card.specs.Answers.{IsNoNumber, BlamesRightly, IsOfSetup, IsOfRelease, IsOfCut};
+    ghost use Rattle.port_card.specs.Answers.{BlamesRightly, IsOfSetup, IsOfRelease, IsOfCut};
     ghost use Rattle.port_card.specs.inner.Marks.{unused_marks};
 
     /// A line that has judged nothing, with its marks.
@@ -68,7 +69,7 @@ impl<S: Ledgers> CountedLine<S> {
             (JudgesAt self.old.line seating.now named.now moment result self.new.line)
             (λ refused. (result ≡ refused) × (self.new.line ≡ self.old.line)) }
         ensures full { (HasRoom books.old → ⊥) → (result ≡ Answer.JournalFull) × (self.new.line ≡ self.old.line) }
-        ensures kept { IsLine self.old.line }
+        ensures kept { HasRoom books.old → IsLine self.old.line }
 
         // The seat counts a judged cell and no other.
         ensures tallied { seat.new ≡ seat_after seat.old (told result) }
@@ -85,8 +86,6 @@ impl<S: Ledgers> CountedLine<S> {
         ensures blames { BlamesRightly moment result }
         ensures memory { result ≢ Answer.NoMemory }
     {
-        // That the line keeps a run and has four contracts at most is known once it is looked at.
-        let _ = self.line.contracts();
         if !books.has_room() {
             return Answer::JournalFull;
         }
@@ -118,6 +117,8 @@ impl<S: Ledgers> CountedLine<S> {
             seatings.new.directory) }
         ensures unready { IfErr result (λ refused. IsUnready self.old.line refused.0) }
         ensures unchanged { OnErr result (seatings.new.directory ≡ seatings.old.directory) }
+        ensures line_stale { IfErr result (λ refused. refused.0 ≡ DeskFault.Stale → self.new.line ≡ self.old.line) }
+        ensures line_unchanged { OnErr result (MayBecomeReady self.old.line self.new.line) }
 
         ensures owner { IfOk result (λ owner. owner.vc ≡ ask.vc) }
         ensures refused { IfErr result (λ refused. IsOfSetup refused.0) }

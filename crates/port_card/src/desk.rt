@@ -3,7 +3,7 @@
 use crate::card::Card;
 use crate::ledgers::Ledgers;
 use bpf_verify::Program;
-use card_core::{Ask, DeskFault, load};
+use card_core::{Ask, DeskFault, Store, load};
 use gen_arena::Id;
 use line_record::{Owner, Piece};
 use std::marker::PhantomData;
@@ -44,7 +44,7 @@ impl<S: Ledgers> Desk<S> {
         ensures refused { IfErr result (λ refused. refused.0 ≡ DeskFault.ProgramsFull) }
         ensures returned { IfErr result (λ refused. refused.1 ≡ program) }
     {
-        load(&mut card.store.write(rt), program)
+        put(&mut card.store.write(rt), program)
     }
 
     /// Takes a program out that no connection names. It waits until no cell is between its look-up
@@ -149,4 +149,28 @@ impl<S: Ledgers> Desk<S> {
             .lock(rt)
             .cut(vc, &seating)
     }
+}
+
+ghost use Rattle.std.specs.Prelude.{◌≡◌, ◌↔◌, Some, IsErr, IfOk, IfErr, OnErr};
+ghost use Rattle.bpf_verify.specs.Accepted.{IsAccepted};
+ghost use Rattle.gen_arena.specs.Free.{free_slots, NoneIsFree};
+ghost use Rattle.gen_arena.specs.Insert.{Inserts};
+ghost use Rattle.gen_arena.specs.Live.{live_value};
+ghost use Rattle.gen_arena.specs.Past.{KeepsPast};
+
+/// Puts a program into a free slot of the programs that were lent.
+fn put(store: &mut Store, program: Program) -> Result<Id, (DeskFault, Program)>
+    // It is the locked section of the core, on the programs that were lent.
+    ensures loaded { IfOk result (λ id. Inserts store.old store.new id program) }
+    ensures live { IfOk result (λ id. live_value store.new id ≡ Some program) }
+    ensures full { IsErr result ↔ (free_slots store.old ≡ 0) }
+    ensures none_is_free { OnErr result (NoneIsFree store.old) }
+    ensures unchanged { OnErr result (store.new ≡ store.old) }
+    ensures past { KeepsPast store.old store.new }
+
+    ensures accepted { IsAccepted program }
+    ensures refused { IfErr result (λ refused. refused.0 ≡ DeskFault.ProgramsFull) }
+    ensures returned { IfErr result (λ refused. refused.1 ≡ program) }
+{
+    load(store, program)
 }
