@@ -1,8 +1,9 @@
 //! The ports and the desk of a card at work at the same time, a thread for each port.
 
-use crate::dealing::{BusyPort, Deal};
+use crate::busy_ports::BusyPort;
+use crate::dealing::DealtCell;
 use crate::script_desk::ScriptDesk;
-use port_card::{Card, Gate, Ledgers};
+use port_card::{Card, Gate, Ledgers, PortSeat};
 use std::alloc::{AllocError, Global};
 use std::sync::Wait;
 use std::thread::{self, Threads};
@@ -11,13 +12,10 @@ use std::thread::{self, Threads};
 fn at_port<S: Ledgers, G: Gate, R: Wait>(
     rt: &R,
     card: &Card<S>,
-    port: BusyPort<S>,
+    mut seat: PortSeat<S>,
+    mut arrivals: Vec<DealtCell>,
     gate: &G,
 ) -> BusyPort<S> {
-    let BusyPort {
-        mut seat,
-        mut arrivals,
-    } = port;
     for arrival in arrivals.iter_mut() {
         let answer = card.arrive(rt, &mut seat, &arrival.cell, arrival.moment, gate);
         arrival.answer = answer;
@@ -41,8 +39,8 @@ fn at_desk<S: Ledgers, R: Wait>(
     Ok(told)
 }
 
-/// Runs each port on a thread of its own, and the desk on this one: the ports with what their cells were
-/// answered, and what the desk's lines were.
+/// Runs each port on a thread of its own, with the cells that come to it, and the desk on this one. Returns the ports
+/// with what their cells were answered, and what the desk's lines were.
 ///
 /// # Errors
 ///
@@ -53,15 +51,16 @@ pub fn run_at_once<S: Ledgers + Send + Sync, G: Gate + Sync, R: Threads + Wait +
     alloc: Global,
     card: &Card<S>,
     gate: &G,
-    ports: Vec<BusyPort<S>>,
+    seats: Vec<PortSeat<S>>,
+    arrivals: Vec<Vec<DealtCell>>,
     desk: &mut ScriptDesk<S>,
-    dealt: &Deal<'_>,
+    lines: &[&[u8]],
 ) -> Result<(Vec<BusyPort<S>>, Vec<Vec<u8>>), AllocError> {
     thread::scope(thread::scope_env(), rt, |scope| {
         let mut running = Vec::new(alloc);
         let mut whole = true;
-        for port in ports {
-            match scope.spawn(move || at_port(rt, card, port, gate)) {
+        for (seat, own) in seats.into_iter().zip(arrivals) {
+            match scope.spawn(move || at_port(rt, card, seat, own, gate)) {
                 Ok(handle) => {
                     if running.push(handle).is_err() {
                         whole = false;
@@ -71,7 +70,7 @@ pub fn run_at_once<S: Ledgers + Send + Sync, G: Gate + Sync, R: Threads + Wait +
             }
         }
         let told = if whole {
-            at_desk(rt, card, desk, &dealt.desk)
+            at_desk(rt, card, desk, lines)
         } else {
             Err(AllocError)
         };

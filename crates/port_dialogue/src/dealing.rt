@@ -1,11 +1,12 @@
 //! The lines of a script from its first cell line on, dealt to the ports and the desk that answer them.
 
-ghost use Rattle.std.specs.Prelude.{◌≡◌, ◌<◌};
-ghost use Rattle.port_dialogue.specs.inner.Dealing.{port_of};
+ghost use Rattle.std.specs.Prelude.{◌≡◌, ◌<◌, ℕ, List, IfOk, OnOk, length, map};
+ghost use Rattle.port_dialogue.specs.inner.Dealing.{port_of, dealt, none_dealt, AreLinesOf, DealsAll, DealsCell, DealsCellLine, DealsDeskLine};
 
 use crate::cell_line::{CellLine, CellLineFault, read_cell_line};
 use crate::script_lines::{first_line, is_cell_line};
 use card_core::Answer;
+use card_dialogue::read_cell;
 use port_card::{Ledgers, PortSeat};
 use std::alloc::{AllocError, Global};
 use upc_cell::{Cell, Side, Vc};
@@ -20,13 +21,6 @@ pub struct DealtCell {
     pub moment: u64,
     pub cell: Cell,
     pub answer: Answer,
-}
-
-/// The seat of a port with its cells, in the script's order.
-#[derive(Drop)]
-pub struct BusyPort<S: Ledgers> {
-    pub seat: PortSeat<S>,
-    pub arrivals: Vec<DealtCell>,
 }
 
 /// Who answers a line, and as which of his lines, from 0.
@@ -45,36 +39,10 @@ pub enum Answerer {
 pub struct Deal<'a> {
     /// In the script's order.
     pub order: Vec<Answerer>,
-    /// The lines of the desk.
+    /// The lines of the desk, in the script's order.
     pub desk: Vec<&'a [u8]>,
-}
-
-/// The seats, with no cells yet.
-pub fn busy_ports<S: Ledgers>(
-    alloc: Global,
-    seats: Vec<PortSeat<S>>,
-) -> Result<Vec<BusyPort<S>>, AllocError> {
-    let mut ports = Vec::new(alloc);
-    for seat in seats {
-        ports.push(BusyPort {
-            seat,
-            arrivals: Vec::new(alloc),
-        })?;
-    }
-    Ok(ports)
-}
-
-/// The seats, without their cells.
-pub fn seats_of<S: Ledgers>(
-    alloc: Global,
-    ports: Vec<BusyPort<S>>,
-) -> Result<Vec<PortSeat<S>>, AllocError> {
-    let mut seats = Vec::new(alloc);
-    for port in ports {
-        let BusyPort { seat, arrivals: _ } = port;
-        seats.push(seat)?;
-    }
-    Ok(seats)
+    /// The cells of each port, by its number, in the script's order.
+    pub arrivals: Vec<Vec<DealtCell>>,
 }
 
 /// The number of the port that a cell of this connection comes to, of so many.
@@ -86,31 +54,33 @@ fn port_of(vc: Vc, ports: usize) -> usize
 }
 
 impl<'a> Deal<'a> {
-    /// No line yet.
-    fn new(alloc: Global) -> Deal<'a> {
-        Deal {
+    ghost use Rattle.std.specs.Prelude.{◌≡◌, ◌<◌, IfOk, OnOk, length};
+    ghost use Rattle.port_dialogue.specs.inner.Dealing.{dealt, none_dealt, DealsCell, DealsCellLine, DealsDeskLine};
+
+    /// No line yet, for so many ports.
+    fn new(alloc: Global, ports: usize) -> Result<Deal<'a>, AllocError>
+        ensures { IfOk result (λ deal. dealt deal ≡ none_dealt ports) }
+    {
+        let mut arrivals = Vec::new(alloc);
+        for _ in 0..ports {
+            arrivals.push(Vec::new(alloc))?;
+        }
+        Ok(Deal {
             order: Vec::new(alloc),
             desk: Vec::new(alloc),
-        }
+            arrivals,
+        })
     }
 
     /// Deals a cell to its port.
-    fn deal_cell<S: Ledgers>(
-        &mut self,
-        side: Side,
-        moment: u64,
-        cell: Cell,
-        ports: &mut Vec<BusyPort<S>>,
-    ) -> Result<(), AllocError> {
-        if ports.is_empty() {
-            return Ok(());
-        }
-        let number = port_of(cell.vc_at(side), ports.len());
-        let Some(port) = ports.get_mut(number) else {
-            return Ok(());
-        };
-        let place = port.arrivals.len();
-        port.arrivals.push(DealtCell {
+    fn deal_cell(&mut self, side: Side, moment: u64, cell: Cell) -> Result<(), AllocError>
+        requires { 0 < length self.old.arrivals.items }
+        ensures { OnOk result (DealsCell side moment cell (dealt self.old) (dealt self.new)) }
+    {
+        let number = port_of(cell.vc_at(side), self.arrivals.len());
+        let own = &mut self.arrivals[number];
+        let place = own.len();
+        own.push(DealtCell {
             moment,
             cell,
             answer: Answer::NoMemory,
@@ -120,23 +90,25 @@ impl<'a> Deal<'a> {
     }
 
     /// Deals a line to the desk.
-    fn deal_desk_line(&mut self, line: &'a [u8]) -> Result<(), AllocError> {
+    fn deal_desk_line(&mut self, line: &'a [u8]) -> Result<(), AllocError>
+        ensures { OnOk result (DealsDeskLine line.now (dealt self.old) (dealt self.new)) }
+    {
         let number = self.desk.len();
         self.order.push(Answerer::Desk(number))?;
         self.desk.push(line)?;
         Ok(())
     }
 
-    /// Deals a line whose first word is that of a cell line.
-    fn deal_cell_line<S: Ledgers>(
-        &mut self,
-        alloc: Global,
-        side: Side,
-        line: &[u8],
-        ports: &mut Vec<BusyPort<S>>,
-    ) -> Result<(), AllocError> {
+    /// Deals a line whose first word is that of a cell line. The common form is read at once.
+    fn deal_cell_line(&mut self, alloc: Global, side: Side, line: &[u8]) -> Result<(), AllocError>
+        requires { 0 < length self.old.arrivals.items }
+        ensures { OnOk result (DealsCellLine side line.now (dealt self.old) (dealt self.new)) }
+    {
+        if let Some(arrival) = read_cell(line) {
+            return self.deal_cell(side, arrival.moment, arrival.cell);
+        }
         match read_cell_line(alloc, side, line)? {
-            CellLine::Comes(moment, cell) => self.deal_cell(side, moment, cell, ports),
+            CellLine::Comes(moment, cell) => self.deal_cell(side, moment, cell),
             CellLine::IsFaulty(fault) => {
                 self.order.push(Answerer::Fault(fault))?;
                 Ok(())
@@ -145,22 +117,27 @@ impl<'a> Deal<'a> {
     }
 }
 
-/// Deals the lines: each cell to the port of its connection, all others to the desk.
-pub fn deal_lines<'a, S: Ledgers>(
+/// Deals the lines: each cell to one of so many ports, that of its connection, and all others to the desk.
+pub fn deal_lines(
     alloc: Global,
     side: Side,
-    lines: &'a [u8],
-    ports: &mut Vec<BusyPort<S>>,
-) -> Result<Deal<'a>, AllocError> {
-    let mut deal = Deal::new(alloc);
+    lines: &[u8],
+    ports: usize,
+) -> Result<Deal<'_>, AllocError>
+    requires { 0 < ports }
+    ensures dealt { IfOk result (λ deal. (each : List (List ℕ)) → AreLinesOf lines.now each
+        → DealsAll side each (none_dealt ports) (dealt deal)) }
+    ensures one_each { IfOk result (λ deal. length deal.arrivals.items ≡ ports) }
+{
+    let mut deal = Deal::new(alloc, ports)?;
     let mut rest = lines;
-    while let Some((line, behind)) = first_line(rest) {
+    while let Some((line, later)) = first_line(rest) {
         if is_cell_line(line) {
-            deal.deal_cell_line(alloc, side, line, ports)?;
+            deal.deal_cell_line(alloc, side, line)?;
         } else {
             deal.deal_desk_line(line)?;
         }
-        rest = behind;
+        rest = later;
     }
     Ok(deal)
 }

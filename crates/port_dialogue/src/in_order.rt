@@ -8,8 +8,9 @@ ghost use Rattle.card_dialogue.specs.AddsSome.{AddsSome};
 ghost use Rattle.card_dialogue.specs.Replies.{answer_text};
 ghost use Rattle.upc_cell.specs.Connection.{vc_of};
 
+use crate::busy_ports::BusyPort;
 use crate::cell_line::add_cell_line_fault;
-use crate::dealing::{Answerer, BusyPort, DealtCell};
+use crate::dealing::{Answerer, DealtCell};
 use card_dialogue::{Names, add_answer};
 use port_card::Ledgers;
 use std::alloc::AllocError;

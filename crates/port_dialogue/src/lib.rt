@@ -7,6 +7,7 @@
 #![tactic(auto)]
 
 mod at_once;
+mod busy_ports;
 mod cell_line;
 mod closing_lines;
 mod dealing;
@@ -15,7 +16,5 @@ mod ports;
 mod script;
 mod script_desk;
 mod script_lines;
-#[cfg(test)]
-mod tests;
 
 pub use ports::{run_ports, run_ports_with};

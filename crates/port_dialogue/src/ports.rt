@@ -1,16 +1,18 @@
 //! `upc ports`: a script whose cells come to ports that are threads of their own.
 
-ghost use Rattle.std.specs.Prelude.{◌≡◌, ◌≢◌, [], IfOk, OnErr, ℕ, List, Ok, Err};
+ghost use Rattle.std.specs.Prelude.{◌≡◌, ◌≢◌, ◌<◌, [], IfOk, OnErr, ℕ, List, Ok, Err, length};
 ghost use Rattle.dialogue.specs.Devices.{Adds, TakesEnough};
 ghost use Rattle.dialogue.specs.Limits.{most_ahead};
 ghost use Rattle.dialogue.specs.Failures.{read_failures, write_failures};
 ghost use Rattle.dialogue.specs.Printing.{IsFront};
 ghost use Rattle.port_card.specs.Names.{AreFor};
 ghost use Rattle.port_dialogue.specs.PortsText.{IsClosedText, IsPortsText};
+ghost use Rattle.port_dialogue.specs.inner.Dealing.{AreLinesOf, from_first_cell};
 
 use crate::at_once::run_at_once;
+use crate::busy_ports::seats_of;
 use crate::closing_lines::{add_closing, done_after};
-use crate::dealing::{busy_ports, deal_lines, seats_of};
+use crate::dealing::{Deal, deal_lines};
 use crate::in_order::add_in_order;
 use crate::script::Script;
 use crate::script_desk::ScriptDesk;
@@ -24,26 +26,29 @@ use std::marker::Brand;
 use std::sync::Wait;
 use std::thread::Threads;
 
-/// Answers the lines before the first cell line, and gives what stands from there on.
+/// Answers the lines before the first cell line, and returns the lines from there on.
 fn answer_first<'a, S: Ledgers, R: Wait>(
     rt: &R,
     card: &Card<S>,
     desk: &mut ScriptDesk<S>,
     lines: &'a [u8],
     answers: &mut Vec<u8>,
-) -> Result<&'a [u8], AllocError> {
+) -> Result<&'a [u8], AllocError>
+    ensures { IfOk result (λ later. (each : List (List ℕ)) → AreLinesOf lines.now each
+        → AreLinesOf later.now (from_first_cell each)) }
+{
     let mut rest = lines;
-    while let Some((line, behind)) = first_line(rest) {
+    while let Some((line, later)) = first_line(rest) {
         if is_cell_line(line) {
             return Ok(rest);
         }
         desk.answer(rt, card, line, answers)?;
-        rest = behind;
+        rest = later;
     }
     Ok(rest)
 }
 
-/// Answers the lines of a script on a card, and gives the seats back.
+/// Answers the lines of a script on a card, and returns the seats.
 fn answer_lines_on<S: Ledgers + Send + Sync, G: Gate + Sync, R: Threads + Wait + Sync>(
     rt: &R,
     alloc: Global,
@@ -53,12 +58,17 @@ fn answer_lines_on<S: Ledgers + Send + Sync, G: Gate + Sync, R: Threads + Wait +
     lines: &[u8],
     gate: &G,
     answers: &mut Vec<u8>,
-) -> Result<Vec<PortSeat<S>>, AllocError> {
+) -> Result<Vec<PortSeat<S>>, AllocError>
+    requires { 0 < length seats.items }
+{
     let later = answer_first(rt, card, desk, lines, answers)?;
-    let mut ports = busy_ports(alloc, seats)?;
-    let dealt = deal_lines(alloc, desk.side, later, &mut ports)?;
-    let (ports, told) = run_at_once(rt, alloc, card, gate, ports, desk, &dealt)?;
-    add_in_order(desk.side, &dealt.order, &ports, &told, &desk.names, answers)?;
+    let Deal {
+        order,
+        desk: desk_lines,
+        arrivals,
+    } = deal_lines(alloc, desk.side, later, seats.len())?;
+    let (ports, told) = run_at_once(rt, alloc, card, gate, seats, arrivals, desk, &desk_lines)?;
+    add_in_order(desk.side, &order, &ports, &told, &desk.names, answers)?;
     seats_of(alloc, ports)
 }
 

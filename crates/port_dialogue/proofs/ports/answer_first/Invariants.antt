@@ -1,5 +1,11 @@
-use Rattle.std.proofs.Common.{length}
+-- The lines so far were none of cells.
+use Rattle.std.proofs.Common.{ℕ, List, length}
+use Rattle.port_dialogue.specs.inner.Dealing.{AreLinesOf}
+use Rattle.port_dialogue.proofs.DealingLemmas.{IsBefore}
 use Rattle.port_dialogue.proofs.ports.answer_first.Given as goal
+
+abbrev pub invariant-loop-line : goal.invariant-loop-line
+invariant-loop-line g l = (whole : List (List ℕ)) → AreLinesOf l.lines whole → IsBefore whole l.rest
 
 abbrev pub decreases-loop-line : goal.decreases-loop-line
 decreases-loop-line g l = length l.rest
