@@ -1,6 +1,7 @@
 //! Whole cards, step by step.
 
 mod interleaving;
+mod isolation;
 
 use arrayvec::ArrayVec;
 use bpf_code::Instr;

@@ -1,0 +1,51 @@
+-- The judged cells among a connection's own events are those that the log has of it: none is missing, and
+-- none is another's.
+use Rattle.std.specs.Prelude.{◌≡◌, ◌≤◌, ◌^◌, ℕ, List, length, map, filter, filter_map, Option, Some, None}
+use Rattle.upc_cell.specs.declared.vc.Vc.{Vc}
+use Rattle.upc_cell.specs.Connection.{vc_of, is_same_vc}
+use Rattle.leaky.specs.declared.verdict.Verdict.{Verdict}
+use Rattle.card_core.specs.declared.shape.Shape.{Shape}
+use Rattle.card_core.specs.Judged.{JudgedView}
+use Rattle.card_core.specs.Log.{Event, IsLog}
+use Rattle.card_core.specs.Headline.{judged_cells}
+use Rattle.card_isolation.specs.Outcome.{Outcome, was_judged}
+use Rattle.card_isolation.specs.OwnEvents.{OwnEvent, own_events}
+
+-- What is told of a judged cell, but for its line, the count of that line, and the id of its program.
+pub record ToldCell : Type 0 where
+  pub moment : ℕ
+  pub value : ℕ
+  pub verdict : Verdict
+  pub cell : List ℕ
+
+-- What an answer tells so.
+abbrev pub told_cell : JudgedView → ToldCell
+told_cell judged = record {
+  moment = judged.moment;
+  value = judged.value;
+  verdict = judged.verdict;
+  cell = judged.cell;
+}
+
+-- The judged cell that is the outcome, if it is one.
+abbrev pub judged_outcome : Outcome → Option ToldCell
+judged_outcome (was_judged moment value code verdict cell) = Some (record {
+  moment = moment;
+  value = value;
+  verdict = verdict;
+  cell = cell;
+})
+judged_outcome _ = None
+
+-- The judged cells among these events.
+abbrev pub judged_own : List OwnEvent → List ToldCell
+judged_own events = filter_map (λ event. judged_outcome event.outcome) events
+
+-- The judged cells of the log that are of this virtual connection, by the header with which they leave.
+abbrev pub judged_on : Shape → Vc → List Event → List ToldCell
+judged_on shape vc log = map told_cell (filter (λ judged. is_same_vc vc (vc_of shape.side judged.cell)) (judged_cells log))
+
+-- They are the same, in the same order, in each log of at most 2^62 events.
+abbrev pub JudgedCellsAreOwn : Type 0
+JudgedCellsAreOwn = (shape : Shape) (log : List Event) (vc : Vc) → IsLog shape log → length log ≤ 2 ^ 62
+    → judged_own (own_events shape.side vc log) ≡ judged_on shape vc log
