@@ -1,5 +1,6 @@
 //! A module for each crate.
 
 mod lines;
+mod ports;
 mod programs;
 mod scripts;

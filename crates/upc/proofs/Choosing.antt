@@ -22,9 +22,9 @@ use Rattle.std.specs.Str.{bytes_eq}
 use Rattle.std.proofs.lemmas.Slice.Eq.{bytes_eq-Decides}
 use Rattle.clap.proofs.WalkLemmas.{both}
 use Rattle.clap.proofs.SimpleLemmas.{is_nil}
-use Rattle.upc.specs.declared.choose.Choice.{Choice}
-use Rattle.upc.specs.declared.choose.Stop.{Stop}
-use Rattle.upc.specs.declared.choose.Stop.TheVariants.{Help, Words, NoMemory}
+use Rattle.upc.specs.declared.choice.Choice.{Choice}
+use Rattle.upc.specs.declared.choice.Stop.{Stop}
+use Rattle.upc.specs.declared.choice.Stop.TheVariants.{Help, Words, NoMemory}
 use Rattle.upc.proofs.PlainWords.{Finds, find_both, finds, has_requests_alone, is_plain_subcommand}
 
 pub upc_is_simple : is_simple upc_app ≡ true

@@ -2,8 +2,8 @@
 use Rattle.std.proofs.Common.{◌≡◌, ℕ, List}
 use Rattle.dialogue.specs.declared.ending.Done.{Done}
 use Rattle.upc.specs.Subcommand.{IsTextOf, IsToldWhole}
-use Rattle.upc.specs.declared.choose.Choice.{Choice}
-use Rattle.upc.specs.declared.choose.Choice.TheVariants.{Check, Eval, Run, Ports}
+use Rattle.upc.specs.declared.choice.Choice.{Choice}
+use Rattle.upc.specs.declared.choice.Choice.TheVariants.{Check, Eval, Run, Ports}
 use Rattle.program_dialogue.proofs.Public.{some-check_text, one-check_text, some-eval_text, one-eval_text}
 use Rattle.card_dialogue.proofs.Public.{some-run_text, one-run_text}
 use Rattle.port_dialogue.proofs.Public.{some-ports_text}

@@ -8,10 +8,10 @@ use Rattle.clap.specs.Kinds.{IsAmong, Kinds}
 use Rattle.clap.specs.Faults.{fault_of}
 use Rattle.clap.specs.declared.error.kind.ErrorKind.{ErrorKind}
 use Rattle.clap.specs.declared.error.kind.ErrorKind.TheVariants.{DisplayHelp}
-use Rattle.upc.specs.declared.choose.Choice.{Choice}
-use Rattle.upc.specs.declared.choose.Choice.TheVariants.{Check, Eval, Run, Ports}
-use Rattle.upc.specs.declared.choose.Stop.{Stop}
-use Rattle.upc.specs.declared.choose.Stop.TheVariants.{Help, Words, NoMemory}
+use Rattle.upc.specs.declared.choice.Choice.{Choice}
+use Rattle.upc.specs.declared.choice.Choice.TheVariants.{Check, Eval, Run, Ports}
+use Rattle.upc.specs.declared.choice.Stop.{Stop}
+use Rattle.upc.specs.declared.choice.Stop.TheVariants.{Help, Words, NoMemory}
 
 -- The subcommands: each one's name, and the choice that it stands for.
 abbrev pub subcommands : List (Text × Choice)

@@ -9,9 +9,9 @@ use Rattle.dialogue.specs.declared.ending.RunFault.{RunFault}
 use Rattle.dialogue.specs.declared.ending.RunFault.TheVariants.{ReadFailed, WriteFailed, NoMemory}
 use Rattle.upc.specs.ExitStatus.{status_of}
 use Rattle.upc.specs.Subcommand.{IsTextOf}
-use Rattle.upc.specs.declared.choose.Choice.{Choice}
-use Rattle.upc.specs.declared.choose.Stop.{Stop}
-use Rattle.upc.specs.declared.choose.Stop.TheVariants.{Help, Words, NoMemory as LacksMemory}
+use Rattle.upc.specs.declared.choice.Choice.{Choice}
+use Rattle.upc.specs.declared.choice.Stop.{Stop}
+use Rattle.upc.specs.declared.choice.Stop.TheVariants.{Help, Words, NoMemory as LacksMemory}
 
 -- What an input, an output and a place for errors were before, and are after: the octets of the input, and
 -- what the other two hold.

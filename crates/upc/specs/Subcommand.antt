@@ -4,8 +4,8 @@ use Rattle.program_dialogue.specs.Check.{IsCheckText}
 use Rattle.program_dialogue.specs.Eval.{IsEvalText}
 use Rattle.card_dialogue.specs.RunText.{IsRunText}
 use Rattle.port_dialogue.specs.PortsText.{IsPortsText}
-use Rattle.upc.specs.declared.choose.Choice.{Choice}
-use Rattle.upc.specs.declared.choose.Choice.TheVariants.{Check, Eval, Run, Ports}
+use Rattle.upc.specs.declared.choice.Choice.{Choice}
+use Rattle.upc.specs.declared.choice.Choice.TheVariants.{Check, Eval, Run, Ports}
 use Rattle.dialogue.specs.declared.ending.Done.{Done}
 
 -- The text of the octets of a whole input, and how it ends; of a script that ports run, as far as it is told.

@@ -3,9 +3,9 @@
 ghost use Rattle.std.specs.Prelude.{◌≡◌, ◌≢◌, ◌⊎◌, ◌++◌, Ok as TheOk, OnOk, OnErr, IfOk};
 ghost use Rattle.dialogue.specs.Devices.{IsPart, one_more};
 ghost use Rattle.upc.specs.Invocation.{CarriesOut, IsStatusFor, failure_line};
-ghost use Rattle.upc.specs.declared.choose.Choice.TheVariants.{Ports};
+ghost use Rattle.upc.specs.declared.choice.Choice.TheVariants.{Ports};
 
-use crate::choose::{Choice, Stop};
+use crate::choice::{Choice, Stop};
 use crate::exit::status;
 use crate::subcommand::{run_alone, run_subcommand};
 use dialogue::{Input, Output, RunFault, give_all};

@@ -3,7 +3,7 @@
 ghost use Rattle.std.specs.Prelude.{◌≡◌, ℕ, List};
 ghost use Rattle.dialogue.specs.declared.ending.Done.{Done as TheDone};
 ghost use Rattle.upc.specs.Subcommand.{IsTextOf, IsToldWhole};
-ghost use Rattle.upc.specs.declared.choose.Choice.{Choice as TheChoice};
+ghost use Rattle.upc.specs.declared.choice.Choice.{Choice as TheChoice};
 
 /// An input has a text of each subcommand.
 pub fn an_input_has_a_text()

@@ -2,22 +2,28 @@
 //! standard output.
 #![tactic(auto)]
 
-mod choose;
-mod exit;
+pub mod choice;
+pub mod exit;
 mod invocation;
 mod laws;
 mod subcommand;
 #[cfg(test)]
 mod tests;
+mod words;
 
-use choose::{Choice, Stop, choose};
+pub use card_dialogue::run_script;
+pub use choice::{Choice, Stop, choose};
 use dialogue::{Giving, Taking};
+pub use exit::status;
 use invocation::{carry_out, carry_out_alone};
-use std::io::{self, IsTerminal};
+pub use port_dialogue::{run_ports, run_ports_with};
+pub use program_dialogue::{check_source, eval_bytes};
+use std::io::IsTerminal;
 use std::process::ExitCode;
+use words::words_after_name;
 
 fn main(rt: HostRuntime) -> ExitCode {
-    let chosen = match words_after_name(&rt) {
+    let chosen = match words_after_name(rt.alloc(), &rt) {
         Ok(words) => choose(rt.alloc(), words),
         Err(_) => Err(Stop::NoMemory),
     };
@@ -39,20 +45,6 @@ fn main(rt: HostRuntime) -> ExitCode {
     ))
 }
 
-/// The words behind the program's own name. Where one of them isn't UTF-8, the replacement character
-/// stands for them all: it is no subcommand, and is refused as other words are.
-fn words_after_name(rt: &HostRuntime) -> io::Result<Vec<String>> {
-    match std::env::args(rt) {
-        Ok(words) => Ok(words.skip(1).collect(rt.alloc())?),
-        Err(error) if error.kind() == io::ErrorKind::InvalidData => {
-            let mut words = Vec::new(rt.alloc());
-            words.push(String::from_str(rt.alloc(), "\u{fffd}")?)?;
-            Ok(words)
-        }
-        Err(error) => Err(error),
-    }
-}
-
 /// What is awaited from a terminal, which says so nowhere else.
 fn awaited(choice: Choice) -> &'static str {
     match choice {
@@ -61,6 +53,7 @@ fn awaited(choice: Choice) -> &'static str {
             "upc eval: reading a program and cells from the terminal, a line each, to the end",
         Choice::Run =>
             "upc run: reading a script of a card from the terminal, a line each, to the end",
-        Choice::Ports => "upc ports: reading a script of a card from the terminal, to its end",
+        Choice::Ports =>
+            "upc ports: reading a script of a card from the terminal, to its end; the answers come then",
     }
 }

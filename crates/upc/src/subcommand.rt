@@ -6,9 +6,9 @@ ghost use Rattle.dialogue.specs.Limits.{most_ahead};
 ghost use Rattle.dialogue.specs.Failures.{read_failures, write_failures};
 ghost use Rattle.dialogue.specs.Printing.{IsFront};
 ghost use Rattle.upc.specs.Subcommand.{IsTextOf};
-ghost use Rattle.upc.specs.declared.choose.Choice.TheVariants.{Ports};
+ghost use Rattle.upc.specs.declared.choice.Choice.TheVariants.{Ports};
 
-use crate::choose::Choice;
+use crate::choice::Choice;
 use card_dialogue::run_script;
 use dialogue::{Done, Input, Output, RunFault};
 use port_dialogue::run_ports;

@@ -5,15 +5,14 @@
 mod devices;
 mod statuses;
 
-use crate::choose::Choice;
-use crate::subcommand::run_subcommand;
+use crate::{Choice, check_source, eval_bytes, run_ports, run_script};
 use dialogue::{Done, Giving, RunFault, Taking};
 use std::alloc::Global;
 use std::sync::Wait;
 use std::test::Fail;
 use std::thread::Threads;
 
-/// What a subcommand prints for an input, and how it ends.
+/// What a subcommand's own call prints for an input, and how it ends.
 fn printed<R: Threads + Wait + Sync>(
     rt: &R,
     alloc: Global,
@@ -22,7 +21,12 @@ fn printed<R: Threads + Wait + Sync>(
 ) -> Result<(Vec<u8>, Done), RunFault> {
     let mut source = Taking::new(input);
     let mut sink = Giving::new(Vec::new(alloc));
-    let done = run_subcommand(rt, alloc, choice, &mut source, &mut sink)?;
+    let done = match choice {
+        Choice::Check => check_source(alloc, &mut source, &mut sink)?,
+        Choice::Eval => eval_bytes(alloc, &mut source, &mut sink)?,
+        Choice::Run => run_script(alloc, &mut source, &mut sink)?,
+        Choice::Ports => run_ports(rt, alloc, &mut source, &mut sink)?,
+    };
     Ok((sink.writer, done))
 }
 

@@ -2,8 +2,8 @@
 use Rattle.std.specs.Prelude.{◌≡◌, ◌≢◌, ⊤}
 use Rattle.clap.specs.declared.error.kind.ErrorKind.{ErrorKind}
 use Rattle.clap.specs.declared.error.kind.ErrorKind.TheVariants.{DisplayHelp, OutOfMemory}
-use Rattle.upc.specs.declared.choose.Stop.{Stop}
-use Rattle.upc.specs.declared.choose.Stop.TheVariants.{Help, Words, NoMemory}
+use Rattle.upc.specs.declared.choice.Stop.{Stop}
+use Rattle.upc.specs.declared.choice.Stop.TheVariants.{Help, Words, NoMemory}
 
 -- Which stop an error of this kind may come to.
 abbrev pub IsStopFor : ErrorKind → Stop → Type 0

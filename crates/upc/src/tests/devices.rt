@@ -2,7 +2,7 @@
 
 ghost use Rattle.std.specs.Prelude.{◌≡◌, drop};
 
-use crate::choose::Choice;
+use crate::Choice;
 use crate::subcommand::run_subcommand;
 use dialogue::{Done, Failed, Input, Output, RunFault};
 use std::alloc::{AllocError, Global};

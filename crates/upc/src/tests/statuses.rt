@@ -1,9 +1,8 @@
 //! The exit status, with what is written and what is told.
 
 use super::devices::{Catcher, Dropper};
-use crate::choose::choose;
-use crate::exit::status;
 use crate::invocation::carry_out;
+use crate::{choose, status};
 use dialogue::{Done, RunFault};
 use std::alloc::{AllocError, Global};
 use std::process::Abort;

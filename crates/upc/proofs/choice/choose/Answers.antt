@@ -1,7 +1,7 @@
 use Rattle.std.proofs.Common.{rules, map}
 use Rattle.std.specs.String.{string_bytes}
 use Rattle.upc.proofs.Choosing.{answers, named_in}
-use Rattle.upc.proofs.choose.choose.Goals as goal
+use Rattle.upc.proofs.choice.choose.Goals as goal
 
 pub answer_to-requires : goal.answer_to-requires
 answer_to-requires c =

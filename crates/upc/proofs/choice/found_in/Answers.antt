@@ -1,7 +1,7 @@
 use Rattle.std.proofs.Common.{Err, Ok}
 use Rattle.clap.specs.declared.parser.matches.ArgMatches.{ArgMatches}
 use Rattle.upc.proofs.Choosing.{faults_at, name_at}
-use Rattle.upc.proofs.choose.found_in.Goals as goal
+use Rattle.upc.proofs.choice.found_in.Goals as goal
 
 pub returns-in-Ok-clause-kinds : goal.returns-in-Ok-clause-kinds
 returns-in-Ok-clause-kinds c = λ given all.

@@ -1,0 +1,141 @@
+//! Scripts whose cells come to ports that are threads of their own, with gates; and why a card is not closed.
+
+use dialogue::{Done, Giving, RunFault, Taking};
+use port_card::{CloseFault, Gate};
+use port_dialogue::run_ports_with;
+use std::alloc::Global;
+use std::sync::Wait;
+use std::sync::atomic::{AtomicU64, Ordering};
+use std::test::Fail;
+use std::thread::{self, Threads};
+
+/// The most turns that a gate makes.
+const TURNS: u64 = 10_000_000;
+
+/// Two ports, and a connection on each.
+const TWO: &[u8; 151] = b"card 2 2 2 16
+load 0006000000000001
+setup 1 100 p1 cbr1:10/0
+setup 1 101 p1 cbr1:10/0
+cell 0 00100640
+cell 0 00100650
+cell 5 00100640
+cell 10 00100650
+";
+
+const TWO_TOLD: &[u8; 145] = b"ready
+loaded p1
+set 1/100
+set 1/101
+pass 1/100 p1 1 00100640
+pass 1/101 p1 1 00100650
+discard 1/100 p1 1
+pass 1/101 p1 1 00100650
+totals 3 0 1 0
+";
+
+/// What `ports` prints for a script, and how it ends, where each port waits at this gate.
+fn printed<G: Gate + Sync, R: Threads + Wait + Sync>(
+    rt: &R,
+    alloc: Global,
+    script: &[u8],
+    gate: &G,
+) -> Result<(Vec<u8>, Done), RunFault> {
+    let mut source = Taking::new(script);
+    let mut sink = Giving::new(Vec::new(alloc));
+    let done = run_ports_with(rt, alloc, &mut source, &mut sink, gate)?;
+    Ok((sink.writer, done))
+}
+
+/// Each port, at its first cell, raises its flag and turns until the other's is up.
+#[derive(Drop)]
+struct Meeting {
+    flags: [AtomicU64; 2],
+    met: AtomicU64,
+}
+
+impl Meeting {
+    fn meet(&self, own: &AtomicU64, other: &AtomicU64) {
+        if own.swap(1, Ordering::SeqCst) != 0 {
+            return;
+        }
+        for _ in 0..TURNS {
+            if other.load(Ordering::SeqCst) != 0 {
+                self.met.fetch_add(1, Ordering::SeqCst);
+                return;
+            }
+            thread::yield_now();
+        }
+    }
+}
+
+impl Gate for Meeting {
+    fn between(&self, port: u8) {
+        if port == 0 {
+            self.meet(&self.flags[0], &self.flags[1]);
+        } else {
+            self.meet(&self.flags[1], &self.flags[0]);
+        }
+    }
+}
+
+#[test]
+fn both_ports_are_between_look_up_and_judgement_at_once(rt: HostRuntime) -> Result<(), Fail> {
+    let meeting = Meeting {
+        flags: [AtomicU64::new(0), AtomicU64::new(0)],
+        met: AtomicU64::new(0),
+    };
+    let (text, done) = printed(&rt, rt.alloc(), TWO, &meeting)?;
+    assert_eq!(rt; text.as_slice(), TWO_TOLD.as_slice());
+    assert_eq!(rt; done, Done::Whole);
+    assert_eq!(rt; meeting.met.load(Ordering::SeqCst), 2);
+    Ok(())
+}
+
+/// Remembers the number of the last port that came, and one.
+#[derive(Drop)]
+struct Remembering {
+    port: AtomicU64,
+}
+
+impl Gate for Remembering {
+    fn between(&self, port: u8) {
+        self.port.store(u64::from(port) + 1, Ordering::SeqCst);
+    }
+}
+
+#[test]
+fn cells_are_dealt_by_the_path_of_the_cards_side(rt: HostRuntime) -> Result<(), Fail> {
+    let rows: [(&[u8], &[u8], u64); 2] = [
+        (
+            b"card 1 1 7 16 nni\nload 0006000000000001\nsetup 3841 100 p1 cbr1:10/0\ncell 0 f0100640\n",
+            b"ready\nloaded p1\nset 3841/100\npass 3841/100 p1 1 f0100640\ntotals 1 0 0 0\n",
+            6,
+        ),
+        (
+            b"card 1 1 7 16\nload 0006000000000001\nsetup 1 100 p1 cbr1:10/0\ncell 0 f0100640\n",
+            b"ready\nloaded p1\nset 1/100\npass 1/100 p1 1 f0100640\ntotals 1 0 0 0\n",
+            5,
+        ),
+    ];
+    for (script, text, port) in rows {
+        let gate = Remembering {
+            port: AtomicU64::new(0),
+        };
+        let (told, _) = printed(&rt, rt.alloc(), script, &gate)?;
+        assert_eq!(rt; told.as_slice(), text);
+        assert_eq!(rt; gate.port.load(Ordering::SeqCst), port);
+    }
+    Ok(())
+}
+
+#[test]
+fn why_a_card_is_not_closed_is_printed_by_number_and_name(rt: HostRuntime) -> Result<(), Fail> {
+    for (fault, text) in [
+        (CloseFault::Missing, "1 Missing"),
+        (CloseFault::NoMemory, "2 NoMemory"),
+    ] {
+        assert_eq!(rt; format!(in rt.alloc(); "{fault}")?.as_str(), text);
+    }
+    Ok(())
+}
