@@ -1,0 +1,40 @@
+-- The names that the proofs by hand of this crate cite.
+pub use Rattle.std.specs.Prelude.{◌≡◌, ◌≢◌, Option, None, Some}
+pub use Rattle.std.proofs.raw_atomic.Walks.{proved_at, leaves}
+pub use Rattle.core.proofs.alloc.Shapes.{after}
+pub use Rattle.core.proofs.atomic.Steps.{fm}
+pub use Rattle.core.proofs.alloc.Calls.{token, handle_tells, Goes-blank}
+pub use Rattle.std_alloc.proofs.ResultValues.{and_tt}
+pub use Rattle.std_alloc.proofs.BoxSteps.Form.{Bx, D, R, P, B, τ, word, box_typed, box_ty}
+pub use Rattle.std_alloc.proofs.BoxSteps.Steps.{box_out, box_in}
+pub use Rattle.std_alloc.specs.Box.Ownership.{box_owns}
+pub use mathlib.Core.List.{List, [], ◌∷◌, ◌++◌}
+pub use mathlib.Core.Path.{refl, sym, ap, subst, ◌∙◌}
+pub use lib.Dec.{lit<}
+pub use mir.MapTy.{inst_fn}
+pub use mir.Raw.{raw as bare}
+pub use mir.Syntax.{a_type, dcons, dnil}
+pub use mir.Val.{Val, vptr, vstruct, vcons, vnil, of_list, has_ty}
+pub use base.Logic.{SProp, ent, id⊢, emp, never, fst∗}
+pub use base.Fml.{ftrue, fsep, flft}
+pub use contract.BorrowLft.{◌⊑◌}
+pub use contract.Monad.{fact, fact_i}
+pub use contract.Running.{tables}
+pub use prog.Wp.{WpFn}
+pub use types.Logic.{Logic, sem}
+pub use types.Kit.{Item, ‵, raw, ◌⊛◌, some, later, at_ret, ◌$◌, ◌∵◌, !, qed, by, move, keep, drop, use0, use1, join, split, split3, pick, rewrite, fsplit, fjoin, fpick, fpack, feq_i, feq_l, suffices, await, done}
+pub use types.Part.{whole, sub, agg}
+pub use types.Run.{stop, fld, no_more, and_then, of_opd, lit, first, blocks, exec, returns, enter}
+pub use types.ByLocal.{alloc_all, pass_all, free_all, look_at, get, get_in, sets, lands_as, lands_last, env}
+pub use denote.Exit.{yes, no}
+pub use denote.Param.{layout, bounded}
+pub use denote.RattleType.{RattleType, Valss, owns}
+pub use denote.RawPtr.{Ptr, RawPtr, block_ptr, null_ptr, ptr_val, in_a_block}
+pub use denote.Signature.{plain, type_at, types_at}
+pub use denote.Steps.{heard, nothing, only}
+pub use denote.Struct.Struct.{within}
+pub use denote.Struct.Owning.{shape, to}
+pub use denote.Struct.Tuple.{Tuple}
+pub use denote.Triple.Call.{calls_at, calls_at_last}
+pub use denote.Triple.Spec.{triple_of}
+pub use denote.Triple.Walked.{Stays, stay_dropped, walk_of, Goes-dropped}

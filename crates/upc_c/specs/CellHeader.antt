@@ -1,0 +1,38 @@
+-- The header of a cell, as C is told it.
+use Rattle.std.specs.Prelude.{◌≡◌, ◌≢◌, ◌⊎◌, ◌<◌, ℕ, List, length}
+use Rattle.upc_cell.specs.Header.{gfc_of, vci_of, pti_of, clp_of}
+use Rattle.upc_cell.specs.Side.{vpi_at}
+use Rattle.upc_cell.specs.declared.side.Side.{Side}
+use Rattle.upc_cell.specs.declared.side.Side.TheVariants.{Uni, Nni}
+use Rattle.upc_c.specs.Faults.{plain_fault, unknown_side}
+use Rattle.upc_c.specs.declared.cell.UpcFields.{UpcFields}
+use Rattle.upc_c.specs.declared.fault.UpcFault.{UpcFault}
+
+-- The number that C has of a side.
+abbrev pub side_number : Side → ℕ
+side_number Uni = 0
+side_number Nni = 1
+
+-- Generic flow control, which the user network interface alone has.
+abbrev pub gfc_at : Side → List ℕ → ℕ
+gfc_at Uni octets = gfc_of octets
+gfc_at Nni octets = 0
+
+-- The fields of a header, read at this side.
+abbrev pub fields_at : Side → List ℕ → UpcFields
+fields_at side octets = record {
+  vpi = vpi_at side octets;
+  vci = vci_of octets;
+  gfc = gfc_at side octets;
+  pti = pti_of octets;
+  clp = clp_of octets;
+}
+
+-- Octets are no cell: cell 1 WrongLength, with how many there are.
+abbrev pub IsCellFault : List ℕ → UpcFault → Type 0
+IsCellFault octets fault = (length octets ≢ 52) × (fault ≡ plain_fault 2 1 (length octets))
+
+-- Why there are no fields: the number of octets, then the side.
+abbrev pub IsFieldsFault : List ℕ → ℕ → UpcFault → Type 0
+IsFieldsFault octets side fault =
+    IsCellFault octets fault ⊎ ((length octets ≡ 52) × (1 < side) × (fault ≡ unknown_side))

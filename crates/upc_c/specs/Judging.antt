@@ -1,0 +1,46 @@
+-- The verdict on a cell, from the levels that C keeps.
+use Rattle.std.specs.Prelude.{◌≡◌, ◌⊎◌, ◌+◌, ◌^◌, ◌<◌, ◌≤◌, ℕ, Bool}
+use Rattle.leaky.specs.Contract.{Buckets, verdict_of, buckets_after}
+use Rattle.leaky.specs.KeptState.{IsChargedBy}
+use Rattle.leaky.specs.declared.contract.Contract.{Contract}
+use Rattle.leaky.specs.declared.verdict.Verdict.{Verdict}
+use Rattle.leaky.specs.declared.verdict.Verdict.TheVariants.{Pass, Tag, Discard, Refuse}
+use Rattle.upc_c.specs.GivenContract.{AreAContract, IsContractFault}
+use Rattle.upc_c.specs.Faults.{levels_too_late, moment_too_late}
+use Rattle.upc_c.specs.declared.contract.UpcContract.{UpcContract}
+use Rattle.upc_c.specs.declared.fault.UpcFault.{UpcFault}
+use Rattle.upc_c.specs.declared.meter.UpcLevels.{UpcLevels}
+
+-- The number that C has of a verdict.
+abbrev pub number_of : Verdict → ℕ
+number_of Pass = 0
+number_of Tag = 1
+number_of Discard = 2
+number_of Refuse = 3
+
+-- Theoretical arrival times that cells up to the last moment leave.
+pub record AreLevels (levels : UpcLevels) : Type 0 where
+  pub first : levels.first ≤ 2 ^ 62 + 2 ^ 49
+  pub second : levels.second ≤ 2 ^ 62 + 2 ^ 49
+
+-- Each theoretical arrival time is X + LCT of its bucket.
+pub record Shows (levels : UpcLevels) (buckets : Buckets) : Type 0 where
+  pub first : levels.first ≡ buckets.first.level + buckets.first.charged
+  pub second : levels.second ≡ buckets.second.level + buckets.second.charged
+
+-- For all buckets that the levels stand for and that were not charged after the moment, the verdict
+-- is the contract's, and the new levels stand for the buckets after the cell.
+pub record IsJudged (contract : Contract) (levels : UpcLevels) (clp : Bool) (moment number : ℕ) (left : UpcLevels) : Type 0 where
+  pub verdict : (buckets : Buckets) → Shows levels buckets → IsChargedBy buckets moment
+      → number ≡ number_of (verdict_of contract buckets clp moment)
+  pub after : (buckets : Buckets) → Shows levels buckets → IsChargedBy buckets moment
+      → Shows left (buckets_after contract buckets clp moment)
+  pub kept : AreLevels left
+
+-- Why a cell can't be judged: the contract, then the levels, then the moment.
+abbrev pub IsMeterFault : UpcContract → UpcLevels → ℕ → UpcFault → Type 0
+IsMeterFault given levels moment fault =
+    IsContractFault given fault
+    ⊎ (AreAContract given
+    × ((2 ^ 62 + 2 ^ 49 < levels.first) ⊎ (2 ^ 62 + 2 ^ 49 < levels.second)) × (fault ≡ levels_too_late))
+    ⊎ (AreAContract given × AreLevels levels × (2 ^ 62 < moment) × (fault ≡ moment_too_late))

@@ -1,0 +1,9 @@
+pub mod Faults
+pub mod GivenContract
+pub mod Judging
+pub mod Bursts
+pub mod CellHeader
+pub mod Telling
+pub mod Programs
+pub mod ProgramHandle
+pub mod inner

@@ -1,0 +1,59 @@
+-- What is answered of programs and of sources.
+use Rattle.std.specs.Prelude.{◌≡◌, ◌⊎◌, ◌<◌, ◌≤◌, ◌++◌, ℕ, List, length, drop}
+use Rattle.bpf_asm.specs.Faults.{IsFault, IsOutOfMemory}
+use Rattle.bpf_asm.specs.Listing.{IsListFault, listing_of}
+use Rattle.bpf_asm.specs.Meaning.{IsMeaning}
+use Rattle.bpf_asm.specs.declared.fault.AsmFault.{AsmFault}
+use Rattle.bpf_asm.specs.declared.fault.ListFault.{ListFault}
+use Rattle.bpf_code.specs.Decoding.{IsFaultOf}
+use Rattle.bpf_code.specs.Encoding.{code_octets}
+use Rattle.bpf_code.specs.OctetSpelling.{SpellsCode}
+use Rattle.bpf_code.specs.declared.decoder.DecodeFault.{DecodeFault}
+use Rattle.bpf_code.specs.declared.instr.Instr.{Instr}
+use Rattle.bpf_verify.specs.Accepted.{IsAccepted}
+use Rattle.bpf_verify.specs.Faults.{FailsFirst}
+use Rattle.bpf_verify.specs.declared.fault.Fault.{Fault}
+use Rattle.upc_c.specs.Faults.{no_room}
+use Rattle.upc_c.specs.Telling.{told_asm, told_decode, told_list, told_verify}
+use Rattle.upc_c.specs.declared.fault.UpcFault.{UpcFault}
+
+-- The text was written to the front of the room, and the number of its octets was told.
+pub record IsWritten (text before after : List ℕ) (count : ℕ) : Type 0 where
+  pub fits : length text ≤ length before
+  pub written : after ≡ text ++ drop (length text) before
+  pub counted : count ≡ length text
+
+-- The text doesn't fit the room, and the fault tells how many octets are needed.
+abbrev pub IsNoRoom : List ℕ → List ℕ → UpcFault → Type 0
+IsNoRoom text room fault = (length room < length text) × (fault ≡ no_room (length text))
+
+-- The octets spell a program.
+abbrev pub IsProgram : List ℕ → Type 0
+IsProgram octets = (code : List Instr) × SpellsCode octets code × IsAccepted code
+
+-- The octets are no code, or memory ran out.
+abbrev pub IsDecodeRefusal : List ℕ → UpcFault → Type 0
+IsDecodeRefusal octets fault = (found : DecodeFault) × IsFaultOf octets found × (fault ≡ told_decode found)
+
+-- The octets are a code, and the check refuses it.
+abbrev pub IsCheckRefusal : List ℕ → UpcFault → Type 0
+IsCheckRefusal octets fault =
+    (code : List Instr) × SpellsCode octets code × (found : Fault) × FailsFirst code found × (fault ≡ told_verify found)
+
+-- The source means no code, or memory ran out.
+abbrev pub IsAsmRefusal : List ℕ → UpcFault → Type 0
+IsAsmRefusal source fault =
+    (found : AsmFault) × (IsFault source found ⊎ IsOutOfMemory found) × (fault ≡ told_asm found)
+
+-- These octets are of the code that the source means.
+abbrev pub IsAssembled : List ℕ → List ℕ → Type 0
+IsAssembled source octets = (code : List Instr) × IsMeaning source code × (octets ≡ code_octets code)
+
+-- This text is the listing of the code that the octets spell.
+abbrev pub IsListed : List ℕ → List ℕ → Type 0
+IsListed octets text = (code : List Instr) × SpellsCode octets code × (text ≡ listing_of code)
+
+-- The octets are a code without a listing, or memory ran out.
+abbrev pub IsListRefusal : List ℕ → UpcFault → Type 0
+IsListRefusal octets fault =
+    (code : List Instr) × SpellsCode octets code × (found : ListFault) × IsListFault code found × (fault ≡ told_list found)

@@ -1,0 +1,2 @@
+-- What only the model of a type needs.
+pub mod Hidden

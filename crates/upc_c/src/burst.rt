@@ -1,0 +1,36 @@
+//! Burst tolerances.
+
+ghost use Rattle.std.specs.Prelude.{◌≡◌, ◌≢◌};
+ghost use Rattle.leaky.specs.Tolerance.{tolerance_of};
+ghost use Rattle.upc_c.specs.Bursts.{HasTolerance, IsBurstFault};
+ghost use Rattle.upc_c.specs.Faults.{no_fault};
+
+use crate::fault::{NO_FAULT, OF_A_BURST, UpcFault, fault_at, told};
+use leaky::{BtFault, burst_tolerance};
+
+/// The burst tolerance in ticks for a maximum burst size of `mbs` cells, where the increment of the
+/// sustainable cell rate is `ts` and that of the peak cell rate `tp`. Returns the fault's number, or 0.
+#[unsafe(no_mangle)]
+pub extern "C" fn upc_burst_tolerance(
+    mbs: u64,
+    ts: u64,
+    tp: u64,
+    ticks: &mut u64,
+    fault: &mut UpcFault,
+) -> u32
+    ensures number { result ≡ fault.new.number }
+    ensures tolerance { result ≡ 0 → HasTolerance mbs ts tp × (ticks.new ≡ tolerance_of mbs ts tp) }
+    ensures fine { result ≡ 0 → fault.new ≡ no_fault }
+    ensures refused { result ≢ 0 → IsBurstFault mbs ts tp fault.new }
+    ensures left { result ≢ 0 → ticks.new ≡ ticks.old }
+{
+    match burst_tolerance(mbs, ts, tp) {
+        Ok(tolerance) => {
+            *ticks = tolerance;
+            told(fault, NO_FAULT)
+        }
+        Err(BtFault::ZeroMbs) => told(fault, fault_at(OF_A_BURST, 1, 0)),
+        Err(BtFault::PeakSlower) => told(fault, fault_at(OF_A_BURST, 2, 0)),
+        Err(BtFault::TooLarge) => told(fault, fault_at(OF_A_BURST, 3, 0)),
+    }
+}

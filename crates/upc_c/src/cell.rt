@@ -1,0 +1,106 @@
+//! Cells: the fields of a header, and the tag.
+
+ghost use Rattle.std.specs.Prelude.{◌≡◌, ◌≢◌, ◌<◌, length, IfOk, IfErr};
+ghost use Rattle.upc_cell.specs.Tagged.{tagged_form};
+ghost use Rattle.upc_cell.specs.declared.side.Side.{Side as TheSide};
+ghost use Rattle.upc_c.specs.CellHeader.{IsCellFault, IsFieldsFault, fields_at, side_number};
+ghost use Rattle.upc_c.specs.Faults.{no_fault};
+
+use crate::fault::{NO_FAULT, OF_A_CELL, OF_THE_CALL, UpcFault, fault_at, told};
+use upc_cell::{Cell, CellFault, Side};
+
+/// The fields of a cell's header (ITU-T I.361).
+#[repr(C)]
+#[derive(Clone, Copy, Debug)]
+pub struct UpcFields {
+    /// The virtual path identifier: 0 to 255 at the user network interface, else 0 to 4095.
+    pub vpi: u16,
+    /// The virtual channel identifier.
+    pub vci: u16,
+    /// Generic flow control, 0 to 15; 0 between nodes of the network.
+    pub gfc: u8,
+    /// The payload type, 0 to 7.
+    pub pti: u8,
+    /// The cell loss priority: 1 for a cell of low priority, else 0.
+    pub clp: u8,
+}
+
+/// The cell of these octets.
+#[inline]
+pub(crate) fn cell_of(octets: &[u8]) -> Result<Cell, UpcFault>
+    ensures length { IfOk result (λ _. length octets.now ≡ 52) }
+    ensures cell { IfOk result (λ cell. cell ≡ octets.now) }
+    ensures fault { IfErr result (IsCellFault octets.now) }
+    ensures numbered { IfErr result (λ fault. 0 < fault.number) }
+{
+    match Cell::from_bytes(octets) {
+        Ok(cell) => Ok(cell),
+        Err(CellFault::WrongLength(count)) => Err(fault_at(OF_A_CELL, 1, count)),
+    }
+}
+
+/// The fields of a cell's header, read at this side.
+#[inline]
+fn fields_of(cell: &Cell, side: Side) -> UpcFields
+    ensures { result ≡ fields_at side cell.now }
+{
+    UpcFields {
+        vpi: cell.vpi_at(side),
+        vci: cell.vci(),
+        gfc: match side {
+            Side::Uni => cell.gfc(),
+            Side::Nni => 0,
+        },
+        pti: cell.pti(),
+        clp: if cell.clp() { 1 } else { 0 },
+    }
+}
+
+/// Reads the header of the cell that these 52 octets are, at the user network interface (`side` 0) or
+/// between nodes of the network (1). Returns the fault's number, or 0.
+#[unsafe(no_mangle)]
+pub extern "C" fn upc_cell_fields(
+    octets: &[u8],
+    side: u32,
+    fields: &mut UpcFields,
+    fault: &mut UpcFault,
+) -> u32
+    ensures number { result ≡ fault.new.number }
+    ensures read { result ≡ 0 → (at : TheSide) × (side ≡ side_number at) × (length octets.now ≡ 52)
+        × (fields.new ≡ fields_at at octets.now) }
+    ensures fine { result ≡ 0 → fault.new ≡ no_fault }
+    ensures refused { result ≢ 0 → IsFieldsFault octets.now side fault.new }
+    ensures left { result ≢ 0 → fields.new ≡ fields.old }
+{
+    match (cell_of(octets), side) {
+        (Ok(cell), 0) => {
+            *fields = fields_of(&cell, Side::Uni);
+            told(fault, NO_FAULT)
+        }
+        (Ok(cell), 1) => {
+            *fields = fields_of(&cell, Side::Nni);
+            told(fault, NO_FAULT)
+        }
+        (Ok(_), _) => told(fault, fault_at(OF_THE_CALL, 5, 0)),
+        (Err(found), _) => told(fault, found),
+    }
+}
+
+/// Tags the cell that these 52 octets are: its cell loss priority becomes 1. Returns the fault's number,
+/// or 0.
+#[unsafe(no_mangle)]
+pub extern "C" fn upc_cell_tag(octets: &mut [u8], fault: &mut UpcFault) -> u32
+    ensures number { result ≡ fault.new.number }
+    ensures tagged { result ≡ 0 → (length octets.old ≡ 52) × (octets.new ≡ tagged_form octets.old) }
+    ensures fine { result ≡ 0 → fault.new ≡ no_fault }
+    ensures refused { result ≢ 0 → IsCellFault octets.old fault.new }
+    ensures left { result ≢ 0 → octets.new ≡ octets.old }
+{
+    match cell_of(octets) {
+        Ok(cell) => {
+            octets.copy_from_slice(cell.tagged().bytes());
+            told(fault, NO_FAULT)
+        }
+        Err(found) => told(fault, found),
+    }
+}

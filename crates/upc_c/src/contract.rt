@@ -1,0 +1,77 @@
+//! Contracts, as C holds them.
+
+ghost use Rattle.std.specs.Prelude.{◌≡◌, ◌≢◌, ◌<◌, IfOk, IfErr};
+ghost use Rattle.upc_c.specs.GivenContract.{IsContract, IsContractFault, IsRate, IsRateFault, AreARate, AreAContract};
+ghost use Rattle.upc_c.specs.Faults.{no_fault};
+
+use crate::fault::{NO_FAULT, OF_A_RATE, OF_THE_CALL, UpcFault, fault_at, told};
+use leaky::{Contract, Gcra, GcraFault};
+
+/// A traffic contract: its kind, and an increment and a limit in ticks for each of its two buckets.
+#[repr(C)]
+#[derive(Clone, Copy, Debug)]
+pub struct UpcContract {
+    /// 1 CBR.1, 2 VBR.1, 3 VBR.2, 4 VBR.3.
+    pub kind: u32,
+    /// The increment of bucket 1, the peak cell rate: 1 to 2^48 ticks.
+    pub peak_increment: u64,
+    /// The limit of bucket 1: 0 to 2^48 ticks.
+    pub peak_limit: u64,
+    /// The increment of bucket 2, the sustainable cell rate: 1 to 2^48 ticks. CBR.1 has none, and
+    /// this number and the next are free.
+    pub sustained_increment: u64,
+    /// The limit of bucket 2: 0 to 2^48 ticks.
+    pub sustained_limit: u64,
+}
+
+/// The rate of a bucket, by its number from 1.
+#[inline]
+fn rate_of(bucket: usize, increment: u64, limit: u64) -> Result<Gcra, UpcFault>
+    ensures rate { IfOk result (IsRate increment limit) }
+    ensures numbers { IfOk result (λ _. AreARate increment limit) }
+    ensures fault { IfErr result (IsRateFault bucket increment limit) }
+    ensures numbered { IfErr result (λ fault. 0 < fault.number) }
+{
+    match Gcra::new(increment, limit) {
+        Ok(gcra) => Ok(gcra),
+        Err(GcraFault::ZeroIncrement) => Err(fault_at(OF_A_RATE, 1, bucket)),
+        Err(GcraFault::TooLarge) => Err(fault_at(OF_A_RATE, 2, bucket)),
+    }
+}
+
+/// The contract that the numbers stand for.
+#[inline]
+pub(crate) fn contract_of(given: &UpcContract) -> Result<Contract, UpcFault>
+    ensures contract { IfOk result (IsContract given.now) }
+    ensures numbers { IfOk result (λ _. AreAContract given.now) }
+    ensures fault { IfErr result (IsContractFault given.now) }
+    ensures numbered { IfErr result (λ fault. 0 < fault.number) }
+{
+    if given.kind == 0 || given.kind > 4 {
+        return Err(fault_at(OF_THE_CALL, 3, 0));
+    }
+    let peak = rate_of(1, given.peak_increment, given.peak_limit)?;
+    if given.kind == 1 {
+        return Ok(Contract::Cbr1(peak));
+    }
+    let sustained = rate_of(2, given.sustained_increment, given.sustained_limit)?;
+    Ok(match given.kind {
+        2 => Contract::Vbr1(peak, sustained),
+        3 => Contract::Vbr2(peak, sustained),
+        _ => Contract::Vbr3(peak, sustained),
+    })
+}
+
+/// Whether the numbers are a contract. Returns the fault's number, or 0.
+#[unsafe(no_mangle)]
+pub extern "C" fn upc_contract_check(contract: &UpcContract, fault: &mut UpcFault) -> u32
+    ensures number { result ≡ fault.new.number }
+    ensures contract { result ≡ 0 → AreAContract contract.now }
+    ensures fine { result ≡ 0 → fault.new ≡ no_fault }
+    ensures refused { result ≢ 0 → IsContractFault contract.now fault.new }
+{
+    match contract_of(contract) {
+        Ok(_) => told(fault, NO_FAULT),
+        Err(found) => told(fault, found),
+    }
+}

@@ -1,0 +1,131 @@
+//! The calls of a program that C holds.
+
+ghost use Rattle.std.specs.Prelude.{◌≡◌, ◌≢◌, ◌<◌, List, length, Some, None, IfOk, IfErr};
+ghost use Rattle.bpf_code.specs.OctetSpelling.{SpellsCode};
+ghost use Rattle.bpf_code.specs.declared.instr.Instr.{Instr};
+ghost use Rattle.bpf_interp.specs.Value.{Value};
+ghost use Rattle.bpf_verify.specs.Accepted.{IsAccepted};
+ghost use Rattle.upc_c.specs.Faults.{no_fault};
+ghost use Rattle.upc_c.specs.ProgramHandle.{IsNoProgram, IsRunFault, program_in, program_there};
+
+use crate::cell::cell_of;
+use crate::fault::{NO_FAULT, OF_THE_CALL, UpcFault, fault_at, told};
+use crate::held::UpcProgram;
+use crate::hidden::Hidden;
+use crate::program::code_of;
+use crate::telling::{out_of_memory, told_verify};
+use bpf_interp::run;
+use bpf_verify::{Program, verify};
+use std::alloc::Global;
+use std::mem::replace;
+
+/// A program of its octets, in a box of its own.
+fn program_of(alloc: Global, octets: &[u8]) -> Result<Box<Program>, UpcFault>
+    ensures code { IfOk result (λ program. SpellsCode octets.now program.value) }
+    ensures accepted { IfOk result (λ program. IsAccepted program.value) }
+    ensures fault { IfErr result (IsNoProgram octets.now) }
+    ensures numbered { IfErr result (λ fault. 0 < fault.number) }
+{
+    let code = code_of(alloc, octets)?;
+    match verify(code) {
+        Ok(program) => match Box::new(alloc, program) {
+            Ok(boxed) => Ok(boxed),
+            Err(_) => Err(out_of_memory()),
+        },
+        Err(refused) => Err(told_verify(refused.fault)),
+    }
+}
+
+/// Puts in the program that octets spell, where there is none. Returns the fault's number, or 0.
+#[unsafe(no_mangle)]
+pub extern "C" fn upc_program_new(
+    alloc: Global,
+    octets: &[u8],
+    program: &mut UpcProgram,
+    fault: &mut UpcFault,
+) -> u32
+    ensures number { result ≡ fault.new.number }
+    ensures made { result ≡ 0 → (program_in program.old ≡ None)
+        × ((code : List Instr) × SpellsCode octets.now code × IsAccepted code × (program_in program.new ≡ Some code)) }
+    ensures fine { result ≡ 0 → fault.new ≡ no_fault }
+    ensures there { program_in program.old ≢ None → fault.new ≡ program_there }
+    ensures refused { result ≢ 0 → program_in program.old ≡ None → IsNoProgram octets.now fault.new }
+    ensures left { result ≢ 0 → program.new ≡ program.old }
+{
+    if program.live != 0 {
+        return told(fault, fault_at(OF_THE_CALL, 6, 0));
+    }
+    match program_of(alloc, octets) {
+        Ok(made) => {
+            *program = UpcProgram {
+                live: 1,
+                inner: Hidden::of(made),
+            };
+            told(fault, NO_FAULT)
+        }
+        Err(found) => told(fault, found),
+    }
+}
+
+/// Lets the program go. Where there is none it does nothing.
+#[unsafe(no_mangle)]
+pub extern "C" fn upc_program_free(alloc: Global, program: &mut UpcProgram)
+    ensures { program_in program.new ≡ None }
+{
+    if program.live == 0 {
+        return;
+    }
+    let old = replace(
+        program,
+        UpcProgram {
+            live: 0,
+            inner: Hidden::none(alloc),
+        },
+    );
+    let UpcProgram { live: _, inner } = old;
+    drop(inner.into_box());
+}
+
+/// Runs the program on a cell of 52 octets. Returns the fault's number, or 0.
+#[unsafe(no_mangle)]
+pub extern "C" fn upc_program_run(
+    alloc: Global,
+    program: &mut UpcProgram,
+    octets: &[u8],
+    value: &mut u32,
+    steps: &mut u32,
+    fault: &mut UpcFault,
+) -> u32
+    ensures number { result ≡ fault.new.number }
+    ensures ran { result ≡ 0 → (length octets.now ≡ 52) × ((code : List Instr) × (program_in program.old ≡ Some code)
+        × IsAccepted code × Value code octets.now value.new steps.new) }
+    ensures kept { program_in program.new ≡ program_in program.old }
+    ensures fine { result ≡ 0 → fault.new ≡ no_fault }
+    ensures refused { result ≢ 0 → IsRunFault (program_in program.old) octets.now fault.new }
+    ensures left { result ≢ 0 → (value.new ≡ value.old) × (steps.new ≡ steps.old) }
+{
+    let cell = match cell_of(octets) {
+        Ok(cell) => cell,
+        Err(found) => return told(fault, found),
+    };
+    if program.live == 0 {
+        return told(fault, fault_at(OF_THE_CALL, 7, 0));
+    }
+    let old = replace(
+        program,
+        UpcProgram {
+            live: 0,
+            inner: Hidden::none(alloc),
+        },
+    );
+    let UpcProgram { live: _, inner } = old;
+    let held = inner.into_box();
+    let outcome = run(&held, &cell);
+    *program = UpcProgram {
+        live: 1,
+        inner: Hidden::of(held),
+    };
+    *value = outcome.value;
+    *steps = outcome.steps;
+    told(fault, NO_FAULT)
+}

@@ -1,0 +1,79 @@
+//! A program behind a pointer whose type C doesn't see.
+
+mod parts;
+
+ghost use Rattle.std.specs.Prelude.{◌≡◌, List, Option, Some, None};
+ghost use Rattle.bpf_code.specs.declared.instr.Instr.{Instr};
+
+use bpf_verify::Program;
+use parts::Parts;
+use std::alloc::Global;
+use std::marker::Model;
+use std::ptr::null_mut;
+
+/// A program in a box of its own, or none. C holds it, and never looks at what it points to.
+#[repr(C)]
+#[derive(Drop)]
+pub struct Hidden {
+    at: *mut u8,
+    alloc: Global,
+    pub(crate) ghost code: { Option (List Instr) },
+}
+
+impl Model for Hidden {
+    ghost use Rattle.std.specs.Prelude.{List, Option};
+    ghost use Rattle.bpf_code.specs.declared.instr.Instr.{Instr};
+    ghost use Rattle.upc_c.specs.inner.Hidden.{owned};
+
+    ghost also_owns = { λ h. owned h.alloc h.at h.code };
+}
+
+impl Hidden {
+    ghost use Rattle.std.specs.Prelude.{◌≡◌, ◌≢◌, Some, None};
+
+    /// A program.
+    pub(crate) fn of(program: Box<Program>) -> Hidden
+        ensures { result.code ≡ Some program.value }
+    {
+        Hidden::of_parts(Parts::of(program))
+    }
+
+    /// The program.
+    pub(crate) fn into_box(self) -> Box<Program>
+        requires { self.code ≢ None }
+        ensures { self.code ≡ Some result.value }
+    {
+        self.into_parts().into_box()
+    }
+
+    /// No program.
+    pub(crate) fn none(alloc: Global) -> Hidden
+        ensures { result.code ≡ None }
+    {
+        Hidden {
+            at: null_mut(),
+            alloc,
+        }
+    }
+
+    fn of_parts(parts: Parts<Program, Global>) -> Hidden
+        ensures { result.code ≡ Some parts.value }
+    {
+        let Parts { ptr, alloc } = parts;
+        Hidden {
+            at: ptr as *mut u8,
+            alloc,
+        }
+    }
+
+    fn into_parts(self) -> Parts<Program, Global>
+        requires { self.code ≢ None }
+        ensures { self.code ≡ Some result.value }
+    {
+        let Hidden { at, alloc } = self;
+        Parts {
+            ptr: at as *mut Program,
+            alloc,
+        }
+    }
+}

@@ -1,0 +1,24 @@
+//! Room that C lends.
+
+ghost use Rattle.std.specs.Prelude.{◌≡◌, ◌≢◌, ◌<◌, ◌++◌, drop, length, IfOk, IfErr};
+ghost use Rattle.upc_c.specs.Faults.{no_fault};
+ghost use Rattle.upc_c.specs.Programs.{IsNoRoom, IsWritten};
+
+use crate::fault::{NO_FAULT, OF_THE_CALL, UpcFault, fault_at, told};
+
+/// Writes a text to the front of the room and tells how many octets it has, where it fits.
+pub(crate) fn write_to(room: &mut [u8], count: &mut usize, text: &[u8], fault: &mut UpcFault) -> u32
+    ensures number { result ≡ fault.new.number }
+    ensures written { result ≡ 0 → IsWritten text.now room.old room.new count.new }
+    ensures fine { result ≡ 0 → fault.new ≡ no_fault }
+    ensures refused { result ≢ 0 → IsNoRoom text.now room.old fault.new }
+    ensures left { result ≢ 0 → room.new ≡ room.old }
+    ensures count_left { result ≢ 0 → count.new ≡ count.old }
+{
+    if room.len() < text.len() {
+        return told(fault, fault_at(OF_THE_CALL, 2, text.len()));
+    }
+    room[..text.len()].copy_from_slice(text);
+    *count = text.len();
+    told(fault, NO_FAULT)
+}

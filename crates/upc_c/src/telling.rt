@@ -1,0 +1,81 @@
+//! The faults of the libraries below, as C is told them.
+
+ghost use Rattle.std.specs.Prelude.{◌≡◌, ◌<◌};
+ghost use Rattle.upc_c.specs.Telling.{told_asm, told_decode, told_list, told_verify};
+ghost use Rattle.upc_c.specs.Faults.{out_of_memory};
+
+use crate::fault::{OF_ASSEMBLY, OF_DECODING, OF_THE_CALL, OF_THE_CHECK, UpcFault, fault_at};
+use bpf_asm::{AsmFault, AsmKind, ListFault};
+use bpf_code::DecodeFault;
+use bpf_verify::Fault;
+
+/// Memory ran out.
+pub(crate) fn out_of_memory() -> UpcFault
+    ensures { result ≡ out_of_memory }
+{
+    fault_at(OF_THE_CALL, 1, 0)
+}
+
+/// Why octets are no code.
+pub(crate) fn told_decode(found: DecodeFault) -> UpcFault
+    ensures told { result ≡ told_decode found }
+    ensures numbered { 0 < result.number }
+{
+    match found {
+        DecodeFault::Ragged => fault_at(OF_DECODING, 1, 0),
+        DecodeFault::UnknownCode { at, code } => UpcFault {
+            code: u32::from(code),
+            ..fault_at(OF_DECODING, 2, at)
+        },
+        DecodeFault::NoMemory => out_of_memory(),
+    }
+}
+
+/// Why a source is no code.
+pub(crate) fn told_asm(found: AsmFault) -> UpcFault
+    ensures told { result ≡ told_asm found }
+    ensures numbered { 0 < result.number }
+{
+    let number = match found.kind {
+        AsmKind::BadLine => 1,
+        AsmKind::BadNumber => 2,
+        AsmKind::LabelTwice => 3,
+        AsmKind::UnknownLabel => 4,
+        AsmKind::Backward => 5,
+        AsmKind::TooFar => 6,
+        AsmKind::DanglingLabel => 7,
+        AsmKind::NoMemory => return out_of_memory(),
+    };
+    fault_at(OF_ASSEMBLY, number, found.line)
+}
+
+/// Why a code is no program.
+pub(crate) fn told_verify(found: Fault) -> UpcFault
+    ensures told { result ≡ told_verify found }
+    ensures numbered { 0 < result.number }
+{
+    match found {
+        Fault::Empty => fault_at(OF_THE_CHECK, 1, 0),
+        Fault::TooLong => fault_at(OF_THE_CHECK, 2, 0),
+        Fault::BadScratch { at } => fault_at(OF_THE_CHECK, 3, at),
+        Fault::ZeroDivisor { at } => fault_at(OF_THE_CHECK, 4, at),
+        Fault::BadShift { at } => fault_at(OF_THE_CHECK, 5, at),
+        Fault::JumpOutside { at } => fault_at(OF_THE_CHECK, 6, at),
+        Fault::NoReturn => fault_at(OF_THE_CHECK, 7, 0),
+        Fault::Unwritten { at, word } => UpcFault {
+            word,
+            ..fault_at(OF_THE_CHECK, 8, at)
+        },
+    }
+}
+
+/// Why a code has no listing.
+pub(crate) fn told_list(found: ListFault) -> UpcFault
+    ensures told { result ≡ told_list found }
+    ensures numbered { 0 < result.number }
+{
+    match found {
+        ListFault::JumpOutside(at) => fault_at(OF_THE_CHECK, 6, at),
+        ListFault::NoMemory => out_of_memory(),
+    }
+}

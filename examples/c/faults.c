@@ -1,0 +1,172 @@
+/* Asks each call for what it refuses, and prints the faults; a call that wrote where it refused is told. */
+#include <stdio.h>
+#include <string.h>
+#include "upc.h"
+
+static upc_fault fault;
+
+/* Prints the fault of a call that refused, or says that it didn't, or that what it was lent isn't as it was. */
+static void tell(const char *what, uint32_t number, const void *lent, const void *before, size_t size)
+{
+	printf("%s: kind %u number %u", what, (unsigned)fault.kind, (unsigned)fault.number);
+	printf(" place %lu word %u code %04x", (unsigned long)fault.place, (unsigned)fault.word, (unsigned)fault.code);
+	if (number != fault.number)
+		printf(", and it returned %u", (unsigned)number);
+	if (fault.number != 0 && memcmp(lent, before, size) != 0)
+		printf(", and it wrote");
+	printf("\n");
+}
+
+static void judge(const char *what, upc_contract contract, upc_levels levels, uint64_t moment)
+{
+	upc_levels before = levels;
+	uint32_t verdict = 9;
+
+	tell(what, upc_judge(&contract, &levels, 0, moment, &verdict, &fault), &levels, &before, sizeof levels);
+	if (fault.number != 0 && verdict != 9)
+		printf("%s: it wrote a verdict\n", what);
+}
+
+static void judge_all(void)
+{
+	const upc_contract cbr = {UPC_CBR1, 10, 5, 0, UPC_MOST_TICKS + 1}, vbr = {UPC_VBR1, 10, 5, 20, 7};
+	const upc_levels opening = {0, 0}, last = {UPC_LAST_LEVEL, UPC_LAST_LEVEL}, late = {0, UPC_LAST_LEVEL + 1};
+	upc_contract it = vbr;
+
+	judge("cbr.1 whose second rate is none", cbr, opening, 0);
+	judge("last moment and last levels", vbr, last, UPC_LAST_MOMENT);
+	it.kind = 0;
+	judge("kind 0", it, opening, 0);
+	it.kind = 5;
+	judge("kind 5", it, opening, 0);
+	it = vbr, it.peak_increment = 0, it.sustained_limit = UPC_MOST_TICKS + 1;
+	judge("bucket 1 without increment", it, opening, 0);
+	it = vbr, it.peak_limit = UPC_MOST_TICKS + 1, it.sustained_increment = 0;
+	judge("bucket 1 too large", it, opening, 0);
+	it = vbr, it.sustained_increment = 0;
+	judge("bucket 2 without increment", it, late, 0);
+	it = vbr, it.sustained_increment = UPC_MOST_TICKS + 1;
+	judge("bucket 2 too large", it, opening, 0);
+	judge("late levels", vbr, late, UPC_LAST_MOMENT + 1);
+	judge("late moment", vbr, opening, UPC_LAST_MOMENT + 1);
+	tell("contract", upc_contract_check(&vbr, &fault), "", "", 0);
+	tell("no contract", upc_contract_check(&it, &fault), "", "", 0);
+}
+
+static void burst(const char *what, uint64_t mbs, uint64_t sustained, uint64_t peak)
+{
+	uint64_t ticks = 7, before = 7;
+
+	tell(what, upc_burst_tolerance(mbs, sustained, peak, &ticks, &fault), &ticks, &before, sizeof ticks);
+	if (fault.number == 0)
+		printf("%s: %lu ticks\n", what, (unsigned long)ticks);
+}
+
+static void cell(const char *what, size_t length, uint32_t side)
+{
+	uint8_t octets[UPC_CELL_OCTETS + 1] = {0x12, 0x34, 0x56, 0x7a}, before[UPC_CELL_OCTETS + 1];
+	upc_fields fields, unread;
+
+	memcpy(before, octets, sizeof octets);
+	memset(&fields, 0, sizeof fields);
+	memset(&unread, 0, sizeof unread);
+	tell(what, upc_cell_fields(octets, length, side, &fields, &fault), &fields, &unread, sizeof fields);
+	if (fault.number == 0)
+		printf("%s: vpi %d vci %d gfc %d pti %d clp %d\n", what, fields.vpi, fields.vci, fields.gfc, fields.pti, fields.clp);
+	tell(what, upc_cell_tag(octets, length, &fault), octets, before, sizeof octets);
+	if (fault.number == 0)
+		printf("%s: %02x%02x%02x%02x\n", what, octets[0], octets[1], octets[2], octets[3]);
+}
+
+/* Checks and lists octets that are written as hexadecimal digits. */
+static void program(const char *digits)
+{
+	uint8_t octets[64], room[64] = {0}, before[64] = {0};
+	size_t length = strlen(digits) / 2, count = 0, k;
+	unsigned octet;
+
+	for (k = 0; k < length; k++) {
+		sscanf(digits + 2 * k, "%2x", &octet);
+		octets[k] = (uint8_t)octet;
+	}
+	tell(digits, upc_check(octets, length, &fault), octets, octets, length);
+	tell(digits, upc_listing(octets, length, room, 4, &count, &fault), room, before, sizeof room);
+}
+
+static void source(const char *text, size_t room_length)
+{
+	uint8_t room[16] = {0}, before[16] = {0};
+	size_t count = 9;
+
+	tell(text, upc_assemble((const uint8_t *)text, strlen(text), room, room_length, &count, &fault), room, before,
+	     sizeof room);
+	if (count != (fault.number ? 9 : 8))
+		printf("%s: the count is %lu\n", text, (unsigned long)count);
+}
+
+/* A label behind more lines than a branch can jump over, and a program of more instructions than are accepted. */
+static void far_and_long(void)
+{
+	static char text[8 * 4097 + 1];
+	static uint8_t octets[8 * 4097];
+	size_t k;
+
+	strcpy(text, "jeq #1, l\n");
+	for (k = 0; k < 256; k++)
+		strcat(text, "txa\n");
+	strcat(text, "l: ret a\n");
+	tell("far label", upc_assemble((const uint8_t *)text, strlen(text), octets, sizeof octets, &k, &fault), text, text, 1);
+	for (k = 0; k < 4097; k++)
+		octets[8 * k + 1] = 0x16;
+	tell("4096 instructions", upc_check(octets, 8 * 4096, &fault), text, text, 1);
+	tell("4097 instructions", upc_check(octets, 8 * 4097, &fault), text, text, 1);
+}
+
+/* What a upc_program refuses: to run where it has no program, another program where it has one, what is no cell. */
+static void kept_program(void)
+{
+	static const uint8_t octets[] = {0, 6, 0, 0, 0, 0, 0, 7}, wrong[] = {0, 7, 0, 0, 0, 0, 0, 0};
+	uint8_t cell[UPC_CELL_OCTETS] = {0};
+	upc_program program = {0, 0};
+	uint32_t value[2] = {1, 2}, before[2] = {1, 2};
+
+	upc_program_free(&program);
+	tell("no program", upc_program_run(&program, cell, sizeof cell, &value[0], &value[1], &fault), value, before, sizeof value);
+	tell("none yet", upc_program_new(wrong, sizeof wrong, &program, &fault), "", "", 0);
+	tell("put in", upc_program_new(octets, sizeof octets, &program, &fault), "", "", 0);
+	tell("put in again", upc_program_new(octets, sizeof octets, &program, &fault), "", "", 0);
+	tell("no cell", upc_program_run(&program, cell, 51, &value[0], &value[1], &fault), value, before, sizeof value);
+	tell("run", upc_program_run(&program, cell, sizeof cell, &value[0], &value[1], &fault), value, value, 0);
+	printf("run: value %u steps %u\n", (unsigned)value[0], (unsigned)value[1]);
+	upc_program_free(&program);
+	tell("let go", upc_program_run(&program, cell, sizeof cell, &value[0], &value[1], &fault), value, value, 0);
+}
+
+int main(void)
+{
+	static const char *const sources[] = {"ret #1", "ret", "ret #8x", "l:l:ret #1", "l:ret #1\nl:ret #2", "ja l", "l:ja l", "l:"};
+	static const char *const programs[] = {"",         "00",       "0006000000000001",
+	                                       "0067000000000000", "0060000000000010", "0034000000000000",
+	                                       "0064000000000020", "0005000000000001", "0007000000000000",
+	                                       "00610000000000030016000000000000"};
+	size_t k;
+
+	judge_all();
+	burst("no cells", 0, 20, 10);
+	burst("slower peak", 1, 10, 20);
+	burst("large tolerance", 3, UPC_MOST_TICKS, 1);
+	burst("burst of three", 3, 20, 10);
+	cell("octets", 52, UPC_UNI);
+	cell("octets between nodes", 52, UPC_NNI);
+	cell("51 octets", 51, UPC_UNI);
+	cell("53 octets", 53, 2);
+	cell("side 2", 52, 2);
+	for (k = 0; k < sizeof programs / sizeof *programs; k++)
+		program(programs[k]);
+	for (k = 0; k < sizeof sources / sizeof *sources; k++)
+		source(sources[k], 8);
+	source("ret #1", 7);
+	far_and_long();
+	kept_program();
+	return 0;
+}

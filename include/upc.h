@@ -1,0 +1,172 @@
+/* upc.h: the proved policer for ATM cells, as a library for C and C++.
+ *
+ * Each call returns 0, or the number of the fault for which it refused, and fills *fault: with zeros, or with that fault.
+ * A call that refuses writes nothing else. What each call answers is proved (crates/upc_c/README.md), as long as its
+ * caller keeps this, which nothing checks:
+ *
+ *  - No pointer is null, also where the length beside it is 0. Each points to memory of its type, aligned for it, and
+ *    octets to as many as their length says, at most PTRDIFF_MAX. The call may read them, and write where the pointer
+ *    is to no const.
+ *  - What a call may write to is lent to that argument alone: it overlaps none of the others, and no other thread reads
+ *    or writes it before the call returns. What it may only read nobody changes before that.
+ *  - Calls that the list below marks with "memory" take it by malloc and realloc and give it back by free, all of one
+ *    allocator, whose blocks are aligned for every type of at most 16 octets. They are called from no signal handler, nor
+ *    from the child that a process with threads forked.
+ *
+ *  - A upc_program is all zeros, or what these calls left in it.
+ *
+ * Any number of threads may call at once. Nothing is kept between calls but in what the caller holds.
+ */
+#ifndef UPC_H
+#define UPC_H
+
+#include <stddef.h>
+#include <stdint.h>
+
+#ifdef __cplusplus
+extern "C" {
+#endif
+
+/* ---- Faults ---- */
+
+/* Why a call refused. What a fault doesn't have is 0. */
+typedef struct upc_fault {
+	uint32_t kind;   /* one of enum upc_kind */
+	uint32_t number; /* from 1: the fault of this kind with this number, also what the call returned */
+	size_t place;    /* see enum upc_kind */
+	uint32_t word;   /* the scratch word, 0 to 15, of verify 8 Unwritten */
+	uint32_t code;   /* the code of decode 2 UnknownCode */
+} upc_fault;
+
+/* Whose fault it is. Names and numbers are those of docs/FORMATS.md, but for UPC_CALL, which the library alone has. */
+enum upc_kind {
+	UPC_FINE = 0,   /* none */
+	UPC_CALL = 1,   /* one of enum upc_call */
+	UPC_CELL = 2,   /* 1 WrongLength; place: how many octets there are */
+	UPC_DECODE = 3, /* 1 Ragged, 2 UnknownCode; place: of the instruction, from 0 */
+	UPC_ASM = 4,    /* 1 BadLine, 2 BadNumber, 3 LabelTwice, 4 UnknownLabel, 5 Backward, 6 TooFar, 7 DanglingLabel;
+	                   place: the line, from 1 */
+	UPC_VERIFY = 5, /* 1 Empty, 2 TooLong, 3 BadScratch, 4 ZeroDivisor, 5 BadShift, 6 JumpOutside, 7 NoReturn,
+	                   8 Unwritten; place: of the instruction, from 0 */
+	UPC_GCRA = 6,   /* 1 ZeroIncrement, 2 TooLarge; place: the bucket, 1 or 2 */
+	UPC_BURST = 7,  /* 1 ZeroMbs, 2 PeakSlower, 3 TooLarge */
+	UPC_ARRIVE = 8  /* 5 MomentTooLate */
+};
+
+enum upc_call {
+	UPC_NO_MEMORY = 1,     /* malloc or realloc returned null */
+	UPC_NO_ROOM = 2,       /* the room is too small; place: how many octets are needed */
+	UPC_UNKNOWN_KIND = 3,  /* the contract is of none of the four kinds */
+	UPC_LATE_LEVELS = 4,   /* the levels are above UPC_LAST_LEVEL */
+	UPC_UNKNOWN_SIDE = 5,  /* the side is none of enum upc_side */
+	UPC_PROGRAM_THERE = 6, /* the upc_program has a program already */
+	UPC_NO_PROGRAM = 7     /* the upc_program has none */
+};
+
+/* ---- A meter on the caller's state (no call takes memory) ---- */
+
+/* The greatest increment, limit and burst tolerance, the last moment, and the greatest level, in ticks. */
+#define UPC_MOST_TICKS ((uint64_t)1 << 48)
+#define UPC_LAST_MOMENT ((uint64_t)1 << 62)
+#define UPC_LAST_LEVEL (((uint64_t)1 << 62) + ((uint64_t)1 << 49))
+
+/* The kinds of contract (docs/CONTRACTS.md). */
+enum upc_contract_kind { UPC_CBR1 = 1, UPC_VBR1 = 2, UPC_VBR2 = 3, UPC_VBR3 = 4 };
+
+/* A contract: a kind, and an increment (1 to UPC_MOST_TICKS) and a limit (0 to UPC_MOST_TICKS) for each of its buckets.
+ * CBR.1 has no bucket 2, and its last two numbers are free. */
+typedef struct upc_contract {
+	uint32_t kind;                /* one of enum upc_contract_kind */
+	uint64_t peak_increment;      /* bucket 1, the peak cell rate */
+	uint64_t peak_limit;
+	uint64_t sustained_increment; /* bucket 2, the sustainable cell rate */
+	uint64_t sustained_limit;
+} upc_contract;
+
+/* The state of one contract: the theoretical arrival times of its buckets, in ticks. Both are 0 before the first cell. */
+typedef struct upc_levels {
+	uint64_t first;
+	uint64_t second;
+} upc_levels;
+
+enum upc_verdict { UPC_PASS = 0, UPC_TAG = 1, UPC_DISCARD = 2 };
+
+/* Whether the numbers are a contract. Faults: UPC_UNKNOWN_KIND, then those of UPC_GCRA of the first faulty bucket. */
+uint32_t upc_contract_check(const upc_contract *contract, upc_fault *fault);
+
+/* Judges a cell of cell loss priority 0, or of 1 where clp is any other number, at a moment of at most UPC_LAST_MOMENT
+ * ticks. *verdict becomes one of enum upc_verdict, and *levels what the cell leaves. The moments of the cells of one
+ * upc_levels don't go back: a cell that comes before another is still judged, but not as I.371 would.
+ * Faults: those of upc_contract_check, then UPC_LATE_LEVELS, then arrive 5 MomentTooLate. */
+uint32_t upc_judge(const upc_contract *contract, upc_levels *levels, uint32_t clp, uint64_t moment, uint32_t *verdict,
+                   upc_fault *fault);
+
+/* The burst tolerance (mbs - 1)(sustained - peak) in ticks, for a burst of mbs cells and the increments of the two rates.
+ * Faults: those of UPC_BURST. */
+uint32_t upc_burst_tolerance(uint64_t mbs, uint64_t sustained_increment, uint64_t peak_increment, uint64_t *ticks,
+                             upc_fault *fault);
+
+/* ---- Cells (no call takes memory) ---- */
+
+enum { UPC_CELL_OCTETS = 52 };
+
+/* Where a header is read: at the user network interface, or between nodes of the network. */
+enum upc_side { UPC_UNI = 0, UPC_NNI = 1 };
+
+/* The fields of a header. */
+typedef struct upc_fields {
+	uint16_t vpi; /* virtual path, 0 to 255 (UPC_UNI) or 0 to 4095 (UPC_NNI) */
+	uint16_t vci; /* virtual channel */
+	uint8_t gfc;  /* generic flow control, 0 to 15; 0 at UPC_NNI */
+	uint8_t pti;  /* payload type, 0 to 7 */
+	uint8_t clp;  /* cell loss priority, 0 or 1 */
+} upc_fields;
+
+/* The fields of the cell that 52 octets are. Faults: cell 1 WrongLength, then UPC_UNKNOWN_SIDE. */
+uint32_t upc_cell_fields(const uint8_t *octets, size_t length, uint32_t side, upc_fields *fields, upc_fault *fault);
+
+/* Tags the cell that 52 octets are: its cell loss priority becomes 1. Faults: cell 1 WrongLength. */
+uint32_t upc_cell_tag(uint8_t *octets, size_t length, upc_fault *fault);
+
+/* ---- Programs in octets (memory) ---- */
+
+/* Whether octets are a program that the check accepts. Faults: those of UPC_DECODE, then those of UPC_VERIFY. */
+uint32_t upc_check(const uint8_t *program, size_t length, upc_fault *fault);
+
+/* Writes the octets of the code that a source means into the room, and how many there are into *count. The code is not
+ * checked. Faults: those of UPC_ASM, then UPC_NO_ROOM. */
+uint32_t upc_assemble(const uint8_t *source, size_t source_length, uint8_t *room, size_t room_length, size_t *count,
+                      upc_fault *fault);
+
+/* Writes the listing of the code that octets spell, which upc_assemble reads again, into the room, and how many octets
+ * it has into *count. The code needn't pass the check, but its jumps lead to places of the code.
+ * Faults: those of UPC_DECODE, then verify 6 JumpOutside, then UPC_NO_ROOM. */
+uint32_t upc_listing(const uint8_t *program, size_t length, uint8_t *room, size_t room_length, size_t *count,
+                     upc_fault *fault);
+
+/* ---- A program that is kept (memory) ---- */
+
+/* A program, or none: all zeros are none, as in `upc_program p = {0, 0};`. It is filled by these calls alone: its owner
+ * neither reads nor writes what is in it and makes no second copy, and lets the program go before it forgets the
+ * upc_program. It may be moved to another place, but stays with the thread that made it. */
+typedef struct upc_program {
+	uint32_t live;
+	void *at;
+} upc_program;
+
+/* Puts in the program that octets spell, where there is none. Faults: UPC_PROGRAM_THERE, then those of upc_check. */
+uint32_t upc_program_new(const uint8_t *octets, size_t length, upc_program *program, upc_fault *fault);
+
+/* Runs the program on the cell that 52 octets are: *value becomes what it gave, and *steps how many instructions it began.
+ * It takes no memory. Faults: cell 1 WrongLength, then UPC_NO_PROGRAM. */
+uint32_t upc_program_run(upc_program *program, const uint8_t *octets, size_t length, uint32_t *value, uint32_t *steps,
+                         upc_fault *fault);
+
+/* Lets the program go, and leaves none. Where there is none it does nothing. */
+void upc_program_free(upc_program *program);
+
+#ifdef __cplusplus
+}
+#endif
+
+#endif
