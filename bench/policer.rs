@@ -1,15 +1,16 @@
 //! What `upc run` answers to lawful scripts, by a plain program that nothing is proved of: the cells' path is
-//! written for speed, and the desk's commands as they come. A fault is told where a cell may have it.
+//! written for speed, and the desk's commands by the structures that std has for them. A fault is told where a cell
+//! may have it.
 
 use std::collections::HashMap;
 use std::hash::{BuildHasherDefault, Hasher};
 use std::process::exit;
 
-use crate::{Answers, Step, decode, each_line, run};
+use crate::{Step, Text, decode, each_line, run};
 
 /// Spreads the one number that a connection's path and channel are.
 #[derive(Default)]
-struct Spread(u64);
+pub struct Spread(u64);
 
 impl Hasher for Spread {
     fn finish(&self) -> u64 {
@@ -47,7 +48,7 @@ impl Bucket {
 }
 
 #[derive(Clone, Copy, PartialEq)]
-enum Verdict {
+pub enum Verdict {
     Pass,
     Tag,
     Discard,
@@ -104,21 +105,29 @@ struct Entry {
     verdict: Verdict,
 }
 
-struct Connection {
-    program: u32,
+pub struct Connection {
+    pub program: u32,
     contracts: Vec<Contract>,
     last: u64,
     journal: Vec<Entry>,
 }
 
+/// A program that was put in, and how many connections name it. It is none once it was taken out.
 #[derive(Default)]
-struct Card {
-    most: usize,
-    programs: Vec<Vec<Step>>,
-    connections: HashMap<u32, Connection, BuildHasherDefault<Spread>>,
+pub struct Stored {
+    pub code: Option<Vec<Step>>,
+    uses: u32,
 }
 
-fn number(word: &[u8]) -> u64 {
+#[derive(Default)]
+pub struct Card {
+    pub most: usize,
+    pub ports: usize,
+    pub programs: Vec<Stored>,
+    pub connections: HashMap<u32, Connection, BuildHasherDefault<Spread>>,
+}
+
+pub fn number(word: &[u8]) -> u64 {
     let mut number = 0u64;
     for &octet in word {
         let digit = octet.wrapping_sub(b'0');
@@ -131,17 +140,99 @@ fn number(word: &[u8]) -> u64 {
 }
 
 /// The word that a line begins with, and the line behind the blank that ends it.
-fn first(line: &[u8]) -> (&[u8], &[u8]) {
+pub fn first(line: &[u8]) -> (&[u8], &[u8]) {
     match line.iter().position(|&octet| octet == b' ') {
         Some(end) => (&line[..end], &line[end + 1..]),
         None => (line, &[]),
     }
 }
 
-fn name(answers: &mut Answers, key: u32) {
+fn name(answers: &mut impl Text, key: u32) {
     answers.number(key >> 16);
     answers.text(b"/");
     answers.number(key & 0xffff);
+}
+
+/// The moment and the cell of a line behind its command.
+pub fn arrival(line: &[u8]) -> Option<(u64, [u8; 52])> {
+    let (moment, word) = first(line);
+    let moment = number(moment);
+    let mut cell = [0; 52];
+    let is_cell = match word.len() {
+        8 => decode(word, &mut cell[..4]),
+        104 => decode(word, &mut cell),
+        _ => exit(1),
+    };
+    is_cell.then_some((moment, cell))
+}
+
+fn header_of(cell: &[u8; 52]) -> u32 {
+    u32::from_be_bytes([cell[0], cell[1], cell[2], cell[3]])
+}
+
+/// A connection's path and channel, as one number.
+pub fn key_of(cell: &[u8; 52]) -> u32 {
+    header_of(cell) >> 4 & 0x00ff_ffff
+}
+
+impl Connection {
+    pub fn judge(&mut self, moment: u64, value: u32, cell: &[u8; 52], most: usize) -> Verdict {
+        if moment < self.last || self.journal.len() >= most {
+            exit(1);
+        }
+        let low = header_of(cell) & 1 == 1;
+        let verdict = match self.contracts.get_mut((value as usize).wrapping_sub(1)) {
+            Some(contract) => contract.judge(moment, low),
+            None => Verdict::Refuse,
+        };
+        self.last = moment;
+        self.journal.push(Entry { moment, program: self.program, value, low, verdict });
+        verdict
+    }
+}
+
+/// The answer to a judged cell.
+pub fn tell(answers: &mut impl Text, program: u32, key: u32, value: u32, verdict: Verdict, cell: &[u8; 52]) {
+    answers.text(match verdict {
+        Verdict::Pass => b"pass ",
+        Verdict::Tag => b"tag ",
+        Verdict::Discard => b"discard ",
+        Verdict::Refuse => b"refuse ",
+    });
+    name(answers, key);
+    answers.text(b" p");
+    answers.number(program + 1);
+    answers.text(b" ");
+    answers.number(value);
+    if matches!(verdict, Verdict::Pass | Verdict::Tag) {
+        let header = header_of(cell);
+        let leaving = if verdict == Verdict::Tag { header | 1 } else { header };
+        let mut digits = *b" 00000000\n";
+        for (place, digit) in digits[1..9].iter_mut().enumerate() {
+            *digit = b"0123456789abcdef"[(leaving >> (28 - 4 * place) & 15) as usize];
+        }
+        answers.text(&digits);
+    } else {
+        answers.text(b"\n");
+    }
+}
+
+/// The number of a program by its name.
+fn program(word: &[u8]) -> u32 {
+    number(&word[1..]) as u32 - 1
+}
+
+/// What is told of a journal that is handed out.
+fn tell_journal(answers: &mut impl Text, command: &[u8], key: u32, journal: &[Entry]) {
+    answers.text(command);
+    name(answers, key);
+    answers.text(b" ");
+    answers.number(journal.len() as u32);
+    for verdict in [Verdict::Pass, Verdict::Tag, Verdict::Discard, Verdict::Refuse] {
+        answers.text(b" ");
+        answers.number(journal.iter().filter(|entry| entry.verdict == verdict).count() as u32);
+    }
+    answers.text(b"\n");
 }
 
 impl Card {
@@ -149,62 +240,26 @@ impl Card {
         self.connections.get_mut(&key).unwrap_or_else(|| exit(1))
     }
 
-    fn cell(&mut self, line: &[u8], answers: &mut Answers) {
-        let (moment, word) = first(line);
-        let moment = number(moment);
-        let mut cell = [0; 52];
-        let is_cell = match word.len() {
-            8 => decode(word, &mut cell[..4]),
-            104 => decode(word, &mut cell),
-            _ => exit(1),
-        };
-        if !is_cell {
+    fn cell(&mut self, line: &[u8], answers: &mut impl Text) {
+        let Some((moment, cell)) = arrival(line) else {
             return answers.text(b"fault script 3 BadHex\n");
-        }
-        let header = u32::from_be_bytes([cell[0], cell[1], cell[2], cell[3]]);
-        let key = header >> 4 & 0x00ff_ffff;
+        };
+        let key = key_of(&cell);
         let Some(connection) = self.connections.get_mut(&key) else {
             return answers.text(b"fault arrive 1 NoConnection\n");
         };
-        let (value, _) = run(&self.programs[connection.program as usize], &cell);
-        if moment < connection.last || connection.journal.len() >= self.most {
-            exit(1);
-        }
-        let low = header & 1 == 1;
-        let verdict = match connection.contracts.get_mut((value as usize).wrapping_sub(1)) {
-            Some(contract) => contract.judge(moment, low),
-            None => Verdict::Refuse,
-        };
-        connection.last = moment;
-        connection.journal.push(Entry { moment, program: connection.program, value, low, verdict });
-        answers.text(match verdict {
-            Verdict::Pass => b"pass ",
-            Verdict::Tag => b"tag ",
-            Verdict::Discard => b"discard ",
-            Verdict::Refuse => b"refuse ",
-        });
-        name(answers, key);
-        answers.text(b" p");
-        answers.number(connection.program + 1);
-        answers.text(b" ");
-        answers.number(value);
-        if matches!(verdict, Verdict::Pass | Verdict::Tag) {
-            let leaving = if verdict == Verdict::Tag { header | 1 } else { header };
-            let mut digits = *b" 00000000\n";
-            for (place, digit) in digits[1..9].iter_mut().enumerate() {
-                *digit = b"0123456789abcdef"[(leaving >> (28 - 4 * place) & 15) as usize];
-            }
-            answers.text(&digits);
-        } else {
-            answers.text(b"\n");
-        }
+        let Some(code) = &self.programs[connection.program as usize].code else { exit(1) };
+        let (value, _) = run(code, &cell);
+        let verdict = connection.judge(moment, value, &cell, self.most);
+        tell(answers, connection.program, key, value, verdict, &cell);
     }
 
-    fn desk(&mut self, command: &[u8], line: &[u8], answers: &mut Answers) {
+    pub fn desk(&mut self, command: &[u8], line: &[u8], answers: &mut impl Text) {
         let words: Vec<&[u8]> = line.split(|&octet| octet == b' ').collect();
         let key = |words: &[&[u8]]| (number(words[0]) << 16 | number(words[1])) as u32;
         match command {
             b"card" => {
+                self.ports = number(words[2]) as usize;
                 self.most = number(words[3]) as usize;
                 answers.text(b"ready\n");
             }
@@ -216,25 +271,38 @@ impl Card {
                     }
                     Step::read(&eight)
                 });
-                self.programs.push(steps.collect());
+                self.programs.push(Stored { code: Some(steps.collect()), uses: 0 });
                 answers.text(b"loaded p");
                 answers.number(self.programs.len() as u32);
                 answers.text(b"\n");
             }
+            b"retire" => {
+                let stored = &mut self.programs[program(words[0]) as usize];
+                if stored.uses > 0 || stored.code.take().is_none() {
+                    exit(1);
+                }
+                answers.text(b"retired ");
+                answers.text(words[0]);
+                answers.text(b"\n");
+            }
             b"setup" => {
                 let connection = Connection {
-                    program: number(&words[2][1..]) as u32 - 1,
+                    program: program(words[2]),
                     contracts: words[3..].iter().map(|word| Contract::read(word)).collect(),
                     last: 0,
                     journal: Vec::with_capacity(self.most),
                 };
+                self.programs[connection.program as usize].uses += 1;
                 self.connections.insert(key(&words), connection);
                 answers.text(b"set ");
                 name(answers, key(&words));
                 answers.text(b"\n");
             }
             b"reload" => {
-                self.connection(key(&words)).program = number(&words[2][1..]) as u32 - 1;
+                let next = program(words[2]);
+                let old = std::mem::replace(&mut self.connection(key(&words)).program, next);
+                self.programs[old as usize].uses -= 1;
+                self.programs[next as usize].uses += 1;
                 answers.text(b"reloaded ");
                 name(answers, key(&words));
                 answers.text(b" ");
@@ -242,16 +310,15 @@ impl Card {
                 answers.text(b"\n");
             }
             b"cut" => {
-                let journal = std::mem::take(&mut self.connection(key(&words)).journal);
-                answers.text(b"cut ");
-                name(answers, key(&words));
-                answers.text(b" ");
-                answers.number(journal.len() as u32);
-                for verdict in [Verdict::Pass, Verdict::Tag, Verdict::Discard, Verdict::Refuse] {
-                    answers.text(b" ");
-                    answers.number(journal.iter().filter(|entry| entry.verdict == verdict).count() as u32);
-                }
-                answers.text(b"\n");
+                let most = self.most;
+                let journal = &mut self.connection(key(&words)).journal;
+                let full = std::mem::replace(journal, Vec::with_capacity(most));
+                tell_journal(answers, b"cut ", key(&words), &full);
+            }
+            b"release" => {
+                let gone = self.connections.remove(&key(&words)).unwrap_or_else(|| exit(1));
+                self.programs[gone.program as usize].uses -= 1;
+                tell_journal(answers, b"released ", key(&words), &gone.journal);
             }
             _ => exit(1),
         }
