@@ -1,6 +1,6 @@
 /* Loaded before the C library, refuses requests of a process for memory: the one whose number, from 1, is in the variable
    REFUSE, and all from the one on whose number is in REFUSE_FROM. A line on descriptor 9 for each says that it came to
-   that. */
+   that. Where REFUSE_NONE is set, none is refused, and descriptor 9 gets a line for each request. */
 #include <errno.h>
 #include <stdlib.h>
 #include <unistd.h>
@@ -21,14 +21,15 @@ static long number_of(const char *name) {
 static int is_refused(void) {
   long request = __atomic_add_fetch(&requests, 1, __ATOMIC_SEQ_CST);
   long first = number_of("REFUSE_FROM");
-  if (request != number_of("REFUSE") && (first == 0 || request < first)) {
+  int counts = number_of("REFUSE_NONE") != 0;
+  if (!counts && request != number_of("REFUSE") && (first == 0 || request < first)) {
     return 0;
   }
-  if (write(9, "refused\n", 8) != 8) {
+  if (write(9, "request\n", 8) != 8) {
     _exit(99);
   }
   errno = ENOMEM;
-  return 1;
+  return !counts;
 }
 
 void *malloc(size_t size) { return is_refused() ? NULL : __libc_malloc(size); }

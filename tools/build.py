@@ -1,10 +1,10 @@
 #!/usr/bin/env python3
-"""Proves and builds a program of this repository, after the crates that it depends on, side by side.
+"""Proves and builds a program or a static library of this repository, after the crates that it depends on, side by side.
 
     tools/build.py NAME
 
 Standard error says which crate was proved, how many are left, and how long it took so far. The status is 0 where the
-program is built.
+program or the library is built.
 """
 import os
 import shutil
@@ -75,12 +75,14 @@ def main(name):
                 tell(f"{crate.name} is proved, crate {len(ready)} of {number}, {kit.minutes(time.time() - begun)}")
     for it in locks:
         os.close(it)
-    if os.path.exists(f"{program.folder}/out/{name}"):
-        os.remove(f"{program.folder}/out/{name}")
-    # The program is only to be built: with no input it ends at once.
-    ended = subprocess.run(["rt", "run"], cwd=program.folder, stdin=subprocess.DEVNULL, stdout=subprocess.PIPE, stderr=subprocess.STDOUT)
-    if not os.access(f"{program.folder}/out/{name}", os.X_OK):
-        tell("the program is not built\n" + ended.stdout.decode(errors="replace"))
+    product = f"{program.folder}/out/" + (f"lib{name}.a" if program.is_static else name)
+    if os.path.exists(product):
+        os.remove(product)
+    # A program is only to be built: with no input it ends at once.
+    word = "lib" if program.is_static else "run"
+    ended = subprocess.run(["rt", word], cwd=program.folder, stdin=subprocess.DEVNULL, stdout=subprocess.PIPE, stderr=subprocess.STDOUT)
+    if not os.path.exists(product):
+        tell("it is not built\n" + ended.stdout.decode(errors="replace"))
         return 1
     tell(f"{name} is proved and built, {kit.minutes(time.time() - begun)}")
     return 0
