@@ -13,6 +13,29 @@ fn ask_on(channel: u16, program: Id) -> Result<Ask, Fail> {
     })
 }
 
+/// Sets up the connection of path 1 and this channel, with a program of its own that gives this value.
+fn set_up(core: &mut Core, alloc: Global, channel: u16, value: u32) -> Result<Owner, Fail> {
+    let program = id_of(&core.step(Step::Load(constant(alloc, value)?)))?;
+    owner_of(&core.step(Step::Setup(ask_on(channel, program)?)))
+}
+
+/// A card that has the connection of channel 100 alone.
+fn own_card(alloc: Global) -> Result<Core, Fail> {
+    let mut core = Core::new(alloc, shape(1, 1, 16))?;
+    set_up(&mut core, alloc, 100, 1)?;
+    Ok(core)
+}
+
+/// A card on which that connection has another line, incarnation and program id, beside that of channel 101.
+fn shared_card(alloc: Global) -> Result<Core, Fail> {
+    let mut shape = shape(2, 2, 16);
+    shape.lines = 2;
+    let mut core = Core::new(alloc, shape)?;
+    set_up(&mut core, alloc, 101, 2)?;
+    set_up(&mut core, alloc, 100, 1)?;
+    Ok(core)
+}
+
 /// A cell of path 1 and channel 101 comes to port 1, and is picked.
 fn pick_another(core: &mut Core, moment: u64) -> bool {
     let mut octets = *cell().bytes();
@@ -44,31 +67,33 @@ fn seen(answer: Option<Answer>) -> Option<(u64, u32, Verdict)> {
     }
 }
 
+/// What is seen of a cell of channel 100.
+fn by_itself(core: &mut Core, moment: u64) -> Option<(u64, u32, Verdict)> {
+    if pick_at(core, 0, moment) {
+        seen(judge_at_port(core, 0))
+    } else {
+        None
+    }
+}
+
+/// What is seen of a cell of channel 100 that comes after one of channel 101, and is judged after it.
+fn beside_another(core: &mut Core, moment: u64) -> Option<(u64, u32, Verdict)> {
+    if pick_another(core, moment) && pick_at(core, 0, moment) {
+        seen(judge_at_port(core, 1))?;
+        seen(judge_at_port(core, 0))
+    } else {
+        None
+    }
+}
+
 #[test]
 fn a_connection_is_served_as_alone(rt: HostRuntime) -> Result<(), Fail> {
-    let mut alone = Core::new(rt.alloc(), shape(1, 1, 16))?;
-    let program = id_of(&alone.step(Step::Load(constant(rt.alloc(), 1)?)))?;
-    owner_of(&alone.step(Step::Setup(ask_on(100, program)?)))?;
-
-    // Here it has another line, incarnation and id of its program, and a neighbour with a program of its own.
-    let mut shape = shape(2, 2, 16);
-    shape.lines = 2;
-    let mut shared = Core::new(rt.alloc(), shape)?;
-    let other = id_of(&shared.step(Step::Load(constant(rt.alloc(), 2)?)))?;
-    owner_of(&shared.step(Step::Setup(ask_on(101, other)?)))?;
-    let program = id_of(&shared.step(Step::Load(constant(rt.alloc(), 1)?)))?;
-    let owner = owner_of(&shared.step(Step::Setup(ask_on(100, program)?)))?;
-    assert_eq!(rt; owner.incarnation, 2);
-
+    let mut own = own_card(rt.alloc())?;
+    let mut shared = shared_card(rt.alloc())?;
     for moment in [0, 5, 10, 12, 20] {
-        assert!(rt; pick_at(&mut alone, 0, moment));
-        assert!(rt; pick_another(&mut shared, moment));
-        assert!(rt; pick_at(&mut shared, 0, moment));
-        let theirs = judge_at_port(&mut shared, 1);
-        let ours = judge_at_port(&mut shared, 0);
-        assert!(rt; seen(theirs).is_some());
-        assert!(rt; seen(ours).is_some());
-        assert_eq!(rt; seen(ours), seen(judge_at_port(&mut alone, 0)));
+        let ours = beside_another(&mut shared, moment);
+        assert!(rt; ours.is_some());
+        assert_eq!(rt; ours, by_itself(&mut own, moment));
     }
     Ok(())
 }
