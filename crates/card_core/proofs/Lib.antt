@@ -1,5 +1,6 @@
 pub mod Allowed
 pub mod ArrivalSteps
+pub mod ByResult
 pub mod CellLemmas
 pub mod CodeLemmas
 pub mod ConnectionLemmas

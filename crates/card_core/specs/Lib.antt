@@ -7,6 +7,7 @@ pub mod Steps
 pub mod Log
 pub mod Shapes
 pub mod PortReplies
+pub mod DeskReplies
 pub mod Agreement
 pub mod Arrival
 pub mod Stale

@@ -2,6 +2,7 @@
 
 ghost use Rattle.std.specs.Prelude.{◌≡◌};
 ghost use Rattle.card_core.specs.PortReplies.{reply_of};
+ghost use Rattle.card_core.specs.DeskReplies.{load_reply, retire_reply, setup_reply, reload_reply, release_reply, cut_reply};
 
 use crate::answer::Answer;
 use crate::ask::Ask;
@@ -64,5 +65,65 @@ pub(crate) fn whole(reply: PortReply) -> Reply
         PortReply::Picked => Reply::Picked,
         PortReply::NotNow => Reply::NotNow,
         PortReply::Answered(answer) => Reply::Answered(answer),
+    }
+}
+
+/// The reply to `Load`.
+pub(crate) fn of_load(returned: Result<Id, (DeskFault, Program)>) -> Reply
+    ensures { result ≡ load_reply returned }
+{
+    match returned {
+        Ok(id) => Reply::Loaded(id),
+        Err((fault, program)) => Reply::NotLoaded(fault, program),
+    }
+}
+
+/// The reply to `Retire`.
+pub(crate) fn of_retire(returned: Result<Program, DeskFault>) -> Reply
+    ensures { result ≡ retire_reply returned }
+{
+    match returned {
+        Ok(program) => Reply::Retired(program),
+        Err(fault) => Reply::Refused(fault),
+    }
+}
+
+/// The reply to `Setup`.
+pub(crate) fn of_setup(returned: Result<Owner, (DeskFault, Ask)>) -> Reply
+    ensures { result ≡ setup_reply returned }
+{
+    match returned {
+        Ok(owner) => Reply::SetUp(owner),
+        Err((fault, ask)) => Reply::NotSetUp(fault, ask),
+    }
+}
+
+/// The reply to `Reload`.
+pub(crate) fn of_reload(returned: Result<Id, DeskFault>) -> Reply
+    ensures { result ≡ reload_reply returned }
+{
+    match returned {
+        Ok(before) => Reply::Reloaded(before),
+        Err(fault) => Reply::Refused(fault),
+    }
+}
+
+/// The reply to `Release`.
+pub(crate) fn of_release(returned: Result<Piece, DeskFault>) -> Reply
+    ensures { result ≡ release_reply returned }
+{
+    match returned {
+        Ok(piece) => Reply::Released(piece),
+        Err(fault) => Reply::Refused(fault),
+    }
+}
+
+/// The reply to `Cut`.
+pub(crate) fn of_cut(returned: Result<Piece, DeskFault>) -> Reply
+    ensures { result ≡ cut_reply returned }
+{
+    match returned {
+        Ok(piece) => Reply::Cut(piece),
+        Err(fault) => Reply::Refused(fault),
     }
 }

@@ -11,7 +11,9 @@ use crate::picking::{Store, name, pick};
 use crate::port::{
     Came, Found, Port, are_outside, entered_at, is_idle_at, move_port, outside_ports, picked_at,
 };
-use crate::reply::{PortReply, Reply, whole};
+use crate::reply::{
+    PortReply, Reply, of_cut, of_load, of_release, of_reload, of_retire, of_setup, whole,
+};
 use crate::shape::{Shape, refusal};
 use crate::step::Step;
 use bpf_verify::Program;
@@ -58,6 +60,7 @@ impl Core {
     ghost use Rattle.card_core.specs.Kept.{RefusalKeeps};
     ghost use Rattle.card_core.specs.Sections.{answer_to};
     ghost use Rattle.card_core.specs.PortReplies.{reply_of};
+    ghost use Rattle.card_core.specs.DeskReplies.{load_reply, retire_reply, setup_reply, reload_reply, release_reply, cut_reply};
     ghost use Rattle.card_core.specs.Stale.{IsNeverStale};
 
     /// A card of this shape: without programs and connections, and with every port outside.
@@ -126,12 +129,12 @@ impl Core {
             Step::Enter { port, cell, moment } => whole(self.enter(port, cell, moment)),
             Step::Pick { port } => whole(self.pick(port)),
             Step::Judge { port } => whole(self.judge(port)),
-            Step::Load(program) => self.load(program),
-            Step::Retire(id) => self.retire(id),
-            Step::Setup(ask) => self.setup(ask),
-            Step::Reload { vc, program } => self.reload(vc, program),
-            Step::Release(vc) => self.release(vc),
-            Step::Cut(vc) => self.cut(vc),
+            Step::Load(program) => of_load(self.load(program)),
+            Step::Retire(id) => of_retire(self.retire(id)),
+            Step::Setup(ask) => of_setup(self.setup(ask)),
+            Step::Reload { vc, program } => of_reload(self.reload(vc, program)),
+            Step::Release(vc) => of_release(self.release(vc)),
+            Step::Cut(vc) => of_cut(self.cut(vc)),
         }
     }
 
@@ -232,87 +235,95 @@ impl Core {
         }
     }
 
-    /// The step `Load`. Programs come and go only while every port is outside, so that a cell on its way is
-    /// judged by programs that are there all the time.
-    fn load(&mut self, program: Program) -> Reply
-        ensures follows { Follows self.old (Load program) result self.new }
-        ensures unchanged { RefusalKeeps result (Load program) self.old self.new }
+    /// Puts a program in: the step `Load`. Programs come and go only while every port is outside, so that a
+    /// cell on its way is judged by programs that are there all the time.
+    ///
+    /// # Errors
+    ///
+    /// `Busy` where a port has a cell, then `ProgramsFull` where no slot is free, with the program.
+    pub fn load(&mut self, program: Program) -> Result<Id, (DeskFault, Program)>
+        ensures follows { Follows self.old (Load program) (load_reply result) self.new }
+        ensures unchanged { RefusalKeeps (load_reply result) (Load program) self.old self.new }
     {
         if !are_outside(&self.ports) {
-            return Reply::NotLoaded(DeskFault::Busy, program);
+            return Err((DeskFault::Busy, program));
         }
-        match desk::load(&mut self.store, program) {
-            Ok(id) => Reply::Loaded(id),
-            Err((fault, program)) => Reply::NotLoaded(fault, program),
-        }
+        desk::load(&mut self.store, program)
     }
 
-    /// The step `Retire`, to be taken while every port is outside, as `Load` is.
-    fn retire(&mut self, id: Id) -> Reply
-        ensures follows { Follows self.old (Retire id) result self.new }
-        ensures unchanged { RefusalKeeps result (Retire id) self.old self.new }
+    /// Takes a program out: the step `Retire`, to be taken while every port is outside, as `Load` is.
+    ///
+    /// # Errors
+    ///
+    /// `Busy` where a port has a cell, then `NoProgram` where the id isn't live, then `InUse` where some
+    /// connection names it.
+    pub fn retire(&mut self, id: Id) -> Result<Program, DeskFault>
+        ensures follows { Follows self.old (Retire id) (retire_reply result) self.new }
+        ensures unchanged { RefusalKeeps (retire_reply result) (Retire id) self.old self.new }
     {
         if !are_outside(&self.ports) {
-            return Reply::Refused(DeskFault::Busy);
+            return Err(DeskFault::Busy);
         }
-        match desk::retire(&mut self.store, &self.directory, id) {
-            Ok(program) => Reply::Retired(program),
-            Err(fault) => Reply::Refused(fault),
-        }
+        desk::retire(&mut self.store, &self.directory, id)
     }
 
-    /// The step `Setup`. What has no reason to be refused may still find no memory.
-    fn setup(&mut self, ask: Ask) -> Reply
-        ensures follows { Follows self.old (Setup ask) result self.new }
-        ensures unchanged { RefusalKeeps result (Setup ask) self.old self.new }
+    /// Sets up a connection: the step `Setup`. What has no reason to be refused may still find no memory.
+    ///
+    /// # Errors
+    ///
+    /// `NoProgram`, `Taken`, `BadContracts`, `NoLine`, `Exhausted`: the first that holds (see [`desk::admit`]).
+    /// Then `NoMemory`, where memory is refused. What was asked is handed back.
+    pub fn setup(&mut self, ask: Ask) -> Result<Owner, (DeskFault, Ask)>
+        ensures follows { Follows self.old (Setup ask) (setup_reply result) self.new }
+        ensures unchanged { RefusalKeeps (setup_reply result) (Setup ask) self.old self.new }
     {
         let number = match desk::admit(&self.store, &self.directory, &ask) {
             Ok(number) => number,
-            Err(fault) => return Reply::NotSetUp(fault, ask),
+            Err(fault) => return Err((fault, ask)),
         };
-        match setup_line(&mut self.directory, &mut self.lines, number, ask) {
-            Ok(owner) => Reply::SetUp(owner),
-            Err((fault, ask)) => Reply::NotSetUp(fault, ask),
-        }
+        setup_line(&mut self.directory, &mut self.lines, number, ask)
     }
 
-    /// The step `Reload`.
-    fn reload(&mut self, vc: Vc, program: Id) -> Reply
-        ensures follows { Follows self.old (Reload vc program) result self.new }
-        ensures unchanged { RefusalKeeps result (Reload vc program) self.old self.new }
+    /// Gives a connection another program, and returns the one that it had: the step `Reload`.
+    ///
+    /// # Errors
+    ///
+    /// `NoProgram` where the id isn't live, then `NoConnection` where there is no such connection.
+    pub fn reload(&mut self, vc: Vc, program: Id) -> Result<Id, DeskFault>
+        ensures follows { Follows self.old (Reload vc program) (reload_reply result) self.new }
+        ensures unchanged { RefusalKeeps (reload_reply result) (Reload vc program) self.old self.new }
     {
-        match desk::reload(&self.store, &mut self.directory, vc, program) {
-            Ok(before) => Reply::Reloaded(before),
-            Err(fault) => Reply::Refused(fault),
-        }
+        desk::reload(&self.store, &mut self.directory, vc, program)
     }
 
-    /// The step `Release`.
-    fn release(&mut self, vc: Vc) -> Reply
-        ensures follows { Follows self.old (Release vc) result self.new }
-        ensures unchanged { RefusalKeeps result (Release vc) self.old self.new }
-    {
-        let Some(seating) = pick(&self.directory, vc) else {
-            return Reply::Refused(DeskFault::NoConnection);
-        };
-        match release_line(&mut self.directory, &mut self.lines, vc, &seating) {
-            Ok(piece) => Reply::Released(piece),
-            Err(fault) => Reply::Refused(fault),
-        }
-    }
-
-    /// The step `Cut`.
-    fn cut(&mut self, vc: Vc) -> Reply
-        ensures follows { Follows self.old (Cut vc) result self.new }
-        ensures unchanged { RefusalKeeps result (Cut vc) self.old self.new }
+    /// Ends a connection, and returns its last journal: the step `Release`.
+    ///
+    /// # Errors
+    ///
+    /// `NoConnection` where there is no such connection.
+    pub fn release(&mut self, vc: Vc) -> Result<Piece, DeskFault>
+        ensures follows { Follows self.old (Release vc) (release_reply result) self.new }
+        ensures unchanged { RefusalKeeps (release_reply result) (Release vc) self.old self.new }
     {
         let Some(seating) = pick(&self.directory, vc) else {
-            return Reply::Refused(DeskFault::NoConnection);
+            return Err(DeskFault::NoConnection);
         };
-        match cut_line(&mut self.lines, vc, &seating) {
-            Ok(piece) => Reply::Cut(piece),
-            Err(fault) => Reply::Refused(fault),
-        }
+        release_line(&mut self.directory, &mut self.lines, vc, &seating)
+    }
+
+    /// Hands out a connection's journal: the step `Cut`.
+    ///
+    /// # Errors
+    ///
+    /// `NoConnection` where there is no such connection, then `NoMemory`, where memory is refused.
+    pub fn cut(&mut self, vc: Vc) -> Result<Piece, DeskFault>
+        ensures follows { Follows self.old (Cut vc) (cut_reply result) self.new }
+        ensures unchanged { RefusalKeeps (cut_reply result) (Cut vc) self.old self.new }
+    {
+        let Some(seating) = pick(&self.directory, vc) else {
+            return Err(DeskFault::NoConnection);
+        };
+        cut_line(&mut self.lines, vc, &seating)
     }
 }
 

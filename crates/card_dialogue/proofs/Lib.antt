@@ -3,7 +3,6 @@ pub mod MarkLemmas
 pub mod ArrivalLemmas
 pub mod SpelledCellLemmas
 pub mod CommonLineLemmas
-pub mod DeskReplies
 pub mod MovesLemmas
 pub mod NamingLemmas
 pub mod NumberLemmas

@@ -58,15 +58,6 @@ pub moves-taken : (held held' : Held) (command : Command) (step : Step) (reply :
 moves-taken held held' command step reply text old new follows named added told =
     (text, added, taken held held' command step reply text follows named told)
 
--- A reply that no world gives.
-pub moves-never : (Goes : Card → List ℕ → Card → Type 0) (held held' : Held) (step : Step) (reply : Reply) (old : List ℕ)
-    → Follows held.core step reply held'.core → ((before after : World) → WorldStep before step reply after → ⊥) → Moves Goes held held' old old
-moves-never Goes held held' step reply old follows never = (
-  [],
-  sym (append-nil old),
-  λ before led shows. let on = follows led.shape led.log before.world led.leads shows.agrees in absurd (never before.world on.after on.stepped),
-)
-
 -- A program that has a name, and one that has none.
 pub moves-named : (TakesWith : Card → Id → List ℕ → Card → Type 0) (command : Command) (number : ℕ) (id : Id) (held held' : Held) (old new : List ℕ)
     → program_named held.names number ≡ Some id → Moves (λ before. TakesWith before id) held held' old new

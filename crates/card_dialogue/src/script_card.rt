@@ -11,7 +11,7 @@ use crate::replies::{
 use crate::script_words::Wanted;
 use arrayvec::ArrayVec;
 use bpf_verify::Program;
-use card_core::{Ask, CardFault, Core, Judgement, Reply, Shape, Step, Unjudged};
+use card_core::{Ask, CardFault, Core, Judgement, Shape, Unjudged};
 use dialogue::{LineWords, line_words};
 use program_dialogue::{
     CellWord, add_bad_hex, add_bad_line, add_wrong_length, cell_of_word, octets_of_word,
@@ -39,9 +39,7 @@ impl Model for ScriptCard {
     ghost view = { λ card. record { core = card.core; names = card.names } };
 }
 
-// A command of the desk has replies of its own kind alone, so that other arms are never come to: no card
-// that is shown leads there. Steps and replies of the desk may hold a program; the functions that have some
-// are kept out of the path of a cell, which would pay for their room.
+// The functions of the desk are not inlined: the path of a cell would pay for their room on the stack.
 impl ScriptCard {
     ghost use Rattle.std.specs.Prelude.{◌≡◌, ◌⊎◌, [], IfOk, IfErr, OnOk, MatchResult, None, Some, option_map};
     ghost use Rattle.card_core.specs.Sections.{answer_to};
@@ -87,14 +85,12 @@ impl ScriptCard {
         ensures { OnOk result (Moves (λ before. Takes before (load digits.now) (Load program))
             self.old self.new answers.old.items answers.new.items) }
     {
-        match self.core.step(Step::Load(program)) {
-            Reply::Loaded(id) => {
-                self.names.push(id)?;
-                add_loaded(answers, self.names.count() as u64)
-            }
-            Reply::NotLoaded(fault, _) => add_desk_fault(answers, fault),
-            _ => Ok(()),
-        }
+        let id = match self.core.load(program) {
+            Ok(id) => id,
+            Err((fault, _)) => return add_desk_fault(answers, fault),
+        };
+        self.names.push(id)?;
+        add_loaded(answers, self.names.count() as u64)
     }
 
     /// Puts in the program of these octets, if they are one.
@@ -126,10 +122,9 @@ impl ScriptCard {
         let Some(id) = self.names.named(number) else {
             return add_no_such_program(answers);
         };
-        match self.core.step(Step::Retire(id)) {
-            Reply::Retired(_) => add_retired(answers, number),
-            Reply::Refused(fault) => add_desk_fault(answers, fault),
-            _ => Ok(()),
+        match self.core.retire(id) {
+            Ok(_) => add_retired(answers, number),
+            Err(fault) => add_desk_fault(answers, fault),
         }
     }
 
@@ -157,10 +152,9 @@ impl ScriptCard {
             program,
             contracts,
         };
-        match self.core.step(Step::Setup(ask)) {
-            Reply::SetUp(_) => add_set(answers, vc),
-            Reply::NotSetUp(fault, _) => add_desk_fault(answers, fault),
-            _ => Ok(()),
+        match self.core.setup(ask) {
+            Ok(_) => add_set(answers, vc),
+            Err((fault, _)) => add_desk_fault(answers, fault),
         }
     }
 
@@ -173,10 +167,9 @@ impl ScriptCard {
         let Some(program) = self.names.named(number) else {
             return add_no_such_program(answers);
         };
-        match self.core.step(Step::Reload { vc, program }) {
-            Reply::Reloaded(_) => add_reloaded(answers, vc, number),
-            Reply::Refused(fault) => add_desk_fault(answers, fault),
-            _ => Ok(()),
+        match self.core.reload(vc, program) {
+            Ok(_) => add_reloaded(answers, vc, number),
+            Err(fault) => add_desk_fault(answers, fault),
         }
     }
 
@@ -186,10 +179,9 @@ impl ScriptCard {
         ensures { OnOk result (Moves (λ before. Obeys before (release vc))
             self.old self.new answers.old.items answers.new.items) }
     {
-        match self.core.step(Step::Release(vc)) {
-            Reply::Released(piece) => add_released(answers, vc, &piece),
-            Reply::Refused(fault) => add_desk_fault(answers, fault),
-            _ => Ok(()),
+        match self.core.release(vc) {
+            Ok(piece) => add_released(answers, vc, &piece),
+            Err(fault) => add_desk_fault(answers, fault),
         }
     }
 
@@ -199,10 +191,9 @@ impl ScriptCard {
         ensures { OnOk result (Moves (λ before. Obeys before (cut vc))
             self.old self.new answers.old.items answers.new.items) }
     {
-        match self.core.step(Step::Cut(vc)) {
-            Reply::Cut(piece) => add_cut(answers, vc, &piece),
-            Reply::Refused(fault) => add_desk_fault(answers, fault),
-            _ => Ok(()),
+        match self.core.cut(vc) {
+            Ok(piece) => add_cut(answers, vc, &piece),
+            Err(fault) => add_desk_fault(answers, fault),
         }
     }
 

@@ -1,16 +1,19 @@
-use Rattle.std.proofs.Common.{◌≡◌, Some, None, refl, sym, subst, arith}
+use Rattle.std.proofs.Common.{◌≡◌, Result, Some, None, refl, sym, subst, arith}
 use Rattle.line_record.specs.Directory.{seating_at}
+use Rattle.line_record.specs.Piece.{PieceView}
+use Rattle.card_core.specs.declared.fault.DeskFault.{DeskFault}
 use Rattle.card_core.specs.declared.fault.DeskFault.TheVariants.{NoConnection}
 use Rattle.card_core.specs.declared.reply.Reply.{Reply}
 use Rattle.card_core.specs.declared.reply.Reply.TheVariants.{Cut as CutOff, Refused}
 use Rattle.card_core.specs.declared.step.Step.TheVariants.{Cut}
 use Rattle.card_core.specs.Agreement.{CoreView, Follows}
+use Rattle.card_core.specs.DeskReplies.{cut_reply}
+use Rattle.card_core.proofs.ByResult.{by_result}
 use Rattle.card_core.proofs.PortLemmas.{core_of, IsCore-kept}
 use Rattle.card_core.proofs.DeskSteps.{cut-missing, cut-goes, cut-refused}
 use Rattle.card_core.proofs.Keeping.{cut_line-keeps}
 use Rattle.card_core.specs.Kept.{RefusalKeeps}
 use Rattle.card_core.proofs.serial.Core.cut.Goals as goal
-use Rattle.card_core.proofs.serial.Core.cut.Goals.{in-Ok, in-Err}
 
 pub cut_line-requires : goal.cut_line-requires
 cut_line-requires c =
@@ -39,26 +42,21 @@ returns-clause-follows c =
     let after = c.cut_line.new.lines.items in
     let Goal : Reply → CoreView → Type 0 = λ reply old.
     Follows old (Cut c.args.vc) reply (core_of l.shape l.store l.directory after l.ports.items) in
-    elim c.match-cut_line.branch [
-      | in-Ok w ↦ subst (λ (reply : Reply). Goal reply c.args.self.now) (sym w.result-is)
-          (subst (Goal (CutOff w.in-Ok.piece)) c.self.view_is
-          (cut-goes l.shape l.store l.directory l.lines.items l.ports.items c.args.vc c.in-Some.seating c.cut_line.result after
-          there c.cut_line.ensures w.in-Ok.piece w.in-Ok.is))
-      | in-Err w ↦ subst (λ (reply : Reply). Goal reply c.args.self.now) (sym w.result-is)
-          (subst (Goal (Refused w.in-Err.fault)) c.self.view_is
-          (cut-refused l.shape l.store l.directory l.lines.items l.ports.items c.args.vc c.in-Some.seating c.cut_line.result after
-          there c.cut_line.ensures w.in-Err.fault w.in-Err.is))
-    ]
+    by_result (λ (r : Result PieceView DeskFault). Goal (cut_reply r) c.args.self.now) c.cut_line.result
+    (λ piece is. subst (Goal (CutOff piece)) c.self.view_is
+    (cut-goes l.shape l.store l.directory l.lines.items l.ports.items c.args.vc c.in-Some.seating c.cut_line.result after
+    there c.cut_line.ensures piece is))
+    (λ fault is. subst (Goal (Refused fault)) c.self.view_is
+    (cut-refused l.shape l.store l.directory l.lines.items l.ports.items c.args.vc c.in-Some.seating c.cut_line.result after
+    there c.cut_line.ensures fault is))
 
 pub returns-clause-unchanged : goal.returns-clause-unchanged
 returns-clause-unchanged c =
     let l = c.self.inside in
     let New : CoreView = core_of l.shape l.store l.directory c.cut_line.new.lines.items l.ports.items in
-    let Goal : Reply → Type 0 = λ reply. RefusalKeeps reply (Cut c.args.vc) c.args.self.now New in
-    elim c.match-cut_line.branch [
-      | in-Ok w ↦ subst Goal (sym w.result-is) tt
-      | in-Err w ↦ subst Goal (sym w.result-is)
-          (subst (λ (old : CoreView). New ≡ old) c.self.view_is
-          (cut_line-keeps l.shape l.store l.directory l.lines.items l.ports.items c.args.vc c.in-Some.seating
-          c.cut_line.result c.cut_line.new.lines.items w.in-Err.fault c.cut_line.ensures w.in-Err.is))
-    ]
+    by_result (λ (r : Result PieceView DeskFault). RefusalKeeps (cut_reply r) (Cut c.args.vc) c.args.self.now New) c.cut_line.result
+    (λ piece is. tt)
+    (λ fault is. subst (λ (old : CoreView). New ≡ old) c.self.view_is
+    (cut_line-keeps l.shape l.store l.directory l.lines.items l.ports.items c.args.vc c.in-Some.seating
+    c.cut_line.result c.cut_line.new.lines.items fault
+    c.cut_line.ensures is))

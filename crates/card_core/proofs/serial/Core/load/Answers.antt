@@ -1,18 +1,21 @@
-use Rattle.std.proofs.Common.{◌≡◌, true, false, List, sym, ap, subst, ◌∙◌}
+use Rattle.std.proofs.Common.{◌≡◌, true, false, List, Result, Ok, Err, ap, sym, subst, ◌∙◌}
 use Rattle.std.specs.List.{list_all}
-use Rattle.gen_arena.specs.Slot.{Slot}
 use Rattle.bpf_code.specs.declared.instr.Instr.{Instr}
+use Rattle.gen_arena.specs.declared.id.Id.{Id}
+use Rattle.gen_arena.specs.Slot.{Slot}
 use Rattle.card_core.specs.declared.fault.DeskFault.{DeskFault}
 use Rattle.card_core.specs.declared.fault.DeskFault.TheVariants.{Busy, ProgramsFull}
 use Rattle.card_core.specs.declared.reply.Reply.{Reply}
 use Rattle.card_core.specs.declared.reply.Reply.TheVariants.{Loaded, NotLoaded}
 use Rattle.card_core.specs.declared.step.Step.TheVariants.{Load}
 use Rattle.card_core.specs.Agreement.{CoreView, Follows}
+use Rattle.card_core.specs.DeskReplies.{load_reply}
+use Rattle.card_core.specs.Kept.{RefusalKeeps}
 use Rattle.card_core.specs.inner.Ports.{is_free_port}
+use Rattle.card_core.proofs.ByResult.{by_result, where_ok, where_err, on_err}
 use Rattle.card_core.proofs.PortLemmas.{core_of}
 use Rattle.card_core.proofs.StoreSteps.{load-busy, load-full, load-goes}
 use Rattle.card_core.proofs.serial.Core.load.Goals as goal
-use Rattle.card_core.proofs.serial.Core.load.Goals.{in-Ok, in-Err}
 
 pub returns-then-not-are_outside-clause-follows : goal.returns-then-not-are_outside-clause-follows
 returns-then-not-are_outside-clause-follows c =
@@ -26,23 +29,30 @@ pub returns-clause-follows : goal.returns-clause-follows
 returns-clause-follows c =
     let l = c.self.inside in
     let code = c.args.program in
+    let e = c.load.ensures in
     let free : list_all is_free_port l.ports.items ≡ true =
     let test = c.are_outside.ensures in let same = c.deref.ensures.value in let is = c.if-not-are_outside.false in cc in
     let With : List (Slot (List Instr)) → CoreView = λ store. core_of l.shape store l.directory l.lines.items l.ports.items in
     let Goal : Reply → CoreView → Type 0 = λ reply old. Follows old (Load code) reply (With c.load.new.store) in
-    elim c.match-load.branch [
-      | in-Ok w ↦ subst (λ (reply : Reply). Goal reply c.args.self.now) (sym w.result-is)
-          (subst (Goal (Loaded w.in-Ok.id)) c.self.view_is
-          (load-goes l.shape l.store l.directory l.lines.items l.ports.items code c.load.new.store w.in-Ok.id free
-          c.load.ensures.accepted w.in-Ok.ensures.loaded))
-      | in-Err w ↦
-          let fault = w.in-Err.ensures.fault in
-          let returned = w.in-Err.ensures.returned in
-          let reply : NotLoaded ProgramsFull code ≡ c.match-load.result =
-          ap (λ (f : DeskFault). NotLoaded f code) (sym fault) ∙ ap (NotLoaded w.in-Err.fault) (sym returned) ∙ sym w.result-is in
-          subst (λ (reply : Reply). Goal reply c.args.self.now) reply
-          (subst (Goal (NotLoaded ProgramsFull code)) c.self.view_is
-          (subst (λ (store : List (Slot (List Instr))). Follows (With l.store) (Load code) (NotLoaded ProgramsFull code) (With store))
-          (sym w.in-Err.ensures.unchanged)
-          (load-full l.shape l.store l.directory l.lines.items l.ports.items code free w.in-Err.ensures.none_is_free)))
-    ]
+    by_result (λ (r : Result Id (DeskFault × List Instr)). Goal (load_reply r) c.args.self.now) c.load.result
+    (λ id is. subst (Goal (Loaded id)) c.self.view_is
+    (load-goes l.shape l.store l.directory l.lines.items l.ports.items code c.load.new.store id free e.accepted
+    (where_ok _ c.load.result id is e.loaded)))
+    (λ refused is.
+    let fault = where_err _ c.load.result refused is e.fault in
+    let returned = where_err _ c.load.result refused is e.returned in
+    let reply : NotLoaded ProgramsFull code ≡ NotLoaded refused.0 refused.1 =
+    ap (λ (f : DeskFault). NotLoaded f code) (sym fault) ∙ ap (NotLoaded refused.0) (sym returned) in
+    subst (λ (reply : Reply). Goal reply c.args.self.now) reply
+    (subst (Goal (NotLoaded ProgramsFull code)) c.self.view_is
+    (subst (λ (store : List (Slot (List Instr))). Follows (With l.store) (Load code) (NotLoaded ProgramsFull code) (With store))
+    (sym (on_err _ c.load.result refused is e.unchanged))
+    (load-full l.shape l.store l.directory l.lines.items l.ports.items code free (on_err _ c.load.result refused is e.none_is_free)))))
+
+pub returns-clause-unchanged : goal.returns-clause-unchanged
+returns-clause-unchanged c =
+    let l = c.self.inside in
+    let With : List (Slot (List Instr)) → CoreView = λ store. core_of l.shape store l.directory l.lines.items l.ports.items in
+    by_result (λ (r : Result Id (DeskFault × List Instr)). RefusalKeeps (load_reply r) (Load c.args.program) c.args.self.now (With c.load.new.store)) c.load.result
+    (λ id is. tt)
+    (λ refused is. ap With (on_err _ c.load.result refused is c.load.ensures.unchanged) ∙ c.self.view_is)

@@ -1,16 +1,19 @@
-use Rattle.std.proofs.Common.{◌≡◌, Some, None, sym, subst, arith}
+use Rattle.std.proofs.Common.{◌≡◌, Result, Some, None, sym, subst, arith}
 use Rattle.line_record.specs.Directory.{seating_at}
+use Rattle.line_record.specs.Piece.{PieceView}
+use Rattle.card_core.specs.declared.fault.DeskFault.{DeskFault}
 use Rattle.card_core.specs.declared.fault.DeskFault.TheVariants.{NoConnection}
 use Rattle.card_core.specs.declared.reply.Reply.{Reply}
 use Rattle.card_core.specs.declared.reply.Reply.TheVariants.{Released, Refused}
 use Rattle.card_core.specs.declared.step.Step.TheVariants.{Release}
 use Rattle.card_core.specs.Agreement.{CoreView, Follows}
+use Rattle.card_core.specs.DeskReplies.{release_reply}
+use Rattle.card_core.proofs.ByResult.{by_result}
 use Rattle.card_core.proofs.PortLemmas.{core_of, IsCore-kept}
 use Rattle.card_core.proofs.DeskSteps.{release-missing, release-goes, release-never}
 use Rattle.card_core.proofs.Keeping.{release_line-keeps}
 use Rattle.card_core.specs.Kept.{RefusalKeeps}
 use Rattle.card_core.proofs.serial.Core.release.Goals as goal
-use Rattle.card_core.proofs.serial.Core.release.Goals.{in-Ok, in-Err}
 
 pub release_line-requires-clause-there : goal.release_line-requires-clause-there
 release_line-requires-clause-there c =
@@ -39,27 +42,21 @@ returns-clause-follows c =
     let after = c.release_line.new.lines.items in
     let Goal : Reply → CoreView → Type 0 = λ reply old.
     Follows old (Release c.args.vc) reply (core_of l.shape l.store c.release_line.new.directory after l.ports.items) in
-    elim c.match-release_line.branch [
-      | in-Ok w ↦ subst (λ (reply : Reply). Goal reply c.args.self.now) (sym w.result-is)
-          (subst (Goal (Released w.in-Ok.piece)) c.self.view_is
-          (release-goes l.shape l.store l.directory l.lines.items l.ports.items c.args.vc c.in-Some.seating c.release_line.new.directory c.release_line.result after
-          there c.release_line.ensures.line w.in-Ok.piece w.in-Ok.is))
-      | in-Err w ↦ subst (λ (reply : Reply). Goal reply c.args.self.now) (sym w.result-is)
-          (subst (Goal (Refused w.in-Err.fault)) c.self.view_is
-          (release-never l.shape l.store l.directory l.lines.items l.ports.items c.args.vc c.in-Some.seating c.release_line.new.directory c.release_line.result after
-          there c.release_line.ensures.line w.in-Err.fault w.in-Err.is))
-    ]
+    by_result (λ (r : Result PieceView DeskFault). Goal (release_reply r) c.args.self.now) c.release_line.result
+    (λ piece is. subst (Goal (Released piece)) c.self.view_is
+    (release-goes l.shape l.store l.directory l.lines.items l.ports.items c.args.vc c.in-Some.seating c.release_line.new.directory c.release_line.result after
+    there c.release_line.ensures.line piece is))
+    (λ fault is. subst (Goal (Refused fault)) c.self.view_is
+    (release-never l.shape l.store l.directory l.lines.items l.ports.items c.args.vc c.in-Some.seating c.release_line.new.directory c.release_line.result after
+    there c.release_line.ensures.line fault is))
 
 pub returns-clause-unchanged : goal.returns-clause-unchanged
 returns-clause-unchanged c =
     let l = c.self.inside in
     let New : CoreView = core_of l.shape l.store c.release_line.new.directory c.release_line.new.lines.items l.ports.items in
-    let Goal : Reply → Type 0 = λ reply. RefusalKeeps reply (Release c.args.vc) c.args.self.now New in
-    elim c.match-release_line.branch [
-      | in-Ok w ↦ subst Goal (sym w.result-is) tt
-      | in-Err w ↦ subst Goal (sym w.result-is)
-          (subst (λ (old : CoreView). New ≡ old) c.self.view_is
-          (release_line-keeps l.shape l.store l.directory l.lines.items l.ports.items c.args.vc c.in-Some.seating
-          c.release_line.new.directory c.release_line.result c.release_line.new.lines.items w.in-Err.fault
-          c.release_line.ensures.line w.in-Err.is))
-    ]
+    by_result (λ (r : Result PieceView DeskFault). RefusalKeeps (release_reply r) (Release c.args.vc) c.args.self.now New) c.release_line.result
+    (λ piece is. tt)
+    (λ fault is. subst (λ (old : CoreView). New ≡ old) c.self.view_is
+    (release_line-keeps l.shape l.store l.directory l.lines.items l.ports.items c.args.vc c.in-Some.seating
+    c.release_line.new.directory c.release_line.result c.release_line.new.lines.items fault
+    c.release_line.ensures.line is))

@@ -9,38 +9,29 @@ use Rattle.card_dialogue.specs.RunText.{Takes}
 use Rattle.card_dialogue.specs.ScriptCommands.{load}
 use Rattle.card_dialogue.proofs.AddingLemmas.{adds-some}
 use Rattle.card_dialogue.specs.inner.Policing.{Held}
-use Rattle.card_dialogue.proofs.DeskReplies.{load-replies}
-use Rattle.card_dialogue.proofs.MovesLemmas.{moves-at, moves-never, moves-taken, no-name, on-ok}
+use Rattle.card_dialogue.proofs.MovesLemmas.{moves-at, moves-taken, no-name, on-ok}
 use Rattle.card_dialogue.proofs.script_card.ScriptCard.put.Goals as goal
-
-pub returns-in-Loaded : goal.returns-in-Loaded
-returns-in-Loaded c =
-    let old : Held = record { core = c.self.inside.core; names = c.self.inside.names } in
-    let new : Held = record { core = c.step.new.self; names = c.push.new.self } in
-    let command = load c.args.digits.now in
-    let pushed : new.names ≡ old.names ++ c.in-Loaded.id ∷ [] = c.in_ok-push-in-Loaded.ensures in
-    let count : c.count.result ≡ suc (length old.names) =
-    c.count.ensures ∙ ap length pushed ∙ length-append old.names (c.in-Loaded.id ∷ []) ∙ (let more : length old.names + 1 ≡ suc (length old.names) = omega arith in more) in
-    on-ok c.add_loaded.result c.add_loaded.ensures (λ added.
-    moves-at (λ before. Takes before command (Load c.args.program)) old _ new _ _ c.self.view_is
-    (moves-taken old new command (Load c.args.program) (Loaded c.in-Loaded.id) _ _ _ c.in-Loaded.ensures.follows pushed added
-    (λ before after stepped. ap (λ n. Some (line (codes "loaded " ++ program_name n))) (sym count))))
-
-pub returns-in-NotLoaded : goal.returns-in-NotLoaded
-returns-in-NotLoaded c =
-    let old : Held = record { core = c.self.inside.core; names = c.self.inside.names } in
-    let new : Held = record { core = c.step.new.self; names = c.self.inside.names } in
-    let command = load c.args.digits.now in
-    on-ok c.add_desk_fault.result c.add_desk_fault.ensures (λ added.
-    let told = adds-some _ _ _ added in
-    moves-at (λ before. Takes before command (Load c.args.program)) old _ new _ _ c.self.view_is
-    (moves-taken old new command (Load c.args.program) (NotLoaded c.in-NotLoaded.fault c.in-NotLoaded.field-1) told.0 _ _ c.in-NotLoaded.ensures.follows
-    (no-name old.names) told.1 (λ before after stepped. told.2)))
 
 pub returns : goal.returns
 returns c =
     let old : Held = record { core = c.self.inside.core; names = c.self.inside.names } in
-    let new : Held = record { core = c.step.new.self; names = c.self.inside.names } in
-    moves-at (λ before. Takes before (load c.args.digits.now) (Load c.args.program)) old _ new _ _ c.self.view_is
-    (moves-never (λ before. Takes before (load c.args.digits.now) (Load c.args.program)) old new (Load c.args.program) c.step.result _ c.step.ensures.follows
-    (λ before after stepped. load-replies before after c.args.program c.step.result stepped c.in_default.not-Loaded c.in_default.not-NotLoaded))
+    let new : Held = record { core = c.load.new.self; names = c.push.new.self } in
+    let command = load c.args.digits.now in
+    let pushed : new.names ≡ old.names ++ c.in-Ok.id ∷ [] = c.in_ok-push.ensures in
+    let count : c.count.result ≡ suc (length old.names) =
+    c.count.ensures ∙ ap length pushed ∙ length-append old.names (c.in-Ok.id ∷ []) ∙ (let more : length old.names + 1 ≡ suc (length old.names) = omega arith in more) in
+    on-ok c.add_loaded.result c.add_loaded.ensures (λ added.
+    moves-at (λ before. Takes before command (Load c.args.program)) old _ new _ _ c.self.view_is
+    (moves-taken old new command (Load c.args.program) (Loaded c.in-Ok.id) _ _ _ c.in-Ok.ensures.follows pushed added
+    (λ before after stepped. ap (λ n. Some (line (codes "loaded " ++ program_name n))) (sym count))))
+
+pub returns-in-Err : goal.returns-in-Err
+returns-in-Err c =
+    let old : Held = record { core = c.self.inside.core; names = c.self.inside.names } in
+    let new : Held = record { core = c.load.new.self; names = c.self.inside.names } in
+    let command = load c.args.digits.now in
+    on-ok c.add_desk_fault.result c.add_desk_fault.ensures (λ added.
+    let told = adds-some _ _ _ added in
+    moves-at (λ before. Takes before command (Load c.args.program)) old _ new _ _ c.self.view_is
+    (moves-taken old new command (Load c.args.program) (NotLoaded c.in-Err.fault c.in-Err.field-0-1) told.0 _ _ c.in-Err.ensures.follows
+    (no-name old.names) told.1 (λ before after stepped. told.2)))

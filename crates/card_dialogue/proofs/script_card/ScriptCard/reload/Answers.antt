@@ -6,9 +6,8 @@ use Rattle.card_dialogue.specs.RunText.{Obeys, Takes}
 use Rattle.card_dialogue.specs.ScriptCommands.{reload}
 use Rattle.card_dialogue.proofs.AddingLemmas.{adds-some}
 use Rattle.card_dialogue.specs.inner.Policing.{Held}
-use Rattle.card_dialogue.proofs.DeskReplies.{reload-replies}
-use Rattle.card_dialogue.proofs.MovesLemmas.{moves-at, moves-named, moves-never, moves-taken, no-name, on-ok, on-tie}
-use Rattle.card_dialogue.proofs.script_card.ScriptCard.reload.Goals.{in-Reloaded, in-Refused, in_default-step}
+use Rattle.card_dialogue.proofs.MovesLemmas.{moves-at, moves-named, moves-taken, no-name, on-ok, on-tie}
+use Rattle.card_dialogue.proofs.script_card.ScriptCard.reload.Goals.{in-Ok, in-Err}
 use Rattle.card_dialogue.proofs.script_card.ScriptCard.reload.Goals as goal
 
 pub returns : goal.returns
@@ -17,28 +16,22 @@ returns c =
     let number = c.args.number in
     let id = c.in-Some.program in
     let old : Held = record { core = c.self.inside.core; names = c.self.inside.names } in
-    let new : Held = record { core = c.step.new.self; names = c.self.inside.names } in
+    let new : Held = record { core = c.reload.new.self; names = c.self.inside.names } in
     let named = sym c.named.ensures ∙ c.in-Some.is in
-    elim c.match-step.branch [
-      | in-Reloaded w ↦
+    elim c.match-reload.branch [
+      | in-Ok w ↦
           on-tie (λ before. Obeys before (reload vc number)) _ new _ _ _ _ _ w.result-is (ap (λ v. v.items) w.answers-is)
           (on-ok w.add_reloaded.result w.add_reloaded.ensures (λ added.
           moves-at (λ before. Obeys before (reload vc number)) old _ new _ _ c.self.view_is
           (moves-named (λ before here. Takes before (reload vc number) (Reload vc here)) (reload vc number) number id old new _ _ named
-          (moves-taken old new (reload vc number) (Reload vc id) (Reloaded w.in-Reloaded.field-0) _ _ _ w.in-Reloaded.ensures.follows (no-name old.names) added
+          (moves-taken old new (reload vc number) (Reload vc id) (Reloaded w.in-Ok.field-0) _ _ _ w.in-Ok.ensures.follows (no-name old.names) added
           (λ before after stepped. refl)))))
-      | in-Refused w ↦
+      | in-Err w ↦
           on-tie (λ before. Obeys before (reload vc number)) _ new _ _ _ _ _ w.result-is (ap (λ v. v.items) w.answers-is)
           (on-ok w.add_desk_fault.result w.add_desk_fault.ensures (λ added.
           let told = adds-some _ _ _ added in
           moves-at (λ before. Obeys before (reload vc number)) old _ new _ _ c.self.view_is
           (moves-named (λ before here. Takes before (reload vc number) (Reload vc here)) (reload vc number) number id old new _ _ named
-          (moves-taken old new (reload vc number) (Reload vc id) (Refused w.in-Refused.fault) told.0 _ _ w.in-Refused.ensures.follows (no-name old.names) told.1
+          (moves-taken old new (reload vc number) (Reload vc id) (Refused w.in-Err.fault) told.0 _ _ w.in-Err.ensures.follows (no-name old.names) told.1
           (λ before after stepped. told.2)))))
-      | in_default-step w ↦
-          on-tie (λ before. Obeys before (reload vc number)) _ new _ _ _ _ _ w.result-is (ap (λ v. v.items) w.answers-is)
-          (moves-at (λ before. Obeys before (reload vc number)) old _ new _ _ c.self.view_is
-          (moves-named (λ before here. Takes before (reload vc number) (Reload vc here)) (reload vc number) number id old new _ _ named
-          (moves-never (λ before. Takes before (reload vc number) (Reload vc id)) old new (Reload vc id) c.step.result _ c.step.ensures.follows
-          (λ before after stepped. reload-replies before after vc id c.step.result stepped w.in_default-step.not-Reloaded w.in_default-step.not-Refused))))
     ]

@@ -1,47 +1,36 @@
 -- The program is taken out, or its taking out is refused.
-use Rattle.std.proofs.Common.{◌∙◌, sym, subst, refl}
+use Rattle.std.proofs.Common.{◌∙◌, ap, sym, refl}
 use Rattle.card_core.specs.declared.reply.Reply.TheVariants.{Refused, Retired}
 use Rattle.card_core.specs.declared.step.Step.TheVariants.{Retire}
 use Rattle.card_dialogue.specs.RunText.{Obeys, Takes}
 use Rattle.card_dialogue.specs.ScriptCommands.{retire}
 use Rattle.card_dialogue.proofs.AddingLemmas.{adds-some}
-use Rattle.card_dialogue.specs.inner.Policing.{Held, Moves}
-use Rattle.card_dialogue.proofs.DeskReplies.{retire-replies}
-use Rattle.card_dialogue.proofs.MovesLemmas.{moves-named, moves-never, moves-taken, no-name, on-ok}
+use Rattle.card_dialogue.specs.inner.Policing.{Held}
+use Rattle.card_dialogue.proofs.MovesLemmas.{moves-at, moves-named, moves-taken, no-name, on-ok, on-tie}
+use Rattle.card_dialogue.proofs.script_card.ScriptCard.retire.Goals.{in-Ok, in-Err}
 use Rattle.card_dialogue.proofs.script_card.ScriptCard.retire.Goals as goal
-
-pub returns-in-Retired : goal.returns-in-Retired
-returns-in-Retired c =
-    let number = c.args.number in
-    let id = c.in-Some.id in
-    let old : Held = record { core = c.self.inside.core; names = c.self.inside.names } in
-    let new : Held = record { core = c.step.new.self; names = c.self.inside.names } in
-    on-ok c.add_retired.result c.add_retired.ensures (λ added.
-    subst (λ held. Moves (λ before. Obeys before (retire number)) held new c.args.answers.now.items c.add_retired.new.answers.items) c.self.view_is
-    (moves-named (λ before here. Takes before (retire number) (Retire here)) (retire number) number id old new _ _ (sym c.named.ensures ∙ c.in-Some.is)
-    (moves-taken old new (retire number) (Retire id) (Retired c.in-Retired.field-0) _ _ _ c.in-Retired.ensures.follows (no-name old.names) added
-    (λ before after stepped. refl))))
-
-pub returns-in-Refused : goal.returns-in-Refused
-returns-in-Refused c =
-    let number = c.args.number in
-    let id = c.in-Some.id in
-    let old : Held = record { core = c.self.inside.core; names = c.self.inside.names } in
-    let new : Held = record { core = c.step.new.self; names = c.self.inside.names } in
-    on-ok c.add_desk_fault.result c.add_desk_fault.ensures (λ added.
-    let told = adds-some _ _ _ added in
-    subst (λ held. Moves (λ before. Obeys before (retire number)) held new c.args.answers.now.items c.add_desk_fault.new.answers.items) c.self.view_is
-    (moves-named (λ before here. Takes before (retire number) (Retire here)) (retire number) number id old new _ _ (sym c.named.ensures ∙ c.in-Some.is)
-    (moves-taken old new (retire number) (Retire id) (Refused c.in-Refused.fault) told.0 _ _ c.in-Refused.ensures.follows (no-name old.names) told.1
-    (λ before after stepped. told.2))))
 
 pub returns : goal.returns
 returns c =
     let number = c.args.number in
     let id = c.in-Some.id in
     let old : Held = record { core = c.self.inside.core; names = c.self.inside.names } in
-    let new : Held = record { core = c.step.new.self; names = c.self.inside.names } in
-    subst (λ held. Moves (λ before. Obeys before (retire number)) held new c.args.answers.now.items c.args.answers.now.items) c.self.view_is
-    (moves-named (λ before here. Takes before (retire number) (Retire here)) (retire number) number id old new _ _ (sym c.named.ensures ∙ c.in-Some.is)
-    (moves-never (λ before. Takes before (retire number) (Retire id)) old new (Retire id) c.step.result c.args.answers.now.items c.step.ensures.follows
-    (λ before after stepped. retire-replies before after id c.step.result stepped c.in_default-step.not-Retired c.in_default-step.not-Refused)))
+    let new : Held = record { core = c.retire.new.self; names = c.self.inside.names } in
+    let named = sym c.named.ensures ∙ c.in-Some.is in
+    elim c.match-retire.branch [
+      | in-Ok w ↦
+          on-tie (λ before. Obeys before (retire number)) _ new _ _ _ _ _ w.result-is (ap (λ v. v.items) w.answers-is)
+          (on-ok w.add_retired.result w.add_retired.ensures (λ added.
+          moves-at (λ before. Obeys before (retire number)) old _ new _ _ c.self.view_is
+          (moves-named (λ before here. Takes before (retire number) (Retire here)) (retire number) number id old new _ _ named
+          (moves-taken old new (retire number) (Retire id) (Retired w.in-Ok.field-0) _ _ _ w.in-Ok.ensures.follows (no-name old.names) added
+          (λ before after stepped. refl)))))
+      | in-Err w ↦
+          on-tie (λ before. Obeys before (retire number)) _ new _ _ _ _ _ w.result-is (ap (λ v. v.items) w.answers-is)
+          (on-ok w.add_desk_fault.result w.add_desk_fault.ensures (λ added.
+          let told = adds-some _ _ _ added in
+          moves-at (λ before. Obeys before (retire number)) old _ new _ _ c.self.view_is
+          (moves-named (λ before here. Takes before (retire number) (Retire here)) (retire number) number id old new _ _ named
+          (moves-taken old new (retire number) (Retire id) (Refused w.in-Err.fault) told.0 _ _ w.in-Err.ensures.follows (no-name old.names) told.1
+          (λ before after stepped. told.2)))))
+    ]

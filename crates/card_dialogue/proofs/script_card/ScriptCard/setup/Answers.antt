@@ -7,9 +7,8 @@ use Rattle.card_dialogue.specs.RunText.{Obeys, Takes}
 use Rattle.card_dialogue.specs.ScriptCommands.{setup}
 use Rattle.card_dialogue.proofs.AddingLemmas.{adds-some}
 use Rattle.card_dialogue.specs.inner.Policing.{Held}
-use Rattle.card_dialogue.proofs.DeskReplies.{setup-replies}
-use Rattle.card_dialogue.proofs.MovesLemmas.{moves-at, moves-never, moves-setup, moves-taken, no-name, on-ok, on-tie}
-use Rattle.card_dialogue.proofs.script_card.ScriptCard.setup.Goals.{in-SetUp, in-NotSetUp, in_default-step}
+use Rattle.card_dialogue.proofs.MovesLemmas.{moves-at, moves-setup, moves-taken, no-name, on-ok, on-tie}
+use Rattle.card_dialogue.proofs.script_card.ScriptCard.setup.Goals.{in-Ok-setup, in-Err-setup}
 use Rattle.card_dialogue.proofs.script_card.ScriptCard.setup.Goals as goal
 
 pub returns : goal.returns
@@ -21,28 +20,22 @@ returns c =
     let id = c.in-Some.program in
     let ask : Ask = record { vc = vc; program = id; contracts = record { items = contracts } } in
     let old : Held = record { core = c.self.inside.core; names = c.self.inside.names } in
-    let new : Held = record { core = c.step.new.self; names = c.self.inside.names } in
+    let new : Held = record { core = c.setup.new.self; names = c.self.inside.names } in
     let named = sym c.named.ensures ∙ c.in-Some.is in
-    elim c.match-step.branch [
-      | in-SetUp w ↦
+    elim c.match-setup.branch [
+      | in-Ok-setup w ↦
           on-tie (λ before. Obeys before (setup vc number wanted)) _ new _ _ _ _ _ w.result-is (ap (λ v. v.items) w.answers-is)
           (on-ok w.add_set.result w.add_set.ensures (λ added.
           moves-at (λ before. Obeys before (setup vc number wanted)) old _ new _ _ c.self.view_is
           (moves-setup vc number wanted contracts id old new _ _ c.in-Ok.ensures.sound c.in-Ok.ensures.made named
-          (moves-taken old new (setup vc number wanted) (Setup ask) (SetUp w.in-SetUp.field-0) _ _ _ w.in-SetUp.ensures.follows (no-name old.names) added
+          (moves-taken old new (setup vc number wanted) (Setup ask) (SetUp w.in-Ok-setup.field-0) _ _ _ w.in-Ok-setup.ensures.follows (no-name old.names) added
           (λ before after stepped. refl)))))
-      | in-NotSetUp w ↦
+      | in-Err-setup w ↦
           on-tie (λ before. Obeys before (setup vc number wanted)) _ new _ _ _ _ _ w.result-is (ap (λ v. v.items) w.answers-is)
           (on-ok w.add_desk_fault.result w.add_desk_fault.ensures (λ added.
           let told = adds-some _ _ _ added in
           moves-at (λ before. Obeys before (setup vc number wanted)) old _ new _ _ c.self.view_is
           (moves-setup vc number wanted contracts id old new _ _ c.in-Ok.ensures.sound c.in-Ok.ensures.made named
-          (moves-taken old new (setup vc number wanted) (Setup ask) (NotSetUp w.in-NotSetUp.fault w.in-NotSetUp.field-1) told.0 _ _ w.in-NotSetUp.ensures.follows
+          (moves-taken old new (setup vc number wanted) (Setup ask) (NotSetUp w.in-Err-setup.fault w.in-Err-setup.field-0-1) told.0 _ _ w.in-Err-setup.ensures.follows
           (no-name old.names) told.1 (λ before after stepped. told.2)))))
-      | in_default-step w ↦
-          on-tie (λ before. Obeys before (setup vc number wanted)) _ new _ _ _ _ _ w.result-is (ap (λ v. v.items) w.answers-is)
-          (moves-at (λ before. Obeys before (setup vc number wanted)) old _ new _ _ c.self.view_is
-          (moves-setup vc number wanted contracts id old new _ _ c.in-Ok.ensures.sound c.in-Ok.ensures.made named
-          (moves-never (λ before. Takes before (setup vc number wanted) (Setup ask)) old new (Setup ask) c.step.result _ c.step.ensures.follows
-          (λ before after stepped. setup-replies before after ask c.step.result stepped w.in_default-step.not-SetUp w.in_default-step.not-NotSetUp))))
     ]
