@@ -26,8 +26,8 @@ pub use common_cell_line::{Arrival, read_cell};
 pub use names::Names;
 pub use rates::contracts_of;
 pub use replies::{
-    add_answer, add_cut, add_loaded, add_ready, add_released, add_reloaded, add_retired, add_set,
-    add_tally,
+    add_answer, add_cut, add_judged, add_loaded, add_ready, add_released, add_reloaded,
+    add_retired, add_set, add_tally, add_unjudged,
 };
 pub use run::run_script;
 pub use script_words::{Rate, Wanted};

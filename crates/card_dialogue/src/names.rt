@@ -1,7 +1,6 @@
 //! The names of the programs of a script: `p1` is the first that was put in, `p2` the next, and so on. A name
 //! stays for good.
 
-use card_core::Answer;
 use gen_arena::Id;
 use std::alloc::{AllocError, Global};
 use std::marker::Model;
@@ -29,7 +28,7 @@ impl Model for Names {
 
 impl Names {
     ghost use Rattle.std.specs.Prelude.{◌≡◌, ◌∷◌, ◌++◌, [], length, IfOk, OnOk};
-    ghost use Rattle.card_dialogue.specs.Replies.{number_of_judging, number_of_program, program_named};
+    ghost use Rattle.card_dialogue.specs.Replies.{number_of_program, program_named};
 
     /// No names yet, of programs in so many slots.
     pub fn new(alloc: Global, slots: usize) -> Result<Names, AllocError>
@@ -93,15 +92,5 @@ impl Names {
             number -= 1;
         }
         0
-    }
-
-    /// The number of the name of the program that named a judged cell's contract, and 0 for other answers.
-    pub fn number_judging(&self, answer: &Answer) -> u64
-        ensures { result ≡ number_of_judging self.now answer.now }
-    {
-        match answer {
-            Answer::Judged { program, .. } => self.number_of(*program) as u64,
-            _ => 0,
-        }
     }
 }

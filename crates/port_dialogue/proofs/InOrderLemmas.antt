@@ -8,6 +8,11 @@ use Rattle.dialogue.specs.Devices.{Adds}
 use Rattle.gen_arena.specs.declared.id.Id.{Id}
 use Rattle.upc_cell.specs.declared.side.Side.{Side}
 use Rattle.port_dialogue.specs.declared.dealing.Answerer.{Answerer}
+use Rattle.line_record.specs.declared.fault.LineFault.TheVariants.{TooLate, Back, Full, NoMemory}
+use Rattle.card_core.specs.declared.answer.Unjudged.{Unjudged}
+use Rattle.card_core.specs.declared.answer.Unjudged.TheVariants as unjudged
+use Rattle.card_core.specs.Sections.{unjudged_answer}
+use Rattle.card_dialogue.specs.Replies.{number_of_judging}
 use Rattle.port_dialogue.specs.declared.dealing.DealtCell.{DealtCell}
 use Rattle.port_dialogue.specs.inner.InOrder.{Tells, AllTell}
 
@@ -33,3 +38,13 @@ next_told side names arrivals told order k d before so_far after within all one 
     let P : List Answerer → Type 0 = λ xs. AllTell side names arrivals told xs (all.0 ++ one.0) in
     let told_all = subst P (sym (take_more order k d within)) (one_more side names arrivals told (take k order) (get_or order k d) all.0 one.0 all.2 one.2) in
     (all.0 ++ one.0, one.1 ∙ ap (λ xs. xs ++ one.0) all.1 ∙ append_assoc before all.0 one.0, told_all)
+
+-- A cell that wasn't judged has no program that named its contract.
+pub unjudged_unnumbered : (names : List Id) (reason : Unjudged) → number_of_judging names (unjudged_answer reason) ≡ 0
+unjudged_unnumbered names unjudged.NoConnection = refl
+unjudged_unnumbered names unjudged.Released = refl
+unjudged_unnumbered names unjudged.Stale = refl
+unjudged_unnumbered names (unjudged.Refused TooLate) = refl
+unjudged_unnumbered names (unjudged.Refused (Back last)) = refl
+unjudged_unnumbered names (unjudged.Refused Full) = refl
+unjudged_unnumbered names (unjudged.Refused NoMemory) = refl

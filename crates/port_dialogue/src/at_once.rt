@@ -3,6 +3,7 @@
 use crate::busy_ports::BusyPort;
 use crate::dealing::DealtCell;
 use crate::script_desk::ScriptDesk;
+use crate::told::told_of;
 use port_card::{Card, Gate, Ledgers, PortSeat};
 use std::alloc::{AllocError, Global};
 use std::sync::Wait;
@@ -18,7 +19,7 @@ fn at_port<S: Ledgers, G: Gate, R: Wait>(
 ) -> BusyPort<S> {
     for arrival in arrivals.iter_mut() {
         let answer = card.arrive(rt, &mut seat, &arrival.cell, arrival.moment, gate);
-        arrival.answer = answer;
+        arrival.told = told_of(&answer);
     }
     BusyPort { seat, arrivals }
 }

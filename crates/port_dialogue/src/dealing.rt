@@ -5,22 +5,23 @@ ghost use Rattle.port_dialogue.specs.inner.Dealing.{port_of, dealt, none_dealt, 
 
 use crate::cell_line::{CellLine, CellLineFault, read_cell_line};
 use crate::script_lines::{first_line, is_cell_line};
-use card_core::Answer;
+use card_core::{Judgement, Unjudged};
 use card_dialogue::read_cell;
-use port_card::{Ledgers, PortSeat};
+use line_record::LineFault;
 use std::alloc::{AllocError, Global};
 use upc_cell::{Cell, Side, Vc};
 
 /// How many channels a path has.
 const CHANNELS: usize = 65536;
 
-/// A cell that comes to a port, and what it was answered: `NoMemory` until it is.
+/// A cell that comes to a port, and what is told of it: that memory lacked, until it is answered.
 #[derive(Clone, Copy)]
 pub struct DealtCell {
     /// In ticks.
     pub moment: u64,
     pub cell: Cell,
-    pub answer: Answer,
+    /// All of the answer but the cell as it leaves, which would take the room of a cell once more.
+    pub told: Result<Judgement, Unjudged>,
 }
 
 /// Who answers a line, and as which of his lines, from 0.
@@ -83,7 +84,7 @@ impl<'a> Deal<'a> {
         own.push(DealtCell {
             moment,
             cell,
-            answer: Answer::NoMemory,
+            told: Err(Unjudged::Refused(LineFault::NoMemory)),
         })?;
         self.order.push(Answerer::Port(number, place))?;
         Ok(())

@@ -5,29 +5,38 @@ ghost use Rattle.std.specs.Option.{option_copied};
 ghost use Rattle.dialogue.specs.Devices.{Adds};
 ghost use Rattle.port_dialogue.specs.inner.InOrder.{AllTell, Tells, cell_at, given_text};
 ghost use Rattle.card_dialogue.specs.AddsSome.{AddsSome};
+ghost use Rattle.card_core.specs.Sections.{answer_to};
 ghost use Rattle.card_dialogue.specs.Replies.{answer_text};
 ghost use Rattle.upc_cell.specs.Connection.{vc_of};
 
 use crate::busy_ports::BusyPort;
 use crate::cell_line::add_cell_line_fault;
 use crate::dealing::{Answerer, DealtCell};
-use card_dialogue::{Names, add_answer};
+use card_dialogue::{Names, add_judged, add_unjudged};
 use port_card::Ledgers;
 use std::alloc::AllocError;
 use upc_cell::Side;
 
 /// Adds what a cell was answered.
+#[tactic(auto, using(crate::proofs::InOrderLemmas::unjudged_unnumbered))]
 fn add_arrival(
     side: Side,
     names: &Names,
     arrival: &DealtCell,
     answers: &mut Vec<u8>,
 ) -> Result<(), AllocError>
-    ensures { OnOk result (AddsSome (answer_text names.now (vc_of side arrival.now.cell) arrival.now.answer)
+    ensures { OnOk result (AddsSome
+        (answer_text names.now (vc_of side arrival.now.cell) (answer_to arrival.now.cell arrival.now.told))
         answers.old.items answers.new.items) }
 {
-    let number = names.number_judging(&arrival.answer);
-    add_answer(answers, number, arrival.cell.vc_at(side), &arrival.answer)
+    let vc = arrival.cell.vc_at(side);
+    match &arrival.told {
+        Ok(judged) => {
+            let number = names.number_of(judged.program) as u64;
+            add_judged(answers, number, vc, &arrival.cell, judged)
+        }
+        Err(reason) => add_unjudged(answers, vc, *reason),
+    }
 }
 
 /// The cell at this place among those of the port of this number, if there is one.

@@ -16,5 +16,6 @@ mod ports;
 mod script;
 mod script_desk;
 mod script_lines;
+mod told;
 
 pub use ports::{run_ports, run_ports_with};

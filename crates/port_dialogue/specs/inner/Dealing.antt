@@ -1,10 +1,11 @@
 -- Who answers which line of a script, from its first cell line on.
-use Rattle.std.specs.Prelude.{◌≡◌, ◌≢◌, ℕ, ◌+◌, ◌*◌, ◌%◌, ◌<◌, Bool, false, if◌then◌else◌, List, [], ◌∷◌, ◌++◌, All, Some, MatchBool, codes, length, map, replicate, slice_get, slice_index, slice_set}
+use Rattle.std.specs.Prelude.{◌≡◌, ◌≢◌, ℕ, ◌+◌, ◌*◌, ◌%◌, ◌<◌, Bool, false, if◌then◌else◌, List, [], ◌∷◌, ◌++◌, All, Some, Err, MatchBool, codes, length, map, replicate, slice_get, slice_index, slice_set}
 use Rattle.std.specs.Str.{bytes_eq}
 use Rattle.upc_cell.specs.Connection.{vc_of}
 use Rattle.upc_cell.specs.declared.side.Side.{Side}
 use Rattle.upc_cell.specs.declared.vc.Vc.{Vc}
-use Rattle.card_core.specs.declared.answer.Answer.TheVariants.{NoMemory}
+use Rattle.line_record.specs.declared.fault.LineFault.TheVariants.{NoMemory}
+use Rattle.card_core.specs.declared.answer.Unjudged.TheVariants.{Refused}
 use Rattle.dialogue.specs.Words.{words_of}
 use Rattle.card_dialogue.specs.ScriptCommands.{command_of}
 use Rattle.port_dialogue.specs.declared.cell_line.CellLine.{CellLine}
@@ -67,7 +68,7 @@ dealt deal = record {
 
 -- A cell that was not answered yet.
 abbrev pub unanswered : ℕ → List ℕ → DealtCell
-unanswered moment cell = record { moment = moment; cell = cell; answer = NoMemory }
+unanswered moment cell = record { moment = moment; cell = cell; told = Err (Refused NoMemory) }
 
 -- A cell goes to the port of its connection, after that port's earlier cells.
 pub record DealsCell (side : Side) (moment : ℕ) (cell : List ℕ) (before after : Dealt) : Type 0 where

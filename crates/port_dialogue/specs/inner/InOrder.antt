@@ -4,6 +4,7 @@ use Rattle.gen_arena.specs.declared.id.Id.{Id}
 use Rattle.upc_cell.specs.Connection.{vc_of}
 use Rattle.upc_cell.specs.declared.side.Side.{Side}
 use Rattle.program_dialogue.specs.FaultLines.{bad_line, bad_hex, wrong_length}
+use Rattle.card_core.specs.Sections.{answer_to}
 use Rattle.card_dialogue.specs.Replies.{answer_text}
 use Rattle.port_dialogue.specs.declared.cell_line.CellLineFault.{CellLineFault}
 use Rattle.port_dialogue.specs.declared.cell_line.CellLineFault.TheVariants.{BadLine, BadHex, WrongLength}
@@ -25,7 +26,7 @@ cell_at (Some own) place = slice_get own place
 -- The text is that of the cell's answer; nothing is printed where there is no such cell.
 abbrev pub TellsCell : Side → List Id → Option DealtCell → List ℕ → Type 0
 TellsCell side names None text = text ≡ []
-TellsCell side names (Some arrival) text = answer_text names (vc_of side arrival.cell) arrival.answer ≡ Some text
+TellsCell side names (Some arrival) text = answer_text names (vc_of side arrival.cell) (answer_to arrival.cell arrival.told) ≡ Some text
 
 -- The text that the desk gave, if it gave one.
 abbrev pub given_text : Option (List ℕ) → List ℕ
