@@ -1,9 +1,9 @@
 -- What a directory knows of its lines, after each change.
-use Rattle.std.proofs.Common.{◌≡◌, ◌≢◌, ℕ, ◌^◌, ◌<◌, ◌≤◌, Bool, true, false, Option, Some, None, List, length, set, refl, sym, ap, subst, ◌∙◌, inl, inr, arith}
+use Rattle.std.proofs.Common.{◌≡◌, ◌≢◌, ℕ, ◌^◌, ◌<◌, ◌≤◌, Bool, true, false, Option, Some, None, List, [], length, replicate, set, refl, sym, ap, subst, ◌∙◌, inl, inr, arith}
 use Rattle.std.specs.Prelude.{slice_get, IfSome}
 use Rattle.std.proofs.lemmas.Bool.{cases_eq}
-use Rattle.std.proofs.lemmas.List.{length-set}
-use Rattle.std.proofs.lemmas.Option.{same_Some}
+use Rattle.std.proofs.lemmas.List.{length-replicate, length-set}
+use Rattle.std.proofs.lemmas.Option.{same_Some, slice_get_within}
 use Rattle.gen_arena.specs.declared.id.Id.{Id}
 use Rattle.upc_cell.specs.declared.vc.Vc.{Vc}
 use Rattle.line_record.specs.declared.directory.Seating.{Seating}
@@ -11,9 +11,27 @@ use Rattle.line_record.specs.Seatings.{seating_in}
 use Rattle.line_record.specs.inner.SeatingChanges.{ChangesAt}
 use Rattle.line_record.specs.Directory.{DirectoryView, seating_at, IsOpenLine, IsTakenLine}
 use Rattle.line_record.specs.inner.HeldLines.{KnowsLines}
-use Rattle.line_record.proofs.NumberLemmas.{slice_get-set_same, slice_get-set_other}
+use Rattle.line_record.proofs.NumberLemmas.{slice_get-replicate, slice_get-set_same, slice_get-set_other}
 use Rattle.upc_cell.proofs.Public.{vc_cases}
 use Rattle.line_record.proofs.SeatingLemmas.{Suits, IsDirectory-changed, IsDirectory-moved}
+
+-- A directory without connections.
+pub KnowsLines-new : (lines used : ℕ) → used ≤ 2 ^ 62
+    → KnowsLines (record { seatings = []; lines = lines; used = used }) (replicate lines false)
+KnowsLines-new lines used most = record {
+  kept = record {
+    apart = λ one other seating another at1 at2 same. cc;
+    within = λ vc seating at. cc;
+    given = λ vc seating at. cc;
+    most = most;
+  };
+  sized = length-replicate lines false;
+  taken = λ line at.
+      let within : line < lines = omega (arith, slice_get_within (replicate lines false) line true at, length-replicate lines false) in
+      let free : Some false ≡ Some true = sym (slice_get-replicate lines line false within) ∙ at in
+      absurd (cc);
+  free = λ line at vc seating sits. cc;
+}
 
 module _ (old : DirectoryView) (held : List Bool) (sound : KnowsLines old held)
     (new : List (Vc × Seating)) (vc : Vc) (used : ℕ) where

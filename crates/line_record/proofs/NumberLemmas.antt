@@ -1,11 +1,17 @@
 -- What has a number in a list, after a write to the list too.
-use Rattle.std.proofs.Common.{◌≡◌, ◌≢◌, ℕ, zero, suc, ◌-◌, ◌<◌, ◌≤◌, inl, inr, List, [], ◌∷◌, length, set, Some, None, All, get_or, refl, sym, ap, subst, ◌∙◌, arith}
+use Rattle.std.proofs.Common.{◌≡◌, ◌≢◌, ℕ, zero, suc, ◌-◌, ◌<◌, ◌≤◌, inl, inr, List, [], ◌∷◌, length, replicate, set, Some, None, All, get_or, refl, sym, ap, subst, ◌∙◌, arith}
 use Rattle.std.specs.Prelude.{slice_get}
 use Rattle.std.proofs.lemmas.Bool.Decides.{nat_tests}
-use Rattle.std.proofs.lemmas.Option.{slice_get_within, slice_get_past, get_or_from_slice_get}
+use Rattle.std.proofs.lemmas.List.{length-replicate, get_or-replicate}
+use Rattle.std.proofs.lemmas.Option.{slice_get-get_or, slice_get_within, slice_get_past, get_or_from_slice_get}
 use Rattle.line_record.specs.History.{numbered, IsNoNumber}
 
 module _ {X : Type 0} where
+  pub slice_get-replicate : (n k : ℕ) (x : X) → k < n → slice_get (replicate n x) k ≡ Some x
+  slice_get-replicate n k x within =
+      slice_get-get_or (replicate n x) k x (omega (arith, length-replicate n x))
+      ∙ ap Some (get_or-replicate n k x x within)
+
   pub slice_get-set_same : (xs : List X) (k : ℕ) (x : X) → k < length xs → slice_get (set xs k x) k ≡ Some x
   slice_get-set_same [] k x within = absurd (omega arith)
   slice_get-set_same (y ∷ xs) zero x within = refl

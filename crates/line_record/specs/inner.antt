@@ -2,3 +2,4 @@
 pub mod SeatingChanges
 pub mod LineFields
 pub mod HeldLines
+pub mod FirstFree

@@ -8,6 +8,7 @@ ghost use Rattle.line_record.specs.inner.SeatingChanges.{ChangesAt, HasEntries};
 ghost use Rattle.gen_arena.specs.SameId.{is_same_id};
 
 use crate::fault::DirFault;
+use crate::held_lines::HeldLines;
 use gen_arena::Id;
 use std::alloc::Global;
 use std::collections::HashMap;
@@ -41,7 +42,7 @@ pub struct Directory {
     /// How many incarnations were given.
     used: u64,
     /// Of each line, whether it is some connection's.
-    held: Vec<bool>,
+    held: HeldLines,
 }
 
 impl Model for Directory {
@@ -54,7 +55,7 @@ impl Model for Directory {
 
     ghost invariant = { λ d. KnowsLines
         (record { seatings = d.seatings.entries; lines = d.lines; used = d.used })
-        d.held.items };
+        d.held };
 }
 
 impl Directory {
@@ -79,7 +80,7 @@ impl Directory {
         if first == 0 || first > LAST_INCARNATION {
             return Err(DirFault::BadFirst);
         }
-        let Ok(held) = vec![in alloc; false; usize::from(lines)] else {
+        let Some(held) = HeldLines::new(alloc, lines) else {
             return Err(DirFault::NoMemory);
         };
         let Ok(seatings) = HashMap::with_capacity(alloc, usize::from(lines)) else {
@@ -129,7 +130,7 @@ impl Directory {
         match self.seatings.insert(vc, seating) {
             Ok(_) => {
                 self.used = incarnation;
-                self.held[usize::from(line)] = true;
+                self.held.hold(line);
                 Ok(incarnation)
             }
             Err(_) => Err(DirFault::NoMemory),
@@ -158,7 +159,7 @@ impl Directory {
         ensures unchanged { IfNone result (self.new ≡ self.old) }
     {
         let seating = self.seatings.remove(&vc)?;
-        self.held[usize::from(seating.line)] = false;
+        self.held.free(seating.line);
         Some(seating)
     }
 
@@ -176,12 +177,7 @@ impl Directory {
             ((line : ℕ) → line < self.now.lines → IsTakenLine self.now line)
             (λ line. (line < self.now.lines) × IsOpenLine self.now line) }
     {
-        for line in 0..self.lines {
-            if !self.held[usize::from(line)] {
-                return Some(line);
-            }
-        }
-        None
+        self.held.lowest_free()
     }
 
     /// Whether the last incarnation was given.

@@ -6,6 +6,7 @@ mod directory;
 mod entry;
 mod equality;
 mod fault;
+mod held_lines;
 pub mod laws;
 mod line;
 mod named_contract;

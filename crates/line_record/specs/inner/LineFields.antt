@@ -1,5 +1,5 @@
 -- How a line is seen through its fields, and what they keep.
-use Rattle.std.specs.Prelude.{◌≡◌, ℕ, ◌≤◌, nat_le, Bool, ◌&&◌, Option, IsSome, is_none, List}
+use Rattle.std.specs.Prelude.{ℕ, ◌≤◌, nat_le, ◌&&◌, Option, IsSome, is_none, List}
 use Rattle.leaky.specs.declared.contract.Contract.{Contract}
 use Rattle.line_record.specs.declared.entry.Entry.{Entry}
 use Rattle.line_record.specs.declared.owner.Owner.{Owner}

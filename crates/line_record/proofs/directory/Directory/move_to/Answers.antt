@@ -10,7 +10,7 @@ pub invariant_of-self : goal.invariant_of-self
 invariant_of-self c =
     let l = c.self.inside in
     let old : DirectoryView = record { seatings = l.seatings.entries; lines = l.lines; used = l.used } in
-    KnowsLines-moved old l.held.items c.self.invariant c.reprogram.new.seatings.entries c.args.vc c.args.program c.reprogram.ensures.moved
+    KnowsLines-moved old l.held c.self.invariant c.reprogram.new.seatings.entries c.args.vc c.args.program c.reprogram.ensures.moved
     (λ none.
     let gone : c.reprogram.result ≡ None =
     c.reprogram.ensures.before ∙ ap (option_map (λ (seating : Seating). seating.program)) none in

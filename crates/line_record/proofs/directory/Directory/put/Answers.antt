@@ -1,4 +1,4 @@
-use Rattle.std.proofs.Common.{◌≡◌, ℕ, ◌+◌, ◌^◌, ◌<◌, None, true, set, Some, refl, sym, subst, arith}
+use Rattle.std.proofs.Common.{◌≡◌, ◌+◌, ◌^◌, ◌<◌, None, Some, refl, sym, subst, arith}
 use Rattle.line_record.specs.declared.directory.Seating.{Seating}
 use Rattle.line_record.specs.Directory.{DirectoryView, IsOpenLine, Sits, seating_at}
 use Rattle.line_record.specs.inner.HeldLines.{KnowsLines}
@@ -21,8 +21,8 @@ invariant_of-self c =
     let suits = Suits-new old vc seating c.self.invariant.kept within free refl in
     let new = c.insert.new.self.entries in
     let after : DirectoryView = record { seatings = new; lines = l.lines; used = l.used + 1 } in
-    subst (λ (line : ℕ). KnowsLines after (set l.held.items line true)) (sym c.from.ensures)
-    (KnowsLines-put old l.held.items c.self.invariant new vc (l.used + 1) seating absent changes suits
+    subst (KnowsLines after) (sym c.hold.ensures)
+    (KnowsLines-put old l.held c.self.invariant new vc (l.used + 1) seating absent changes suits
     (omega arith) (omega (arith, unworn)))
 
 pub returns-in-Ok-clause-seating : goal.returns-in-Ok-clause-seating

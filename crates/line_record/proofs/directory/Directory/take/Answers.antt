@@ -1,4 +1,4 @@
-use Rattle.std.proofs.Common.{◌≡◌, ℕ, Some, None, false, set, refl, ap, sym, subst, ◌∙◌, arith}
+use Rattle.std.proofs.Common.{◌≡◌, Some, None, refl, ap, sym, subst, ◌∙◌, arith}
 use Rattle.line_record.specs.Seatings.{seating_in}
 use Rattle.line_record.specs.Directory.{DirectoryView, seating_at, Sits}
 use Rattle.line_record.specs.inner.HeldLines.{KnowsLines}
@@ -20,13 +20,13 @@ returns-in_err-seating-clause-gone c =
     subst (λ (view : DirectoryView). Sits view c.args.vc None after) c.self.view_is
     (record { here = changes.here; others = changes.others; same_lines = refl })
 
-pub index_mut-requires : goal.index_mut-requires
-index_mut-requires c =
+pub free-requires : goal.free-requires
+free-requires c =
     let l = c.self.inside in
     let there : seating_in l.seatings.entries c.args.vc ≡ Some c.in_ok-seating.seating =
     sym (lookup-seating l.seatings.entries c.args.vc) ∙ sym c.in_ok-seating.ensures.value in
     let within = c.self.invariant.kept.within c.args.vc c.in_ok-seating.seating there in
-    omega (arith, within, c.from.ensures, c.self.invariant.sized, l.held.ok.0)
+    omega (arith, within, c.self.invariant.sized)
 
 pub invariant_of-self-2 : goal.invariant_of-self-2
 invariant_of-self-2 c =
@@ -38,8 +38,8 @@ invariant_of-self-2 c =
     let changes = ChangesAt-updates l.seatings c.remove.new.self c.args.vc None c.remove.ensures.updates in
     let new = c.remove.new.self.entries in
     let after : DirectoryView = record { seatings = new; lines = l.lines; used = l.used } in
-    subst (λ (line : ℕ). KnowsLines after (set l.held.items line false)) (sym c.from.ensures)
-    (KnowsLines-take old l.held.items c.self.invariant new c.args.vc l.used seating there changes refl)
+    subst (KnowsLines after) (sym c.free.ensures)
+    (KnowsLines-take old l.held c.self.invariant new c.args.vc l.used seating there changes refl)
 
 pub returns-clause-before : goal.returns-clause-before
 returns-clause-before c =
