@@ -1,6 +1,6 @@
 -- What a directory knows of its lines, after each change.
-use Rattle.std.proofs.Common.{◌≡◌, ◌≢◌, ℕ, ◌^◌, ◌<◌, ◌≤◌, Bool, true, false, Option, Some, None, List, [], length, replicate, set, refl, sym, ap, subst, ◌∙◌, inl, inr, arith}
-use Rattle.std.specs.Prelude.{slice_get, IfSome}
+use Rattle.std.proofs.Common.{◌≡◌, ◌≢◌, ℕ, ◌^◌, ◌<◌, ◌≤◌, Bool, true, false, Option, Some, None, List, [], length, replicate, set, sym, ap, subst, ◌∙◌, inl, inr, arith}
+use Rattle.std.specs.Prelude.{slice_get}
 use Rattle.std.proofs.lemmas.Bool.{cases_eq}
 use Rattle.std.proofs.lemmas.List.{length-replicate, length-set}
 use Rattle.std.proofs.lemmas.Option.{same_Some, slice_get_within}
@@ -10,6 +10,7 @@ use Rattle.line_record.specs.declared.directory.Seating.{Seating}
 use Rattle.line_record.specs.Seatings.{seating_in}
 use Rattle.line_record.specs.inner.SeatingChanges.{ChangesAt}
 use Rattle.line_record.specs.Directory.{DirectoryView, seating_at, IsOpenLine, IsTakenLine}
+use Rattle.line_record.specs.inner.DirectoryFields.{directory_of}
 use Rattle.line_record.specs.inner.HeldLines.{KnowsLines}
 use Rattle.line_record.proofs.NumberLemmas.{slice_get-replicate, slice_get-set_same, slice_get-set_other}
 use Rattle.upc_cell.proofs.Public.{vc_cases}
@@ -17,7 +18,7 @@ use Rattle.line_record.proofs.SeatingLemmas.{Suits, IsDirectory-changed, IsDirec
 
 -- A directory without connections.
 pub KnowsLines-new : (lines used : ℕ) → used ≤ 2 ^ 62
-    → KnowsLines (record { seatings = []; lines = lines; used = used }) (replicate lines false)
+    → KnowsLines (directory_of [] lines used) (replicate lines false)
 KnowsLines-new lines used most = record {
   kept = record {
     apart = λ one other seating another at1 at2 same. cc;
@@ -33,16 +34,12 @@ KnowsLines-new lines used most = record {
   free = λ line at vc seating sits. cc;
 }
 
-module _ (old : DirectoryView) (held : List Bool) (sound : KnowsLines old held)
-    (new : List (Vc × Seating)) (vc : Vc) (used : ℕ) where
-  abbrev After : DirectoryView
-  After = record { seatings = new; lines = old.lines; used = used }
-
-  -- A line that no change reaches.
-  stays_taken : (seating : Option Seating) → ChangesAt old.seatings new vc seating → (line : ℕ)
-      → ((before : Seating) → seating_at old vc ≡ Some before → before.line ≢ line)
-      → IsTakenLine old line → IsTakenLine After line
-  stays_taken seating changes line away taken = record {
+-- A line that no change reaches.
+module _ (old : DirectoryView) (new : List (Vc × Seating)) (vc : Vc) (used : ℕ) (seating : Option Seating)
+    (changes : ChangesAt old.seatings new vc seating) (line : ℕ) where
+  pub stays_taken : ((before : Seating) → seating_at old vc ≡ Some before → before.line ≢ line)
+      → IsTakenLine old line → IsTakenLine (directory_of new old.lines used) line
+  stays_taken away taken = record {
     vc = taken.vc;
     seating = taken.seating;
     sits = changes.others taken.vc
@@ -51,13 +48,17 @@ module _ (old : DirectoryView) (held : List Bool) (sound : KnowsLines old held)
     there = taken.there;
   }
 
-  stays_open : (seating : Option Seating) → ChangesAt old.seatings new vc seating → (line : ℕ)
-      → ((given : Seating) → seating ≡ Some given → given.line ≢ line)
-      → IsOpenLine old line → IsOpenLine After line
-  stays_open seating changes line away free other another at = elim (vc_cases other vc) [
+  stays_open : ((given : Seating) → seating ≡ Some given → given.line ≢ line)
+      → IsOpenLine old line → IsOpenLine (directory_of new old.lines used) line
+  stays_open away free other another at = elim (vc_cases other vc) [
     | inl e ↦ away another (sym changes.here ∙ subst (λ v. seating_in new v ≡ Some another) e at)
     | inr apart ↦ free other another (sym (changes.others other apart) ∙ at)
   ]
+
+module _ (old : DirectoryView) (held : List Bool) (sound : KnowsLines old held)
+    (new : List (Vc × Seating)) (vc : Vc) (used : ℕ) where
+  abbrev After : DirectoryView
+  After = directory_of new old.lines used
 
   pub KnowsLines-put : (seating : Seating) → seating_at old vc ≡ None → ChangesAt old.seatings new vc (Some seating)
       → Suits old vc seating used → old.used ≤ used → used ≤ 2 ^ 62
@@ -71,7 +72,7 @@ module _ (old : DirectoryView) (held : List Bool) (sound : KnowsLines old held)
         sized = length-set held seating.line true ∙ sound.sized;
         taken = λ line at. elim (cases_eq line seating.line) [
           | inl e ↦ record { vc = vc; seating = seating; sits = changes.here; there = sym e }
-          | inr apart ↦ stays_taken (Some seating) changes line
+          | inr apart ↦ stays_taken old new vc used (Some seating) changes line
               (λ before there. let none : Some before ≡ None = sym there ∙ absent in cc)
               (sound.taken line (sym (slice_get-set_other held seating.line line true apart) ∙ at))
         ];
@@ -81,7 +82,7 @@ module _ (old : DirectoryView) (held : List Bool) (sound : KnowsLines old held)
               sym (slice_get-set_same held seating.line true within)
               ∙ subst (λ k. slice_get (set held seating.line true) k ≡ Some false) e at in
               absurd (cc)
-          | inr apart ↦ stays_open (Some seating) changes line
+          | inr apart ↦ stays_open old new vc used (Some seating) changes line
               (λ given same there. apart (sym there ∙ ap (λ (s : Seating). s.line) (sym (same_Some seating given same))))
               (sound.free line (sym (slice_get-set_other held seating.line line true apart) ∙ at))
         ];
@@ -101,7 +102,7 @@ module _ (old : DirectoryView) (held : List Bool) (sound : KnowsLines old held)
               sym (slice_get-set_same held seating.line false within)
               ∙ subst (λ k. slice_get (set held seating.line false) k ≡ Some true) e at in
               absurd (cc)
-          | inr apart ↦ stays_taken None changes line
+          | inr apart ↦ stays_taken old new vc used None changes line
               (λ before was same. apart (sym same ∙ ap (λ (s : Seating). s.line) (same_Some before seating (sym was ∙ there))))
               (sound.taken line (sym (slice_get-set_other held seating.line line false apart) ∙ at))
         ];
@@ -114,56 +115,45 @@ module _ (old : DirectoryView) (held : List Bool) (sound : KnowsLines old held)
                 let was : seating_at old other ≡ Some another = sym (changes.others other apart) ∙ sits in
                 apart (sound.kept.apart other vc another seating was there (same ∙ e))
           ]
-          | inr apart ↦ stays_open None changes line (λ given none there. cc)
+          | inr apart ↦ stays_open old new vc used None changes line (λ given none there. cc)
               (sound.free line (sym (slice_get-set_other held seating.line line false apart) ∙ at))
         ];
       }
 
 -- Another program moves no line.
 pub KnowsLines-moved : (old : DirectoryView) (held : List Bool) → KnowsLines old held
-    → (new : List (Vc × Seating)) (vc : Vc) (program : Id)
-    → IfSome (seating_at old vc) (λ seating. ChangesAt old.seatings new vc (Some (record seating { program = program })))
-    → (seating_at old vc ≡ None → new ≡ old.seatings)
-    → KnowsLines (record { seatings = new; lines = old.lines; used = old.used }) held
-KnowsLines-moved old held sound new vc program moved unmoved =
-    let After : List (Vc × Seating) → DirectoryView = λ seatings.
-    record { seatings = seatings; lines = old.lines; used = old.used } in
-    let Moved : Option Seating → Type 0 = λ found.
-    IfSome found (λ seating. ChangesAt old.seatings new vc (Some (record seating { program = program }))) in
-    let choice : (found : Option Seating) → seating_at old vc ≡ found → KnowsLines (After new) held = elim [
-      | None ↦ λ e. subst (λ seatings. KnowsLines (After seatings) held) (sym (unmoved e)) sound
-      | Some seating ↦ λ e.
-          let after : Seating = record seating { program = program } in
-          let changes : ChangesAt old.seatings new vc (Some after) = subst Moved e moved in
-          record {
-            kept = IsDirectory-moved old new vc program sound.kept moved unmoved;
-            sized = sound.sized;
-            taken = λ line at.
-                let taken = sound.taken line at in
-                elim (vc_cases taken.vc vc) [
-                  | inl f ↦
-                      let was : seating_at old vc ≡ Some taken.seating = subst (λ v. seating_at old v ≡ Some taken.seating) f taken.sits in
-                      let same = same_Some seating taken.seating (sym e ∙ was) in
-                      record {
-                        vc = vc;
-                        seating = after;
-                        sits = changes.here;
-                        there = ap (λ (s : Seating). s.line) same ∙ taken.there;
-                      }
-                  | inr apart ↦ record {
-                    vc = taken.vc;
-                    seating = taken.seating;
-                    sits = changes.others taken.vc apart ∙ taken.sits;
-                    there = taken.there;
-                  }
-                ];
-            free = λ line at other another sits there. elim (vc_cases other vc) [
-              | inl f ↦
-                  let is : after ≡ another = same_Some after another
-                  (sym changes.here ∙ subst (λ v. seating_in new v ≡ Some another) f sits) in
-                  sound.free line at vc seating e (ap (λ (s : Seating). s.line) is ∙ there)
-              | inr apart ↦ sound.free line at other another (sym (changes.others other apart) ∙ sits) there
-            ];
-          }
-    ] in
-    choice (seating_at old vc) refl
+    → (new : List (Vc × Seating)) (vc : Vc) (seating : Seating) → seating_at old vc ≡ Some seating
+    → (program : Id) → ChangesAt old.seatings new vc (Some (record seating { program = program }))
+    → KnowsLines (directory_of new old.lines old.used) held
+KnowsLines-moved old held sound new vc seating there program changes =
+    let after : Seating = record seating { program = program } in
+    record {
+      kept = IsDirectory-moved old new vc program sound.kept seating there changes;
+      sized = sound.sized;
+      taken = λ line at.
+          let taken = sound.taken line at in
+          elim (vc_cases taken.vc vc) [
+            | inl f ↦
+                let was : seating_at old vc ≡ Some taken.seating = subst (λ v. seating_at old v ≡ Some taken.seating) f taken.sits in
+                let same = same_Some seating taken.seating (sym there ∙ was) in
+                record {
+                  vc = vc;
+                  seating = after;
+                  sits = changes.here;
+                  there = ap (λ (s : Seating). s.line) same ∙ taken.there;
+                }
+            | inr apart ↦ record {
+              vc = taken.vc;
+              seating = taken.seating;
+              sits = changes.others taken.vc apart ∙ taken.sits;
+              there = taken.there;
+            }
+          ];
+      free = λ line at other another sits on_line. elim (vc_cases other vc) [
+        | inl f ↦
+            let is : after ≡ another = same_Some after another
+            (sym changes.here ∙ subst (λ v. seating_in new v ≡ Some another) f sits) in
+            sound.free line at vc seating there (ap (λ (s : Seating). s.line) is ∙ on_line)
+        | inr apart ↦ sound.free line at other another (sym (changes.others other apart) ∙ sits) on_line
+      ];
+    }

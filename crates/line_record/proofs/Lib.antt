@@ -7,6 +7,7 @@ pub mod LineLemmas
 pub mod ChainLemmas
 pub mod SeatingLemmas
 pub mod HeldLemmas
+pub mod UsesLemmas
 pub mod StateLemmas
 pub mod ChargeLemmas
 pub mod TotalLemmas

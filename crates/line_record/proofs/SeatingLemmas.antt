@@ -1,6 +1,6 @@
 -- Look-ups in a directory, before and after a change.
 use Rattle.std.proofs.Common.{◌≡◌, ◌≢◌, ℕ, suc, ◌+◌, ◌^◌, ◌<◌, ◌≤◌, Bool, true, false, cond, Option, Some, None, List, [], ◌∷◌, refl, sym, ap, subst, ◌∙◌, inl, inr, arith}
-use Rattle.std.specs.Prelude.{IfSome}
+use Rattle.std.specs.Prelude.{option_map}
 use Rattle.std.proofs.lemmas.Option.{same_Some}
 use Rattle.std.specs.List.{list_any, Contains}
 use Rattle.std.specs.Map.{lookup, values_of}
@@ -139,26 +139,20 @@ Suits-moved old vc before after is at line incarnation =
       alone = λ other another apart there same. apart (is.apart other vc another before there at (same ∙ line));
     }
 
--- Where there is no such connection, nothing is moved.
 pub IsDirectory-moved : (old : DirectoryView) (new : List (Vc × Seating)) (vc : Vc) (program : Id)
-    → IsDirectory old
-    → IfSome (seating_at old vc) (λ seating. ChangesAt old.seatings new vc (Some (record seating { program = program })))
-    → (seating_at old vc ≡ None → new ≡ old.seatings)
+    → IsDirectory old → (seating : Seating) → seating_at old vc ≡ Some seating
+    → ChangesAt old.seatings new vc (Some (record seating { program = program }))
     → IsDirectory (record { seatings = new; lines = old.lines; used = old.used })
-IsDirectory-moved old new vc program is moved unmoved =
-    let Moved : Option Seating → Type 0 = λ found.
-    IfSome found (λ seating. ChangesAt old.seatings new vc (Some (record seating { program = program }))) in
-    let choice : (found : Option Seating) → seating_at old vc ≡ found
-    → IsDirectory (record { seatings = new; lines = old.lines; used = old.used }) = elim [
-      | None ↦ λ e.
-          subst (λ seatings. IsDirectory (record { seatings = seatings; lines = old.lines; used = old.used })) (sym (unmoved e)) is
-      | Some seating ↦ λ e.
-          let after : Seating = record seating { program = program } in
-          let changes : ChangesAt old.seatings new vc (Some after) = subst Moved e moved in
-          IsDirectory-changed old new vc (Some after) old.used is changes
-          (λ given same.
-          subst (λ (s : Seating). Suits old vc s old.used) (same_Some after given same)
-          (Suits-moved old vc seating after is e refl refl))
-          (omega arith) is.most
-    ] in
-    choice (seating_at old vc) refl
+IsDirectory-moved old new vc program is seating there changes =
+    let after : Seating = record seating { program = program } in
+    IsDirectory-changed old new vc (Some after) old.used is changes
+    (λ given same.
+    subst (λ (s : Seating). Suits old vc s old.used) (same_Some after given same)
+    (Suits-moved old vc seating after is there refl refl))
+    (omega arith) is.most
+
+-- A connection whose program is told has a seating with it.
+pub program_found : (found : Option Seating) (program : Id) → Some program ≡ option_map (λ seating. seating.program) found
+    → (seating : Seating) × (found ≡ Some seating) × (seating.program ≡ program)
+program_found None program is = cc
+program_found (Some seating) program is = (seating, refl, sym (same_Some program seating.program is))

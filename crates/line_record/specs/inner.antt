@@ -3,3 +3,5 @@ pub mod SeatingChanges
 pub mod LineFields
 pub mod HeldLines
 pub mod FirstFree
+pub mod ProgramUses
+pub mod DirectoryFields

@@ -9,6 +9,7 @@ ghost use Rattle.gen_arena.specs.SameId.{is_same_id};
 
 use crate::fault::DirFault;
 use crate::held_lines::HeldLines;
+use crate::program_uses::ProgramUses;
 use gen_arena::Id;
 use std::alloc::Global;
 use std::collections::HashMap;
@@ -43,19 +44,19 @@ pub struct Directory {
     used: u64,
     /// Of each line, whether it is some connection's.
     held: HeldLines,
+    /// How many connections name a program, in as many places as there are lines.
+    uses: ProgramUses,
 }
 
 impl Model for Directory {
     ghost use Rattle.line_record.specs.Directory.{DirectoryView};
-    ghost use Rattle.line_record.specs.inner.HeldLines.{KnowsLines};
+    ghost use Rattle.line_record.specs.inner.DirectoryFields.{directory_of, KeepsDirectory};
 
     ghost Value = { DirectoryView };
 
-    ghost view = { λ d. record { seatings = d.seatings.entries; lines = d.lines; used = d.used } };
+    ghost view = { λ d. directory_of d.seatings.entries d.lines d.used };
 
-    ghost invariant = { λ d. KnowsLines
-        (record { seatings = d.seatings.entries; lines = d.lines; used = d.used })
-        d.held };
+    ghost invariant = { λ d. KeepsDirectory (directory_of d.seatings.entries d.lines d.used) d.held d.uses };
 }
 
 impl Directory {
@@ -83,6 +84,9 @@ impl Directory {
         let Some(held) = HeldLines::new(alloc, lines) else {
             return Err(DirFault::NoMemory);
         };
+        let Some(uses) = ProgramUses::new(alloc, lines) else {
+            return Err(DirFault::NoMemory);
+        };
         let Ok(seatings) = HashMap::with_capacity(alloc, usize::from(lines)) else {
             return Err(DirFault::NoMemory);
         };
@@ -91,6 +95,7 @@ impl Directory {
             lines,
             used: first - 1,
             held,
+            uses,
         })
     }
 
@@ -131,6 +136,7 @@ impl Directory {
             Ok(_) => {
                 self.used = incarnation;
                 self.held.hold(line);
+                self.uses.add(seating.program);
                 Ok(incarnation)
             }
             Err(_) => Err(DirFault::NoMemory),
@@ -147,7 +153,12 @@ impl Directory {
         ensures used { self.new.used ≡ self.old.used }
         ensures lines { self.new.lines ≡ self.old.lines }
     {
-        reprogram(&mut self.seatings, vc, program)
+        let before = reprogram(&mut self.seatings, vc, program);
+        if let Some(named) = before {
+            self.uses.remove(named);
+            self.uses.add(program);
+        }
+        before
     }
 
     /// Takes the connection out, and answers its place. Takes no memory.
@@ -160,6 +171,7 @@ impl Directory {
     {
         let seating = self.seatings.remove(&vc)?;
         self.held.free(seating.line);
+        self.uses.remove(seating.program);
         Some(seating)
     }
 
@@ -167,7 +179,7 @@ impl Directory {
     pub fn names(&self, program: Id) -> bool
         ensures { IsTrue result ↔ IsNamed self.now program }
     {
-        any_names(&self.seatings, program)
+        !self.uses.is_unused(program) && any_names(&self.seatings, program)
     }
 
     /// The number of a line that is no connection's, if there is one. Which of them is open. Takes

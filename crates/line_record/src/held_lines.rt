@@ -8,9 +8,9 @@ use std::marker::Model;
 
 /// Of each line whether it is held. A line has its number from 0.
 ///
-/// Each setup of a connection wants a free line. Were it looked for from line 0 each time, a card
-/// of n lines would be filled in n * n / 2 looks. So the lowest free line is kept, and what looks
-/// for the next one looks only behind it.
+/// Each setup of a connection wants a free line. If it looked for one from line 0 on, n setups would
+/// take n * n / 2 looks. So the lowest free line is kept, and only where it is held itself are the
+/// lines above it looked at.
 #[derive(Debug, Drop)]
 pub(crate) struct HeldLines {
     held: Vec<bool>,

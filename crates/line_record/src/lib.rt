@@ -12,6 +12,7 @@ mod line;
 mod named_contract;
 mod owner;
 mod piece;
+mod program_uses;
 mod state;
 mod tally;
 

@@ -2,15 +2,18 @@ use Rattle.std.proofs.Common.{◌≡◌, ◌+◌, ◌^◌, ◌<◌, None, Some, 
 use Rattle.line_record.specs.declared.directory.Seating.{Seating}
 use Rattle.line_record.specs.Directory.{DirectoryView, IsOpenLine, Sits, seating_at}
 use Rattle.line_record.specs.inner.HeldLines.{KnowsLines}
+use Rattle.line_record.specs.inner.ProgramUses.{CountsUses}
+use Rattle.line_record.specs.inner.DirectoryFields.{directory_of}
 use Rattle.line_record.proofs.SeatingLemmas.{ChangesAt-updates, Suits-new}
 use Rattle.line_record.proofs.HeldLemmas.{KnowsLines-put}
+use Rattle.line_record.proofs.UsesLemmas.{CountsUses-put, CountsUses-room}
 use Rattle.line_record.proofs.directory.Directory.put.Goals as goal
 
 pub invariant_of-self : goal.invariant_of-self
 invariant_of-self c =
     let l = c.self.inside in
     let vc = c.args.vc in
-    let old : DirectoryView = record { seatings = l.seatings.entries; lines = l.lines; used = l.used } in
+    let old : DirectoryView = directory_of l.seatings.entries l.lines l.used in
     let seating : Seating = record { line = c.args.line; incarnation = l.used + 1; program = c.args.program } in
     let changes = ChangesAt-updates l.seatings c.insert.new.self vc (Some seating) c.in-Ok.ensures.updates in
     let view_is = sym c.self.view_is in
@@ -18,12 +21,16 @@ invariant_of-self c =
     let within = subst (λ (view : DirectoryView). c.args.line < view.lines) view_is c.requires.line in
     let free = subst (λ (view : DirectoryView). IsOpenLine view c.args.line) view_is c.requires.free in
     let unworn = subst (λ (view : DirectoryView). view.used < 2 ^ 62) view_is c.requires.unworn in
-    let suits = Suits-new old vc seating c.self.invariant.kept within free refl in
+    let suits = Suits-new old vc seating c.self.invariant.lines.kept within free refl in
     let new = c.insert.new.self.entries in
-    let after : DirectoryView = record { seatings = new; lines = l.lines; used = l.used + 1 } in
-    subst (KnowsLines after) (sym c.hold.ensures)
-    (KnowsLines-put old l.held c.self.invariant new vc (l.used + 1) seating absent changes suits
-    (omega arith) (omega (arith, unworn)))
+    let after : DirectoryView = directory_of new l.lines (l.used + 1) in
+    record {
+      lines = subst (KnowsLines after) (sym c.hold.ensures)
+          (KnowsLines-put old l.held c.self.invariant.lines new vc (l.used + 1) seating absent changes suits
+          (omega arith) (omega (arith, unworn)));
+      uses = subst (CountsUses after) (sym c.add.ensures)
+          (CountsUses-put old l.uses c.self.invariant.uses new vc (l.used + 1) seating absent changes within free);
+    }
 
 pub returns-in-Ok-clause-seating : goal.returns-in-Ok-clause-seating
 returns-in-Ok-clause-seating c =
@@ -31,6 +38,15 @@ returns-in-Ok-clause-seating c =
     let vc = c.args.vc in
     let seating : Seating = record { line = c.args.line; incarnation = l.used + 1; program = c.args.program } in
     let changes = ChangesAt-updates l.seatings c.insert.new.self vc (Some seating) c.in-Ok.ensures.updates in
-    let after : DirectoryView = record { seatings = c.insert.new.self.entries; lines = l.lines; used = l.used + 1 } in
+    let after : DirectoryView = directory_of c.insert.new.self.entries l.lines (l.used + 1) in
     subst (λ (view : DirectoryView). Sits view vc (Some seating) after) c.self.view_is
     (record { here = changes.here; others = changes.others; same_lines = refl })
+
+pub add-requires : goal.add-requires
+add-requires c =
+    let l = c.self.inside in
+    let old : DirectoryView = directory_of l.seatings.entries l.lines l.used in
+    let view_is = sym c.self.view_is in
+    let within = subst (λ (view : DirectoryView). c.args.line < view.lines) view_is c.requires.line in
+    let free = subst (λ (view : DirectoryView). IsOpenLine view c.args.line) view_is c.requires.free in
+    CountsUses-room old l.uses c.self.invariant.uses c.args.line within free c.args.program

@@ -1,0 +1,75 @@
+//! How many connections name a program.
+
+ghost use Rattle.std.specs.Prelude.{◌≡◌, length};
+
+use gen_arena::Id;
+use std::alloc::Global;
+use std::marker::Model;
+
+/// How many connections name the programs of each place. A program's place is its slot, modulo the
+/// number of places.
+///
+/// A program may only leave the card where no connection names it, and to look at each connection
+/// costs as much as the card has connections. A count of 0 tells it at once. Programs can share a
+/// place, so another count tells only that a look is worth its time.
+#[derive(Debug, Drop)]
+pub(crate) struct ProgramUses {
+    counts: Vec<u16>,
+}
+
+impl Model for ProgramUses {
+    ghost use Rattle.std.specs.Prelude.{List, ℕ, ◌<◌, length};
+
+    ghost Value = { List ℕ };
+
+    ghost view = { λ u. u.counts.items };
+
+    ghost invariant = { λ u. 0 < length u.counts.items };
+}
+
+impl ProgramUses {
+    ghost use Rattle.std.specs.Prelude.{◌≡◌, ◌+◌, ◌-◌, ◌<◌, ◌↔◌, length, replicate, IfSome, IsTrue};
+    ghost use Rattle.line_record.specs.inner.ProgramUses.{place_of, uses_of, with_uses};
+
+    /// So many places without a use; `None` where the memory is refused.
+    pub(crate) fn new(alloc: Global, places: u16) -> Option<Self>
+        requires { 0 < places }
+        ensures { IfSome result (λ uses. uses ≡ replicate places 0) }
+    {
+        let counts = vec![in alloc; 0; usize::from(places)].ok()?;
+        Some(ProgramUses { counts })
+    }
+
+    /// Whether the program's place has no use.
+    pub(crate) fn is_unused(&self, program: Id) -> bool
+        ensures { IsTrue result ↔ (uses_of self.now program ≡ 0) }
+    {
+        self.counts[self.place(program)] == 0
+    }
+
+    /// Counts a use of the program.
+    pub(crate) fn add(&mut self, program: Id)
+        requires { uses_of self.old program < 65535 }
+        ensures { self.new ≡ with_uses self.old program (uses_of self.old program + 1) }
+    {
+        let place = self.place(program);
+        self.counts[place] += 1;
+    }
+
+    /// Counts a use of the program no more.
+    pub(crate) fn remove(&mut self, program: Id)
+        requires { 0 < uses_of self.old program }
+        ensures { self.new ≡ with_uses self.old program (uses_of self.old program - 1) }
+    {
+        let place = self.place(program);
+        self.counts[place] -= 1;
+    }
+
+    /// The place of a program.
+    fn place(&self, program: Id) -> usize
+        ensures place { result ≡ place_of self.now program }
+        ensures within { result < length self.now }
+    {
+        usize::from(program.slot) % self.counts.len()
+    }
+}
