@@ -1,5 +1,5 @@
 -- How many connections name a program, after each change of a directory.
-use Rattle.std.proofs.Common.{◌≡◌, ◌≢◌, ℕ, ◌+◌, ◌-◌, ◌<◌, ◌≤◌, Bool, cond, Option, Some, None, List, [], length, replicate, set, refl, sym, ap, subst, ◌∙◌, inl, inr, arith, eq-eqb}
+use Rattle.std.proofs.Common.{◌≡◌, ◌≢◌, ℕ, ◌+◌, ◌-◌, ◌^◌, ◌<◌, ◌≤◌, Bool, false, cond, Option, Some, None, List, [], length, replicate, set, refl, sym, ap, subst, ◌∙◌, inl, inr, arith, eq-eqb}
 use Rattle.std.specs.Prelude.{slice_get, slice_index, option_map}
 use Rattle.std.specs.List.{count_by}
 use Rattle.std.proofs.lemmas.Bool.{cases_eq, ne_eqb}
@@ -15,10 +15,10 @@ use Rattle.line_record.specs.declared.directory.Seating.{Seating}
 use Rattle.line_record.specs.Seatings.{seating_in}
 use Rattle.line_record.specs.inner.SeatingChanges.{ChangesAt}
 use Rattle.line_record.specs.Directory.{DirectoryView, seating_at, IsOpenLine, IsTakenLine, IsNamed, IsDirectory}
-use Rattle.line_record.specs.inner.DirectoryFields.{directory_of}
+use Rattle.line_record.specs.inner.DirectoryFields.{directory_of, KeepsDirectory}
 use Rattle.line_record.specs.inner.ProgramUses.{place_of, uses_of, with_uses, is_counted_at, CountsPrograms, CountsUses}
 use Rattle.line_record.proofs.NumberLemmas.{slice_get-replicate, slice_get-set_same, slice_get-set_other}
-use Rattle.line_record.proofs.HeldLemmas.{stays_taken}
+use Rattle.line_record.proofs.HeldLemmas.{stays_taken, KnowsLines-new}
 
 -- A count, after one element of the list was replaced.
 count_by-replaced : {X : Type 0} (test : X → Bool) (xs : List X) (k : ℕ) (old new : X) → slice_get xs k ≡ Some old
@@ -168,6 +168,16 @@ CountsUses-new lines used some few = record {
       absurd (cc);
   names = λ vc seating sits. cc;
 }
+
+-- A directory without connections.
+pub KeepsDirectory-new : (seatings : List (Vc × Seating)) (held : List Bool) (counts : List ℕ) (lines used : ℕ)
+    → seatings ≡ [] → held ≡ replicate lines false → counts ≡ replicate lines 0
+    → 0 < lines → lines ≤ 65535 → used ≤ 2 ^ 62
+    → KeepsDirectory (directory_of seatings lines used) held counts
+KeepsDirectory-new seatings held counts lines used empty free zero some few most = rw (empty, free, zero) (record {
+  lines = KnowsLines-new lines used most;
+  uses = CountsUses-new lines used some few;
+})
 
 -- A program that some connection names has a use at its place.
 pub CountsUses-named : (directory : DirectoryView) (counts : List ℕ) → CountsUses directory counts

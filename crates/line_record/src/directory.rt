@@ -81,19 +81,25 @@ impl Directory {
         if first == 0 || first > LAST_INCARNATION {
             return Err(DirFault::BadFirst);
         }
-        let Some(held) = HeldLines::new(alloc, lines) else {
-            return Err(DirFault::NoMemory);
-        };
-        let Some(uses) = ProgramUses::new(alloc, lines) else {
-            return Err(DirFault::NoMemory);
-        };
+        Directory::empty(alloc, lines, first - 1).ok_or(DirFault::NoMemory)
+    }
+
+    /// A directory without connections, where so many incarnations were given; `None` where the
+    /// memory is refused.
+    fn empty(alloc: Global, lines: u16, used: u64) -> Option<Self>
+        requires some { 0 < lines }
+        requires most { used ≤ 2 ^ 62 }
+        ensures { IfSome result (λ directory. IsEmpty directory lines (used + 1)) }
+    {
+        let held = HeldLines::new(alloc, lines)?;
+        let uses = ProgramUses::new(alloc, lines)?;
         let Ok(seatings) = HashMap::with_capacity(alloc, usize::from(lines)) else {
-            return Err(DirFault::NoMemory);
+            return None;
         };
-        Ok(Directory {
+        Some(Directory {
             seatings,
             lines,
-            used: first - 1,
+            used,
             held,
             uses,
         })
