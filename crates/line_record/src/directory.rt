@@ -44,7 +44,7 @@ pub struct Directory {
     used: u64,
     /// Of each line, whether it is some connection's.
     held: HeldLines,
-    /// How many connections name a program, in as many places as there are lines.
+    /// How many connections name a program. Where none does, no seating is looked at to tell it.
     uses: ProgramUses,
 }
 

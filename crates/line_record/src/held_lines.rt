@@ -8,9 +8,10 @@ use std::marker::Model;
 
 /// Of each line whether it is held. A line has its number from 0.
 ///
-/// Each setup of a connection wants a free line. If it looked for one from line 0 on, n setups would
-/// take n * n / 2 looks. So the lowest free line is kept, and only where it is held itself are the
-/// lines above it looked at.
+/// The lowest free line is given, whatever was freed last, so that the same setups and releases give
+/// the same lines. If each setup looked for it from line 0 on, n setups would take n * n / 2 looks.
+/// So the lowest free line is kept, and no line is looked at before that one is held: then the lines
+/// above it are, up to the next free one.
 #[derive(Debug, Drop)]
 pub(crate) struct HeldLines {
     held: Vec<bool>,
