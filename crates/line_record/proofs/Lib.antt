@@ -4,6 +4,7 @@ pub mod HistoryLemmas
 pub mod EntryLemmas
 pub mod RunLemmas
 pub mod LineLemmas
+pub mod MarkLemmas
 pub mod ChainLemmas
 pub mod SeatingLemmas
 pub mod HeldLemmas
