@@ -10,8 +10,8 @@ pub mod Steps
 pub mod Renumbered
 pub mod Isolated
 pub mod Shadow
-pub mod OwnSteps
 pub mod Unseen
+pub mod OwnSteps
 pub mod Restricted
 pub mod ServedAlone
 pub mod TaggedCells

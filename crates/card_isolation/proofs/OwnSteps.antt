@@ -1,5 +1,5 @@
 -- What an own step of a connection is and leaves, in any world.
-use Rattle.std.proofs.Common.{◌≡◌, ◌⊎◌, ℕ, ◌+◌, true, false, List, length, set, Option, Some, None, MatchOption, slice_get, option_map, refl, sym, ap, ◌∙◌, subst, inl, inr, arith}
+use Rattle.std.proofs.Common.{◌≡◌, ◌⊎◌, ℕ, ◌+◌, Bool, true, false, List, length, set, Option, Some, None, MatchOption, slice_get, option_map, refl, sym, ap, ◌∙◌, subst, inl, inr, arith}
 use Rattle.upc_cell.specs.declared.side.Side.{Side}
 use Rattle.upc_cell.specs.declared.vc.Vc.{Vc}
 use Rattle.upc_cell.specs.Connection.{vc_of, is_same_vc}
@@ -23,210 +23,237 @@ use Rattle.card_isolation.proofs.Alone.{event_with}
 use Rattle.card_isolation.proofs.Connections.{with-here, with-others, without-here, without-others, found-same}
 use Rattle.card_isolation.proofs.Views.{has_own_in, notes_in}
 use Rattle.card_isolation.proofs.JudgeSteps.{no-connection}
-use Rattle.card_isolation.proofs.Shadow.{program_of, HasOnlyOwn, only-own-set, HasEntered, HasPicked}
+use Rattle.card_isolation.proofs.Unseen.{none-picked, none-judged}
+use Rattle.card_isolation.proofs.Shadow.{Holding, held, holding_of, has_kept_in, HasOnlyKept, kept-too, only-kept-set, HasEntered, HasPicked}
 
--- An own step: which act it is, which program the connection names then, and how many incarnations more
--- were given. No other connection changes, and no port has another's cell but one that had.
-pub record OwnStep (vc : Vc) (before : World) (step : Step) (reply : Reply) (after : World) (act : Act) (named : Option Id → Option Id) (more : ℕ) : Type 0 where
+-- An own step: which act it is, what the connection holds then, and how many incarnations more were given.
+-- It is no event of another connection, no other connection changes, and each port has a kept connection's
+-- cell or none, where it was so before and this connection is kept.
+pub record OwnStep (vc : Vc) (before : World) (step : Step) (reply : Reply) (after : World) (act : Act) (holds : Option Holding → Option Holding) (more : ℕ) : Type 0 where
   pub outcome : Outcome
   pub event : own_event before.shape.side vc (notes_in vc before) reply step ≡ Some (event_with act outcome)
+  pub apart : (other : Vc) → is_same_vc other vc ≡ false → own_event before.shape.side other (notes_in other before) reply step ≡ None
   pub given : after.given ≡ before.given
   pub live : after.live ≡ before.live
-  pub program : program_of vc after ≡ named (program_of vc before)
+  pub holding : holding_of vc after ≡ holds (holding_of vc before)
   pub used : after.used ≡ before.used + more
   pub others : (other : Vc) → is_same_vc other vc ≡ false
       → connection_in after.connections other ≡ connection_in before.connections other
-  pub ports : HasOnlyOwn before.shape.side vc before.ports → HasOnlyOwn before.shape.side vc after.ports
+  pub ports : (kept : Vc → Bool) → kept vc ≡ true → HasOnlyKept before.shape.side kept before.ports
+      → HasOnlyKept before.shape.side kept after.ports
 
-abbrev pub same_name : Option Id → Option Id
-same_name program = program
+-- What a connection holds after a step: the same, this line and this program, another program, or nothing.
 
-abbrev pub new_name : Id → Option Id → Option Id
-new_name program old = Some program
+abbrev pub same_holding : Option Holding → Option Holding
+same_holding holding = holding
 
-abbrev pub no_name : Option Id → Option Id
-no_name old = None
+abbrev pub new_holding : ℕ → Id → Option Holding → Option Holding
+new_holding line program old = Some (record { line = line; program = program })
+
+abbrev pub new_program : Id → Option Holding → Option Holding
+new_program program old = option_map (λ (h : Holding). record h { program = program }) old
+
+abbrev pub no_holding : Option Holding → Option Holding
+no_holding old = None
 
 -- What is known of the reply and the world that a step led to.
-own-at : (vc : Vc) (before : World) (step : Step) (one other : Reply) (after later : World) (act : Act) (named : Option Id → Option Id) (more : ℕ)
-    → one ≡ other → after ≡ later → OwnStep vc before step other later act named more → OwnStep vc before step one after act named more
-own-at vc before step one other after later act named more same leads own =
-    subst (λ (r : Reply). OwnStep vc before step r after act named more) (sym same)
-    (subst (λ (w : World). OwnStep vc before step other w act named more) (sym leads) own)
+own-at : (vc : Vc) (before : World) (step : Step) (one other : Reply) (after later : World) (act : Act) (holds : Option Holding → Option Holding) (more : ℕ)
+    → one ≡ other → after ≡ later → OwnStep vc before step other later act holds more → OwnStep vc before step one after act holds more
+own-at vc before step one other after later act holds more same leads own =
+    subst (λ (r : Reply). OwnStep vc before step r after act holds more) (sym same)
+    (subst (λ (w : World). OwnStep vc before step other w act holds more) (sym leads) own)
 
--- Another virtual connection than one that is the same.
+-- A virtual connection that is apart from one is apart from one that is the same.
 away : (vc own other : Vc) → is_same_vc vc own ≡ true → is_same_vc other vc ≡ false → is_same_vc other own ≡ false
 away vc own other same apart = subst (λ (v : Vc). is_same_vc other v ≡ false) (vc_same vc own same) apart
 
 pub own-enters : (vc : Vc) (before : World) (port : ℕ) (cell : List ℕ) (moment : ℕ) (reply : Reply) (after : World)
     → is_same_vc vc (vc_of before.shape.side cell) ≡ true → slice_get before.ports port ≡ Some outside
     → Enters before port cell moment reply after
-    → OwnStep vc before (Enter port cell moment) reply after (enters port cell moment) same_name 0
+    → OwnStep vc before (Enter port cell moment) reply after (enters port cell moment) same_holding 0
 own-enters vc before port cell moment reply after own was w =
-    own-at vc before (Enter port cell moment) reply Entered after (with_port before port (entered cell moment)) (enters port cell moment) same_name 0
+    own-at vc before (Enter port cell moment) reply Entered after (with_port before port (entered cell moment)) (enters port cell moment) same_holding 0
     w.answer w.world (record {
       outcome = done;
       event = ap (λ b. own_where b (enters port cell moment) done) own;
+      apart = λ other apart.
+          ap (λ b. own_where b (enters port cell moment) done) (away vc (vc_of before.shape.side cell) other own apart);
       given = refl;
       live = refl;
-      program = refl;
+      holding = refl;
       used = omega (arith);
       others = λ other apart. refl;
-      ports = only-own-set before.shape.side vc before.ports port outside (entered cell moment) was (λ none. absurd (cc));
+      ports = λ kept is.
+          only-kept-set before.shape.side kept before.ports port outside (entered cell moment) was
+          (λ none. let some = kept-too kept vc (vc_of before.shape.side cell) is own in absurd (cc));
     })
 
 pub own-sets_up : (vc : Vc) (before : World) (ask : Ask) (reply : Reply) (after : World) → is_same_vc vc ask.vc ≡ true
-    → SetsUp before ask reply after
-    → OwnStep vc before (Setup ask) reply after (sets_up ask.contracts.items (code_in before.given ask.program)) (new_name ask.program) 1
+    → (w : SetsUp before ask reply after)
+    → OwnStep vc before (Setup ask) reply after (sets_up ask.contracts.items (code_in before.given ask.program)) (new_holding w.line ask.program) 1
 own-sets_up vc before ask reply after own w =
     let new : Connection = new_connection ask w.line (before.used + 1) in
     let act : Act = sets_up ask.contracts.items (code_in before.given ask.program) in
     own-at vc before (Setup ask) reply (SetUp (record { vc = ask.vc; incarnation = before.used + 1 })) after
-    (record before { connections = with_connection before.connections ask.vc new; used = before.used + 1 }) act (new_name ask.program) 1
+    (record before { connections = with_connection before.connections ask.vc new; used = before.used + 1 }) act (new_holding w.line ask.program) 1
     w.answer w.world (record {
       outcome = done;
       event = ap (λ b. own_where b act done) own;
+      apart = λ other apart. ap (λ b. own_where b act done) (away vc ask.vc other own apart);
       given = refl;
       live = refl;
-      program = ap (option_map (λ (c : Connection). c.program)) (with-here before.connections ask.vc vc new own);
+      holding = ap (option_map held) (with-here before.connections ask.vc vc new own);
       used = refl;
       others = λ other apart. with-others before.connections ask.vc other new (away vc ask.vc other own apart);
-      ports = λ only. only;
+      ports = λ kept is only. only;
     })
 
 pub own-reloads : (vc : Vc) (before : World) (other : Vc) (program : Id) (reply : Reply) (after : World) → is_same_vc vc other ≡ true
     → Reloads before other program reply after
-    → OwnStep vc before (Reload other program) reply after (reloads (code_in before.given program)) (new_name program) 0
+    → OwnStep vc before (Reload other program) reply after (reloads (code_in before.given program)) (new_program program) 0
 own-reloads vc before other program reply after own w =
     let new : Connection = record w.connection { program = program } in
     let act : Act = reloads (code_in before.given program) in
     own-at vc before (Reload other program) reply (Reloaded w.connection.program) after
-    (record before { connections = with_connection before.connections other new }) act (new_name program) 0
+    (record before { connections = with_connection before.connections other new }) act (new_program program) 0
     w.answer w.world (record {
       outcome = named_before (code_in before.given w.connection.program);
       event = ap (λ b. own_where b act (named_before (code_in before.given w.connection.program))) own;
+      apart = λ another apart.
+          ap (λ b. own_where b act (named_before (code_in before.given w.connection.program))) (away vc other another own apart);
       given = refl;
       live = refl;
-      program = ap (option_map (λ (c : Connection). c.program)) (with-here before.connections other vc new own);
+      holding = ap (option_map held) (with-here before.connections other vc new own)
+          ∙ sym (ap (λ (o : Option Connection). new_program program (option_map held o))
+          (found-same before.connections vc other (Some w.connection) own w.found));
       used = omega (arith);
       others = λ another apart. with-others before.connections other another new (away vc other another own apart);
-      ports = λ only. only;
+      ports = λ kept is only. only;
     })
 
 pub own-cuts : (vc : Vc) (before : World) (other : Vc) (reply : Reply) (after : World) → is_same_vc vc other ≡ true
-    → Cuts before other reply after → OwnStep vc before (Cut other) reply after cuts same_name 0
+    → Cuts before other reply after → OwnStep vc before (Cut other) reply after cuts same_holding 0
 own-cuts vc before other reply after own w =
     let new : Connection = record w.connection { handed = length w.connection.history } in
     own-at vc before (Cut other) reply (CutOff w.piece) after
-    (record before { connections = with_connection before.connections other new }) cuts same_name 0
+    (record before { connections = with_connection before.connections other new }) cuts same_holding 0
     w.answer w.world (record {
       outcome = outcome_of_piece w.piece;
       event = ap (λ b. own_where b cuts (outcome_of_piece w.piece)) own;
+      apart = λ another apart. ap (λ b. own_where b cuts (outcome_of_piece w.piece)) (away vc other another own apart);
       given = refl;
       live = refl;
-      program = ap (option_map (λ (c : Connection). c.program)) (with-here before.connections other vc new own)
-          ∙ sym (ap (option_map (λ (c : Connection). c.program)) (found-same before.connections vc other (Some w.connection) own w.found));
+      holding = ap (option_map held) (with-here before.connections other vc new own)
+          ∙ sym (ap (option_map held) (found-same before.connections vc other (Some w.connection) own w.found));
       used = omega (arith);
       others = λ another apart. with-others before.connections other another new (away vc other another own apart);
-      ports = λ only. only;
+      ports = λ kept is only. only;
     })
 
 pub own-releases : (vc : Vc) (before : World) (other : Vc) (reply : Reply) (after : World) → is_same_vc vc other ≡ true
-    → Releases before other reply after → OwnStep vc before (Release other) reply after releases no_name 0
+    → Releases before other reply after → OwnStep vc before (Release other) reply after releases no_holding 0
 own-releases vc before other reply after own w =
     own-at vc before (Release other) reply (Released w.piece) after
-    (record before { connections = without_connection before.connections other }) releases no_name 0
+    (record before { connections = without_connection before.connections other }) releases no_holding 0
     w.answer w.world (record {
       outcome = outcome_of_piece w.piece;
       event = ap (λ b. own_where b releases (outcome_of_piece w.piece)) own;
+      apart = λ another apart. ap (λ b. own_where b releases (outcome_of_piece w.piece)) (away vc other another own apart);
       given = refl;
       live = refl;
-      program = ap (option_map (λ (c : Connection). c.program))
+      holding = ap (option_map held)
           (found-same (without_connection before.connections other) vc other None own (without-here before.connections other));
       used = omega (arith);
       others = λ another apart. without-others before.connections other another (away vc other another own apart);
-      ports = λ only. only;
+      ports = λ kept is only. only;
     })
 
 -- A cell of the connection that has entered is looked up, or answered.
 
 pub own-picks : (vc : Vc) (before : World) (port : ℕ) (reply : Reply) (after : World) → HasEntered vc before port
-    → WorldStep before (Pick port) reply after → OwnStep vc before (Pick port) reply after (looks_up port) same_name 0
+    → WorldStep before (Pick port) reply after → OwnStep vc before (Pick port) reply after (looks_up port) same_holding 0
 own-picks vc before port reply after here w =
     let side : Side = before.shape.side in
     let had_own : has_own_in side vc (slice_get before.ports port) ≡ true = ap (has_own_in side vc) here.had ∙ here.own in
+    let not_theirs : (other : Vc) → is_same_vc other vc ≡ false → has_own_in side other (slice_get before.ports port) ≡ false = λ other apart.
+    ap (has_own_in side other) here.had ∙ away vc (vc_of side here.cell) other here.own apart in
     let moved : (state : PortState) (answered : Reply) (outcome : Outcome)
     → own_event side vc (notes_in vc before) answered (Pick port) ≡ own_where (has_own_in side vc (slice_get before.ports port)) (looks_up port) outcome
-    → (has_own_in side vc (Some state) ≡ false → state ≡ outside)
-    → OwnStep vc before (Pick port) answered (with_port before port state) (looks_up port) same_name 0 = λ state answered outcome event fits. record {
+    → ((kept : Vc → Bool) → kept vc ≡ true → has_kept_in side kept (Some state) ≡ false → state ≡ outside)
+    → OwnStep vc before (Pick port) answered (with_port before port state) (looks_up port) same_holding 0 = λ state answered outcome event fits. record {
       outcome = outcome;
       event = event ∙ ap (λ b. own_where b (looks_up port) outcome) had_own;
+      apart = λ other apart. none-picked side other (notes_in other before) port (not_theirs other apart) answered;
       given = refl;
       live = refl;
-      program = refl;
+      holding = refl;
       used = omega (arith);
       others = λ other apart. refl;
-      ports = only-own-set side vc before.ports port (entered here.cell here.moment) state here.had fits;
+      ports = λ kept is. only-kept-set side kept before.ports port (entered here.cell here.moment) state here.had (fits kept is);
     } in
     let choice : (o : Option Reply) → refusal before (Pick port) ≡ o
     → MatchOption o (Succeeds before (Pick port) reply after ⊎ FindsNoMemory before (Pick port) reply after)
     (λ refused. IsRefused before (Pick port) refused reply after)
-    → OwnStep vc before (Pick port) reply after (looks_up port) same_name 0 = elim [
+    → OwnStep vc before (Pick port) reply after (looks_up port) same_holding 0 = elim [
       | None ↦ λ e w. elim w [
         | inl success ↦
             let new : Picking = picking_of success.cell success.moment (vc_of side success.cell) success.connection success.value in
             let same : is_same_vc vc (vc_of side success.cell) ≡ true =
             ap (has_own_in side vc) (sym success.had) ∙ had_own in
-            own-at vc before (Pick port) reply Picked after (with_port before port (picked new)) (looks_up port) same_name 0
-            success.answer success.world (moved (picked new) Picked done refl (λ none. absurd (cc)))
+            own-at vc before (Pick port) reply Picked after (with_port before port (picked new)) (looks_up port) same_holding 0
+            success.answer success.world (moved (picked new) Picked done refl
+            (λ kept is none. let some = kept-too kept vc new.vc is same in absurd (cc)))
         | inr memory ↦ let none = memory.answer in absurd (cc)
       ]
       | Some refused ↦ λ e w.
           let at : pick_refusal before (Some (entered here.cell here.moment)) ≡ Some refused =
           ap (pick_refusal before) (sym here.had) ∙ e in
           let none = no-connection (connection_in before.connections (vc_of side here.cell)) refused at in
-          own-at vc before (Pick port) reply (Answered UnknownCell) after (with_port before port outside) (looks_up port) same_name 0
+          own-at vc before (Pick port) reply (Answered UnknownCell) after (with_port before port outside) (looks_up port) same_holding 0
           (w.answer ∙ none.1) (w.world ∙ ap (left_by_pick before port) here.had)
-          (moved outside (Answered UnknownCell) (outcome_of before.given UnknownCell) refl (λ none. refl))
+          (moved outside (Answered UnknownCell) (outcome_of before.given UnknownCell) refl (λ kept is none. refl))
     ] in
     choice (refusal before (Pick port)) refl w
 
 -- A cell of the connection that was looked up is judged, or answered.
 
 pub own-judges : (vc : Vc) (before : World) (port : ℕ) (reply : Reply) (after : World) → HasPicked vc before port
-    → WorldStep before (Judge port) reply after → OwnStep vc before (Judge port) reply after (judges port) same_name 0
+    → WorldStep before (Judge port) reply after → OwnStep vc before (Judge port) reply after (judges port) same_holding 0
 own-judges vc before port reply after here w =
     let side : Side = before.shape.side in
     let had_own : has_own_in side vc (slice_get before.ports port) ≡ true = ap (has_own_in side vc) here.had ∙ here.own in
+    let not_theirs : (other : Vc) → is_same_vc other vc ≡ false → has_own_in side other (slice_get before.ports port) ≡ false = λ other apart.
+    ap (has_own_in side other) here.had ∙ away vc here.picking.vc other here.own apart in
     let answered : (answer : Answer) (later : World) → later.given ≡ before.given → later.live ≡ before.live
-    → program_of vc later ≡ program_of vc before → later.used ≡ before.used
+    → holding_of vc later ≡ holding_of vc before → later.used ≡ before.used
     → ((other : Vc) → is_same_vc other vc ≡ false → connection_in later.connections other ≡ connection_in before.connections other)
     → later.ports ≡ set before.ports port outside
-    → OwnStep vc before (Judge port) (Answered answer) later (judges port) same_name 0 = λ answer later given live program used others ports. record {
+    → OwnStep vc before (Judge port) (Answered answer) later (judges port) same_holding 0 = λ answer later given live holding used others ports. record {
       outcome = outcome_of before.given answer;
       event = ap (λ b. own_where b (judges port) (outcome_of before.given answer)) had_own;
+      apart = λ other apart. none-judged side other (notes_in other before) port (not_theirs other apart) (Answered answer);
       given = given;
       live = live;
-      program = program;
+      holding = holding;
       used = omega (arith, used);
       others = others;
-      ports = λ only.
-          subst (λ (l : List PortState). HasOnlyOwn side vc l) (sym ports)
-          (only-own-set side vc before.ports port (picked here.picking) outside here.had (λ none. refl) only);
+      ports = λ kept is only.
+          subst (λ (l : List PortState). HasOnlyKept side kept l) (sym ports)
+          (only-kept-set side kept before.ports port (picked here.picking) outside here.had (λ none. refl) only);
     } in
     let choice : (o : Option Reply) → refusal before (Judge port) ≡ o
     → MatchOption o (Succeeds before (Judge port) reply after ⊎ FindsNoMemory before (Judge port) reply after)
     (λ refused. IsRefused before (Judge port) refused reply after)
-    → OwnStep vc before (Judge port) reply after (judges port) same_name 0 = elim [
+    → OwnStep vc before (Judge port) reply after (judges port) same_holding 0 = elim [
       | None ↦ λ e w. elim w [
         | inl success ↦
             let own : is_same_vc vc success.picking.vc ≡ true = ap (has_own_in side vc) (sym success.had) ∙ had_own in
             let new : Connection = with_cell success.connection (cell_of_picking success.picking) in
-            own-at vc before (Judge port) reply (Answered _) after (judged_world before port success.picking success.connection) (judges port) same_name 0
+            own-at vc before (Judge port) reply (Answered _) after (judged_world before port success.picking success.connection) (judges port) same_holding 0
             success.answer success.world
             (answered _ (judged_world before port success.picking success.connection) refl refl
-            (ap (option_map (λ (c : Connection). c.program)) (with-here before.connections success.picking.vc vc new own)
-            ∙ sym (ap (option_map (λ (c : Connection). c.program)) (found-same before.connections vc success.picking.vc (Some success.connection) own success.found)))
+            (ap (option_map held) (with-here before.connections success.picking.vc vc new own)
+            ∙ sym (ap (option_map held) (found-same before.connections vc success.picking.vc (Some success.connection) own success.found)))
             refl
             (λ other apart. with-others before.connections success.picking.vc other new (away vc success.picking.vc other own apart))
             refl)
@@ -236,7 +263,7 @@ own-judges vc before port reply after here w =
           let at : judge_refusal before (Some (picked here.picking)) ≡ Some refused =
           ap (judge_refusal before) (sym here.had) ∙ e in
           let is = mapped Answered (picking_refusal before here.picking (connection_in before.connections here.picking.vc)) refused at in
-          own-at vc before (Judge port) reply (Answered is.0) after (with_port before port outside) (judges port) same_name 0
+          own-at vc before (Judge port) reply (Answered is.0) after (with_port before port outside) (judges port) same_holding 0
           (w.answer ∙ is.2) (w.world ∙ ap (left_by_judge before port) here.had)
           (answered is.0 (with_port before port outside) refl refl refl refl (λ other apart. refl) refl)
     ] in

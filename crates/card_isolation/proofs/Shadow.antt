@@ -1,52 +1,119 @@
--- A world with one connection alone, beside a world with others: what both have in common.
+-- A world with the kept connections alone, beside a world with others: what both have in common.
+--
+-- The shadow of a world is a world of the same shape. It has
+--   the same programs, put in and live, under the same ids;
+--   each kept connection as the world has it, on the same line and with the same program, and no other;
+--   at each port the cell that the world has there, where that is a kept connection's, and else none;
+--   no more incarnations given.
+-- Incarnations may differ, and so may the counts of a line. The lines are the same, so a line that is open in
+-- the world is open in the shadow too.
 use Rattle.std.proofs.Common.{◌≡◌, ℕ, zero, suc, ◌≤◌, ◌==◌, Bool, true, false, cond, not, ◌&&◌, List, [], ◌∷◌, set, Option, Some, None, is_some, slice_get, option_map, refl, sym, ap, ◌∙◌, subst}
-use Rattle.std.specs.List.{list_all}
+use Rattle.std.specs.List.{list_any, list_all}
 use Rattle.std.proofs.lemmas.Bool.{and_parts}
 use Rattle.std.proofs.lemmas.Option.{same_Some}
 use Rattle.upc_cell.specs.declared.side.Side.{Side}
 use Rattle.upc_cell.specs.declared.vc.Vc.{Vc}
 use Rattle.upc_cell.specs.Connection.{vc_of, is_same_vc}
+use Rattle.upc_cell.proofs.Public.{vc_itself, vc_same}
 use Rattle.gen_arena.specs.declared.id.Id.{Id}
 use Rattle.card_core.specs.declared.reply.Reply.{Reply}
 use Rattle.card_core.specs.declared.shape.Shape.{Shape}
 use Rattle.card_core.specs.declared.step.Step.{Step}
 use Rattle.card_core.specs.World.{World, Loading, Connection, Picking, PortState, outside, entered, picked, is_outside, code_in, connection_in}
+use Rattle.card_core.specs.inner.Sound.{IsSound}
 use Rattle.card_isolation.specs.Act.{Act}
 use Rattle.card_isolation.specs.OwnEvents.{OwnEvent, own_event}
-use Rattle.card_isolation.proofs.Basics.{seen-set, with_at}
+use Rattle.card_isolation.proofs.Basics.{mapped, seen-set, with_at}
 use Rattle.card_isolation.proofs.Alone.{Place, idle, came, looked, Alone, Does, Next, outcome_alone, event_with, one-next, is_idle}
+use Rattle.card_isolation.proofs.Connections.{tested-connection, connection-passes}
 use Rattle.card_isolation.proofs.Views.{is_current, place_of, has_own_in, alone_in, notes_in, Goes, Tells}
 
--- The program of the connection.
-abbrev pub program_of : Vc → World → Option Id
-program_of vc world = option_map (λ connection. connection.program) (connection_in world.connections vc)
+-- What a connection holds of the card: its line, and its program.
+pub record Holding : Type 0 where
+  pub line : ℕ
+  pub program : Id
 
--- Each port has a cell of the connection, or none.
-abbrev pub HasOnlyOwn : Side → Vc → List PortState → Type 0
-HasOnlyOwn side vc ports = (port : ℕ) (state : PortState) → slice_get ports port ≡ Some state
-    → has_own_in side vc (Some state) ≡ false → state ≡ outside
+abbrev pub held : Connection → Holding
+held connection = record { line = connection.line; program = connection.program }
 
--- The shadow of a world has this connection as the world has it, and no other.
-pub record Shadows (vc : Vc) (world shadow : World) : Type 0 where
+abbrev pub holding_of : Vc → World → Option Holding
+holding_of vc world = option_map held (connection_in world.connections vc)
+
+-- The port has a cell of a kept connection.
+abbrev pub has_kept_in : Side → (Vc → Bool) → Option PortState → Bool
+has_kept_in side kept None = false
+has_kept_in side kept (Some outside) = false
+has_kept_in side kept (Some (entered cell moment)) = kept (vc_of side cell)
+has_kept_in side kept (Some (picked picking)) = kept picking.vc
+
+-- Each port has a cell of a kept connection, or none.
+abbrev pub HasOnlyKept : Side → (Vc → Bool) → List PortState → Type 0
+HasOnlyKept side kept ports = (port : ℕ) (state : PortState) → slice_get ports port ≡ Some state
+    → has_kept_in side kept (Some state) ≡ false → state ≡ outside
+
+pub record Shadows (kept : Vc → Bool) (world shadow : World) : Type 0 where
   pub shape : shadow.shape ≡ world.shape
   pub given : shadow.given ≡ world.given
   pub live : shadow.live ≡ world.live
-  pub alone : alone_in vc shadow ≡ alone_in vc world
-  pub program : program_of vc shadow ≡ program_of vc world
+  pub alone : (vc : Vc) → kept vc ≡ true → alone_in vc shadow ≡ alone_in vc world
+  pub holding : (vc : Vc) → kept vc ≡ true → holding_of vc shadow ≡ holding_of vc world
   pub used : shadow.used ≤ world.used
-  pub others : (other : Vc) → is_same_vc other vc ≡ false → connection_in shadow.connections other ≡ None
-  pub ports : HasOnlyOwn shadow.shape.side vc shadow.ports
+  pub others : (vc : Vc) → kept vc ≡ false → connection_in shadow.connections vc ≡ None
+  pub ports : HasOnlyKept shadow.shape.side kept shadow.ports
 
--- A port that was written has a cell of the connection, or none.
-pub only-own-set : (side : Side) (vc : Vc) (ports : List PortState) (port : ℕ) (old new : PortState) → slice_get ports port ≡ Some old
-    → (has_own_in side vc (Some new) ≡ false → new ≡ outside) → HasOnlyOwn side vc ports → HasOnlyOwn side vc (set ports port new)
-only-own-set side vc ports port old new had fits only other state at none =
+-- Who is kept.
+
+-- A virtual connection that is the same as a kept one is kept.
+pub kept-too : (kept : Vc → Bool) (vc other : Vc) → kept vc ≡ true → is_same_vc vc other ≡ true → kept other ≡ true
+kept-too kept vc other is same = subst (λ (v : Vc). kept v ≡ true) (vc_same vc other same) is
+
+-- A kept one and one that isn't are apart.
+pub tell-apart : (kept : Vc → Bool) (vc other : Vc) (b : Bool) → kept vc ≡ b → kept other ≡ not b → is_same_vc vc other ≡ false
+tell-apart kept vc other b is isnt =
+    let choice : (same : Bool) → is_same_vc vc other ≡ same → same ≡ false = elim [
+      | true ↦ λ e.
+          let both : b ≡ not b = sym is ∙ ap kept (vc_same vc other e) ∙ isnt in
+          let never : (b : Bool) → b ≡ not b → ⊥ = elim [ true ↦ λ e. cc | false ↦ λ e. cc ] in
+          absurd (never b both)
+      | false ↦ λ e. refl
+    ] in
+    choice (is_same_vc vc other) refl
+
+-- A port has a cell of a kept connection where it has one of its own.
+pub own-kept : (side : Side) (kept : Vc → Bool) (vc : Vc) → kept vc ≡ true → (o : Option PortState) → has_own_in side vc o ≡ true
+    → has_kept_in side kept o ≡ true
+own-kept side kept vc is None own = absurd (cc)
+own-kept side kept vc is (Some outside) own = absurd (cc)
+own-kept side kept vc is (Some (entered cell moment)) own = kept-too kept vc (vc_of side cell) is own
+own-kept side kept vc is (Some (picked picking)) own = kept-too kept vc picking.vc is own
+
+pub kept-own : (side : Side) (kept : Vc → Bool) (o : Option PortState) → has_kept_in side kept o ≡ true
+    → (vc : Vc) × (kept vc ≡ true) × (has_own_in side vc o ≡ true)
+kept-own side kept None has = absurd (cc)
+kept-own side kept (Some outside) has = absurd (cc)
+kept-own side kept (Some (entered cell moment)) has = (vc_of side cell, has, vc_itself (vc_of side cell))
+kept-own side kept (Some (picked picking)) has = (picking.vc, has, vc_itself picking.vc)
+
+-- A port that has no cell of a kept connection has none of one.
+pub none-kept : (side : Side) (kept : Vc → Bool) (vc : Vc) → kept vc ≡ true → (o : Option PortState) → has_kept_in side kept o ≡ false
+    → has_own_in side vc o ≡ false
+none-kept side kept vc is o none =
+    let choice : (b : Bool) → has_own_in side vc o ≡ b → b ≡ false = elim [
+      | true ↦ λ own. let some = own-kept side kept vc is o own in absurd (cc)
+      | false ↦ λ own. refl
+    ] in
+    choice (has_own_in side vc o) refl
+
+-- A port that was written has a cell of a kept connection, or none.
+pub only-kept-set : (side : Side) (kept : Vc → Bool) (ports : List PortState) (port : ℕ) (old new : PortState) → slice_get ports port ≡ Some old
+    → (has_kept_in side kept (Some new) ≡ false → new ≡ outside) → HasOnlyKept side kept ports → HasOnlyKept side kept (set ports port new)
+only-kept-set side kept ports port old new had fits only other state at none =
     let seen : slice_get (set ports port new) other ≡ with_at (λ place. slice_get ports place) port (Some new) other =
     ap (λ (f : ℕ → Option PortState). f other) (seen-set (λ (o : Option PortState). o) ports port new old had) in
     let choice : (b : Bool) → cond b (Some new) (slice_get ports other) ≡ Some state → state ≡ outside = elim [
       | true ↦ λ e.
           let is : new ≡ state = same_Some new state e in
-          sym is ∙ fits (ap (λ (s : PortState). has_own_in side vc (Some s)) is ∙ none)
+          sym is ∙ fits (ap (λ (s : PortState). has_kept_in side kept (Some s)) is ∙ none)
       | false ↦ λ e. only other state e none
     ] in
     choice (other == port) (sym seen ∙ at)
@@ -66,12 +133,28 @@ own-place side vc given found (Some (picked picking)) =
     ] in
     choice (is_same_vc vc picking.vc) _ refl
 
-pub same-own : (vc : Vc) (world shadow : World) → Shadows vc world shadow → (port : ℕ)
+same-own : (vc : Vc) (world shadow : World) → alone_in vc shadow ≡ alone_in vc world → (port : ℕ)
     → has_own_in shadow.shape.side vc (slice_get shadow.ports port) ≡ has_own_in world.shape.side vc (slice_get world.ports port)
-same-own vc world shadow s port =
+same-own vc world shadow alone port =
     own-place shadow.shape.side vc shadow.given (connection_in shadow.connections vc) (slice_get shadow.ports port)
-    ∙ ap (λ (a : Alone). not (is_idle (a.places port))) s.alone
+    ∙ ap (λ (a : Alone). not (is_idle (a.places port))) alone
     ∙ sym (own-place world.shape.side vc world.given (connection_in world.connections vc) (slice_get world.ports port))
+
+-- Where a port of the world has no cell of a kept connection, that of the shadow has none.
+pub none-too : (kept : Vc → Bool) (world shadow : World) → Shadows kept world shadow → (port : ℕ)
+    → has_kept_in world.shape.side kept (slice_get world.ports port) ≡ false
+    → has_kept_in shadow.shape.side kept (slice_get shadow.ports port) ≡ false
+none-too kept world shadow s port none =
+    let choice : (b : Bool) → has_kept_in shadow.shape.side kept (slice_get shadow.ports port) ≡ b → b ≡ false = elim [
+      | true ↦ λ has.
+          let owner = kept-own shadow.shape.side kept (slice_get shadow.ports port) has in
+          let own : has_own_in world.shape.side owner.0 (slice_get world.ports port) ≡ true =
+          sym (same-own owner.0 world shadow (s.alone owner.0 owner.1) port) ∙ owner.2 in
+          let some = own-kept world.shape.side kept owner.0 owner.1 (slice_get world.ports port) own in
+          absurd (cc)
+      | false ↦ λ has. refl
+    ] in
+    choice (has_kept_in shadow.shape.side kept (slice_get shadow.ports port)) refl
 
 -- What a place tells of its port.
 
@@ -135,20 +218,20 @@ looked-picked vc world port (Some (picked picking)) at e =
 
 -- The shadow has it at the port too.
 
-pub entered-too : (vc : Vc) (world shadow : World) → Shadows vc world shadow → (port : ℕ) → HasEntered vc world port → HasEntered vc shadow port
-entered-too vc world shadow s port here =
+pub entered-too : (vc : Vc) (world shadow : World) → alone_in vc shadow ≡ alone_in vc world → (port : ℕ) → HasEntered vc world port → HasEntered vc shadow port
+entered-too vc world shadow alone port here =
     let place : is_came ((alone_in vc world).places port) ≡ true =
     ap (λ (o : Option PortState). is_came (place_of world.shape.side vc world.given (connection_in world.connections vc) o)) here.had
     ∙ ap (λ b. is_came (cond b (came here.cell here.moment) idle)) here.own in
-    came-entered vc shadow port (slice_get shadow.ports port) refl (ap (λ (a : Alone). is_came (a.places port)) s.alone ∙ place)
+    came-entered vc shadow port (slice_get shadow.ports port) refl (ap (λ (a : Alone). is_came (a.places port)) alone ∙ place)
 
-pub picked-too : (vc : Vc) (world shadow : World) → Shadows vc world shadow → (port : ℕ) → HasPicked vc world port → HasPicked vc shadow port
-picked-too vc world shadow s port here =
+pub picked-too : (vc : Vc) (world shadow : World) → alone_in vc shadow ≡ alone_in vc world → (port : ℕ) → HasPicked vc world port → HasPicked vc shadow port
+picked-too vc world shadow alone port here =
     let place : is_looked ((alone_in vc world).places port) ≡ true =
     ap (λ (o : Option PortState). is_looked (place_of world.shape.side vc world.given (connection_in world.connections vc) o)) here.had
     ∙ ap (λ b. is_looked (cond b (looked here.picking.cell here.picking.moment here.picking.value (code_in world.given here.picking.program)
     (is_current (connection_in world.connections vc) here.picking)) idle)) here.own in
-    looked-picked vc shadow port (slice_get shadow.ports port) refl (ap (λ (a : Alone). is_looked (a.places port)) s.alone ∙ place)
+    looked-picked vc shadow port (slice_get shadow.ports port) refl (ap (λ (a : Alone). is_looked (a.places port)) alone ∙ place)
 
 -- Where no port of the world has a cell, none of the shadow has.
 
@@ -159,34 +242,59 @@ outside-all (first ∷ later) all =
     let rest = outside-all later (λ port state at. all (suc port) state at) in
     ap (λ (s : PortState). is_outside s && list_all is_outside later) (all zero first refl) ∙ rest
 
-none-own : (side : Side) (vc : Vc) (ports : List PortState) → list_all is_outside ports ≡ true → (port : ℕ)
-    → has_own_in side vc (slice_get ports port) ≡ false
-none-own side vc [] all port = refl
-none-own side vc (outside ∷ later) all zero = refl
-none-own side vc (entered cell moment ∷ later) all zero = absurd (cc)
-none-own side vc (picked picking ∷ later) all zero = absurd (cc)
-none-own side vc (first ∷ later) all (suc port) =
-    none-own side vc later (and_parts (is_outside first) (list_all is_outside later) all).1 port
+none-inside : (side : Side) (kept : Vc → Bool) (ports : List PortState) → list_all is_outside ports ≡ true → (port : ℕ)
+    → has_kept_in side kept (slice_get ports port) ≡ false
+none-inside side kept [] all port = refl
+none-inside side kept (outside ∷ later) all zero = refl
+none-inside side kept (entered cell moment ∷ later) all zero = absurd (cc)
+none-inside side kept (picked picking ∷ later) all zero = absurd (cc)
+none-inside side kept (first ∷ later) all (suc port) =
+    none-inside side kept later (and_parts (is_outside first) (list_all is_outside later) all).1 port
 
-pub idle-too : (vc : Vc) (world shadow : World) → Shadows vc world shadow → list_all is_outside world.ports ≡ true
+pub idle-too : (kept : Vc → Bool) (world shadow : World) → Shadows kept world shadow → list_all is_outside world.ports ≡ true
     → list_all is_outside shadow.ports ≡ true
-idle-too vc world shadow s all =
+idle-too kept world shadow s all =
     outside-all shadow.ports (λ port state at.
     s.ports port state at
-    (ap (has_own_in shadow.shape.side vc) (sym at) ∙ same-own vc world shadow s port ∙ none-own world.shape.side vc world.ports all port))
+    (ap (has_kept_in shadow.shape.side kept) (sym at)
+    ∙ none-too kept world shadow s port (none-inside world.shape.side kept world.ports all port)))
 
--- The shadow has the connection where the world has it.
+-- The shadow has a kept connection where the world has it.
 
 is_there : {X Y : Type 0} (f : X → Y) (o : Option X) → is_some (option_map f o) ≡ is_some o
 is_there f None = refl
 is_there f (Some x) = refl
 
-pub found-too : (vc : Vc) (world shadow : World) → Shadows vc world shadow
+pub found-too : (vc : Vc) (world shadow : World) → holding_of vc shadow ≡ holding_of vc world
     → is_some (connection_in shadow.connections vc) ≡ is_some (connection_in world.connections vc)
-found-too vc world shadow s =
-    sym (is_there (λ (c : Connection). c.program) (connection_in shadow.connections vc))
-    ∙ ap (λ (o : Option Id). is_some o) s.program
-    ∙ is_there (λ (c : Connection). c.program) (connection_in world.connections vc)
+found-too vc world shadow holding =
+    sym (is_there held (connection_in shadow.connections vc))
+    ∙ ap (λ (o : Option Holding). is_some o) holding
+    ∙ is_there held (connection_in world.connections vc)
+
+-- What no connection of the world holds, none of the shadow holds.
+pub unheld-too : (kept : Vc → Bool) (world shadow : World) → Shadows kept world shadow → IsSound shadow → (test : Holding → Bool)
+    → list_any (λ here. test (held here.1)) world.connections ≡ false → list_any (λ here. test (held here.1)) shadow.connections ≡ false
+unheld-too kept world shadow s sound test none =
+    let holds : (Vc × Connection) → Bool = λ here. test (held here.1) in
+    let choice : (b : Bool) → list_any holds shadow.connections ≡ b → b ≡ false = elim [
+      | true ↦ λ e.
+          let found = tested-connection shadow.connections holds e in
+          let known = sound.connections.once found.0 found.1 in
+          let own : (b : Bool) → kept found.0.0 ≡ b → ⊥ = elim [
+            | true ↦ λ is.
+                let there = mapped held (connection_in world.connections found.0.0) (held found.0.1)
+                (sym (s.holding found.0.0 is) ∙ ap (option_map held) known) in
+                let some : list_any holds world.connections ≡ true =
+                connection-passes holds world.connections found.0.0 there.0 there.1
+                (λ other. subst (λ (h : Holding). test h ≡ true) there.2 found.2) in
+                cc
+            | false ↦ λ isnt. let no = s.others found.0.0 isnt in cc
+          ] in
+          absurd (own (kept found.0.0) refl)
+      | false ↦ λ e. refl
+    ] in
+    choice (list_any holds shadow.connections) refl
 
 -- An own event of both with one act is one event, and leaves the connection alike.
 
@@ -195,20 +303,21 @@ pub record AreOne (vc : Vc) (world shadow : World) (step : Step) (reply answered
   pub alone : alone_in vc later ≡ alone_in vc after
 
 pub are-one : (vc : Vc) (world shadow : World) (step : Step) (reply answered : Reply) (after later : World) (one other : OwnEvent)
-    → Shadows vc world shadow → Tells vc world step reply after → Tells vc shadow step answered later
+    → shadow.shape ≡ world.shape → alone_in vc shadow ≡ alone_in vc world
+    → Tells vc world step reply after → Tells vc shadow step answered later
     → own_event world.shape.side vc (notes_in vc world) reply step ≡ Some one
     → own_event shadow.shape.side vc (notes_in vc shadow) answered step ≡ Some other
     → other.act ≡ one.act
     → AreOne vc world shadow step reply answered after later
-are-one vc world shadow step reply answered after later one other s tells tells_too is is_too act =
+are-one vc world shadow step reply answered after later one other shape alone tells tells_too is is_too act =
     let does : Does world.shape.journal (alone_in vc world) one (alone_in vc after) =
     subst (λ (o : Option OwnEvent). Goes world.shape.journal o (alone_in vc world) (alone_in vc after)) is tells.own in
     let at_shadow : Does shadow.shape.journal (alone_in vc shadow) other (alone_in vc later) =
     subst (λ (o : Option OwnEvent). Goes shadow.shape.journal o (alone_in vc shadow) (alone_in vc later)) is_too tells_too.own in
     let at_shape : Does world.shape.journal (alone_in vc shadow) other (alone_in vc later) =
-    subst (λ (shape : Shape). Does shape.journal (alone_in vc shadow) other (alone_in vc later)) s.shape at_shadow in
+    subst (λ (x : Shape). Does x.journal (alone_in vc shadow) other (alone_in vc later)) shape at_shadow in
     let does_too : Does world.shape.journal (alone_in vc world) other (alone_in vc later) =
-    subst (λ (a : Alone). Does world.shape.journal a other (alone_in vc later)) s.alone at_shape in
+    subst (λ (a : Alone). Does world.shape.journal a other (alone_in vc later)) alone at_shape in
     let outcome : other.outcome ≡ one.outcome =
     does_too.outcome ∙ ap (outcome_alone world.shape.journal (alone_in vc world)) act ∙ sym does.outcome in
     record {
@@ -219,3 +328,16 @@ are-one vc world shadow step reply answered after later one other s tells tells_
       alone = one-next world.shape.journal (alone_in vc world) one.act (alone_in vc later) (alone_in vc after)
           (subst (λ (a : Act). Next world.shape.journal (alone_in vc world) a (alone_in vc later)) act does_too.next) does.next;
     }
+
+-- So does a step that is no own event of either.
+pub are-none : (vc : Vc) (world shadow : World) (step : Step) (reply answered : Reply) (after later : World)
+    → alone_in vc shadow ≡ alone_in vc world → Tells vc world step reply after → Tells vc shadow step answered later
+    → own_event world.shape.side vc (notes_in vc world) reply step ≡ None
+    → own_event shadow.shape.side vc (notes_in vc shadow) answered step ≡ None
+    → AreOne vc world shadow step reply answered after later
+are-none vc world shadow step reply answered after later alone tells tells_too none none_too =
+    let same : alone_in vc after ≡ alone_in vc world =
+    subst (λ (o : Option OwnEvent). Goes world.shape.journal o (alone_in vc world) (alone_in vc after)) none tells.own in
+    let same_too : alone_in vc later ≡ alone_in vc shadow =
+    subst (λ (o : Option OwnEvent). Goes shadow.shape.journal o (alone_in vc shadow) (alone_in vc later)) none_too tells_too.own in
+    record { event = none_too ∙ sym none; alone = same_too ∙ alone ∙ sym same }

@@ -1,118 +1,204 @@
--- Steps at ports that a connection doesn't see.
-use Rattle.std.proofs.Common.{◌≡◌, ◌⊎◌, ℕ, false, Option, Some, None, MatchOption, slice_get, option_map, refl, sym, ap, ◌∙◌, subst, inl, inr}
+-- Steps that no kept connection sees.
+use Rattle.std.proofs.Common.{◌≡◌, ◌⊎◌, ℕ, ◌+◌, ◌≤◌, Bool, true, false, List, length, Option, Some, None, MatchOption, slice_get, option_map, refl, sym, ap, ◌∙◌, subst, inl, inr, arith}
 use Rattle.upc_cell.specs.declared.side.Side.{Side}
 use Rattle.upc_cell.specs.declared.vc.Vc.{Vc}
-use Rattle.upc_cell.specs.Connection.{is_same_vc}
+use Rattle.upc_cell.specs.Connection.{vc_of}
+use Rattle.gen_arena.specs.declared.id.Id.{Id}
+use Rattle.card_core.specs.declared.ask.Ask.{Ask}
 use Rattle.card_core.specs.declared.reply.Reply.{Reply}
-use Rattle.card_core.specs.declared.reply.Reply.TheVariants.{NotNow, Picked, Answered}
+use Rattle.card_core.specs.declared.reply.Reply.TheVariants.{NotNow, Entered, Picked, Answered, SetUp, Reloaded, Released, Cut as CutOff}
 use Rattle.card_core.specs.declared.step.Step.{Step}
-use Rattle.card_core.specs.declared.step.Step.TheVariants.{Pick, Judge}
-use Rattle.card_core.specs.World.{World, Connection, PortState, entered, picked}
+use Rattle.card_core.specs.declared.step.Step.TheVariants.{Enter, Pick, Judge, Setup, Reload, Release, Cut}
+use Rattle.card_core.specs.World.{World, Connection, PortState, entered, picked, code_in, with_port, with_connection, without_connection}
 use Rattle.card_core.specs.Refusals.{refusal}
-use Rattle.card_core.specs.Steps.{Succeeds, FindsNoMemory, IsRefused, WorldStep, cell_of_picking, with_cell, left_by, left_by_pick, left_by_judge}
-use Rattle.card_isolation.specs.Act.{looks_up, judges}
-use Rattle.card_isolation.specs.Outcome.{done, outcome_of}
+use Rattle.card_core.specs.Steps.{Enters, SetsUp, Reloads, Releases, Cuts, Succeeds, FindsNoMemory, IsRefused, WorldStep, new_connection, cell_of_picking, with_cell, left_by, left_by_pick, left_by_judge}
+use Rattle.card_isolation.specs.Act.{enters, looks_up, judges, sets_up, reloads, releases, cuts}
+use Rattle.card_isolation.specs.Outcome.{done, named_before, outcome_of, outcome_of_piece}
 use Rattle.card_isolation.specs.OwnEvents.{Notes, own_where, own_event}
-use Rattle.card_isolation.proofs.Connections.{with-others}
-use Rattle.card_isolation.proofs.Views.{has_own_in, notes_in}
-use Rattle.card_isolation.proofs.Shadow.{program_of}
+use Rattle.card_isolation.proofs.Connections.{with-others, without-others}
+use Rattle.card_isolation.proofs.Views.{notes_in}
+use Rattle.card_isolation.proofs.Shadow.{held, holding_of, has_kept_in, none-kept, tell-apart}
 
--- The step is no event of the connection's, and leaves the programs, the connection's own among them.
-pub record IsUnseen (vc : Vc) (before : World) (step : Step) (reply : Reply) (after : World) : Type 0 where
-  pub none : own_event before.shape.side vc (notes_in vc before) reply step ≡ None
+-- The step is no event of a kept connection's, and leaves the programs, and what kept connections hold.
+pub record IsUnseen (kept : Vc → Bool) (before : World) (step : Step) (reply : Reply) (after : World) : Type 0 where
+  pub none : (vc : Vc) → kept vc ≡ true → own_event before.shape.side vc (notes_in vc before) reply step ≡ None
   pub given : after.given ≡ before.given
   pub live : after.live ≡ before.live
-  pub program : program_of vc after ≡ program_of vc before
-  pub used : after.used ≡ before.used
+  pub holding : (vc : Vc) → kept vc ≡ true → holding_of vc after ≡ holding_of vc before
+  pub used : before.used ≤ after.used
 
-unseen-at : (vc : Vc) (before : World) (step : Step) (one other : Reply) (after later : World)
-    → one ≡ other → after ≡ later → IsUnseen vc before step other later → IsUnseen vc before step one after
-unseen-at vc before step one other after later same leads unseen =
-    subst (λ (r : Reply). IsUnseen vc before step r after) (sym same)
-    (subst (λ (w : World). IsUnseen vc before step other w) (sym leads) unseen)
+-- What is known of the reply and the world that a step led to.
+pub unseen-at : (kept : Vc → Bool) (before : World) (step : Step) (one other : Reply) (after later : World)
+    → one ≡ other → after ≡ later → IsUnseen kept before step other later → IsUnseen kept before step one after
+unseen-at kept before step one other after later same leads unseen =
+    subst (λ (r : Reply). IsUnseen kept before step r after) (sym same)
+    (subst (λ (w : World). IsUnseen kept before step other w) (sym leads) unseen)
+
+-- Steps for a connection that is not kept.
+
+module _ (kept : Vc → Bool) (before : World) where
+  pub unseen-enters : (port : ℕ) (cell : List ℕ) (moment : ℕ) (reply : Reply) (after : World) → kept (vc_of before.shape.side cell) ≡ false
+      → Enters before port cell moment reply after → IsUnseen kept before (Enter port cell moment) reply after
+  unseen-enters port cell moment reply after other w =
+      unseen-at kept before (Enter port cell moment) reply Entered after (with_port before port (entered cell moment)) w.answer w.world (record {
+        none = λ vc is. ap (λ b. own_where b (enters port cell moment) done) (tell-apart kept vc (vc_of before.shape.side cell) true is other);
+        given = refl;
+        live = refl;
+        holding = λ vc is. refl;
+        used = omega (arith);
+      })
+
+  pub unseen-sets_up : (ask : Ask) (reply : Reply) (after : World) → kept ask.vc ≡ false → SetsUp before ask reply after
+      → IsUnseen kept before (Setup ask) reply after
+  unseen-sets_up ask reply after other w =
+      let new : Connection = new_connection ask w.line (before.used + 1) in
+      unseen-at kept before (Setup ask) reply (SetUp (record { vc = ask.vc; incarnation = before.used + 1 })) after
+      (record before { connections = with_connection before.connections ask.vc new; used = before.used + 1 }) w.answer w.world (record {
+        none = λ vc is.
+            ap (λ b. own_where b (sets_up ask.contracts.items (code_in before.given ask.program)) done) (tell-apart kept vc ask.vc true is other);
+        given = refl;
+        live = refl;
+        holding = λ vc is. ap (option_map held) (with-others before.connections ask.vc vc new (tell-apart kept vc ask.vc true is other));
+        used = omega (arith);
+      })
+
+  pub unseen-reloads : (other : Vc) (program : Id) (reply : Reply) (after : World) → kept other ≡ false
+      → Reloads before other program reply after → IsUnseen kept before (Reload other program) reply after
+  unseen-reloads other program reply after isnt w =
+      let new : Connection = record w.connection { program = program } in
+      unseen-at kept before (Reload other program) reply (Reloaded w.connection.program) after
+      (record before { connections = with_connection before.connections other new }) w.answer w.world (record {
+        none = λ vc is.
+            ap (λ b. own_where b (reloads (code_in before.given program)) (named_before (code_in before.given w.connection.program)))
+            (tell-apart kept vc other true is isnt);
+        given = refl;
+        live = refl;
+        holding = λ vc is. ap (option_map held) (with-others before.connections other vc new (tell-apart kept vc other true is isnt));
+        used = omega (arith);
+      })
+
+  pub unseen-cuts : (other : Vc) (reply : Reply) (after : World) → kept other ≡ false
+      → Cuts before other reply after → IsUnseen kept before (Cut other) reply after
+  unseen-cuts other reply after isnt w =
+      let new : Connection = record w.connection { handed = length w.connection.history } in
+      unseen-at kept before (Cut other) reply (CutOff w.piece) after
+      (record before { connections = with_connection before.connections other new }) w.answer w.world (record {
+        none = λ vc is. ap (λ b. own_where b cuts (outcome_of_piece w.piece)) (tell-apart kept vc other true is isnt);
+        given = refl;
+        live = refl;
+        holding = λ vc is. ap (option_map held) (with-others before.connections other vc new (tell-apart kept vc other true is isnt));
+        used = omega (arith);
+      })
+
+  pub unseen-releases : (other : Vc) (reply : Reply) (after : World) → kept other ≡ false
+      → Releases before other reply after → IsUnseen kept before (Release other) reply after
+  unseen-releases other reply after isnt w =
+      unseen-at kept before (Release other) reply (Released w.piece) after
+      (record before { connections = without_connection before.connections other }) w.answer w.world (record {
+        none = λ vc is. ap (λ b. own_where b releases (outcome_of_piece w.piece)) (tell-apart kept vc other true is isnt);
+        given = refl;
+        live = refl;
+        holding = λ vc is. ap (option_map held) (without-others before.connections other vc (tell-apart kept vc other true is isnt));
+        used = omega (arith);
+      })
 
 -- Whatever is answered at a port that has no cell of the connection.
 
-none-picked : (side : Side) (vc : Vc) (notes : Notes) (port : ℕ) → notes.has_own port ≡ false → (reply : Reply)
+pub none-picked : (side : Side) (vc : Vc) (notes : Notes) (port : ℕ) → notes.has_own port ≡ false → (reply : Reply)
     → own_event side vc notes reply (Pick port) ≡ None
 none-picked side vc notes port none Picked = ap (λ b. own_where b (looks_up port) done) none
 none-picked side vc notes port none (Answered answer) = ap (λ b. own_where b (looks_up port) (outcome_of notes.codes answer)) none
 none-picked side vc notes port none _ = refl
 
-none-judged : (side : Side) (vc : Vc) (notes : Notes) (port : ℕ) → notes.has_own port ≡ false → (reply : Reply)
+pub none-judged : (side : Side) (vc : Vc) (notes : Notes) (port : ℕ) → notes.has_own port ≡ false → (reply : Reply)
     → own_event side vc notes reply (Judge port) ≡ None
 none-judged side vc notes port none (Answered answer) = ap (λ b. own_where b (judges port) (outcome_of notes.codes answer)) none
 none-judged side vc notes port none _ = refl
 
-unseen-left_by_pick : (vc : Vc) (before : World) (port : ℕ) (reply : Reply)
-    → own_event before.shape.side vc (notes_in vc before) reply (Pick port) ≡ None → (o : Option PortState)
-    → IsUnseen vc before (Pick port) reply (left_by_pick before port o)
-unseen-left_by_pick vc before port reply none (Some (entered cell moment)) =
-    record { none = none; given = refl; live = refl; program = refl; used = refl }
-unseen-left_by_pick vc before port reply none _ = record { none = none; given = refl; live = refl; program = refl; used = refl }
+-- The step is no event of a kept connection's, and changes no more than its port.
+abbrev pub unseen-here : (kept : Vc → Bool) (before : World) (step : Step) (reply : Reply) (ports : List PortState)
+    → ((vc : Vc) → kept vc ≡ true → own_event before.shape.side vc (notes_in vc before) reply step ≡ None)
+    → IsUnseen kept before step reply (record before { ports = ports })
+unseen-here kept before step reply ports none =
+    record { none = none; given = refl; live = refl; holding = λ vc is. refl; used = omega (arith) }
 
-unseen-left_by_judge : (vc : Vc) (before : World) (port : ℕ) (reply : Reply)
-    → own_event before.shape.side vc (notes_in vc before) reply (Judge port) ≡ None → (o : Option PortState)
-    → IsUnseen vc before (Judge port) reply (left_by_judge before port o)
-unseen-left_by_judge vc before port reply none (Some (picked picking)) =
-    record { none = none; given = refl; live = refl; program = refl; used = refl }
-unseen-left_by_judge vc before port reply none _ = record { none = none; given = refl; live = refl; program = refl; used = refl }
+unseen-left_by_pick : (kept : Vc → Bool) (before : World) (port : ℕ) (reply : Reply)
+    → ((vc : Vc) → kept vc ≡ true → own_event before.shape.side vc (notes_in vc before) reply (Pick port) ≡ None) → (o : Option PortState)
+    → IsUnseen kept before (Pick port) reply (left_by_pick before port o)
+unseen-left_by_pick kept before port reply none (Some (entered cell moment)) = unseen-here kept before (Pick port) reply _ none
+unseen-left_by_pick kept before port reply none _ = unseen-here kept before (Pick port) reply before.ports none
 
-pub unseen-picks : (vc : Vc) (before : World) (port : ℕ) (reply : Reply) (after : World)
-    → has_own_in before.shape.side vc (slice_get before.ports port) ≡ false → WorldStep before (Pick port) reply after
-    → IsUnseen vc before (Pick port) reply after
-unseen-picks vc before port reply after none w =
-    let no_event : (r : Reply) → own_event before.shape.side vc (notes_in vc before) r (Pick port) ≡ None = none-picked before.shape.side vc (notes_in vc before) port none in
+unseen-left_by_judge : (kept : Vc → Bool) (before : World) (port : ℕ) (reply : Reply)
+    → ((vc : Vc) → kept vc ≡ true → own_event before.shape.side vc (notes_in vc before) reply (Judge port) ≡ None) → (o : Option PortState)
+    → IsUnseen kept before (Judge port) reply (left_by_judge before port o)
+unseen-left_by_judge kept before port reply none (Some (picked picking)) = unseen-here kept before (Judge port) reply _ none
+unseen-left_by_judge kept before port reply none _ = unseen-here kept before (Judge port) reply before.ports none
+
+pub unseen-picks : (kept : Vc → Bool) (before : World) (port : ℕ) (reply : Reply) (after : World)
+    → has_kept_in before.shape.side kept (slice_get before.ports port) ≡ false → WorldStep before (Pick port) reply after
+    → IsUnseen kept before (Pick port) reply after
+unseen-picks kept before port reply after none w =
+    let no_event : (r : Reply) (vc : Vc) → kept vc ≡ true → own_event before.shape.side vc (notes_in vc before) r (Pick port) ≡ None = λ r vc is.
+    none-picked before.shape.side vc (notes_in vc before) port (none-kept before.shape.side kept vc is (slice_get before.ports port) none) r in
     let choice : (o : Option Reply) → refusal before (Pick port) ≡ o
     → MatchOption o (Succeeds before (Pick port) reply after ⊎ FindsNoMemory before (Pick port) reply after)
     (λ refused. IsRefused before (Pick port) refused reply after)
-    → IsUnseen vc before (Pick port) reply after = elim [
+    → IsUnseen kept before (Pick port) reply after = elim [
       | None ↦ λ e w. elim w [
         | inl success ↦
-            unseen-at vc before (Pick port) reply reply after _ refl success.world
-            (record { none = no_event reply; given = refl; live = refl; program = refl; used = refl })
+            unseen-at kept before (Pick port) reply reply after _ refl success.world
+            (unseen-here kept before (Pick port) reply _ (no_event reply))
         | inr memory ↦ let no = memory.answer in absurd (cc)
       ]
       | Some refused ↦ λ e w.
-          unseen-at vc before (Pick port) reply reply after _ refl w.world
-          (unseen-left_by_pick vc before port reply (no_event reply) (slice_get before.ports port))
+          unseen-at kept before (Pick port) reply reply after _ refl w.world
+          (unseen-left_by_pick kept before port reply (no_event reply) (slice_get before.ports port))
     ] in
     choice (refusal before (Pick port)) refl w
 
-pub unseen-judges : (vc : Vc) (before : World) (port : ℕ) (reply : Reply) (after : World)
-    → has_own_in before.shape.side vc (slice_get before.ports port) ≡ false → WorldStep before (Judge port) reply after
-    → IsUnseen vc before (Judge port) reply after
-unseen-judges vc before port reply after none w =
-    let no_event : (r : Reply) → own_event before.shape.side vc (notes_in vc before) r (Judge port) ≡ None = none-judged before.shape.side vc (notes_in vc before) port none in
+pub unseen-judges : (kept : Vc → Bool) (before : World) (port : ℕ) (reply : Reply) (after : World)
+    → has_kept_in before.shape.side kept (slice_get before.ports port) ≡ false → WorldStep before (Judge port) reply after
+    → IsUnseen kept before (Judge port) reply after
+unseen-judges kept before port reply after none w =
+    let no_event : (r : Reply) (vc : Vc) → kept vc ≡ true → own_event before.shape.side vc (notes_in vc before) r (Judge port) ≡ None = λ r vc is.
+    none-judged before.shape.side vc (notes_in vc before) port (none-kept before.shape.side kept vc is (slice_get before.ports port) none) r in
     let choice : (o : Option Reply) → refusal before (Judge port) ≡ o
     → MatchOption o (Succeeds before (Judge port) reply after ⊎ FindsNoMemory before (Judge port) reply after)
     (λ refused. IsRefused before (Judge port) refused reply after)
-    → IsUnseen vc before (Judge port) reply after = elim [
+    → IsUnseen kept before (Judge port) reply after = elim [
       | None ↦ λ e w. elim w [
         | inl success ↦
-            let apart : is_same_vc vc success.picking.vc ≡ false = ap (has_own_in before.shape.side vc) (sym success.had) ∙ none in
-            unseen-at vc before (Judge port) reply reply after _ refl success.world (record {
+            let isnt : kept success.picking.vc ≡ false = ap (has_kept_in before.shape.side kept) (sym success.had) ∙ none in
+            unseen-at kept before (Judge port) reply reply after _ refl success.world (record {
               none = no_event reply;
               given = refl;
               live = refl;
-              program = ap (option_map (λ (c : Connection). c.program))
-                  (with-others before.connections success.picking.vc vc (with_cell success.connection (cell_of_picking success.picking)) apart);
-              used = refl;
+              holding = λ vc is.
+                  ap (option_map held)
+                  (with-others before.connections success.picking.vc vc (with_cell success.connection (cell_of_picking success.picking))
+                  (tell-apart kept vc success.picking.vc true is isnt));
+              used = omega (arith);
             })
         | inr memory ↦ let no = memory.answer in absurd (cc)
       ]
       | Some refused ↦ λ e w.
-          unseen-at vc before (Judge port) reply reply after _ refl w.world
-          (unseen-left_by_judge vc before port reply (no_event reply) (slice_get before.ports port))
+          unseen-at kept before (Judge port) reply reply after _ refl w.world
+          (unseen-left_by_judge kept before port reply (no_event reply) (slice_get before.ports port))
     ] in
     choice (refusal before (Judge port)) refl w
 
+-- A step that changes nothing, and is no event of a connection's.
+pub unseen-unchanged : (kept : Vc → Bool) (before : World) (step : Step) (reply told : Reply) (after : World) → reply ≡ told → after ≡ before
+    → ((vc : Vc) → own_event before.shape.side vc (notes_in vc before) told step ≡ None) → IsUnseen kept before step reply after
+unseen-unchanged kept before step reply told after answer leads none =
+    unseen-at kept before step reply told after before answer leads
+    (unseen-here kept before step told before.ports (λ vc is. none vc))
+
 -- A step that comes at no time for it.
-pub unseen-not_now : (vc : Vc) (before : World) (step : Step) (reply : Reply) (after : World) → refusal before step ≡ Some NotNow
-    → left_by before step ≡ before → WorldStep before step reply after → IsUnseen vc before step reply after
-unseen-not_now vc before step reply after e left w =
+pub unseen-not_now : (kept : Vc → Bool) (before : World) (step : Step) (reply : Reply) (after : World) → refusal before step ≡ Some NotNow
+    → left_by before step ≡ before → WorldStep before step reply after → IsUnseen kept before step reply after
+unseen-not_now kept before step reply after e left w =
     let refused : IsRefused before step NotNow reply after =
     subst (λ (o : Option Reply). MatchOption o (Succeeds before step reply after ⊎ FindsNoMemory before step reply after)
     (λ refused. IsRefused before step refused reply after)) e w in
-    unseen-at vc before step reply NotNow after before refused.answer (refused.world ∙ left)
-    (record { none = refl; given = refl; live = refl; program = refl; used = refl })
+    unseen-unchanged kept before step reply NotNow after refused.answer (refused.world ∙ left) (λ vc. refl)

@@ -1,4 +1,4 @@
--- Restriction: a connection is served as on a card that has no other.
+-- Restriction: any set of connections is served as on a card that has no other, and so is each connection.
 use Rattle.std.specs.Prelude.{◌≡◌, ◌≤◌, ◌^◌, Bool, true, List, length, All}
 use Rattle.upc_cell.specs.declared.side.Side.{Side}
 use Rattle.upc_cell.specs.declared.vc.Vc.{Vc}
@@ -9,15 +9,33 @@ use Rattle.card_core.specs.declared.step.Step.TheVariants.{Enter, Setup, Reload,
 use Rattle.card_core.specs.Log.{Event, IsLog}
 use Rattle.card_isolation.specs.OwnEvents.{own_events}
 
--- The step is one for no other connection: it is for this one, or, as Load and Retire, for none. A Pick and
--- a Judge are for the cell that entered their port.
+-- The step is for a connection that is kept, or, as Load and Retire, for none. A Pick and a Judge are for the
+-- cell that entered their port.
+abbrev pub is_for_kept : Side → (Vc → Bool) → Step → Bool
+is_for_kept side kept (Enter port cell moment) = kept (vc_of side cell)
+is_for_kept side kept (Setup ask) = kept ask.vc
+is_for_kept side kept (Reload vc program) = kept vc
+is_for_kept side kept (Release vc) = kept vc
+is_for_kept side kept (Cut vc) = kept vc
+is_for_kept side kept _ = true
+
+-- A card of this shape may have another log, in which no step is for a connection that is not kept, and which
+-- has the same own events of each kept connection, with the same outcomes.
+pub record AreServedAlike (shape : Shape) (kept : Vc → Bool) (log : List Event) : Type 0 where
+  pub restricted : List Event
+  pub is_log : IsLog shape restricted
+  pub only_kept : All (λ event. is_for_kept shape.side kept event.step ≡ true) restricted
+  pub same : (vc : Vc) → kept vc ≡ true → own_events shape.side vc restricted ≡ own_events shape.side vc log
+
+-- So it is with each set of virtual connections, after any log of at most 2^62 events: one log serves all that
+-- are kept.
+abbrev pub KeptConnectionsAreServedAlike : Type 0
+KeptConnectionsAreServedAlike = (shape : Shape) (log : List Event) (kept : Vc → Bool) → IsLog shape log
+    → length log ≤ 2 ^ 62 → AreServedAlike shape kept log
+
+-- The step is for no other connection than this one.
 abbrev pub is_for_no_other : Side → Vc → Step → Bool
-is_for_no_other side vc (Enter port cell moment) = is_same_vc vc (vc_of side cell)
-is_for_no_other side vc (Setup ask) = is_same_vc vc ask.vc
-is_for_no_other side vc (Reload other program) = is_same_vc vc other
-is_for_no_other side vc (Release other) = is_same_vc vc other
-is_for_no_other side vc (Cut other) = is_same_vc vc other
-is_for_no_other side vc _ = true
+is_for_no_other side vc step = is_for_kept side (λ other. is_same_vc vc other) step
 
 -- A card of this shape may have another log, in which no step is for another connection, and which has the
 -- same own events, with the same outcomes.
