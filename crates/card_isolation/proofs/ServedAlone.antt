@@ -1,5 +1,5 @@
 -- Kept connections are served as on a card that has no other, and so is each connection.
-use Rattle.std.proofs.Common.{◌≡◌, ℕ, zero, ◌+◌, ◌^◌, suc, ◌≤◌, Bool, true, List, [], ◌∷◌, ◌++◌, length, replicate, Option, Some, None, slice_get, All, refl, sym, ap, ◌∙◌, subst, arith}
+use Rattle.std.proofs.Common.{◌≡◌, ℕ, zero, ◌+◌, ◌^◌, suc, ◌≤◌, Bool, true, List, [], ◌∷◌, ◌++◌, length, replicate, Option, Some, None, slice_get, All, refl, sym, ap, ◌∙◌, subst, inl, inr, arith}
 use Rattle.std.proofs.lemmas.List.Elements.{All-cons, All-nil}
 use Rattle.std.proofs.lemmas.Option.{same_Some}
 use Rattle.upc_cell.specs.declared.side.Side.{Side}
@@ -11,7 +11,7 @@ use Rattle.card_core.specs.World.{World, PortState, outside, opening_world}
 use Rattle.card_core.specs.Log.{Event, Run, Leads}
 use Rattle.card_core.proofs.Public.{worlds-sound, log-goes_on}
 use Rattle.card_isolation.specs.OwnEvents.{OwnEvent, Notes, notes_after, own_event, behind, own_events_after, opening_notes}
-use Rattle.card_isolation.specs.Restriction.{is_for_kept, AreServedAlike, KeptConnectionsAreServedAlike, EachIsServedAsAlone}
+use Rattle.card_isolation.specs.Restriction.{is_for_kept, LeavesOutSteps, AreServedAlike, KeptConnectionsAreServedAlike, EachIsServedAsAlone}
 use Rattle.card_isolation.proofs.Views.{event_of, notes_in, Tells, same-notes}
 use Rattle.card_isolation.proofs.Steps.{HasJudgedFew, step-tells}
 use Rattle.card_isolation.proofs.Shadow.{Shadows}
@@ -23,9 +23,15 @@ record GoesAlone (shape : Shape) (kept : Vc → Bool) (world shadow : World) (lo
   pub restricted : List Event
   pub end : World
   pub run : Run shadow restricted end
+  pub leaves_out : LeavesOutSteps restricted log
   pub only_kept : All (λ event. is_for_kept shape.side kept event.step ≡ true) restricted
   pub same : (vc : Vc) → kept vc ≡ true
       → own_events_after shape.side vc (notes_in vc shadow) restricted ≡ own_events_after shape.side vc (notes_in vc world) log
+
+-- One more step may be left out.
+left-out : (event : Event) (log restricted : List Event) → LeavesOutSteps restricted log → LeavesOutSteps restricted (event ∷ log)
+left-out event log [] leaves = tt
+left-out event log (first ∷ later) leaves = inr leaves
 
 -- The own events of a log are those of its first event, and those behind it.
 first-own : (side : Side) (vc : Vc) (notes after : Notes) (event : Event) (later : List Event) (own : Option OwnEvent)
@@ -44,6 +50,7 @@ module _ (kept : Vc → Bool) (shape : Shape) where
     restricted = [];
     end = shadow;
     run = refl;
+    leaves_out = tt;
     only_kept = All-nil (λ event. is_for_kept shape.side kept event.step ≡ true);
     same = λ vc kept. refl;
   }
@@ -71,6 +78,7 @@ module _ (kept : Vc → Bool) (shape : Shape) where
               restricted = rest.restricted;
               end = rest.end;
               run = rest.run;
+              leaves_out = left-out event log rest.restricted rest.leaves_out;
               only_kept = rest.only_kept;
               same = λ vc is_kept.
                   rest.same vc is_kept
@@ -94,6 +102,7 @@ module _ (kept : Vc → Bool) (shape : Shape) where
               restricted = event_too ∷ rest.restricted;
               end = rest.end;
               run = (later, stepped, rest.run);
+              leaves_out = inl (refl, rest.leaves_out);
               only_kept = All-cons (λ event. is_for_kept shape.side kept event.step ≡ true) event_too rest.restricted
                   (subst (λ (x : Shape). is_for_kept x.side kept event.step ≡ true) is only_kept) rest.only_kept;
               same = λ vc is_kept.
@@ -131,6 +140,7 @@ kept-served shape log kept is within =
     record {
       restricted = went.restricted;
       is_log = (went.end, went.run);
+      leaves_out = went.leaves_out;
       only_kept = went.only_kept;
       same = λ vc is_kept.
           ap (λ (n : Notes). own_events_after shape.side vc n went.restricted) (sym (notes vc))
@@ -145,6 +155,7 @@ served-alone shape log vc is within =
     record {
       alone = served.restricted;
       is_log = served.is_log;
+      leaves_out = served.leaves_out;
       no_other = served.only_kept;
       same = served.same vc (vc_itself vc);
     }

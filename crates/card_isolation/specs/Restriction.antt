@@ -1,5 +1,5 @@
 -- Restriction: any set of connections is served as on a card that has no other, and so is each connection.
-use Rattle.std.specs.Prelude.{◌≡◌, ◌≤◌, ◌^◌, Bool, true, List, length, All}
+use Rattle.std.specs.Prelude.{◌≡◌, ◌≤◌, ◌^◌, ◌⊎◌, ⊤, Bool, true, List, [], ◌∷◌, length, All}
 use Rattle.upc_cell.specs.declared.side.Side.{Side}
 use Rattle.upc_cell.specs.declared.vc.Vc.{Vc}
 use Rattle.upc_cell.specs.Connection.{vc_of, is_same_vc}
@@ -19,11 +19,20 @@ is_for_kept side kept (Release vc) = kept vc
 is_for_kept side kept (Cut vc) = kept vc
 is_for_kept side kept _ = true
 
--- A card of this shape may have another log, in which no step is for a connection that is not kept, and which
--- has the same own events of each kept connection, with the same outcomes.
+-- The steps of the first list are steps of the second, in the same order. The replies may differ.
+abbrev pub LeavesOutSteps : List Event → List Event → Type 0
+LeavesOutSteps [] log = ⊤
+LeavesOutSteps (event ∷ later) [] = ⊥
+LeavesOutSteps (event ∷ later) (first ∷ log) =
+    ((event.step ≡ first.step) × LeavesOutSteps later log) ⊎ LeavesOutSteps (event ∷ later) log
+
+-- A card of this shape may have another log: the same one with some steps left out, in which no step is for a
+-- connection that is not kept, and which has the same own events of each kept connection, with the same
+-- outcomes.
 pub record AreServedAlike (shape : Shape) (kept : Vc → Bool) (log : List Event) : Type 0 where
   pub restricted : List Event
   pub is_log : IsLog shape restricted
+  pub leaves_out : LeavesOutSteps restricted log
   pub only_kept : All (λ event. is_for_kept shape.side kept event.step ≡ true) restricted
   pub same : (vc : Vc) → kept vc ≡ true → own_events shape.side vc restricted ≡ own_events shape.side vc log
 
@@ -37,11 +46,12 @@ KeptConnectionsAreServedAlike = (shape : Shape) (log : List Event) (kept : Vc �
 abbrev pub is_for_no_other : Side → Vc → Step → Bool
 is_for_no_other side vc step = is_for_kept side (λ other. is_same_vc vc other) step
 
--- A card of this shape may have another log, in which no step is for another connection, and which has the
--- same own events, with the same outcomes.
+-- A card of this shape may have another log: the same one with some steps left out, in which no step is for
+-- another connection, and which has the same own events, with the same outcomes.
 pub record IsServedAlone (shape : Shape) (vc : Vc) (log : List Event) : Type 0 where
   pub alone : List Event
   pub is_log : IsLog shape alone
+  pub leaves_out : LeavesOutSteps alone log
   pub no_other : All (λ event. is_for_no_other shape.side vc event.step ≡ true) alone
   pub same : own_events shape.side vc alone ≡ own_events shape.side vc log
 
