@@ -12,6 +12,8 @@ pub mod Isolated
 pub mod Shadow
 pub mod Unseen
 pub mod OwnSteps
+pub mod Follows
+pub mod DeskFollows
 pub mod Restricted
 pub mod ServedAlone
 pub mod TaggedCells

@@ -15,7 +15,8 @@ use Rattle.card_isolation.specs.Restriction.{is_for_kept, LeavesOutSteps, AreSer
 use Rattle.card_isolation.proofs.Views.{event_of, notes_in, Tells, same-notes}
 use Rattle.card_isolation.proofs.Steps.{HasJudgedFew, step-tells}
 use Rattle.card_isolation.proofs.Shadow.{Shadows}
-use Rattle.card_isolation.proofs.Restricted.{stays, goes_too, any_vc, step-follows}
+use Rattle.card_isolation.proofs.Follows.{stays, goes_too, any_vc, AreBeside}
+use Rattle.card_isolation.proofs.Restricted.{step-follows}
 use Rattle.card_isolation.proofs.Isolated.{no-own}
 
 -- What a shadow's own log is, where the world's goes on so.
@@ -68,7 +69,17 @@ module _ (kept : Vc → Bool) (shape : Shape) where
       let noted : (vc : Vc) → notes_after shape.side vc (notes_in vc world) event ≡ notes_in vc next = λ vc.
       subst (λ (x : Shape). notes_after x.side vc (notes_in vc world) event ≡ notes_in vc next) is (tells vc).notes in
       let own : Vc → Option OwnEvent = λ vc. own_event shape.side vc (notes_in vc world) event.reply event.step in
-      elim (step-follows kept world shadow s sound sound_too few few_too shape own_so_far leads_too event.step event.reply next run.1) [
+      let beside : AreBeside kept world shadow = record {
+        shadows = s;
+        sound = sound;
+        sound_too = sound_too;
+        few = few;
+        few_too = few_too;
+        shape = shape;
+        log = own_so_far;
+        leads = leads_too;
+      } in
+      elim (step-follows beside event.step event.reply next run.1) [
         | stays none shadows ↦
             let rest = goes-alone (so_far ++ event ∷ []) own_so_far log next shadow end leads_next leads_too run.2 shadows is_next
             (suc taken) counted_next (λ line. omega (arith, counted_too line)) (omega (arith, within)) in

@@ -19,7 +19,7 @@ is_for_kept side kept (Release vc) = kept vc
 is_for_kept side kept (Cut vc) = kept vc
 is_for_kept side kept _ = true
 
--- The steps of the first list are steps of the second, in the same order. The replies may differ.
+-- The first log has the steps of the second with some left out, in the same order. The replies may differ.
 abbrev pub LeavesOutSteps : List Event → List Event → Type 0
 LeavesOutSteps [] log = ⊤
 LeavesOutSteps (event ∷ later) [] = ⊥
