@@ -1,0 +1,64 @@
+-- What lists have at a place.
+use Rattle.std.proofs.Common.{◌≡◌, ◌≢◌, ◌⊎◌, ℕ, zero, suc, ◌+◌, ◌<◌, List, [], ◌∷◌, ◌++◌, length, take, drop, set, Some, refl, sym, ap, ◌∙◌, subst, inl, inr, arith, length-set}
+use Rattle.std.specs.Prelude.{slice_get}
+use Rattle.std.proofs.lemmas.Bool.{cases_eq}
+use Rattle.std.proofs.lemmas.List.{take_more, take-append-drop, drop_more}
+use Rattle.std.proofs.lemmas.Option.{same_Some, slice_get_within, get_or_from_slice_get}
+
+module _ {X : Type 0} where
+  pub get-set_same : (xs : List X) (k : ℕ) (x : X) → k < length xs → slice_get (set xs k x) k ≡ Some x
+  get-set_same [] k x within = absurd (omega arith)
+  get-set_same (y ∷ xs) zero x within = refl
+  get-set_same (y ∷ xs) (suc k) x within = get-set_same xs k x (omega arith)
+
+  pub get-set_other : (xs : List X) (k j : ℕ) (x : X) → j ≢ k → slice_get (set xs k x) j ≡ slice_get xs j
+  get-set_other [] k j x apart = refl
+  get-set_other (y ∷ xs) zero zero x apart = absurd (apart refl)
+  get-set_other (y ∷ xs) zero (suc j) x apart = refl
+  get-set_other (y ∷ xs) (suc k) zero x apart = refl
+  get-set_other (y ∷ xs) (suc k) (suc j) x apart = get-set_other xs k j x (λ e. apart (ap suc e))
+
+  -- What a place has after a write is what was written there, or what it had.
+  pub get-set : (xs : List X) (k j : ℕ) (x y : X) → slice_get (set xs k x) j ≡ Some y
+      → ((j ≡ k) × (x ≡ y)) ⊎ ((j ≢ k) × (slice_get xs j ≡ Some y))
+  get-set xs k j x y e = elim (cases_eq j k) [
+    | inl same ↦
+        let at : slice_get (set xs k x) k ≡ Some y = subst (λ i. slice_get (set xs k x) i ≡ Some y) same e in
+        let within : k < length xs = omega (arith, slice_get_within (set xs k x) k y at, length-set xs k x) in
+        inl (same, same_Some x y (sym (get-set_same xs k x within) ∙ at))
+    | inr apart ↦ inr (apart, sym (get-set_other xs k j x apart) ∙ e)
+  ]
+
+  pub there : (xs : List X) (k : ℕ) → k < length xs → (x : X) × (slice_get xs k ≡ Some x)
+  there [] k within = absurd (omega arith)
+  there (x ∷ xs) zero within = (x, refl)
+  there (x ∷ xs) (suc k) within = there xs k (omega arith)
+
+  -- Lists of one length that have the same at each place are the same.
+  pub same-lists : (xs ys : List X) → length xs ≡ length ys
+      → ((k : ℕ) (x y : X) → slice_get xs k ≡ Some x → slice_get ys k ≡ Some y → y ≡ x) → ys ≡ xs
+  same-lists [] [] e same = refl
+  same-lists [] (y ∷ ys) e same = absurd (omega (arith, e))
+  same-lists (x ∷ xs) [] e same = absurd (omega (arith, e))
+  same-lists (x ∷ xs) (y ∷ ys) e same =
+      let first : y ≡ x = same 0 x y refl refl in
+      let later : ys ≡ xs = same-lists xs ys (omega (arith, e)) (λ k. same (suc k)) in
+      ap (λ (z : X). z ∷ ys) first ∙ ap (λ (zs : List X). x ∷ zs) later
+
+  -- The list up to the next place, and around a place.
+  pub take-next : (xs : List X) (k : ℕ) (x : X) → slice_get xs k ≡ Some x → take (k + 1) xs ≡ take k xs ++ x ∷ []
+  take-next xs k x e =
+      take_more xs k x (slice_get_within xs k x e) ∙ ap (λ (y : X). take k xs ++ y ∷ []) (get_or_from_slice_get xs k x x e)
+
+  pub around : (xs : List X) (k : ℕ) (x : X) → slice_get xs k ≡ Some x → xs ≡ take k xs ++ x ∷ drop (k + 1) xs
+  around xs k x e =
+      sym (take-append-drop k xs)
+      ∙ ap (λ (ys : List X). take k xs ++ ys) (drop_more xs k x (slice_get_within xs k x e)
+      ∙ ap (λ (y : X). y ∷ drop (k + 1) xs) (get_or_from_slice_get xs k x x e))
+
+  -- What a list has once there is one more is what it had, or the new one.
+  pub get-push : (xs : List X) (k : ℕ) (x y : X) → slice_get (xs ++ x ∷ []) k ≡ Some y → (slice_get xs k ≡ Some y) ⊎ (x ≡ y)
+  get-push [] zero x y e = inr (same_Some x y e)
+  get-push [] (suc k) x y e = absurd (cc)
+  get-push (z ∷ xs) zero x y e = inl e
+  get-push (z ∷ xs) (suc k) x y e = get-push xs k x y e

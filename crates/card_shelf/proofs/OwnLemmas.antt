@@ -1,0 +1,86 @@
+-- What one card does of a list of arrivals, as the list grows.
+use Rattle.std.proofs.Common.{◌≡◌, ◌≢◌, ◌==◌, ℕ, Bool, true, false, cond, List, [], ◌∷◌, ◌++◌, length, Option, Some, None, Result, refl, ap, ◌∙◌, subst, arith}
+use Rattle.std.specs.Prelude.{slice_get}
+use Rattle.std.proofs.lemmas.Bool.{eq-eqb, ne_eqb}
+use Rattle.upc_cell.specs.declared.side.Side.{Side}
+use Rattle.card_core.specs.Agreement.{CoreView}
+use Rattle.card_core.specs.declared.answer.Judgement.{Judgement}
+use Rattle.card_core.specs.declared.answer.Unjudged.{Unjudged}
+use Rattle.card_shelf.specs.declared.arrival.Arrival.{Arrival}
+use Rattle.card_shelf.specs.Dealing.{card_for}
+use Rattle.card_shelf.specs.Policing.{Serves}
+use Rattle.card_shelf.specs.Own.{own_arrivals, own_told, ServesAll}
+use Rattle.card_shelf.specs.inner.Places.{picked, with_arrival}
+
+abbrev pub Told : Type 0
+Told = Result Judgement Unjudged
+
+cond-append : {X : Type 0} (b : Bool) (x : X) (xs ys : List X) → cond b (x ∷ (xs ++ ys)) (xs ++ ys) ≡ cond b (x ∷ xs) xs ++ ys
+cond-append true x xs ys = refl
+cond-append false x xs ys = refl
+
+module _ (side : Side) (cards number : ℕ) where
+  pub own-append : (xs ys : List Arrival)
+      → own_arrivals side cards number (xs ++ ys) ≡ own_arrivals side cards number xs ++ own_arrivals side cards number ys
+  own-append [] ys = refl
+  own-append (x ∷ xs) ys =
+      let own = own_arrivals side cards number in
+      let b = card_for side cards x == number in
+      ap (λ (zs : List Arrival). cond b (x ∷ zs) zs) (own-append xs ys) ∙ cond-append b x (own xs) (own ys)
+
+  pub own-here : (x : Arrival) (later : List Arrival) → card_for side cards x ≡ number
+      → own_arrivals side cards number (x ∷ later) ≡ x ∷ own_arrivals side cards number later
+  own-here x later e = ap (λ b. cond b (x ∷ own_arrivals side cards number later) (own_arrivals side cards number later)) (eq-eqb _ _ e)
+
+  pub own-elsewhere : (x : Arrival) (later : List Arrival) → card_for side cards x ≢ number
+      → own_arrivals side cards number (x ∷ later) ≡ own_arrivals side cards number later
+  own-elsewhere x later e = ap (λ b. cond b (x ∷ own_arrivals side cards number later) (own_arrivals side cards number later)) (ne_eqb _ _ e)
+
+  pub told-here : (x : Arrival) (later : List Arrival) (t : Told) (more : List Told) → card_for side cards x ≡ number
+      → own_told side cards number (x ∷ later) (t ∷ more) ≡ t ∷ own_told side cards number later more
+  told-here x later t more e =
+      ap (λ b. cond b (t ∷ own_told side cards number later more) (own_told side cards number later more)) (eq-eqb _ _ e)
+
+  pub told-elsewhere : (x : Arrival) (later : List Arrival) (t : Told) (more : List Told) → card_for side cards x ≢ number
+      → own_told side cards number (x ∷ later) (t ∷ more) ≡ own_told side cards number later more
+  told-elsewhere x later t more e =
+      ap (λ b. cond b (t ∷ own_told side cards number later more) (own_told side cards number later more)) (ne_eqb _ _ e)
+
+  pub told-append : (xs ys : List Arrival) (ts more : List Told) → length ts ≡ length xs
+      → own_told side cards number (xs ++ ys) (ts ++ more) ≡ own_told side cards number xs ts ++ own_told side cards number ys more
+  told-append [] ys [] more e = refl
+  told-append [] ys (t ∷ ts) more e = absurd (omega (arith, e))
+  told-append (x ∷ xs) ys [] more e = absurd (omega (arith, e))
+  told-append (x ∷ xs) ys (t ∷ ts) more e =
+      let own = own_told side cards number in
+      let b = card_for side cards x == number in
+      ap (λ (zs : List Told). cond b (t ∷ zs) zs) (told-append xs ys ts more (omega (arith, e))) ∙ cond-append b t (own xs ts) (own ys more)
+
+-- A card that has answered some arrivals answers one more.
+pub serves-next : (old middle new : CoreView) (xs : List Arrival) (ts : List Told) (x : Arrival) (t : Told)
+    → ServesAll old xs ts middle → Serves x t middle new → ServesAll old (xs ++ x ∷ []) (ts ++ t ∷ []) new
+serves-next old middle new [] [] x t so_far next =
+    (new, subst (λ (core : CoreView). Serves x t core new) so_far next, refl)
+serves-next old middle new [] (u ∷ ts) x t so_far next = absurd so_far
+serves-next old middle new (y ∷ xs) [] x t so_far next = absurd so_far
+serves-next old middle new (y ∷ xs) (u ∷ ts) x t so_far next =
+    (so_far.0, so_far.1, serves-next so_far.0 middle new xs ts x t so_far.2 next)
+
+-- It tells of each arrival once.
+pub serves-length : (old new : CoreView) (xs : List Arrival) (ts : List Told) → ServesAll old xs ts new → length ts ≡ length xs
+serves-length old new [] [] goes = refl
+serves-length old new [] (t ∷ ts) goes = absurd goes
+serves-length old new (x ∷ xs) [] goes = absurd goes
+serves-length old new (x ∷ xs) (t ∷ ts) goes = omega (arith, serves-length goes.0 new xs ts goes.2)
+
+with-append : (o : Option Arrival) (xs ys : List Arrival) → with_arrival o (xs ++ ys) ≡ with_arrival o xs ++ ys
+with-append None xs ys = refl
+with-append (Some x) xs ys = refl
+
+-- The arrivals at some places and one more.
+pub picked-next : (arrivals : List Arrival) (places : List ℕ) (place : ℕ) (x : Arrival) → slice_get arrivals place ≡ Some x
+    → picked arrivals (places ++ place ∷ []) ≡ picked arrivals places ++ x ∷ []
+picked-next arrivals [] place x e = ap (λ (o : Option Arrival). with_arrival o []) e
+picked-next arrivals (first ∷ places) place x e =
+    ap (with_arrival (slice_get arrivals first)) (picked-next arrivals places place x e)
+    ∙ with-append (slice_get arrivals first) (picked arrivals places) (x ∷ [])

@@ -1,0 +1,6 @@
+-- Cards that share nothing. To be read in the order Dealing, Shelf, Policing; Own has what each card does of it.
+pub mod Dealing
+pub mod Shelf
+pub mod Policing
+pub mod Own
+pub mod inner

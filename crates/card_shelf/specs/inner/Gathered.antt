@@ -1,0 +1,28 @@
+-- What was gathered of what the cards tell.
+use Rattle.std.specs.Prelude.{◌≡◌, ℕ, List, length, take, Some, Result, slice_get}
+use Rattle.upc_cell.specs.declared.side.Side.{Side}
+use Rattle.card_core.specs.declared.answer.Judgement.{Judgement}
+use Rattle.card_core.specs.declared.answer.Unjudged.{Unjudged}
+use Rattle.card_shelf.specs.declared.arrival.Arrival.{Arrival}
+use Rattle.card_shelf.specs.Own.{own_arrivals, own_told}
+
+-- These are the numbers of the cards' own arrivals.
+abbrev pub CountsOwn : Side → ℕ → List Arrival → List ℕ → Type 0
+CountsOwn side cards arrivals counts = (number count : ℕ) → slice_get counts number ≡ Some count
+    → count ≡ length (own_arrivals side cards number arrivals)
+
+-- What is told of these arrivals is, card by card, what the card told first.
+abbrev pub IsGathered : Side → ℕ → List Arrival → List (List (Result Judgement Unjudged)) → List (Result Judgement Unjudged) → Type 0
+IsGathered side cards arrivals cards_told told = (number : ℕ) (ts : List (Result Judgement Unjudged))
+    → slice_get cards_told number ≡ Some ts
+    → own_told side cards number arrivals told ≡ take (length (own_arrivals side cards number arrivals)) ts
+
+-- What is told of all arrivals is, card by card, what the card told.
+abbrev pub TellsOwn : Side → ℕ → List Arrival → List (Result Judgement Unjudged) → List (List (Result Judgement Unjudged)) → Type 0
+TellsOwn side cards arrivals told cards_told = (number : ℕ) (ts : List (Result Judgement Unjudged))
+    → slice_get cards_told number ≡ Some ts → own_told side cards number arrivals told ≡ ts
+
+-- Each card told once of each of its own arrivals.
+abbrev pub TellEach : Side → ℕ → List Arrival → List (List (Result Judgement Unjudged)) → Type 0
+TellEach side cards arrivals cards_told = (number : ℕ) (ts : List (Result Judgement Unjudged))
+    → slice_get cards_told number ≡ Some ts → length ts ≡ length (own_arrivals side cards number arrivals)

@@ -1,0 +1,15 @@
+//! What comes to a shelf, and what is told of it.
+
+use card_core::{Judgement, Unjudged};
+use upc_cell::Cell;
+
+/// A cell and the moment when it comes.
+#[derive(Clone, Copy, Debug, PartialEq, Eq)]
+pub struct Arrival {
+    pub cell: Cell,
+    /// When the cell comes, in ticks.
+    pub moment: u64,
+}
+
+/// What is told of an arrival: how it was judged, or why it wasn't. The cell itself is the caller's.
+pub type Told = Result<Judgement, Unjudged>;

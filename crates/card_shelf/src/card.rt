@@ -1,0 +1,47 @@
+//! One card of a shelf.
+
+ghost use Rattle.std.specs.Prelude.{◌≡◌, ◌<◌, ◌≤◌, ℕ, [], All, OnOk, length, vec_capacity};
+ghost use Rattle.card_shelf.specs.Own.{ServesAll};
+ghost use Rattle.card_shelf.specs.inner.Cards.{IsReady};
+ghost use Rattle.card_shelf.specs.inner.Places.{picked};
+ghost use Rattle.card_shelf.specs.inner.Rest.{IsAtRest};
+
+use crate::arrival::{Arrival, Told};
+use card_core::Core;
+use std::alloc::AllocError;
+
+/// A card of a shelf, with room for what is told of its arrivals. Nothing else on the shelf is reached from
+/// it, so that a thread may have it for itself.
+#[derive(Drop)]
+pub(crate) struct Card {
+    pub(crate) core: Core,
+    pub(crate) told: Vec<Told>,
+}
+
+impl Card {
+    /// Forgets what it told, and makes room to tell of so many arrivals.
+    pub(crate) fn make_room(&mut self, many: usize) -> Result<(), AllocError>
+        ensures core { self.new.core ≡ self.old.core }
+        ensures ready { OnOk result (IsReady self.new many) }
+    {
+        self.told.clear();
+        self.told.reserve(many)
+    }
+
+    /// Polices the arrivals at these places, one after another, and tells of each.
+    pub(crate) fn police(&mut self, arrivals: &[Arrival], places: &[usize])
+        requires within { All (λ place. place < length arrivals.now) places.now }
+        requires ready { IsReady self.old (length places.now) }
+        requires rest { IsAtRest self.old.core }
+        ensures served { ServesAll self.old.core (picked arrivals.now places.now) self.new.told.items self.new.core }
+        ensures rest { IsAtRest self.new.core }
+    {
+        for place in places {
+            let arrival = &arrivals[*place];
+            let Some(told) = self.core.arrive(0, &arrival.cell, arrival.moment) else {
+                unreachable!()
+            };
+            self.told.push_reserved(told);
+        }
+    }
+}

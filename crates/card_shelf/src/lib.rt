@@ -1,0 +1,15 @@
+//! Cards of an ATM cell policer that share nothing: each connection has its card, and a list of arrivals is
+//! policed on several threads, with the answers of one card after another.
+#![tactic(auto)]
+
+mod arrival;
+mod card;
+mod dealing;
+mod fault;
+mod gathering;
+mod running;
+mod shelf;
+
+pub use arrival::{Arrival, Told};
+pub use fault::ShelfFault;
+pub use shelf::{MOST_CARDS, Shelf};

@@ -1,0 +1,245 @@
+//! The shelf: cards that share nothing.
+
+ghost use Rattle.std.specs.Prelude.{◌≡◌, ℕ};
+
+use crate::arrival::{Arrival, Told};
+use crate::card::Card;
+use crate::dealing::card_of;
+use crate::fault::ShelfFault;
+use crate::running::{police_all, step_on};
+use bpf_verify::Program;
+use card_core::{Ask, CardFault, Core, Reply, Shape, Step};
+use gen_arena::Id;
+use std::alloc::{AllocError, Global};
+use std::marker::Model;
+use std::thread::Threads;
+use upc_cell::Vc;
+
+/// How many cards a shelf has at most.
+pub const MOST_CARDS: usize = 64;
+
+/// Cards of one shape that share nothing. Each connection has its card, by its path and channel.
+#[derive(Drop)]
+pub struct Shelf {
+    shape: Shape,
+    cards: Vec<Card>,
+}
+
+impl Model for Shelf {
+    ghost use Rattle.card_shelf.specs.Shelf.{ShelfView};
+    ghost use Rattle.card_shelf.specs.inner.Cards.{cores_of, IsShelf};
+
+    ghost Value = { ShelfView };
+
+    ghost view = { λ s. record { shape = s.shape; cards = cores_of s.cards.items } };
+
+    ghost invariant = { λ s. IsShelf s.cards.items };
+}
+
+impl Shelf {
+    ghost use Rattle.std.specs.Prelude.{◌≡◌, ◌⊎◌, ◌<◌, ◌↔◌, ℕ, length, None, Some, Err, IsOk, IsSome, IfOk, IfErr, IfSome, IfNone, OnErr, MatchResult, slice_get};
+    ghost use Rattle.card_core.specs.Agreement.{CoreAgrees};
+    ghost use Rattle.card_core.specs.World.{opening_world};
+    ghost use Rattle.card_shelf.specs.Dealing.{card_of};
+    ghost use Rattle.card_shelf.specs.Shelf.{shelf_fault, ChangesCard, Takes};
+    ghost use Rattle.card_shelf.specs.inner.Rest.{IsOfDesk};
+    ghost use Rattle.card_shelf.specs.Policing.{PolicesAll};
+    ghost use Rattle.card_shelf.specs.Own.{EachServes};
+
+    /// A shelf of so many cards of this shape, each without programs and connections.
+    ///
+    /// # Errors
+    ///
+    /// `Cards`, where there are to be none or more than 64. Then the first number of the shape that is out
+    /// of its limits, and then `NoMemory`, where memory is refused.
+    pub fn new(alloc: Global, shape: Shape, cards: usize) -> Result<Shelf, ShelfFault>
+        ensures shape { IfOk result (λ shelf. shelf.shape ≡ shape) }
+        ensures cards { IfOk result (λ shelf. length shelf.cards ≡ cards) }
+        ensures agrees { IfOk result (λ shelf. (number : ℕ) (card : _) → slice_get shelf.cards number ≡ Some card
+            → CoreAgrees card (opening_world shape)) }
+        ensures refused { MatchResult result
+            (λ _. shelf_fault shape cards ≡ None)
+            (λ fault. (shelf_fault shape cards ≡ Some fault)
+            ⊎ ((shelf_fault shape cards ≡ None) × (fault ≡ ShelfFault.Card CardFault.NoMemory))) }
+    {
+        if cards == 0 || cards > MOST_CARDS {
+            return Err(ShelfFault::Cards);
+        }
+        if let Some(fault) = shape.fault() {
+            return Err(ShelfFault::Card(fault));
+        }
+        let Some(cards) = new_cards(alloc, shape, cards) else {
+            return Err(ShelfFault::Card(CardFault::NoMemory));
+        };
+        Ok(Shelf { shape, cards })
+    }
+
+    /// The shape of each card.
+    pub fn shape(&self) -> Shape
+        ensures { result ≡ self.now.shape }
+    {
+        self.shape
+    }
+
+    /// How many cards there are, 1 to 64.
+    pub fn cards(&self) -> usize
+        ensures { result ≡ length self.now.cards }
+    {
+        self.cards.len()
+    }
+
+    /// The number, from 0, of the card that serves a virtual connection.
+    pub fn card_of(&self, vc: Vc) -> usize
+        ensures card { result ≡ card_of vc (length self.now.cards) }
+        ensures within { result < length self.now.cards }
+    {
+        card_of(vc, self.cards.len())
+    }
+
+    /// Sets up a connection on its card: the step `Setup`, with its reply.
+    pub fn setup(&mut self, ask: Ask) -> Reply
+        ensures taken { ChangesCard self.old.cards (card_of ask.vc (length self.old.cards))
+            (Takes (Step.Setup ask) result) self.new.cards }
+        ensures shape { self.new.shape ≡ self.old.shape }
+    {
+        let number = self.card_of(ask.vc);
+        self.take(number, Step::Setup(ask))
+    }
+
+    /// Gives a connection another program of its card: the step `Reload`, with its reply.
+    pub fn reload(&mut self, vc: Vc, program: Id) -> Reply
+        ensures taken { ChangesCard self.old.cards (card_of vc (length self.old.cards))
+            (Takes (Step.Reload vc program) result) self.new.cards }
+        ensures shape { self.new.shape ≡ self.old.shape }
+    {
+        let number = self.card_of(vc);
+        self.take(number, Step::Reload { vc, program })
+    }
+
+    /// Ends a connection on its card: the step `Release`, with its reply.
+    pub fn release(&mut self, vc: Vc) -> Reply
+        ensures taken { ChangesCard self.old.cards (card_of vc (length self.old.cards))
+            (Takes (Step.Release vc) result) self.new.cards }
+        ensures shape { self.new.shape ≡ self.old.shape }
+    {
+        let number = self.card_of(vc);
+        self.take(number, Step::Release(vc))
+    }
+
+    /// Hands out a connection's journal on its card: the step `Cut`, with its reply.
+    pub fn cut(&mut self, vc: Vc) -> Reply
+        ensures taken { ChangesCard self.old.cards (card_of vc (length self.old.cards))
+            (Takes (Step.Cut vc) result) self.new.cards }
+        ensures shape { self.new.shape ≡ self.old.shape }
+    {
+        let number = self.card_of(vc);
+        self.take(number, Step::Cut(vc))
+    }
+
+    /// Puts a program into one card: the step `Load`, with its reply. The id that is answered is of that
+    /// card alone, and only its connections can name it.
+    ///
+    /// # Errors
+    ///
+    /// The program, with nothing changed, exactly where there is no such card.
+    pub fn load_on(&mut self, number: usize, program: Program) -> Result<Reply, Program>
+        ensures which { IsOk result ↔ (number < length self.old.cards) }
+        ensures taken { IfOk result (λ reply. ChangesCard self.old.cards number
+            (Takes (Step.Load program) reply) self.new.cards) }
+        ensures returned { IfErr result (λ returned. returned ≡ program) }
+        ensures unchanged { OnErr result (self.new ≡ self.old) }
+        ensures shape { self.new.shape ≡ self.old.shape }
+    {
+        if number >= self.cards.len() {
+            return Err(program);
+        }
+        Ok(self.take(number, Step::Load(program)))
+    }
+
+    /// Takes a program out of one card: the step `Retire`, with its reply. None, with nothing changed,
+    /// exactly where there is no such card.
+    pub fn retire_on(&mut self, number: usize, id: Id) -> Option<Reply>
+        ensures which { IsSome result ↔ (number < length self.old.cards) }
+        ensures taken { IfSome result (λ reply. ChangesCard self.old.cards number
+            (Takes (Step.Retire id) reply) self.new.cards) }
+        ensures unchanged { IfNone result (self.new ≡ self.old) }
+        ensures shape { self.new.shape ≡ self.old.shape }
+    {
+        if number >= self.cards.len() {
+            return None;
+        }
+        Some(self.take(number, Step::Retire(id)))
+    }
+
+    /// A card takes a step of the desk.
+    fn take(&mut self, number: usize, step: Step) -> Reply
+        requires within { number < length self.old.cards }
+        requires desk { IsOfDesk step }
+        ensures taken { ChangesCard self.old.cards number (Takes step result) self.new.cards }
+        ensures shape { self.new.shape ≡ self.old.shape }
+    {
+        step_on(self.cards.as_mut_slice(), number, step)
+    }
+
+    /// Polices arrivals, and tells of each, in their order: what is told, and what becomes of each card, is
+    /// what it is where each arrival goes to its card one after another. Each card polices its own, on one
+    /// of so many threads at most (one where that number is 0), and nothing is shared between them.
+    ///
+    /// # Errors
+    ///
+    /// Where memory is refused, and then nothing has changed.
+    pub fn police<R: Threads + Sync>(
+        &mut self,
+        rt: &R,
+        alloc: Global,
+        arrivals: &[Arrival],
+        threads: usize,
+    ) -> Result<Vec<Told>, AllocError>
+        ensures policed { IfOk result (λ told.
+            PolicesAll self.old.shape.side self.old.cards arrivals.now told.items self.new.cards) }
+        ensures each { IfOk result (λ told.
+            EachServes self.old.shape.side self.old.cards arrivals.now told.items self.new.cards) }
+        ensures one_each { IfOk result (λ told. length told.items ≡ length arrivals.now) }
+        ensures shape { self.new.shape ≡ self.old.shape }
+        ensures unchanged { OnErr result (self.new ≡ self.old) }
+    {
+        let side = self.shape.side;
+        police_all(
+            rt,
+            alloc,
+            side,
+            self.cards.as_mut_slice(),
+            arrivals,
+            threads,
+        )
+    }
+}
+
+ghost use Rattle.std.specs.Prelude.{Some, IfSome, length, slice_get};
+ghost use Rattle.card_core.specs.Agreement.{CoreAgrees};
+ghost use Rattle.card_core.specs.Shapes.{IsShape};
+ghost use Rattle.card_core.specs.World.{opening_world};
+ghost use Rattle.card_shelf.specs.inner.Cards.{cores_of, AreAtRest};
+
+/// So many cards of this shape.
+fn new_cards(alloc: Global, shape: Shape, many: usize) -> Option<Vec<Card>>
+    requires { IsShape shape }
+    ensures many { IfSome result (λ cards. length cards.items ≡ many) }
+    ensures agrees { IfSome result (λ cards. (number : ℕ) (core : _) → slice_get (cores_of cards.items) number ≡ Some core
+        → CoreAgrees core (opening_world shape)) }
+    ensures rest { IfSome result (λ cards. AreAtRest (cores_of cards.items)) }
+{
+    let Ok(mut cards) = Vec::with_capacity(alloc, many) else {
+        return None;
+    };
+    for _ in 0..many {
+        let Ok(core) = Core::new(alloc, shape) else {
+            return None;
+        };
+        cards.push_reserved(Card {
+            core,
+            told: Vec::new(alloc),
+        });
+    }
+    Some(cards)
+}
