@@ -13,3 +13,6 @@ mod shelf;
 pub use arrival::{Arrival, Told};
 pub use fault::ShelfFault;
 pub use shelf::{MOST_CARDS, Shelf};
+
+#[cfg(test)]
+mod tests;

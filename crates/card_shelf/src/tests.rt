@@ -1,0 +1,210 @@
+//! A shelf beside one card, and each call once.
+
+use crate::{Arrival, Shelf, ShelfFault, Told};
+use arrayvec::ArrayVec;
+use bpf_code::Instr;
+use bpf_verify::{Program, verify};
+use card_core::{Ask, CardFault, Core, DeskFault, Reply, Shape, Step, Unjudged};
+use gen_arena::Id;
+use leaky::{Contract, Gcra, Verdict};
+use std::alloc::Global;
+use std::test::Fail;
+use upc_cell::{Cell, Side, Vc};
+
+/// The headers of 1/100, 1/101, 1/102, 2/100 and 2/101.
+const HEADERS: [[u8; 4]; 5] = [
+    [0x00, 0x10, 0x06, 0x40],
+    [0x00, 0x10, 0x06, 0x50],
+    [0x00, 0x10, 0x06, 0x60],
+    [0x00, 0x20, 0x06, 0x40],
+    [0x00, 0x20, 0x06, 0x50],
+];
+
+/// The header of 3/7, which is never set up.
+const UNKNOWN: [u8; 4] = [0x00, 0x30, 0x00, 0x70];
+
+fn shape() -> Shape {
+    Shape {
+        programs: 2,
+        lines: 5,
+        ports: 1,
+        journal: 16,
+        side: Side::Uni,
+    }
+}
+
+/// A cell of this header with a payload of zeros.
+fn cell(header: &[u8; 4]) -> Cell {
+    let mut octets = [0u8; 52];
+    octets[0] = header[0];
+    octets[1] = header[1];
+    octets[2] = header[2];
+    octets[3] = header[3];
+    Cell::from(octets)
+}
+
+/// A program that gives this value for every cell.
+fn constant(alloc: Global, value: u32) -> Result<Program, Fail> {
+    let code = vec![in alloc; Instr::RetK(value)]?;
+    Ok(verify(code)?)
+}
+
+/// A connection under one contract: a cell in ten ticks, and no tolerance.
+fn ask(vc: Vc, program: Id) -> Result<Ask, Fail> {
+    let mut contracts = ArrayVec::new();
+    contracts.push(Contract::Cbr1(Gcra::new(10, 0)?));
+    Ok(Ask {
+        vc,
+        program,
+        contracts,
+    })
+}
+
+fn id_of(reply: Reply) -> Result<Id, Fail> {
+    match reply {
+        Reply::Loaded(id) => Ok(id),
+        _ => Err(Fail::from("not loaded")),
+    }
+}
+
+/// Puts a program into a card of the shelf.
+fn load(shelf: &mut Shelf, number: usize, program: Program) -> Result<Id, Fail> {
+    match shelf.load_on(number, program) {
+        Ok(reply) => id_of(reply),
+        Err(_) => Err(Fail::from("no such card")),
+    }
+}
+
+/// Sets up the connections of all headers, each with a program of its own card.
+fn open_all(alloc: Global, shelf: &mut Shelf) -> Result<(), Fail> {
+    let mut ids = Vec::new(alloc);
+    for number in 0..shelf.cards() {
+        ids.push(load(shelf, number, constant(alloc, 1)?)?)?;
+    }
+    for header in &HEADERS {
+        let vc = cell(header).vc();
+        let Some(program) = ids.get(shelf.card_of(vc)) else {
+            return Err(Fail::from("no such card"));
+        };
+        let Reply::SetUp(_) = shelf.setup(ask(vc, *program)?) else {
+            return Err(Fail::from("not set up"));
+        };
+    }
+    Ok(())
+}
+
+/// One card with all these connections.
+fn one_card(alloc: Global) -> Result<Core, Fail> {
+    let mut core = Core::new(alloc, shape())?;
+    let program = id_of(core.step(Step::Load(constant(alloc, 1)?)))?;
+    for header in &HEADERS {
+        let Reply::SetUp(_) = core.step(Step::Setup(ask(cell(header).vc(), program)?)) else {
+            return Err(Fail::from("not set up"));
+        };
+    }
+    Ok(core)
+}
+
+/// Cells of every connection and of none, among them some too early and some that go back.
+fn arrivals(alloc: Global) -> Result<Vec<Arrival>, Fail> {
+    let mut all = Vec::new(alloc);
+    for start in [0u64, 5, 30, 20, 40] {
+        for (place, header) in HEADERS.iter().enumerate() {
+            let moment = start.wrapping_add(place as u64);
+            all.push(Arrival {
+                cell: cell(header),
+                moment,
+            })?;
+        }
+        all.push(Arrival {
+            cell: cell(&UNKNOWN),
+            moment: start,
+        })?;
+    }
+    Ok(all)
+}
+
+/// What is told that does not depend on which card has the connection.
+fn seen(told: &Told) -> Result<(Verdict, u64, u64, u32), Unjudged> {
+    match told {
+        Ok(judgement) => Ok((
+            judgement.verdict,
+            judgement.number,
+            judgement.moment,
+            judgement.value,
+        )),
+        Err(reason) => Err(*reason),
+    }
+}
+
+#[test]
+fn a_shelf_tells_what_one_card_tells(rt: HostRuntime) -> Result<(), Fail> {
+    let all = arrivals(rt.alloc())?;
+    for cards in [1, 2, 3, 16] {
+        let mut alone = one_card(rt.alloc())?;
+        let mut shelf = Shelf::new(rt.alloc(), shape(), cards)?;
+        open_all(rt.alloc(), &mut shelf)?;
+        let told = shelf.police(&rt, rt.alloc(), all.as_slice(), 4)?;
+        assert_eq!(rt; told.len(), all.len());
+        for (arrival, ours) in all.iter().zip(&told) {
+            let theirs = alone.arrive(0, &arrival.cell, arrival.moment);
+            assert_eq!(rt; theirs.map(|told| seen(&told)), Some(seen(ours)));
+        }
+    }
+    Ok(())
+}
+
+#[test]
+fn a_connection_comes_and_goes_on_its_card(rt: HostRuntime) -> Result<(), Fail> {
+    let mut shelf = Shelf::new(rt.alloc(), shape(), 3)?;
+    open_all(rt.alloc(), &mut shelf)?;
+    let vc = Vc::new(1, 100)?;
+    let card = shelf.card_of(vc);
+    let second = load(&mut shelf, card, constant(rt.alloc(), 1)?)?;
+    assert!(rt; matches!(shelf.reload(vc, second), Reply::Reloaded(_)));
+    assert!(rt;
+        matches!(
+            shelf.retire_on(card, second),
+            Some(Reply::Refused(DeskFault::InUse))
+        )
+    );
+    let arrival = Arrival {
+        cell: cell(&[0x00, 0x10, 0x06, 0x40]),
+        moment: 7,
+    };
+    let told = shelf.police(&rt, rt.alloc(), &[arrival], 0)?;
+    assert_eq!(rt; told.len(), 1);
+    let Reply::Cut(piece) = shelf.cut(vc) else {
+        return Err(Fail::from("no piece"));
+    };
+    assert_eq!(rt; piece.entries().len(), 1);
+    assert!(rt; matches!(shelf.release(vc), Reply::Released(_)));
+    assert!(rt; matches!(shelf.retire_on(card, second), Some(Reply::Retired(_))));
+    let told = shelf.police(&rt, rt.alloc(), &[arrival], 2)?;
+    for one in &told {
+        assert_eq!(rt; *one, Err(Unjudged::NoConnection));
+    }
+    Ok(())
+}
+
+#[test]
+fn a_shelf_has_1_to_64_cards_of_a_shape(rt: HostRuntime) -> Result<(), Fail> {
+    let alloc = rt.alloc();
+    let mut bad = shape();
+    bad.ports = 0;
+    assert!(rt; matches!(Shelf::new(alloc, shape(), 0), Err(ShelfFault::Cards)));
+    assert!(rt; matches!(Shelf::new(alloc, bad, 65), Err(ShelfFault::Cards)));
+    assert!(rt;
+        matches!(
+            Shelf::new(alloc, bad, 64),
+            Err(ShelfFault::Card(CardFault::Ports))
+        )
+    );
+    let mut shelf = Shelf::new(alloc, shape(), 64)?;
+    assert_eq!(rt; (shelf.cards(), shelf.shape()), (64, shape()));
+    assert!(rt; shelf.load_on(64, constant(alloc, 1)?).is_err());
+    let id = load(&mut shelf, 63, constant(alloc, 1)?)?;
+    assert!(rt; shelf.retire_on(64, id).is_none());
+    assert!(rt; matches!(shelf.retire_on(63, id), Some(Reply::Retired(_))));
+    Ok(())
+}
