@@ -6,3 +6,4 @@ pub mod RestLemmas
 pub mod Weaving
 pub mod CardLemmas
 pub mod RunningLemmas
+pub mod GoingOn

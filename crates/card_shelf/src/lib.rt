@@ -7,6 +7,7 @@ mod card;
 mod dealing;
 mod fault;
 mod gathering;
+pub mod laws;
 mod running;
 mod shelf;
 

@@ -1,0 +1,57 @@
+-- A card that has answered arrivals has gone on by their steps.
+use Rattle.std.proofs.Common.{List, [], ◌∷◌, ◌++◌, refl, sym, subst, inl, inr}
+use Rattle.std.proofs.lemmas.List.{append-nil, append_assoc}
+use Rattle.card_core.specs.Agreement.{CoreView, CoreAgrees, GoneAll, events_of}
+use Rattle.card_core.specs.Log.{Event, Run, Leads}
+use Rattle.card_core.specs.Sections.{answer_to}
+use Rattle.card_core.specs.World.{World}
+use Rattle.card_core.specs.declared.reply.Reply.TheVariants.{Entered, Picked, Answered}
+use Rattle.card_core.specs.declared.shape.Shape.{Shape}
+use Rattle.card_core.specs.declared.step.Step.TheVariants.{Enter, Pick, Judge}
+use Rattle.card_shelf.specs.Logs.{CardsGoOnByTheirArrivals}
+
+-- Runs join.
+run-append : (before middle after : World) (one other : List Event) → Run before one middle → Run middle other after
+    → Run before (one ++ other) after
+run-append before middle after [] other is run = subst (λ (w : World). Run w other after) is run
+run-append before middle after (event ∷ later) other steps run =
+    (steps.0, steps.1, run-append steps.0 middle after later other steps.2 run)
+
+-- A card has gone on by some events, and then by others.
+joined : (shape : Shape) (log : List Event) (before : World) (one other : List Event) (between new : CoreView)
+    → (so_far : GoneAll shape log before one between) → GoneAll shape (log ++ one) so_far.after other new
+    → GoneAll shape log before (one ++ other) new
+joined shape log before one other between new so_far then = record {
+  after = then.after;
+  stepped = run-append before so_far.after then.after one other so_far.stepped then.stepped;
+  leads = subst (λ (events : List Event). Leads shape events then.after) (append_assoc log one other) then.leads;
+  agrees = then.agrees;
+}
+
+pub goes-on : CardsGoOnByTheirArrivals
+goes-on old new [] [] served shape log before leads agrees = (
+  [],
+  refl,
+  record {
+    after = before;
+    stepped = refl;
+    leads = subst (λ (events : List Event). Leads shape events before) (sym (append-nil log)) leads;
+    agrees = subst (λ (core : CoreView). CoreAgrees core before) (sym served) agrees;
+  },
+)
+goes-on old new [] (told ∷ more) served shape log before leads agrees = absurd served
+goes-on old new (arrival ∷ later) [] served shape log before leads agrees = absurd served
+goes-on old new (arrival ∷ later) (told ∷ more) served shape log before leads agrees =
+    let answer = answer_to arrival.cell told in
+    elim served.1 [
+      | inl missed ↦
+          let first = events_of (Enter 0 arrival.cell arrival.moment ∷ Pick 0 ∷ []) (Entered ∷ Answered answer ∷ []) in
+          let gone = missed shape log before leads agrees in
+          let rest = goes-on served.0 new later more served.2 shape (log ++ first) gone.after gone.leads gone.agrees in
+          (first ++ rest.0, (first, rest.0, inl refl, rest.1, refl), joined shape log before first rest.0 served.0 new gone rest.2)
+      | inr judged ↦
+          let first = events_of (Enter 0 arrival.cell arrival.moment ∷ Pick 0 ∷ Judge 0 ∷ []) (Entered ∷ Picked ∷ Answered answer ∷ []) in
+          let gone = judged shape log before leads agrees in
+          let rest = goes-on served.0 new later more served.2 shape (log ++ first) gone.after gone.leads gone.agrees in
+          (first ++ rest.0, (first, rest.0, inr refl, rest.1, refl), joined shape log before first rest.0 served.0 new gone rest.2)
+    ]

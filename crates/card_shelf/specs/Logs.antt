@@ -1,0 +1,38 @@
+-- What policing adds to the log of a card, so that what holds of logs holds of a shelf's cards.
+use Rattle.std.specs.Prelude.{◌≡◌, ◌⊎◌, List, [], ◌∷◌, ◌++◌, Result}
+use Rattle.card_core.specs.Agreement.{CoreView, CoreAgrees, GoneAll, events_of}
+use Rattle.card_core.specs.Log.{Event, Leads}
+use Rattle.card_core.specs.Sections.{answer_to}
+use Rattle.card_core.specs.World.{World}
+use Rattle.card_core.specs.declared.answer.Answer.{Answer}
+use Rattle.card_core.specs.declared.answer.Judgement.{Judgement}
+use Rattle.card_core.specs.declared.answer.Unjudged.{Unjudged}
+use Rattle.card_core.specs.declared.reply.Reply.TheVariants.{Entered, Picked, Answered}
+use Rattle.card_core.specs.declared.shape.Shape.{Shape}
+use Rattle.card_core.specs.declared.step.Step.TheVariants.{Enter, Pick, Judge}
+use Rattle.card_shelf.specs.declared.arrival.Arrival.{Arrival}
+use Rattle.card_shelf.specs.Own.{ServesAll}
+
+-- These are the steps of the arrival at port 0 with their replies, of which the last is this answer: Enter and
+-- Pick, where the connection isn't found, and else Enter, Pick and Judge.
+abbrev pub IsWayOf : Arrival → Answer → List Event → Type 0
+IsWayOf arrival answer events =
+    (events ≡ events_of (Enter 0 arrival.cell arrival.moment ∷ Pick 0 ∷ []) (Entered ∷ Answered answer ∷ []))
+    ⊎ (events ≡ events_of (Enter 0 arrival.cell arrival.moment ∷ Pick 0 ∷ Judge 0 ∷ []) (Entered ∷ Picked ∷ Answered answer ∷ []))
+
+-- These are the steps of the arrivals, one arrival after another, where this is told of them.
+abbrev pub AreWaysOf : List Arrival → List (Result Judgement Unjudged) → List Event → Type 0
+AreWaysOf [] [] events = events ≡ []
+AreWaysOf [] (told ∷ more) events = ⊥
+AreWaysOf (arrival ∷ later) [] events = ⊥
+AreWaysOf (arrival ∷ later) (told ∷ more) events =
+    (first : List Event) × (rest : List Event) × IsWayOf arrival (answer_to arrival.cell told) first
+    × AreWaysOf later more rest × (events ≡ first ++ rest)
+
+-- A card that has answered arrivals has gone on by their steps: from whatever world it agreed with, if a log had
+-- led there, to one that it agrees with now, and the log with these steps leads there.
+abbrev pub CardsGoOnByTheirArrivals : Type 0
+CardsGoOnByTheirArrivals = (old new : CoreView) (arrivals : List Arrival) (told : List (Result Judgement Unjudged))
+    → ServesAll old arrivals told new → (shape : Shape) (log : List Event) (before : World)
+    → Leads shape log before → CoreAgrees old before
+    → (events : List Event) × AreWaysOf arrivals told events × GoneAll shape log before events new

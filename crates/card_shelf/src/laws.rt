@@ -1,0 +1,8 @@
+//! Laws over what a shelf does. These functions do nothing: each stands for the law that is its contract.
+
+ghost use Rattle.card_shelf.specs.Logs.{CardsGoOnByTheirArrivals};
+
+/// A card that has answered arrivals has gone on by their steps, which its log has gained.
+pub fn cards_go_on_by_their_arrivals()
+    ensures { CardsGoOnByTheirArrivals }
+{}
