@@ -1,2 +1,4 @@
 mod Boxes
+mod CardBoxes
+mod CardSteps
 mod Walks

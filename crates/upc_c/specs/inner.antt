@@ -1,2 +1,3 @@
 -- What only the model of a type needs.
 pub mod Hidden
+pub mod DeskReplies

@@ -1,11 +1,13 @@
 //! A program behind a pointer whose type C doesn't see.
 
+mod card;
 mod parts;
 
 ghost use Rattle.std.specs.Prelude.{◌≡◌, List, Option, Some, None};
 ghost use Rattle.bpf_code.specs.declared.instr.Instr.{Instr};
 
 use bpf_verify::Program;
+pub use card::HiddenCard;
 use parts::Parts;
 use std::alloc::Global;
 use std::marker::Model;
@@ -23,9 +25,10 @@ pub struct Hidden {
 impl Model for Hidden {
     ghost use Rattle.std.specs.Prelude.{List, Option};
     ghost use Rattle.bpf_code.specs.declared.instr.Instr.{Instr};
+    ghost use Rattle.bpf_verify.specs.contracts.program.Program.{the_row};
     ghost use Rattle.upc_c.specs.inner.Hidden.{owned};
 
-    ghost also_owns = { λ h. owned h.alloc h.at h.code };
+    ghost also_owns = { λ h. owned the_row h.alloc h.at h.code };
 }
 
 impl Hidden {

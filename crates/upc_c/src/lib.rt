@@ -2,6 +2,8 @@
 #![tactic(auto)]
 
 mod burst;
+mod card;
+mod card_making;
 mod cell;
 mod contract;
 mod fault;
@@ -11,9 +13,13 @@ mod hidden;
 mod meter;
 mod program;
 mod room;
+mod shape;
+mod stepping;
 mod telling;
 
 pub use burst::upc_burst_tolerance;
+pub use card::UpcCard;
+pub use card_making::{upc_card_free, upc_card_new};
 pub use cell::{UpcFields, upc_cell_fields, upc_cell_tag};
 pub use contract::{UpcContract, upc_contract_check};
 pub use fault::UpcFault;
@@ -21,3 +27,4 @@ pub use handle::{upc_program_free, upc_program_new, upc_program_run};
 pub use held::UpcProgram;
 pub use meter::{UpcLevels, upc_judge};
 pub use program::{upc_assemble, upc_check, upc_listing};
+pub use shape::UpcShape;

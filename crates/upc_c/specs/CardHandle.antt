@@ -1,0 +1,31 @@
+-- A card that C holds, and the steps that it takes.
+use Rattle.std.specs.Prelude.{◌≡◌, Option, Some}
+use Rattle.card_core.specs.Agreement.{CoreView, Follows}
+use Rattle.card_core.specs.Kept.{RefusalKeeps}
+use Rattle.card_core.specs.declared.reply.Reply.{Reply}
+use Rattle.card_core.specs.declared.step.Step.{Step}
+use Rattle.upc_c.specs.Faults.{plain_fault}
+use Rattle.upc_c.specs.declared.card.UpcCard.{UpcCard}
+use Rattle.upc_c.specs.declared.fault.UpcFault.{UpcFault}
+
+-- The core of the card that C holds, if there is one.
+abbrev pub card_in : UpcCard → Option CoreView
+card_in held = held.inner.core
+
+-- There is a card already, and another can't be put in its place.
+abbrev pub card_there : UpcFault
+card_there = plain_fault 1 8 0
+
+-- There is no card.
+abbrev pub card_missing : UpcFault
+card_missing = plain_fault 1 9 0
+
+-- The card was there and is there, and has taken the step with this reply: its core has followed it, and a
+-- refusal has left of the core what it leaves.
+pub record Takes (before after : UpcCard) (step : Step) (reply : Reply) : Type 0 where
+  pub old : CoreView
+  pub new : CoreView
+  pub had : card_in before ≡ Some old
+  pub has : card_in after ≡ Some new
+  pub follows : Follows old step reply new
+  pub kept : RefusalKeeps reply step old new

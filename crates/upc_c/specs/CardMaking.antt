@@ -1,0 +1,40 @@
+-- Which cards C may have.
+use Rattle.std.specs.Prelude.{◌≡◌, ◌⊎◌, ◌<◌, ℕ, Option, Some}
+use Rattle.card_core.specs.Agreement.{CoreView, CoreAgrees}
+use Rattle.card_core.specs.Shapes.{shape_fault}
+use Rattle.card_core.specs.World.{opening_world}
+use Rattle.card_core.specs.declared.fault.CardFault.{CardFault}
+use Rattle.card_core.specs.declared.fault.CardFault.TheVariants.{Programs, Lines, Ports, Journal, NoMemory}
+use Rattle.card_core.specs.declared.shape.Shape.{Shape}
+use Rattle.upc_c.specs.CellHeader.{side_number}
+use Rattle.upc_c.specs.Faults.{plain_fault, out_of_memory, unknown_side}
+use Rattle.upc_c.specs.declared.fault.UpcFault.{UpcFault}
+use Rattle.upc_c.specs.declared.shape.UpcShape.{UpcShape}
+
+-- The shape of these numbers.
+pub record IsShapeOf (given : UpcShape) (shape : Shape) : Type 0 where
+  pub side : given.side ≡ side_number shape.side
+  pub programs : shape.programs ≡ given.programs
+  pub lines : shape.lines ≡ given.lines
+  pub ports : shape.ports ≡ given.ports
+  pub journal : shape.journal ≡ given.journal
+
+-- The core is that of an empty card of these numbers.
+abbrev pub IsEmptyCard : UpcShape → CoreView → Type 0
+IsEmptyCard given core = (shape : Shape) × IsShapeOf given shape × CoreAgrees core (opening_world shape)
+
+-- Why a card can't be made, as C is told it.
+abbrev pub told_card : CardFault → UpcFault
+told_card Programs = plain_fault 9 1 0
+told_card Lines = plain_fault 9 2 0
+told_card Ports = plain_fault 9 3 0
+told_card Journal = plain_fault 9 4 0
+told_card NoMemory = out_of_memory
+
+-- There is no card of these numbers: the side is neither, then the first number that is out of its limits; or
+-- memory ran out.
+abbrev pub IsNoCard : UpcShape → UpcFault → Type 0
+IsNoCard given fault =
+    ((1 < given.side) × (fault ≡ unknown_side))
+    ⊎ ((shape : Shape) × IsShapeOf given shape × (found : CardFault) × (shape_fault shape ≡ Some found) × (fault ≡ told_card found))
+    ⊎ (fault ≡ out_of_memory)

@@ -1,0 +1,83 @@
+//! Cards that C makes and lets go.
+
+ghost use Rattle.std.specs.Prelude.{◌≡◌, ◌≢◌, ◌<◌, Some, None, IfOk, IfErr};
+ghost use Rattle.card_core.specs.Agreement.{CoreView};
+ghost use Rattle.upc_c.specs.CardHandle.{card_in, card_there};
+ghost use Rattle.upc_c.specs.CardMaking.{IsEmptyCard, IsNoCard, told_card};
+ghost use Rattle.upc_c.specs.Faults.{no_fault};
+ghost use Rattle.upc_c.specs.ReachedCore.{IsReached};
+
+use crate::card::UpcCard;
+use crate::fault::{NO_FAULT, OF_A_SHAPE, OF_THE_CALL, UpcFault, fault_at, told};
+use crate::shape::{UpcShape, shape_of};
+use crate::stepping::{put_core, take_core};
+use crate::telling::out_of_memory;
+use card_core::{CardFault, Core};
+use std::alloc::Global;
+
+/// Why a card can't be made.
+fn told_card(found: CardFault) -> UpcFault
+    ensures told { result ≡ told_card found }
+    ensures numbered { 0 < result.number }
+{
+    match found {
+        CardFault::Programs => fault_at(OF_A_SHAPE, 1, 0),
+        CardFault::Lines => fault_at(OF_A_SHAPE, 2, 0),
+        CardFault::Ports => fault_at(OF_A_SHAPE, 3, 0),
+        CardFault::Journal => fault_at(OF_A_SHAPE, 4, 0),
+        CardFault::NoMemory => out_of_memory(),
+    }
+}
+
+/// The core of an empty card of these numbers, in a box of its own.
+fn empty_core(alloc: Global, given: &UpcShape) -> Result<Box<Core>, UpcFault>
+    ensures empty { IfOk result (λ core. IsEmptyCard given.now core.value) }
+    ensures reached { IfOk result (λ core. IsReached core.value) }
+    ensures fault { IfErr result (IsNoCard given.now) }
+    ensures numbered { IfErr result (λ fault. 0 < fault.number) }
+{
+    let shape = shape_of(given)?;
+    match Core::new(alloc, shape) {
+        Ok(core) => match Box::new(alloc, core) {
+            Ok(boxed) => Ok(boxed),
+            Err(_) => Err(out_of_memory()),
+        },
+        Err(found) => Err(told_card(found)),
+    }
+}
+
+/// Makes an empty card, where there is none. Returns the fault's number, or 0.
+#[unsafe(no_mangle)]
+pub extern "C" fn upc_card_new(
+    alloc: Global,
+    shape: &UpcShape,
+    card: &mut UpcCard,
+    fault: &mut UpcFault,
+) -> u32
+    ensures number { result ≡ fault.new.number }
+    ensures made { result ≡ 0 → (card_in card.old ≡ None)
+        × ((core : CoreView) × IsEmptyCard shape.now core × (card_in card.new ≡ Some core)) }
+    ensures fine { result ≡ 0 → fault.new ≡ no_fault }
+    ensures there { card_in card.old ≢ None → fault.new ≡ card_there }
+    ensures refused { result ≢ 0 → card_in card.old ≡ None → IsNoCard shape.now fault.new }
+    ensures left { result ≢ 0 → card.new ≡ card.old }
+{
+    if card.live != 0 {
+        return told(fault, fault_at(OF_THE_CALL, 8, 0));
+    }
+    match empty_core(alloc, shape) {
+        Ok(core) => {
+            put_core(card, core);
+            told(fault, NO_FAULT)
+        }
+        Err(found) => told(fault, found),
+    }
+}
+
+/// Lets the card go, with its programs and connections. Where there is none it does nothing.
+#[unsafe(no_mangle)]
+pub extern "C" fn upc_card_free(alloc: Global, card: &mut UpcCard)
+    ensures { card_in card.new ≡ None }
+{
+    drop(take_core(alloc, card));
+}

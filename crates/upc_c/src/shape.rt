@@ -1,0 +1,55 @@
+//! How large a card is, as C says it.
+
+ghost use Rattle.std.specs.Prelude.{◌≡◌, ◌<◌, IfOk, IfErr};
+ghost use Rattle.upc_c.specs.CardMaking.{IsShapeOf};
+ghost use Rattle.upc_c.specs.CellHeader.{side_number};
+ghost use Rattle.upc_c.specs.Faults.{unknown_side};
+
+use crate::fault::{OF_THE_CALL, UpcFault, fault_at};
+use card_core::Shape;
+use upc_cell::Side;
+
+/// How large a card is, and which header its cells have.
+#[repr(C)]
+#[derive(Clone, Copy, Debug)]
+pub struct UpcShape {
+    /// 0 for cells at the user network interface, 1 for cells between nodes of the network.
+    pub side: u32,
+    /// How many programs it holds at most, 1 to 1024.
+    pub programs: u64,
+    /// How many connections it has at most, 1 to 4096.
+    pub lines: u64,
+    /// How many ports it has, 1 to 16.
+    pub ports: u64,
+    /// How many cells a journal holds, 1 to 65536.
+    pub journal: u64,
+}
+
+/// The side of this number.
+pub(crate) fn side_of(number: u32) -> Result<Side, UpcFault>
+    ensures side { IfOk result (λ side. number ≡ side_number side) }
+    ensures unknown { IfErr result (λ _. 1 < number) }
+    ensures fault { IfErr result (λ fault. fault ≡ unknown_side) }
+{
+    match number {
+        0 => Ok(Side::Uni),
+        1 => Ok(Side::Nni),
+        _ => Err(fault_at(OF_THE_CALL, 5, 0)),
+    }
+}
+
+/// The shape of these numbers.
+pub(crate) fn shape_of(given: &UpcShape) -> Result<Shape, UpcFault>
+    ensures shape { IfOk result (IsShapeOf given.now) }
+    ensures unknown { IfErr result (λ _. 1 < given.now.side) }
+    ensures fault { IfErr result (λ fault. fault ≡ unknown_side) }
+{
+    let side = side_of(given.side)?;
+    Ok(Shape {
+        programs: given.programs,
+        lines: given.lines,
+        ports: given.ports,
+        journal: given.journal,
+        side,
+    })
+}

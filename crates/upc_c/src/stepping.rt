@@ -1,0 +1,71 @@
+//! The core of a card that C holds, taken out for a call and put back.
+
+ghost use Rattle.std.specs.Prelude.{◌≡◌, ◌≢◌, false, None, Some, IfNone, IfSome};
+ghost use Rattle.card_core.specs.Agreement.{Follows};
+ghost use Rattle.card_core.specs.Kept.{RefusalKeeps};
+ghost use Rattle.upc_c.specs.CardHandle.{Takes, card_in};
+ghost use Rattle.upc_c.specs.ReachedCore.{IsReached};
+ghost use Rattle.upc_c.specs.inner.DeskReplies.{is_reply_to};
+
+use crate::card::UpcCard;
+use crate::hidden::HiddenCard;
+use card_core::{Core, Reply, Step};
+use std::alloc::Global;
+use std::mem::replace;
+
+/// Takes the core out, where there is a card; the card then has none.
+pub(crate) fn take_core(alloc: Global, card: &mut UpcCard) -> Option<Box<Core>>
+    ensures core { IfSome result (λ core. card_in card.old ≡ Some core.value) }
+    ensures reached { IfSome result (λ core. IsReached core.value) }
+    ensures gone { IfSome result (λ _. card_in card.new ≡ None) }
+    ensures none { IfNone result (card_in card.old ≡ None) }
+    ensures left { IfNone result (card.new ≡ card.old) }
+{
+    if card.live == 0 {
+        return None;
+    }
+    let old = replace(
+        card,
+        UpcCard {
+            live: 0,
+            inner: HiddenCard::none(alloc),
+        },
+    );
+    let UpcCard { live: _, inner } = old;
+    Some(inner.into_box())
+}
+
+/// Puts the core in.
+pub(crate) fn put_core(card: &mut UpcCard, core: Box<Core>)
+    requires { IsReached core.value }
+    ensures { card_in card.new ≡ Some core.value }
+{
+    *card = UpcCard {
+        live: 1,
+        inner: HiddenCard::of(core),
+    };
+}
+
+/// Takes a step of a core that steps have led to.
+fn step_core(core: &mut Core, step: Step) -> Reply
+    requires reached { IsReached core.old }
+    ensures follows { Follows core.old step result core.new }
+    ensures kept { RefusalKeeps result step core.old core.new }
+    ensures reached { IsReached core.new }
+    ensures fits { is_reply_to step result ≢ false }
+{
+    core.step(step)
+}
+
+/// Takes a step of the card, where there is one.
+pub(crate) fn step_on(alloc: Global, card: &mut UpcCard, step: Step) -> Option<Reply>
+    ensures taken { IfSome result (Takes card.old card.new step) }
+    ensures fits { IfSome result (λ reply. is_reply_to step reply ≢ false) }
+    ensures none { IfNone result (card_in card.old ≡ None) }
+    ensures left { IfNone result (card.new ≡ card.old) }
+{
+    let mut core = take_core(alloc, card)?;
+    let reply = step_core(&mut core, step);
+    put_core(card, core);
+    Some(reply)
+}
