@@ -1,13 +1,14 @@
 -- Steps of a card that steps have led to.
 use Rattle.std.proofs.Common.{◌≡◌, ◌⊎◌, inl, inr, true, false, List, [], ◌∷◌, ◌++◌, Option, Some, None, refl, sym, ap, ◌∙◌, subst}
 use Rattle.std.specs.Option.{MatchOption, option_map}
+use Rattle.std.specs.Prelude.{slice_get}
 use mathlib.Core.Logic.{∥∥₁_elim, ∥∥₁_map}
 use Rattle.bpf_code.specs.declared.instr.Instr.{Instr}
 use Rattle.gen_arena.specs.declared.id.Id.{Id}
 use Rattle.card_core.specs.Agreement.{CoreView, Follows}
 use Rattle.card_core.specs.Refusals.{load_fault, missing_fault, reload_fault, retire_fault, setup_fault}
 use Rattle.card_core.specs.Steps.{FindsNoMemory, IsRefused, Succeeds, WorldStep}
-use Rattle.card_core.specs.World.{World}
+use Rattle.card_core.specs.World.{World, PortState}
 use Rattle.card_core.specs.declared.ask.Ask.{Ask}
 use Rattle.card_core.specs.declared.fault.DeskFault.{DeskFault}
 use Rattle.card_core.specs.declared.fault.DeskFault.TheVariants.{NoMemory}
@@ -17,19 +18,7 @@ use Rattle.card_core.specs.declared.step.Step.{Step}
 use Rattle.card_core.specs.declared.step.Step.TheVariants.{Enter, Pick, Judge, Load, Retire, Setup, Reload, Release, Cut}
 use Rattle.upc_cell.specs.declared.vc.Vc.{Vc}
 use Rattle.upc_c.specs.ReachedCore.{IsReached, Reaching}
-use Rattle.upc_c.specs.inner.DeskReplies.{is_reply_to}
-
--- The log goes on by the step.
-pub reached-on : (old new : CoreView) (step : Step) (reply : Reply) → IsReached old → Follows old step reply new → IsReached new
-reached-on old new step reply reached follows = ∥∥₁_map reached (λ r.
-    let gone = follows r.shape r.log r.world r.leads r.agrees in
-    record {
-      shape = r.shape;
-      log = r.log ++ record { step = step; reply = reply } ∷ [];
-      world = gone.after;
-      leads = gone.leads;
-      agrees = gone.agrees;
-    })
+use Rattle.upc_c.specs.inner.DeskReplies.{is_of_desk, is_reply_to}
 
 -- A step of the desk succeeds, finds no memory, or is refused by a fault.
 cases : (P : Type 0) (wrap : DeskFault → Reply) (found : Option DeskFault) (before after : World) (step : Step) (reply : Reply)
@@ -72,6 +61,50 @@ step-fits before after (Cut vc) reply =
     cases (Fits (Cut vc) reply) (λ fault. Refused fault) (missing_fault before vc) before after (Cut vc) reply
     (λ s. fits (Cut vc) reply _ s.answer refl) (λ l. let same : Refused NoMemory ≡ reply = cc in fits (Cut vc) reply _ (sym same) refl)
     (λ fault r. fits (Cut vc) reply _ r.answer refl)
+
+-- A step of the desk leaves the ports.
+abbrev Leaves : World → World → Type 0
+Leaves before after = after.ports ≡ before.ports
+
+same-ports : (before after : World) → after ≡ before → Leaves before after
+same-ports before after same = ap (λ (w : World). w.ports) same
+
+ports-left : (before after : World) (step : Step) (reply : Reply) → is_of_desk step ≡ true → WorldStep before step reply after → Leaves before after
+ports-left before after (Enter port cell moment) reply desk = let no : false ≡ true = desk in cc
+ports-left before after (Pick port) reply desk = let no : false ≡ true = desk in cc
+ports-left before after (Judge port) reply desk = let no : false ≡ true = desk in cc
+ports-left before after (Load code) reply desk =
+    cases (Leaves before after) (λ fault. NotLoaded fault code) (load_fault before) before after (Load code) reply
+    (λ s. ap (λ (w : World). w.ports) s.world) (λ l. same-ports before after l.world) (λ fault r. same-ports before after r.world)
+ports-left before after (Retire id) reply desk =
+    cases (Leaves before after) (λ fault. Refused fault) (retire_fault before id) before after (Retire id) reply
+    (λ s. ap (λ (w : World). w.ports) s.world) (λ l. same-ports before after l.world) (λ fault r. same-ports before after r.world)
+ports-left before after (Setup ask) reply desk =
+    cases (Leaves before after) (λ fault. NotSetUp fault ask) (setup_fault before ask) before after (Setup ask) reply
+    (λ s. ap (λ (w : World). w.ports) s.world) (λ l. same-ports before after l.world) (λ fault r. same-ports before after r.world)
+ports-left before after (Reload vc id) reply desk =
+    cases (Leaves before after) (λ fault. Refused fault) (reload_fault before vc id) before after (Reload vc id) reply
+    (λ s. ap (λ (w : World). w.ports) s.world) (λ l. same-ports before after l.world) (λ fault r. same-ports before after r.world)
+ports-left before after (Release vc) reply desk =
+    cases (Leaves before after) (λ fault. Refused fault) (missing_fault before vc) before after (Release vc) reply
+    (λ s. ap (λ (w : World). w.ports) s.world) (λ l. same-ports before after l.world) (λ fault r. same-ports before after r.world)
+ports-left before after (Cut vc) reply desk =
+    cases (Leaves before after) (λ fault. Refused fault) (missing_fault before vc) before after (Cut vc) reply
+    (λ s. ap (λ (w : World). w.ports) s.world) (λ l. same-ports before after l.world) (λ fault r. same-ports before after r.world)
+
+-- The log goes on by the step.
+pub reached-on : (old new : CoreView) (step : Step) (reply : Reply) → is_of_desk step ≡ true → IsReached old → Follows old step reply new
+    → IsReached new
+reached-on old new step reply desk reached follows = ∥∥₁_map reached (λ r.
+    let gone = follows r.shape r.log r.world r.leads r.agrees in
+    record {
+      shape = r.shape;
+      log = r.log ++ record { step = step; reply = reply } ∷ [];
+      world = gone.after;
+      leads = gone.leads;
+      agrees = gone.agrees;
+      idle = ap (λ (ports : List PortState). slice_get ports 0) (ports-left r.world gone.after step reply desk gone.stepped) ∙ r.idle;
+    })
 
 -- No other reply comes to a card that steps have led to.
 pub reply-fits : (old new : CoreView) (step : Step) (reply : Reply) → IsReached old → Follows old step reply new

@@ -1,4 +1,8 @@
 mod Boxes
+mod CardArrivals
 mod CardBoxes
 mod CardSteps
+mod ContractLemmas
+mod Policing
+mod SettingUp
 mod Walks

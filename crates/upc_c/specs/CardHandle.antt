@@ -3,6 +3,7 @@ use Rattle.std.specs.Prelude.{◌≡◌, Option, Some}
 use Rattle.card_core.specs.Agreement.{CoreView, Follows}
 use Rattle.card_core.specs.Kept.{RefusalKeeps}
 use Rattle.card_core.specs.declared.reply.Reply.{Reply}
+use Rattle.card_core.specs.declared.shape.Shape.{Shape}
 use Rattle.card_core.specs.declared.step.Step.{Step}
 use Rattle.upc_c.specs.Faults.{plain_fault}
 use Rattle.upc_c.specs.declared.card.UpcCard.{UpcCard}
@@ -19,6 +20,12 @@ card_there = plain_fault 1 8 0
 -- There is no card.
 abbrev pub card_missing : UpcFault
 card_missing = plain_fault 1 9 0
+
+-- The card has this shape.
+pub record IsShapeIn (card : UpcCard) (shape : Shape) : Type 0 where
+  pub core : CoreView
+  pub had : card_in card ≡ Some core
+  pub same : shape ≡ core.shape
 
 -- The card was there and is there, and has taken the step with this reply: its core has followed it, and a
 -- refusal has left of the core what it leaves.

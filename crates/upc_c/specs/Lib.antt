@@ -9,4 +9,6 @@ pub mod ProgramHandle
 pub mod ReachedCore
 pub mod CardHandle
 pub mod CardMaking
+pub mod CardDesk
+pub mod CardArrival
 pub mod inner

@@ -1,17 +1,22 @@
 -- Cores of cards that began empty and have taken steps.
-use Rattle.std.specs.Prelude.{List}
+use Rattle.std.specs.Prelude.{◌≡◌, List, Some, slice_get}
 use Rattle.card_core.specs.declared.shape.Shape.{Shape}
 use Rattle.card_core.specs.Agreement.{CoreView, CoreAgrees}
 use Rattle.card_core.specs.Log.{Event, Leads}
-use Rattle.card_core.specs.World.{World}
+use Rattle.card_core.specs.World.{World, outside}
 
--- A log of a card that leads to a world with which the core agrees.
+-- Port 0 has no cell.
+abbrev pub IsIdle : World → Type 0
+IsIdle world = slice_get world.ports 0 ≡ Some outside
+
+-- A log of a card that leads to a world with which the core agrees, and whose port 0 has no cell.
 pub record Reaching (core : CoreView) : Type 0 where
   pub shape : Shape
   pub log : List Event
   pub world : World
   pub leads : Leads shape log world
   pub agrees : CoreAgrees core world
+  pub idle : IsIdle world
 
 -- There is one.
 abbrev pub IsReached : CoreView → Type 0

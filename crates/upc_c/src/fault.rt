@@ -27,7 +27,8 @@ pub struct UpcFault {
 /// that there are none of, a side that is neither.
 pub(crate) const OF_THE_CALL: u32 = 1;
 
-/// The faults of cells, codes, sources, checks, rates, burst tolerances, arrivals and shapes.
+/// The faults of cells, codes, sources, checks, rates, burst tolerances, arrivals, shapes and the
+/// desk.
 pub(crate) const OF_A_CELL: u32 = 2;
 
 pub(crate) const OF_DECODING: u32 = 3;
@@ -43,6 +44,8 @@ pub(crate) const OF_A_BURST: u32 = 7;
 pub(crate) const OF_AN_ARRIVAL: u32 = 8;
 
 pub(crate) const OF_A_SHAPE: u32 = 9;
+
+pub(crate) const OF_THE_DESK: u32 = 10;
 
 /// Nothing is wrong.
 pub(crate) const NO_FAULT: UpcFault = UpcFault {

@@ -12,10 +12,10 @@ use crate::cell::cell_of;
 use crate::fault::{NO_FAULT, OF_THE_CALL, UpcFault, fault_at, told};
 use crate::held::UpcProgram;
 use crate::hidden::Hidden;
-use crate::program::code_of;
-use crate::telling::{out_of_memory, told_verify};
+use crate::program::accepted;
+use crate::telling::out_of_memory;
 use bpf_interp::run;
-use bpf_verify::{Program, verify};
+use bpf_verify::Program;
 use std::alloc::Global;
 use std::mem::replace;
 
@@ -26,13 +26,10 @@ fn program_of(alloc: Global, octets: &[u8]) -> Result<Box<Program>, UpcFault>
     ensures fault { IfErr result (IsNoProgram octets.now) }
     ensures numbered { IfErr result (λ fault. 0 < fault.number) }
 {
-    let code = code_of(alloc, octets)?;
-    match verify(code) {
-        Ok(program) => match Box::new(alloc, program) {
-            Ok(boxed) => Ok(boxed),
-            Err(_) => Err(out_of_memory()),
-        },
-        Err(refused) => Err(told_verify(refused.fault)),
+    let program = accepted(alloc, octets)?;
+    match Box::new(alloc, program) {
+        Ok(boxed) => Ok(boxed),
+        Err(_) => Err(out_of_memory()),
     }
 }
 

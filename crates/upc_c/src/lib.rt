@@ -1,22 +1,29 @@
 //! The library for C: what `include/upc.h` declares.
 #![tactic(auto)]
 
+mod arrival;
 mod burst;
 mod card;
 mod card_making;
 mod cell;
 mod contract;
+mod contracts;
+mod desk_fault;
 mod fault;
 mod handle;
 mod held;
 mod hidden;
+mod id;
+mod loading;
 mod meter;
 mod program;
 mod room;
+mod setting_up;
 mod shape;
 mod stepping;
 mod telling;
 
+pub use arrival::{UpcAnswer, upc_card_arrive};
 pub use burst::upc_burst_tolerance;
 pub use card::UpcCard;
 pub use card_making::{upc_card_free, upc_card_new};
@@ -25,6 +32,9 @@ pub use contract::{UpcContract, upc_contract_check};
 pub use fault::UpcFault;
 pub use handle::{upc_program_free, upc_program_new, upc_program_run};
 pub use held::UpcProgram;
+pub use id::UpcId;
+pub use loading::upc_card_load;
 pub use meter::{UpcLevels, upc_judge};
 pub use program::{upc_assemble, upc_check, upc_listing};
+pub use setting_up::upc_card_setup;
 pub use shape::UpcShape;

@@ -26,7 +26,7 @@ pub struct UpcLevels {
 
 /// The number that C has of a verdict.
 #[inline]
-fn number_of(verdict: Verdict) -> u32
+pub(crate) fn number_of(verdict: Verdict) -> u32
     ensures { result ≡ number_of verdict }
 {
     match verdict {

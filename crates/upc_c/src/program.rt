@@ -2,6 +2,7 @@
 
 ghost use Rattle.std.specs.Prelude.{◌≡◌, ◌≢◌, ◌⊎◌, ◌<◌, ◌%◌, ℕ, List, length, IfOk, IfErr, IsErr};
 ghost use Rattle.bpf_code.specs.OctetSpelling.{SpellsCode};
+ghost use Rattle.bpf_verify.specs.Accepted.{IsAccepted};
 ghost use Rattle.upc_c.specs.Faults.{no_fault, out_of_memory, ragged};
 ghost use Rattle.upc_c.specs.Programs.{IsAsmRefusal, IsAssembled, IsCheckRefusal, IsDecodeRefusal, IsListRefusal, IsListed, IsNoRoom, IsProgram, IsWritten};
 
@@ -10,7 +11,7 @@ use crate::room::write_to;
 use crate::telling::{out_of_memory, told_asm, told_decode, told_list, told_verify};
 use bpf_asm::{assemble, listing};
 use bpf_code::{Instr, decode, encode};
-use bpf_verify::verify;
+use bpf_verify::{Program, verify};
 use std::alloc::Global;
 
 /// The code that octets spell.
@@ -27,6 +28,22 @@ pub(crate) fn code_of(alloc: Global, octets: &[u8]) -> Result<Vec<Instr>, UpcFau
     }
 }
 
+/// The program that octets spell.
+pub(crate) fn accepted(alloc: Global, octets: &[u8]) -> Result<Program, UpcFault>
+    ensures code { IfOk result (SpellsCode octets.now) }
+    ensures accepted { IfOk result IsAccepted }
+    ensures fault { IfErr result (λ fault. IsDecodeRefusal octets.now fault ⊎ IsCheckRefusal octets.now fault) }
+    ensures ragged { 0 < length octets.now % 8 → IfErr result (λ fault. fault ≡ ragged) }
+    ensures whole { 0 < length octets.now % 8 → IsErr result }
+    ensures numbered { IfErr result (λ fault. 0 < fault.number) }
+{
+    let code = code_of(alloc, octets)?;
+    match verify(code) {
+        Ok(program) => Ok(program),
+        Err(refused) => Err(told_verify(refused.fault)),
+    }
+}
+
 /// Whether octets spell a program.
 fn checked(alloc: Global, octets: &[u8]) -> Result<(), UpcFault>
     ensures program { IfOk result (λ _. IsProgram octets.now) }
@@ -35,11 +52,8 @@ fn checked(alloc: Global, octets: &[u8]) -> Result<(), UpcFault>
     ensures whole { 0 < length octets.now % 8 → IsErr result }
     ensures numbered { IfErr result (λ fault. 0 < fault.number) }
 {
-    let code = code_of(alloc, octets)?;
-    match verify(code) {
-        Ok(_) => Ok(()),
-        Err(refused) => Err(told_verify(refused.fault)),
-    }
+    let _program = accepted(alloc, octets)?;
+    Ok(())
 }
 
 /// The octets of the code that a source means.

@@ -26,3 +26,10 @@ is_reply_to (Cut vc) (CutOff piece) = true
 is_reply_to (Cut vc) (Refused fault) = true
 is_reply_to (Cut vc) _ = false
 is_reply_to _ reply = true
+
+-- The step is one of the desk.
+abbrev pub is_of_desk : Step → Bool
+is_of_desk (Enter port cell moment) = false
+is_of_desk (Pick port) = false
+is_of_desk (Judge port) = false
+is_of_desk _ = true

@@ -3,7 +3,7 @@ use Rattle.upc_c.proofs.stepping.step_core.Goals as goal
 
 -- src/stepping.rt:54:5
 pub returns-clause-reached : goal.returns-clause-reached
-returns-clause-reached c = reached-on _ _ _ _ c.requires.reached c.step.ensures.follows
+returns-clause-reached c = reached-on _ _ _ _ c.requires.desk c.requires.reached c.step.ensures.follows
 
 -- src/stepping.rt:54:5
 pub returns-clause-fits : goal.returns-clause-fits

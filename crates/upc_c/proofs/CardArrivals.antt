@@ -1,0 +1,194 @@
+-- The whole way of a cell at port 0, which is outside before and afterwards.
+use Rattle.std.proofs.Common.{◌≡◌, ◌⊎◌, inl, inr, ℕ, zero, suc, Bool, true, false, List, [], ◌∷◌, ◌++◌, Option, Some, None, replicate, refl, sym, ap, ◌∙◌, subst}
+use Rattle.std.specs.Option.{MatchOption, option_map, IfSome, IfNone}
+use Rattle.std.specs.Prelude.{slice_get, slice_set, if◌then◌else◌, is_none, Result, Ok, Err}
+use mathlib.Core.Logic.{∥∥₁_elim, ∥∥₁_map}
+use Rattle.card_core.specs.Agreement.{CoreView, CoreAgrees, Follows}
+use Rattle.card_core.specs.Arrival.{Answers}
+use Rattle.card_core.specs.Log.{Event, Run}
+use Rattle.card_core.specs.Refusals.{enter_refusal, pick_refusal, judge_refusal, picking_refusal}
+use Rattle.card_core.specs.Shapes.{is_beyond, shape_fault}
+use Rattle.card_core.specs.Steps.{FindsNoMemory, IsRefused, Succeeds, WorldStep, left_by_judge, left_by_pick}
+use Rattle.card_core.specs.World.{World, PortState, Picking, outside, entered, picked, connection_in, opening_world, with_port}
+use Rattle.card_core.specs.declared.answer.Answer.{Answer}
+use Rattle.card_core.specs.declared.answer.Answer.TheVariants.{NoConnection as UnknownCell}
+use Rattle.card_core.specs.declared.fault.CardFault.{CardFault}
+use Rattle.card_core.specs.declared.fault.CardFault.TheVariants.{Programs, Lines, Ports, Journal}
+use Rattle.card_core.specs.declared.reply.Reply.{Reply}
+use Rattle.card_core.specs.declared.reply.Reply.TheVariants.{Entered, Picked, NotNow, Answered}
+use Rattle.card_core.specs.declared.shape.Shape.{Shape}
+use Rattle.card_core.specs.declared.step.Step.{Step}
+use Rattle.card_core.specs.declared.step.Step.TheVariants.{Enter, Pick, Judge}
+use Rattle.upc_cell.specs.Connection.{vc_of}
+use Rattle.upc_c.specs.ReachedCore.{IsIdle, IsReached, Reaching}
+
+-- What is written to port 0, where there is one, is there.
+written : (ports : List PortState) (before state : PortState) → slice_get ports 0 ≡ Some before → slice_get (slice_set ports 0 state) 0 ≡ Some state
+written [] before state e = let no : None ≡ Some before = e in cc
+written (port ∷ ports) before state e = refl
+
+-- A world whose ports are those of another, but for this state of port 0.
+abbrev With : World → PortState → World → Type 0
+With before state after = after.ports ≡ slice_set before.ports 0 state
+
+there : (before after : World) (state had : PortState) → slice_get before.ports 0 ≡ Some had → With before state after → slice_get after.ports 0 ≡ Some state
+there before after state had e with = ap (λ (ports : List PortState). slice_get ports 0) with ∙ written before.ports had state e
+
+-- What a step does where it isn't refused.
+abbrev Taken : World → Step → Reply → World → Type 0
+Taken before step reply after = Succeeds before step reply after ⊎ FindsNoMemory before step reply after
+
+enters : (before after : World) (cell : List ℕ) (moment : ℕ) (reply : Reply) → IsIdle before
+    → WorldStep before (Enter 0 cell moment) reply after → Taken before (Enter 0 cell moment) reply after
+enters before after cell moment reply idle step =
+    let P : Option PortState → Type 0 = λ port. MatchOption (enter_refusal port) (Taken before (Enter 0 cell moment) reply after)
+    (λ refused. IsRefused before (Enter 0 cell moment) refused reply after) in
+    subst P idle step
+
+-- A cell enters a port that is outside, and no other reply comes.
+entered-there : (before after : World) (cell : List ℕ) (moment : ℕ) → Taken before (Enter 0 cell moment) Entered after
+    → With before (entered cell moment) after
+entered-there before after cell moment (inl e) = ap (λ (w : World). w.ports) e.world
+entered-there before after cell moment (inr l) = let no = l.answer in cc
+
+never-now : (before after : World) (cell : List ℕ) (moment : ℕ) → Taken before (Enter 0 cell moment) NotNow after → ⊥
+never-now before after cell moment (inl e) = let no : NotNow ≡ Entered = e.answer in cc
+never-now before after cell moment (inr l) = let no = l.answer in cc
+
+-- The two outcomes of a pick, by whether a connection is missing.
+abbrev PickedBy : Bool → World → Reply → World → Type 0
+PickedBy missing before reply after = MatchOption (if missing then Some (Answered UnknownCell) else None)
+    (Taken before (Pick 0) reply after) (λ refused. IsRefused before (Pick 0) refused reply after)
+
+picks : (before after : World) (cell : List ℕ) (moment : ℕ) (reply : Reply) → slice_get before.ports 0 ≡ Some (entered cell moment)
+    → WorldStep before (Pick 0) reply after → PickedBy (is_none (connection_in before.connections (vc_of before.shape.side cell))) before reply after
+picks before after cell moment reply had step =
+    let P : Option PortState → Type 0 = λ port. MatchOption (pick_refusal before port) (Taken before (Pick 0) reply after)
+    (λ refused. IsRefused before (Pick 0) refused reply after) in
+    subst P had step
+
+-- Who is answered at the pick leaves the port.
+pick-answered : (missing : Bool) (before after : World) (cell : List ℕ) (moment : ℕ) (answer : Answer)
+    → slice_get before.ports 0 ≡ Some (entered cell moment) → PickedBy missing before (Answered answer) after → With before outside after
+pick-answered true before after cell moment answer had is =
+    ap (λ (w : World). w.ports) (is.world ∙ ap (left_by_pick before 0) had)
+pick-answered false before after cell moment answer had (inl p) = let no : Answered answer ≡ Picked = p.answer in cc
+pick-answered false before after cell moment answer had (inr l) = let no = l.answer in cc
+
+-- Who is picked is at the port.
+pick-picked : (missing : Bool) (before after : World) (cell : List ℕ) (moment : ℕ) → PickedBy missing before Picked after
+    → (picking : Picking) × With before (picked picking) after
+pick-picked true before after cell moment is = let no : Picked ≡ Answered UnknownCell = is.answer in cc
+pick-picked false before after cell moment (inl p) = (_, ap (λ (w : World). w.ports) p.world)
+pick-picked false before after cell moment (inr l) = let no = l.answer in cc
+
+-- Who is judged leaves the port.
+judge-answered : (refusal : Option Answer) (before after : World) (picking : Picking) (answer : Answer)
+    → slice_get before.ports 0 ≡ Some (picked picking)
+    → MatchOption (option_map Answered refusal) (Taken before (Judge 0) (Answered answer) after)
+    (λ refused. IsRefused before (Judge 0) refused (Answered answer) after) → With before outside after
+judge-answered None before after picking answer had (inl j) = ap (λ (w : World). w.ports) j.world
+judge-answered None before after picking answer had (inr l) = let no = l.answer in cc
+judge-answered (Some refused) before after picking answer had is =
+    ap (λ (w : World). w.ports) (is.world ∙ ap (left_by_judge before 0) had)
+
+judged : (before after : World) (picking : Picking) (answer : Answer) → slice_get before.ports 0 ≡ Some (picked picking)
+    → WorldStep before (Judge 0) (Answered answer) after → With before outside after
+judged before after picking answer had step =
+    let P : Option PortState → Type 0 = λ port. MatchOption (judge_refusal before port) (Taken before (Judge 0) (Answered answer) after)
+    (λ refused. IsRefused before (Judge 0) refused (Answered answer) after) in
+    judge-answered (picking_refusal before picking (connection_in before.connections picking.vc)) before after picking answer had (subst P had step)
+
+-- The events of a cell's way, answered at the pick or by the judging.
+abbrev at_pick : List ℕ → ℕ → Answer → List Event
+at_pick cell moment answer =
+    record { step = Enter 0 cell moment; reply = Entered } ∷ record { step = Pick 0; reply = Answered answer } ∷ []
+
+abbrev at_judging : List ℕ → ℕ → Answer → List Event
+at_judging cell moment answer =
+    record { step = Enter 0 cell moment; reply = Entered } ∷ record { step = Pick 0; reply = Picked }
+    ∷ record { step = Judge 0; reply = Answered answer } ∷ []
+
+same-idle : (before after : World) → after ≡ before → IsIdle before → IsIdle after
+same-idle before after same idle = ap (λ (w : World). slice_get w.ports 0) same ∙ idle
+
+pick-idle : (before after : World) (cell : List ℕ) (moment : ℕ) (answer : Answer) → IsIdle before
+    → Run before (at_pick cell moment answer) after → IsIdle after
+pick-idle before after cell moment answer idle run =
+    let one = run.0 in let entering = entered-there before one cell moment (enters before one cell moment Entered idle run.1) in
+    let in_port = there before one (entered cell moment) outside idle entering in
+    let two = run.2.0 in
+    let left = pick-answered (is_none (connection_in one.connections (vc_of one.shape.side cell))) one two cell moment answer in_port
+    (picks one two cell moment (Answered answer) in_port run.2.1) in
+    same-idle two after run.2.2 (there one two outside (entered cell moment) in_port left)
+
+judging-idle : (before after : World) (cell : List ℕ) (moment : ℕ) (answer : Answer) → IsIdle before
+    → Run before (at_judging cell moment answer) after → IsIdle after
+judging-idle before after cell moment answer idle run =
+    let one = run.0 in let entering = entered-there before one cell moment (enters before one cell moment Entered idle run.1) in
+    let in_port = there before one (entered cell moment) outside idle entering in
+    let two = run.2.0 in
+    let picking = pick-picked (is_none (connection_in one.connections (vc_of one.shape.side cell))) one two cell moment
+    (picks one two cell moment Picked in_port run.2.1) in
+    let found = there one two (picked picking.0) (entered cell moment) in_port picking.1 in
+    let three = run.2.2.0 in
+    let left = judged two three picking.0 answer found run.2.2.1 in
+    same-idle three after run.2.2.2 (there two three outside (picked picking.0) found left)
+
+-- The log goes on by the events of the cell.
+pub answers-reached : (old new : CoreView) (cell : List ℕ) (moment : ℕ) (answer : Answer) → IsReached old
+    → Answers old 0 cell moment answer new → IsReached new
+answers-reached old new cell moment answer reached (inl follows) = ∥∥₁_map reached (λ r.
+    let gone = follows r.shape r.log r.world r.leads r.agrees in
+    record {
+      shape = r.shape;
+      log = r.log ++ at_pick cell moment answer;
+      world = gone.after;
+      leads = gone.leads;
+      agrees = gone.agrees;
+      idle = pick-idle r.world gone.after cell moment answer r.idle gone.stepped;
+    })
+answers-reached old new cell moment answer reached (inr follows) = ∥∥₁_map reached (λ r.
+    let gone = follows r.shape r.log r.world r.leads r.agrees in
+    record {
+      shape = r.shape;
+      log = r.log ++ at_judging cell moment answer;
+      world = gone.after;
+      leads = gone.leads;
+      agrees = gone.agrees;
+      idle = judging-idle r.world gone.after cell moment answer r.idle gone.stepped;
+    })
+
+-- A cell is never sent away.
+pub always-now : (old new : CoreView) (cell : List ℕ) (moment : ℕ) → IsReached old → Follows old (Enter 0 cell moment) NotNow new → ⊥
+always-now old new cell moment reached follows = ∥∥₁_elim reached (λ x y. absurd x) (λ r.
+    let gone = follows r.shape r.log r.world r.leads r.agrees in
+    never-now r.world gone.after cell moment (enters r.world gone.after cell moment NotNow r.idle gone.stepped))
+
+-- A card has a port.
+some-port : (programs lines ports journal : Bool)
+    → (if programs then Some Programs else if lines then Some Lines else if ports then Some Ports else if journal then Some Journal else None) ≡ None
+    → ports ≡ false
+some-port true lines ports journal e = let no : Some Programs ≡ None = e in cc
+some-port false true ports journal e = let no : Some Lines ≡ None = e in cc
+some-port false false true journal e = let no : Some Ports ≡ None = e in cc
+some-port false false false journal e = refl
+
+first-idle : (ports : ℕ) → is_beyond ports 16 ≡ false → slice_get (replicate ports outside) 0 ≡ Some outside
+first-idle zero e = let no : true ≡ false = e in cc
+first-idle (suc more) e = refl
+
+pub opening-idle : (shape : Shape) → shape_fault shape ≡ None → IsIdle (opening_world shape)
+opening-idle shape e =
+    first-idle shape.ports (some-port (is_beyond shape.programs 1024) (is_beyond shape.lines 4096) (is_beyond shape.ports 16) (is_beyond shape.journal 65536) e)
+
+-- The empty log leads to the opening world.
+pub opening-reached : (shape : Shape) (core : CoreView) → shape_fault shape ≡ None → CoreAgrees core (opening_world shape) → IsReached core
+opening-reached shape core fits agrees = ∣ record {
+  shape = shape;
+  log = [];
+  world = opening_world shape;
+  leads = refl;
+  agrees = agrees;
+  idle = opening-idle shape fits;
+} ∣₁

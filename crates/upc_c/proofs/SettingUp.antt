@@ -1,0 +1,31 @@
+-- A card that is as it was may take the same steps.
+use Rattle.std.proofs.Common.{◌≡◌, ◌⊎◌, inl, inr, sym, ◌∙◌}
+use Rattle.card_core.specs.declared.reply.Reply.{Reply}
+use Rattle.card_core.specs.declared.step.Step.{Step}
+use Rattle.upc_c.specs.CardDesk.{IsDeskFault, Refuses}
+use Rattle.upc_c.specs.CardHandle.{Takes, card_in}
+use Rattle.upc_c.specs.declared.card.UpcCard.{UpcCard}
+use Rattle.upc_c.specs.declared.fault.UpcFault.{UpcFault}
+
+pub takes-from : (first before after : UpcCard) (step : Step) (reply : Reply) → card_in before ≡ card_in first
+    → Takes before after step reply → Takes first after step reply
+takes-from first before after step reply same taken = record {
+  old = taken.old;
+  new = taken.new;
+  had = sym same ∙ taken.had;
+  has = taken.has;
+  follows = taken.follows;
+  kept = taken.kept;
+}
+
+-- The fault that is told is the one that was found.
+pub desk-fault-from : (first before after : UpcCard) (step : Step) (found told : UpcFault) → card_in before ≡ card_in first → told ≡ found
+    → IsDeskFault before after step found → IsDeskFault first after step told
+desk-fault-from first before after step found told same is (inl none) = inl (sym same ∙ none.0, is ∙ none.1)
+desk-fault-from first before after step found told same is (inr refused) = inr (record {
+  reply = refused.reply;
+  taken = takes-from first before after step refused.reply same refused.taken;
+  reason = refused.reason;
+  refused = refused.refused;
+  told = is ∙ refused.told;
+})

@@ -1,0 +1,51 @@
+-- A cell that comes to a card that C holds.
+use Rattle.std.specs.Prelude.{◌≡◌, ◌⊎◌, ℕ, List, length, Option, Some, None}
+use Rattle.card_core.specs.Agreement.{CoreView}
+use Rattle.card_core.specs.Arrival.{Answers}
+use Rattle.card_core.specs.declared.answer.Answer.{Answer}
+use Rattle.card_core.specs.declared.answer.Answer.TheVariants.{Judged, NoConnection, Released, Stale, MomentBack, MomentTooLate, JournalFull, NoMemory}
+use Rattle.leaky.specs.declared.verdict.Verdict.{Verdict}
+use Rattle.upc_c.specs.CardDesk.{id_of}
+use Rattle.upc_c.specs.CardHandle.{card_in, card_missing}
+use Rattle.upc_c.specs.CellHeader.{IsCellFault}
+use Rattle.upc_c.specs.Faults.{plain_fault, out_of_memory}
+use Rattle.upc_c.specs.Judging.{number_of}
+use Rattle.upc_c.specs.declared.arrival.UpcAnswer.{UpcAnswer}
+use Rattle.upc_c.specs.declared.card.UpcCard.{UpcCard}
+use Rattle.upc_c.specs.declared.fault.UpcFault.{UpcFault}
+
+-- The cell has gone its whole way at port 0 of the card, and this answers it.
+pub record Arrives (before after : UpcCard) (cell : List ℕ) (moment : ℕ) (answer : Answer) : Type 0 where
+  pub old : CoreView
+  pub new : CoreView
+  pub had : card_in before ≡ Some old
+  pub has : card_in after ≡ Some new
+  pub answers : Answers old 0 cell moment answer new
+
+-- The cell was judged: this is told of it, and these are the octets of the leaving cell.
+pub record IsPoliced (before after : UpcCard) (cell : List ℕ) (moment : ℕ) (told : UpcAnswer) (leaving : List ℕ) : Type 0 where
+  pub sized : length cell ≡ 52
+  pub verdict : Verdict
+  pub number : told.verdict ≡ number_of verdict
+  pub arrives : Arrives before after cell moment
+      (Judged told.line told.number told.moment told.value (id_of told.program) verdict leaving)
+
+-- Why a cell isn't judged, as C is told it. A judged cell has no such fault.
+abbrev pub reason_of_answer : Answer → Option UpcFault
+reason_of_answer (Judged line number moment value program verdict cell) = None
+reason_of_answer NoConnection = Some (plain_fault 8 1 0)
+reason_of_answer Released = Some (plain_fault 8 2 0)
+reason_of_answer Stale = Some (plain_fault 8 3 0)
+reason_of_answer (MomentBack last) = Some (plain_fault 8 4 last)
+reason_of_answer MomentTooLate = Some (plain_fault 8 5 0)
+reason_of_answer JournalFull = Some (plain_fault 8 6 0)
+reason_of_answer NoMemory = Some out_of_memory
+
+-- Why the cell of these octets wasn't judged: the number of octets; then that there is no card; then what the
+-- card answers to it.
+abbrev pub IsArrivalFault : UpcCard → UpcCard → List ℕ → ℕ → UpcFault → Type 0
+IsArrivalFault before after cell moment fault =
+    IsCellFault cell fault
+    ⊎ ((length cell ≡ 52) × (card_in before ≡ None) × (fault ≡ card_missing))
+    ⊎ ((length cell ≡ 52)
+    × ((answer : Answer) × Arrives before after cell moment answer × (reason_of_answer answer ≡ Some fault)))

@@ -1,0 +1,129 @@
+-- The desk of a card that C holds: its programs and connections.
+use Rattle.std.specs.Prelude.{◌≡◌, ◌⊎◌, ◌<◌, ℕ, List, [], ◌∷◌, length, Option, Some, None, ⊤}
+use Rattle.bpf_code.specs.OctetSpelling.{SpellsCode}
+use Rattle.bpf_code.specs.declared.instr.Instr.{Instr}
+use Rattle.bpf_verify.specs.Accepted.{IsAccepted}
+use Rattle.card_core.specs.declared.ask.Ask.{Ask}
+use Rattle.card_core.specs.declared.fault.DeskFault.{DeskFault}
+use Rattle.card_core.specs.declared.fault.DeskFault.TheVariants as desk
+use Rattle.card_core.specs.declared.reply.Reply.{Reply}
+use Rattle.card_core.specs.declared.reply.Reply.TheVariants.{Loaded, NotLoaded, SetUp, NotSetUp, Refused}
+use Rattle.card_core.specs.declared.shape.Shape.{Shape}
+use Rattle.card_core.specs.declared.step.Step.{Step}
+use Rattle.card_core.specs.declared.step.Step.TheVariants.{Load, Setup}
+use Rattle.gen_arena.specs.declared.id.Id.{Id}
+use Rattle.leaky.specs.declared.contract.Contract.{Contract}
+use Rattle.line_record.specs.declared.owner.Owner.{Owner}
+use Rattle.upc_cell.specs.Side.{last_vpi}
+use Rattle.upc_cell.specs.declared.vc.Vc.{Vc}
+use Rattle.upc_c.specs.CardHandle.{IsShapeIn, Takes, card_in, card_missing}
+use Rattle.upc_c.specs.Faults.{plain_fault, out_of_memory}
+use Rattle.upc_c.specs.GivenContract.{IsContract, AreAContract, IsContractFault}
+use Rattle.upc_c.specs.Programs.{IsProgram, IsDecodeRefusal, IsCheckRefusal}
+use Rattle.upc_c.specs.declared.card.UpcCard.{UpcCard}
+use Rattle.upc_c.specs.declared.contract.UpcContract.{UpcContract}
+use Rattle.upc_c.specs.declared.fault.UpcFault.{UpcFault}
+use Rattle.upc_c.specs.declared.id.UpcId.{UpcId}
+
+-- The id of these numbers.
+abbrev pub id_of : UpcId → Id
+id_of given = record { slot = given.slot; generation = given.generation }
+
+-- Why the desk refuses, as C is told it.
+abbrev pub told_desk : DeskFault → UpcFault
+told_desk desk.NoProgram = plain_fault 10 1 0
+told_desk desk.NoConnection = plain_fault 10 2 0
+told_desk desk.Taken = plain_fault 10 3 0
+told_desk desk.NoLine = plain_fault 10 4 0
+told_desk desk.InUse = plain_fault 10 5 0
+told_desk desk.ProgramsFull = plain_fault 10 6 0
+told_desk desk.Exhausted = plain_fault 10 7 0
+told_desk desk.BadContracts = plain_fault 10 8 0
+told_desk desk.Busy = plain_fault 10 9 0
+told_desk desk.NoMemory = out_of_memory
+told_desk desk.Stale = plain_fault 10 11 0
+
+-- Why a reply refuses a step of the desk, if it does.
+abbrev pub reason_of : Reply → Option DeskFault
+reason_of (NotLoaded fault code) = Some fault
+reason_of (NotSetUp fault ask) = Some fault
+reason_of (Refused fault) = Some fault
+reason_of _ = None
+
+-- The card has answered the step with a refusal, and the fault tells its reason.
+pub record Refuses (before after : UpcCard) (step : Step) (fault : UpcFault) : Type 0 where
+  pub reply : Reply
+  pub taken : Takes before after step reply
+  pub reason : DeskFault
+  pub refused : reason_of reply ≡ Some reason
+  pub told : fault ≡ told_desk reason
+
+-- Why a step of the desk isn't taken: there is no card, or the card refuses it.
+abbrev pub IsDeskFault : UpcCard → UpcCard → Step → UpcFault → Type 0
+IsDeskFault before after step fault =
+    ((card_in before ≡ None) × (fault ≡ card_missing)) ⊎ Refuses before after step fault
+
+-- The program that the octets spell was put in under this id.
+abbrev pub IsLoaded : UpcCard → UpcCard → List ℕ → UpcId → Type 0
+IsLoaded before after octets id = (code : List Instr) × SpellsCode octets code × IsAccepted code
+    × Takes before after (Load code) (Loaded (id_of id))
+
+-- Why no program was put in: the octets are none; or the step isn't taken.
+abbrev pub IsLoadFault : UpcCard → UpcCard → List ℕ → UpcFault → Type 0
+IsLoadFault before after octets fault =
+    IsDecodeRefusal octets fault ⊎ IsCheckRefusal octets fault
+    ⊎ ((code : List Instr) × SpellsCode octets code × IsAccepted code × IsDeskFault before after (Load code) fault)
+
+-- The contracts of these numbers, one for each and in their order.
+abbrev pub AreContracts : List UpcContract → List Contract → Type 0
+AreContracts [] [] = ⊤
+AreContracts [] (contract ∷ later) = ⊥
+AreContracts (given ∷ others) [] = ⊥
+AreContracts (given ∷ others) (contract ∷ later) = IsContract given contract × AreContracts others later
+
+-- The first of them that is no contract is so for this reason.
+abbrev pub IsFirstContractFault : List UpcContract → UpcFault → Type 0
+IsFirstContractFault [] fault = ⊥
+IsFirstContractFault (given ∷ others) fault =
+    IsContractFault given fault ⊎ (AreAContract given × IsFirstContractFault others fault)
+
+-- There are more contracts than a connection may have.
+abbrev pub too_many_contracts : UpcFault
+too_many_contracts = plain_fault 1 11 0
+
+-- Why numbers are not the contracts of a connection: there are more than four; or the first that is none.
+abbrev pub IsContractsFault : List UpcContract → UpcFault → Type 0
+IsContractsFault given fault =
+    ((4 < length given) × (fault ≡ too_many_contracts)) ⊎ IsFirstContractFault given fault
+
+-- The path is above the highest at the card's side.
+abbrev pub path_too_large : UpcFault
+path_too_large = plain_fault 1 10 0
+
+-- The card has no such path.
+abbrev pub HasNoPath : UpcCard → ℕ → Type 0
+HasNoPath card path = (shape : Shape) × IsShapeIn card shape × (last_vpi shape.side < path)
+
+-- The virtual connection of this path and channel.
+pub record IsVc (vpi vci : ℕ) (vc : Vc) : Type 0 where
+  pub path : vc.vpi ≡ vpi
+  pub channel : vc.vci ≡ vci
+
+-- What the desk is asked for by these numbers.
+pub record IsAsk (path channel : ℕ) (named : UpcId) (given : List UpcContract) (ask : Ask) : Type 0 where
+  pub vc : IsVc path channel ask.vc
+  pub program : ask.program ≡ id_of named
+  pub contracts : AreContracts given ask.contracts.items
+
+-- The connection was set up.
+abbrev pub IsSetUp : UpcCard → UpcCard → ℕ → ℕ → UpcId → List UpcContract → Type 0
+IsSetUp before after path channel program given = (ask : Ask) × IsAsk path channel program given ask
+    × ((owner : Owner) × Takes before after (Setup ask) (SetUp owner))
+
+-- Why no connection was set up: the contracts; then that there is no card, the path, or that the step is refused.
+abbrev pub IsSetupFault : UpcCard → UpcCard → ℕ → ℕ → UpcId → List UpcContract → UpcFault → Type 0
+IsSetupFault before after path channel program given fault =
+    IsContractsFault given fault
+    ⊎ ((card_in before ≡ None) × (fault ≡ card_missing))
+    ⊎ (HasNoPath before path × (fault ≡ path_too_large))
+    ⊎ ((ask : Ask) × IsAsk path channel program given ask × IsDeskFault before after (Setup ask) fault)

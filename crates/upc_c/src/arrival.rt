@@ -1,0 +1,147 @@
+//! Cells that come to a card that C holds.
+
+ghost use Rattle.std.specs.Prelude.{◌≡◌, ◌≢◌, ◌⊎◌, ◌<◌, None, Some, Ok, IfOk, IfErr};
+ghost use Rattle.card_core.specs.Arrival.{Answers};
+ghost use Rattle.card_core.specs.Sections.{answer_to, unjudged_answer};
+ghost use Rattle.card_core.specs.Steps.{cell_after};
+ghost use Rattle.card_core.specs.declared.answer.Answer.{Answer as TheAnswer};
+ghost use Rattle.upc_c.specs.CardArrival.{Arrives, IsArrivalFault, IsPoliced, reason_of_answer};
+ghost use Rattle.upc_c.specs.CardHandle.{card_in, card_missing};
+ghost use Rattle.upc_c.specs.Faults.{no_fault};
+ghost use Rattle.upc_c.specs.Judging.{number_of};
+ghost use Rattle.upc_c.specs.ReachedCore.{IsReached};
+
+use crate::card::UpcCard;
+use crate::cell::cell_of;
+use crate::desk_fault::card_missing;
+use crate::fault::{NO_FAULT, OF_AN_ARRIVAL, UpcFault, fault_at, told};
+use crate::id::{UpcId, numbers_of};
+use crate::meter::number_of;
+use crate::stepping::{put_core, take_core};
+use crate::telling::out_of_memory;
+use card_core::{Core, Judgement, Unjudged};
+use leaky::Verdict;
+use line_record::LineFault;
+use std::alloc::Global;
+use upc_cell::Cell;
+
+/// What is told of a judged cell.
+#[repr(C)]
+#[derive(Clone, Copy, Debug)]
+pub struct UpcAnswer {
+    /// 0 for a cell that passes, 1 for one that was tagged, 2 for one that is discarded, 3 for one that is
+    /// refused, since its program named no contract.
+    pub verdict: u32,
+    /// The number that the program gave: that of a contract, from 1, or any other, which names none.
+    pub value: u32,
+    /// How many cells with this verdict were judged on the line, this one included.
+    pub number: u64,
+    /// When the cell came, in ticks.
+    pub moment: u64,
+    /// The program that gave the number.
+    pub program: UpcId,
+    /// The number of the line, from 0.
+    pub line: u16,
+}
+
+/// Why a cell isn't judged.
+fn told_unjudged(reason: Unjudged) -> UpcFault
+    ensures told { reason_of_answer (unjudged_answer reason) ≡ Some result }
+    ensures numbered { 0 < result.number }
+{
+    match reason {
+        Unjudged::NoConnection => fault_at(OF_AN_ARRIVAL, 1, 0),
+        Unjudged::Released => fault_at(OF_AN_ARRIVAL, 2, 0),
+        Unjudged::Stale => fault_at(OF_AN_ARRIVAL, 3, 0),
+        Unjudged::Refused(LineFault::Back(last)) => fault_at(OF_AN_ARRIVAL, 4, last as usize),
+        Unjudged::Refused(LineFault::TooLate) => fault_at(OF_AN_ARRIVAL, 5, 0),
+        Unjudged::Refused(LineFault::Full) => fault_at(OF_AN_ARRIVAL, 6, 0),
+        Unjudged::Refused(LineFault::NoMemory) => out_of_memory(),
+    }
+}
+
+/// A cell goes its whole way at port 0 of a core that steps have led to.
+fn arrive_at(core: &mut Core, cell: &Cell, moment: u64) -> Result<Judgement, Unjudged>
+    requires { IsReached core.old }
+    ensures answers { Answers core.old 0 cell.now moment (answer_to cell.now result) core.new }
+    ensures reached { IsReached core.new }
+{
+    match core.arrive(0, cell, moment) {
+        Some(answered) => answered,
+        None => unreachable!(),
+    }
+}
+
+/// A cell goes its whole way on the card.
+fn arrive_on(
+    alloc: Global,
+    card: &mut UpcCard,
+    cell: &Cell,
+    moment: u64,
+) -> Result<Judgement, UpcFault>
+    ensures judged { IfOk result (λ judgement.
+        Arrives card.old card.new cell.now moment (answer_to cell.now (Ok judgement))) }
+    ensures refused { IfErr result (λ fault. ((card_in card.old ≡ None) × (fault ≡ card_missing))
+        ⊎ ((answer : TheAnswer) × Arrives card.old card.new cell.now moment answer
+        × (reason_of_answer answer ≡ Some fault))) }
+    ensures numbered { IfErr result (λ fault. 0 < fault.number) }
+{
+    let Some(mut core) = take_core(alloc, card) else {
+        return Err(card_missing());
+    };
+    let answered = arrive_at(&mut core, cell, moment);
+    put_core(card, core);
+    match answered {
+        Ok(judgement) => Ok(judgement),
+        Err(reason) => Err(told_unjudged(reason)),
+    }
+}
+
+/// The octets become those of the leaving cell.
+fn leave(octets: &mut [u8], cell: &Cell, verdict: Verdict)
+    requires { octets.old ≡ cell.now }
+    ensures { octets.new ≡ cell_after verdict cell.now }
+{
+    if verdict == Verdict::Tag {
+        octets.copy_from_slice(cell.tagged().bytes());
+    }
+}
+
+/// Judges the cell that 52 octets are, which came at this moment, on the connection that its header names,
+/// and tells what becomes of it. Where the verdict is to tag it, the octets become the tagged cell. Returns
+/// the fault's number, or 0.
+#[unsafe(no_mangle)]
+pub extern "C" fn upc_card_arrive(
+    alloc: Global,
+    card: &mut UpcCard,
+    octets: &mut [u8],
+    moment: u64,
+    answer: &mut UpcAnswer,
+    fault: &mut UpcFault,
+) -> u32
+    ensures number { result ≡ fault.new.number }
+    ensures judged { result ≡ 0 → IsPoliced card.old card.new octets.old moment answer.new octets.new }
+    ensures fine { result ≡ 0 → fault.new ≡ no_fault }
+    ensures refused { result ≢ 0 → IsArrivalFault card.old card.new octets.old moment fault.new }
+    ensures left { result ≢ 0 → octets.new ≡ octets.old }
+    ensures answer_left { result ≢ 0 → answer.new ≡ answer.old }
+{
+    let cell = match cell_of(octets) {
+        Ok(cell) => cell,
+        Err(found) => return told(fault, found),
+    };
+    let judgement = match arrive_on(alloc, card, &cell, moment) {
+        Ok(judgement) => judgement,
+        Err(found) => return told(fault, found),
+    };
+    leave(octets, &cell, judgement.verdict);
+    *answer = UpcAnswer {
+        verdict: number_of(judgement.verdict),
+        value: judgement.value,
+        number: judgement.number,
+        moment: judgement.moment,
+        program: numbers_of(judgement.program),
+        line: judgement.line,
+    };
+    told(fault, NO_FAULT)
+}

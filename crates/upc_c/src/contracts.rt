@@ -1,0 +1,31 @@
+//! The contracts of a connection, as C gives them.
+
+ghost use Rattle.std.specs.Prelude.{◌≡◌, ◌<◌, IfOk, IfErr};
+ghost use Rattle.upc_c.specs.CardDesk.{AreContracts, IsContractsFault};
+
+use crate::contract::{UpcContract, contract_of};
+use crate::fault::{OF_THE_CALL, UpcFault, fault_at};
+use arrayvec::ArrayVec;
+use leaky::Contract;
+
+/// How many contracts a connection has at most.
+const MOST_CONTRACTS: usize = 4;
+
+/// The contracts of these numbers, in their order.
+pub(crate) fn contracts_of(given: &[UpcContract]) -> Result<ArrayVec<Contract, 4>, UpcFault>
+    ensures contracts { IfOk result (λ contracts. AreContracts given.now contracts.items) }
+    ensures fault { IfErr result (IsContractsFault given.now) }
+    ensures numbered { IfErr result (λ fault. 0 < fault.number) }
+{
+    if given.len() > MOST_CONTRACTS {
+        return Err(fault_at(OF_THE_CALL, 11, 0));
+    }
+    let mut contracts = ArrayVec::new();
+    for each in given {
+        match contract_of(each) {
+            Ok(contract) => contracts.push(contract),
+            Err(found) => return Err(found),
+        }
+    }
+    Ok(contracts)
+}

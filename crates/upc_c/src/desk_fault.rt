@@ -1,0 +1,37 @@
+//! Why the desk refuses, as C is told it.
+
+ghost use Rattle.std.specs.Prelude.{◌≡◌, ◌<◌};
+ghost use Rattle.upc_c.specs.CardDesk.{told_desk};
+ghost use Rattle.upc_c.specs.CardHandle.{card_missing};
+
+use crate::fault::{OF_THE_CALL, OF_THE_DESK, UpcFault, fault_at};
+use crate::telling::out_of_memory;
+use card_core::DeskFault;
+
+/// There is no card.
+pub(crate) fn card_missing() -> UpcFault
+    ensures { result ≡ card_missing }
+{
+    fault_at(OF_THE_CALL, 9, 0)
+}
+
+/// Why a step of the desk is refused.
+pub(crate) fn told_desk(found: DeskFault) -> UpcFault
+    ensures told { result ≡ told_desk found }
+    ensures numbered { 0 < result.number }
+{
+    let number = match found {
+        DeskFault::NoProgram => 1,
+        DeskFault::NoConnection => 2,
+        DeskFault::Taken => 3,
+        DeskFault::NoLine => 4,
+        DeskFault::InUse => 5,
+        DeskFault::ProgramsFull => 6,
+        DeskFault::Exhausted => 7,
+        DeskFault::BadContracts => 8,
+        DeskFault::Busy => 9,
+        DeskFault::NoMemory => return out_of_memory(),
+        DeskFault::Stale => 11,
+    };
+    fault_at(OF_THE_DESK, number, 0)
+}

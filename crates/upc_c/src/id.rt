@@ -1,0 +1,36 @@
+//! The names of programs, as C has them.
+
+ghost use Rattle.std.specs.Prelude.{◌≡◌};
+ghost use Rattle.upc_c.specs.CardDesk.{id_of};
+
+use gen_arena::Id;
+
+/// The name of a program on a card: the number of its slot, from 0, and how often that slot was given.
+#[repr(C)]
+#[derive(Clone, Copy, Debug)]
+pub struct UpcId {
+    /// The number of the slot.
+    pub slot: u16,
+    /// How often the slot was given, this time included.
+    pub generation: u32,
+}
+
+/// The id of these numbers.
+pub(crate) fn id_of(given: &UpcId) -> Id
+    ensures { result ≡ id_of given.now }
+{
+    Id {
+        slot: given.slot,
+        generation: given.generation,
+    }
+}
+
+/// The numbers of an id.
+pub(crate) fn numbers_of(id: Id) -> UpcId
+    ensures { id ≡ id_of result }
+{
+    UpcId {
+        slot: id.slot,
+        generation: id.generation,
+    }
+}

@@ -1,0 +1,64 @@
+//! Programs that C puts into a card.
+
+ghost use Rattle.std.specs.Prelude.{◌≡◌, ◌≢◌, ◌<◌, IfOk, IfErr, OnErr};
+ghost use Rattle.card_core.specs.declared.reply.Reply.TheVariants.{Loaded};
+ghost use Rattle.card_core.specs.declared.step.Step.TheVariants.{Load};
+ghost use Rattle.upc_c.specs.CardDesk.{IsDeskFault, IsLoaded, IsLoadFault};
+ghost use Rattle.upc_c.specs.CardHandle.{Takes, card_in};
+ghost use Rattle.upc_c.specs.Faults.{no_fault};
+
+use crate::card::UpcCard;
+use crate::desk_fault::{card_missing, told_desk};
+use crate::fault::{NO_FAULT, UpcFault, told};
+use crate::id::{UpcId, numbers_of};
+use crate::program::accepted;
+use crate::stepping::step_on;
+use bpf_verify::Program;
+use card_core::{Reply, Step};
+use gen_arena::Id;
+use std::alloc::Global;
+
+/// Takes the step `Load`.
+fn load_on(alloc: Global, card: &mut UpcCard, program: Program) -> Result<Id, UpcFault>
+    ensures loaded { IfOk result (λ id. Takes card.old card.new (Load program) (Loaded id)) }
+    ensures refused { IfErr result (IsDeskFault card.old card.new (Load program)) }
+    ensures left { OnErr result (card_in card.new ≡ card_in card.old) }
+    ensures numbered { IfErr result (λ fault. 0 < fault.number) }
+{
+    match step_on(alloc, card, Step::Load(program)) {
+        Some(Reply::Loaded(id)) => Ok(id),
+        Some(Reply::NotLoaded(found, _)) => Err(told_desk(found)),
+        Some(_) => unreachable!(),
+        None => Err(card_missing()),
+    }
+}
+
+/// Puts the program that octets spell into the card, and tells its id, which no other program ever has.
+/// Returns the fault's number, or 0.
+#[unsafe(no_mangle)]
+pub extern "C" fn upc_card_load(
+    alloc: Global,
+    card: &mut UpcCard,
+    octets: &[u8],
+    id: &mut UpcId,
+    fault: &mut UpcFault,
+) -> u32
+    ensures number { result ≡ fault.new.number }
+    ensures loaded { result ≡ 0 → IsLoaded card.old card.new octets.now id.new }
+    ensures fine { result ≡ 0 → fault.new ≡ no_fault }
+    ensures refused { result ≢ 0 → IsLoadFault card.old card.new octets.now fault.new }
+    ensures left { result ≢ 0 → card_in card.new ≡ card_in card.old }
+    ensures id_left { result ≢ 0 → id.new ≡ id.old }
+{
+    let program = match accepted(alloc, octets) {
+        Ok(program) => program,
+        Err(found) => return told(fault, found),
+    };
+    match load_on(alloc, card, program) {
+        Ok(loaded) => {
+            *id = numbers_of(loaded);
+            told(fault, NO_FAULT)
+        }
+        Err(found) => told(fault, found),
+    }
+}

@@ -1,0 +1,95 @@
+//! Connections that C sets up on a card.
+
+ghost use Rattle.std.specs.Prelude.{◌≡◌, ◌≢◌, ◌⊎◌, ◌<◌, None, IfOk, IfErr};
+ghost use Rattle.card_core.specs.declared.reply.Reply.TheVariants.{SetUp};
+ghost use Rattle.card_core.specs.declared.step.Step.TheVariants.{Setup};
+ghost use Rattle.upc_c.specs.CardDesk.{HasNoPath, IsDeskFault, IsSetUp, IsSetupFault, IsVc, path_too_large};
+ghost use Rattle.upc_c.specs.CardHandle.{Takes, card_in, card_missing};
+ghost use Rattle.upc_c.specs.Faults.{no_fault, out_of_memory};
+
+use crate::card::UpcCard;
+use crate::contract::UpcContract;
+use crate::contracts::contracts_of;
+use crate::desk_fault::{card_missing, told_desk};
+use crate::fault::{NO_FAULT, OF_THE_CALL, UpcFault, fault_at, told};
+use crate::id::{UpcId, id_of};
+use crate::stepping::{shape_on, step_on};
+use card_core::{Ask, Reply, Step};
+use line_record::Owner;
+use std::alloc::Global;
+use upc_cell::Vc;
+
+/// The virtual connection of this path and channel, where the card's side has the path.
+pub(crate) fn vc_on(
+    alloc: Global,
+    card: &mut UpcCard,
+    path: u16,
+    channel: u16,
+) -> Result<Vc, UpcFault>
+    ensures vc { IfOk result (IsVc path channel) }
+    ensures fault { IfErr result (λ fault. ((card_in card.old ≡ None) × (fault ≡ card_missing))
+        ⊎ (HasNoPath card.old path × (fault ≡ path_too_large))) }
+    ensures kept { card_in card.new ≡ card_in card.old }
+    ensures numbered { IfErr result (λ fault. 0 < fault.number) }
+{
+    let Some(shape) = shape_on(alloc, card) else {
+        return Err(card_missing());
+    };
+    match Vc::new_at(shape.side, path, channel) {
+        Ok(vc) => Ok(vc),
+        Err(_) => Err(fault_at(OF_THE_CALL, 10, 0)),
+    }
+}
+
+/// Takes the step `Setup`.
+fn setup_on(alloc: Global, card: &mut UpcCard, ask: Ask) -> Result<Owner, UpcFault>
+    ensures set { IfOk result (λ owner. Takes card.old card.new (Setup ask) (SetUp owner)) }
+    ensures refused { IfErr result (IsDeskFault card.old card.new (Setup ask)) }
+    ensures left { IfErr result (λ fault. fault ≢ out_of_memory → card_in card.new ≡ card_in card.old) }
+    ensures numbered { IfErr result (λ fault. 0 < fault.number) }
+{
+    match step_on(alloc, card, Step::Setup(ask)) {
+        Some(Reply::SetUp(owner)) => Ok(owner),
+        Some(Reply::NotSetUp(found, _)) => Err(told_desk(found)),
+        Some(_) => unreachable!(),
+        None => Err(card_missing()),
+    }
+}
+
+/// Sets up a connection on this path and channel, for whose cells the program names one of the contracts,
+/// by 1 for the first of the one to four. Returns the fault's number, or 0.
+#[unsafe(no_mangle)]
+pub extern "C" fn upc_card_setup(
+    alloc: Global,
+    card: &mut UpcCard,
+    path: u16,
+    channel: u16,
+    program: &UpcId,
+    contracts: &[UpcContract],
+    fault: &mut UpcFault,
+) -> u32
+    ensures number { result ≡ fault.new.number }
+    ensures set { result ≡ 0 → IsSetUp card.old card.new path channel program.now contracts.now }
+    ensures fine { result ≡ 0 → fault.new ≡ no_fault }
+    ensures refused { result ≢ 0
+        → IsSetupFault card.old card.new path channel program.now contracts.now fault.new }
+    ensures left { result ≢ 0 → fault.new ≢ out_of_memory → card_in card.new ≡ card_in card.old }
+{
+    let contracts = match contracts_of(contracts) {
+        Ok(contracts) => contracts,
+        Err(found) => return told(fault, found),
+    };
+    let vc = match vc_on(alloc, card, path, channel) {
+        Ok(vc) => vc,
+        Err(found) => return told(fault, found),
+    };
+    let ask = Ask {
+        vc,
+        program: id_of(program),
+        contracts,
+    };
+    match setup_on(alloc, card, ask) {
+        Ok(_) => told(fault, NO_FAULT),
+        Err(found) => told(fault, found),
+    }
+}
