@@ -13,7 +13,7 @@
  *    allocator, whose blocks are aligned for every type of at most 16 octets. They are called from no signal handler, nor
  *    from the child that a process with threads forked.
  *
- *  - A upc_program is all zeros, or what these calls left in it.
+ *  - A upc_program and a upc_card are all zeros, or what these calls left in them.
  *
  * Any number of threads may call at once. Nothing is kept between calls but in what the caller holds.
  */
@@ -50,7 +50,11 @@ enum upc_kind {
 	                   8 Unwritten; place: of the instruction, from 0 */
 	UPC_GCRA = 6,   /* 1 ZeroIncrement, 2 TooLarge; place: the bucket, 1 or 2 */
 	UPC_BURST = 7,  /* 1 ZeroMbs, 2 PeakSlower, 3 TooLarge */
-	UPC_ARRIVE = 8  /* 5 MomentTooLate */
+	UPC_ARRIVE = 8, /* 1 NoConnection, 4 MomentBack, 5 MomentTooLate, 6 JournalFull; place: of MomentBack, the moment of the
+	                   connection's last judged cell. 2 and 3 are of cards in threads */
+	UPC_SHAPE = 9,  /* 1 Programs, 2 Lines, 3 Ports, 4 Journal */
+	UPC_DESK = 10   /* 1 NoProgram, 2 NoConnection, 3 Taken, 4 NoLine, 5 InUse, 6 ProgramsFull, 7 Exhausted,
+	                   8 BadContracts. 9 and 11 are of cards in threads, and 10 is UPC_NO_MEMORY here */
 };
 
 enum upc_call {
@@ -60,7 +64,11 @@ enum upc_call {
 	UPC_LATE_LEVELS = 4,   /* the levels are above UPC_LAST_LEVEL */
 	UPC_UNKNOWN_SIDE = 5,  /* the side is none of enum upc_side */
 	UPC_PROGRAM_THERE = 6, /* the upc_program has a program already */
-	UPC_NO_PROGRAM = 7     /* the upc_program has none */
+	UPC_NO_PROGRAM = 7,    /* the upc_program has none */
+	UPC_CARD_THERE = 8,    /* the upc_card has a card already */
+	UPC_NO_CARD = 9,       /* the upc_card has none */
+	UPC_LARGE_PATH = 10,   /* the path is above 255, or between nodes of the network above 4095 */
+	UPC_MANY_CONTRACTS = 11 /* there are more than UPC_MOST_CONTRACTS */
 };
 
 /* ---- A meter on the caller's state (no call takes memory) ---- */
@@ -89,13 +97,14 @@ typedef struct upc_levels {
 	uint64_t second;
 } upc_levels;
 
-enum upc_verdict { UPC_PASS = 0, UPC_TAG = 1, UPC_DISCARD = 2 };
+/* UPC_REFUSE is a card's alone: the program's value was no contract's number. */
+enum upc_verdict { UPC_PASS = 0, UPC_TAG = 1, UPC_DISCARD = 2, UPC_REFUSE = 3 };
 
 /* Whether the numbers are a contract. Faults: UPC_UNKNOWN_KIND, then those of UPC_GCRA of the first faulty bucket. */
 uint32_t upc_contract_check(const upc_contract *contract, upc_fault *fault);
 
 /* Judges a cell of cell loss priority 0, or of 1 where clp is any other number, at a moment of at most UPC_LAST_MOMENT
- * ticks. *verdict becomes one of enum upc_verdict, and *levels what the cell leaves. The moments of the cells of one
+ * ticks. *verdict becomes UPC_PASS, UPC_TAG or UPC_DISCARD, and *levels what the cell leaves. The moments of the cells of one
  * upc_levels don't go back: a cell that comes before another is still judged, but not as I.371 would.
  * Faults: those of upc_contract_check, then UPC_LATE_LEVELS, then arrive 5 MomentTooLate. */
 uint32_t upc_judge(const upc_contract *contract, upc_levels *levels, uint32_t clp, uint64_t moment, uint32_t *verdict,
@@ -164,6 +173,98 @@ uint32_t upc_program_run(upc_program *program, const uint8_t *octets, size_t len
 
 /* Lets the program go, and leaves none. Where there is none it does nothing. */
 void upc_program_free(upc_program *program);
+
+/* ---- A card (memory) ---- */
+
+/* A card with programs and connections, which judges each cell on the connection that its header names; or none: all zeros
+ * are none, as in `upc_card c = {0, 0};`. What is said of a upc_program holds of it: it is filled by these calls alone, has
+ * no second copy, is let go before it is forgotten, and stays with the thread that made it. A card serves one caller. */
+typedef struct upc_card {
+	uint32_t live;
+	void *at;
+} upc_card;
+
+/* How large a card is. */
+typedef struct upc_shape {
+	uint32_t side;     /* one of enum upc_side: which header its cells have */
+	uint64_t programs; /* how many programs it holds at most, 1 to 1024 */
+	uint64_t lines;    /* how many connections it has at most, 1 to 4096 */
+	uint64_t ports;    /* 1 to 16; the calls below use one */
+	uint64_t journal;  /* how many cells a connection has between two cuts at most, 1 to 65536 */
+} upc_shape;
+
+/* The name of a program on a card. No other program of that card ever has the same. */
+typedef struct upc_id {
+	uint16_t slot;
+	uint32_t generation;
+} upc_id;
+
+/* What is told of a judged cell. */
+typedef struct upc_answer {
+	uint32_t verdict; /* one of enum upc_verdict */
+	uint32_t value;   /* what the program gave: the number of a contract, from 1, or any other, which names none */
+	uint64_t number;  /* how many cells with this verdict were judged on the line, this one included */
+	uint64_t moment;  /* when the cell came, in ticks */
+	upc_id program;   /* the program that gave the value */
+	uint16_t line;    /* the number of the line, from 0 */
+} upc_answer;
+
+/* How many cells of each verdict were judged on a line since the card was made. */
+typedef struct upc_counts {
+	uint64_t passed;
+	uint64_t tagged;
+	uint64_t discarded;
+	uint64_t refused;
+} upc_counts;
+
+/* What is told of a connection's journal. */
+typedef struct upc_journal {
+	size_t cells;      /* the cells judged since the last cut, or since the connection was set up */
+	upc_counts before; /* the counts of its line before the first of them */
+	upc_counts after;  /* and after the last */
+} upc_journal;
+
+enum { UPC_MOST_CONTRACTS = 4 };
+
+/* Makes a card without programs and connections, where there is none.
+ * Faults: UPC_CARD_THERE, then UPC_UNKNOWN_SIDE, then those of UPC_SHAPE. */
+uint32_t upc_card_new(const upc_shape *shape, upc_card *card, upc_fault *fault);
+
+/* Lets the card go, with its programs and connections, and leaves none. Where there is none it does nothing. */
+void upc_card_free(upc_card *card);
+
+/* Puts the program that octets spell into the card; *id becomes its name.
+ * Faults: those of upc_check, then UPC_NO_CARD, then desk 6 ProgramsFull. */
+uint32_t upc_card_load(upc_card *card, const uint8_t *octets, size_t length, upc_id *id, upc_fault *fault);
+
+/* Takes a program out that no connection names. It takes no memory.
+ * Faults: UPC_NO_CARD, then desk 1 NoProgram, 5 InUse. */
+uint32_t upc_card_retire(upc_card *card, const upc_id *program, upc_fault *fault);
+
+/* Sets up a connection on this path and channel. For each of its cells the program names one of the contracts, by 1 for the
+ * first of the one to four. Faults: UPC_MANY_CONTRACTS, then those of upc_contract_check of the first faulty contract, then
+ * UPC_NO_CARD, UPC_LARGE_PATH, then desk 1 NoProgram, 3 Taken, 8 BadContracts (there is none), 4 NoLine, 7 Exhausted. */
+uint32_t upc_card_setup(upc_card *card, uint16_t path, uint16_t channel, const upc_id *program,
+                        const upc_contract *contracts, size_t count, upc_fault *fault);
+
+/* Gives a connection another program; *earlier becomes the one that it had. Its buckets and its journal stay. It takes no
+ * memory. Faults: UPC_NO_CARD, UPC_LARGE_PATH, then desk 1 NoProgram, 2 NoConnection. */
+uint32_t upc_card_reload(upc_card *card, uint16_t path, uint16_t channel, const upc_id *program, upc_id *earlier,
+                         upc_fault *fault);
+
+/* Ends a connection, and tells of its last journal. It takes no memory.
+ * Faults: UPC_NO_CARD, UPC_LARGE_PATH, then desk 2 NoConnection. */
+uint32_t upc_card_release(upc_card *card, uint16_t path, uint16_t channel, upc_journal *journal, upc_fault *fault);
+
+/* Empties a connection's journal, and tells of it. The buckets and the last moment stay.
+ * Faults: UPC_NO_CARD, UPC_LARGE_PATH, then desk 2 NoConnection. */
+uint32_t upc_card_cut(upc_card *card, uint16_t path, uint16_t channel, upc_journal *journal, upc_fault *fault);
+
+/* Judges the cell that 52 octets are, which came at this moment, on the connection that its header names, and tells what
+ * becomes of it. Where the verdict is UPC_TAG, the octets become the tagged cell. It takes no memory.
+ * Faults: cell 1 WrongLength, then UPC_NO_CARD, then those of UPC_ARRIVE: 1, then 5, 4, 6. */
+uint32_t upc_card_arrive(upc_card *card, uint8_t *octets, size_t length, uint64_t moment, upc_answer *answer,
+                         upc_fault *fault);
 
 #ifdef __cplusplus
 }

@@ -142,6 +142,111 @@ static void kept_program(void)
 	tell("let go", upc_program_run(&program, cell, sizeof cell, &value[0], &value[1], &fault), value, value, 0);
 }
 
+/* A card of these numbers can't be made. */
+static void no_card(const char *what, uint32_t side, uint64_t programs, uint64_t lines, uint64_t ports, uint64_t journal)
+{
+	upc_shape shape = {side, programs, lines, ports, journal};
+	upc_card card = {0, 0}, before = {0, 0};
+
+	tell(what, upc_card_new(&shape, &card, &fault), &card, &before, sizeof card);
+}
+
+/* A cell on VPI/VCI 1/CHANNEL at a moment. */
+static void arrive(const char *what, upc_card *card, uint8_t channel, size_t length, uint64_t moment)
+{
+	uint8_t octets[UPC_CELL_OCTETS] = {0, 0x10, 0, (uint8_t)(channel << 4)}, before[UPC_CELL_OCTETS];
+	upc_answer answer;
+
+	memcpy(before, octets, sizeof octets);
+	tell(what, upc_card_arrive(card, octets, length, moment, &answer, &fault), octets, before, sizeof octets);
+	if (fault.number == 0)
+		printf("%s: verdict %u value %u number %lu line %u\n", what, (unsigned)answer.verdict, (unsigned)answer.value,
+		       (unsigned long)answer.number, (unsigned)answer.line);
+}
+
+static void set_up(const char *what, upc_card *card, uint16_t path, uint16_t channel, upc_id id, upc_contract it, size_t count)
+{
+	upc_contract all[5];
+	size_t k;
+
+	for (k = 0; k < 5; k++)
+		all[k] = it;
+	tell(what, upc_card_setup(card, path, channel, &id, all, count, &fault), "", "", 0);
+}
+
+/* The desk of a card of one program and one line, whose journal has room for two cells. */
+static void card_desk(upc_card *card, upc_id id, upc_contract it)
+{
+	static const uint8_t octets[] = {0, 6, 0, 0, 0, 0, 0, 2}, wrong[] = {0, 7, 0, 0, 0, 0, 0, 0};
+	upc_id other = {3, 1}, unread = {3, 1};
+	upc_contract none = it;
+
+	tell("load no program", upc_card_load(card, wrong, sizeof wrong, &other, &fault), &other, &unread, sizeof other);
+	tell("load one more", upc_card_load(card, octets, sizeof octets, &other, &fault), &other, &unread, sizeof other);
+	none.peak_increment = 0;
+	set_up("five contracts", card, 1, 1, id, it, 5);
+	set_up("no contract's numbers", card, 1, 1, id, none, 1);
+	set_up("large path", card, 256, 1, id, it, 1);
+	set_up("another program", card, 1, 1, other, it, 1);
+	set_up("no contracts", card, 1, 1, id, it, 0);
+	set_up("connection", card, 1, 1, id, it, 1);
+	set_up("connection again", card, 1, 1, id, it, 1);
+	set_up("one more connection", card, 1, 2, id, it, 1);
+	tell("retire a program in use", upc_card_retire(card, &id, &fault), "", "", 0);
+	tell("retire another", upc_card_retire(card, &other, &fault), "", "", 0);
+	tell("reload another", upc_card_reload(card, 1, 1, &other, &unread, &fault), "", "", 0);
+	tell("reload elsewhere", upc_card_reload(card, 1, 2, &id, &unread, &fault), "", "", 0);
+	tell("reload", upc_card_reload(card, 1, 1, &id, &unread, &fault), "", "", 0);
+	printf("reload: the same program %d\n", unread.slot == id.slot && unread.generation == id.generation);
+}
+
+static void tell_journal(const char *what, uint32_t number, const upc_journal *journal)
+{
+	tell(what, number, "", "", 0);
+	if (number == 0)
+		printf("%s: %lu cells, refused %lu to %lu\n", what, (unsigned long)journal->cells,
+		       (unsigned long)journal->before.refused, (unsigned long)journal->after.refused);
+}
+
+/* What a upc_card refuses, in the order of a card's life. The program names contract 2, and there is one. */
+static void kept_card(void)
+{
+	static const uint8_t octets[] = {0, 6, 0, 0, 0, 0, 0, 2};
+	const upc_contract cbr = {UPC_CBR1, 10, 5, 0, 0};
+	const upc_shape shape = {UPC_UNI, 1, 1, 1, 2};
+	upc_card card = {0, 0};
+	upc_journal journal;
+	upc_id id = {0, 0};
+
+	no_card("side 2", 2, 0, 1, 1, 1);
+	no_card("no programs", UPC_UNI, 0, 0, 1, 1);
+	no_card("4097 lines", UPC_NNI, 1024, 4097, 17, 1);
+	no_card("17 ports", UPC_UNI, 1, 4096, 17, 0);
+	no_card("large journal", UPC_UNI, 1, 1, 16, 65537);
+	upc_card_free(&card);
+	arrive("no card", &card, 1, 52, 0);
+	set_up("set up on no card", &card, 1, 1, id, cbr, 1);
+	tell("new card", upc_card_new(&shape, &card, &fault), "", "", 0);
+	tell("new card again", upc_card_new(&shape, &card, &fault), "", "", 0);
+	tell("load", upc_card_load(&card, octets, sizeof octets, &id, &fault), "", "", 0);
+	card_desk(&card, id, cbr);
+	arrive("short cell", &card, 1, 51, 0);
+	arrive("cell elsewhere", &card, 2, 52, 0);
+	arrive("late cell", &card, 1, 52, UPC_LAST_MOMENT + 1);
+	arrive("first cell", &card, 1, 52, 9);
+	arrive("earlier cell", &card, 1, 52, 8);
+	arrive("second cell", &card, 1, 52, 9);
+	arrive("third cell", &card, 1, 52, 9);
+	tell_journal("cut elsewhere", upc_card_cut(&card, 1, 2, &journal, &fault), &journal);
+	tell_journal("cut", upc_card_cut(&card, 1, 1, &journal, &fault), &journal);
+	arrive("cell after the cut", &card, 1, 52, 9);
+	tell_journal("release on a large path", upc_card_release(&card, 256, 1, &journal, &fault), &journal);
+	tell_journal("release", upc_card_release(&card, 1, 1, &journal, &fault), &journal);
+	tell("retire", upc_card_retire(&card, &id, &fault), "", "", 0);
+	upc_card_free(&card);
+	arrive("card let go", &card, 1, 52, 0);
+}
+
 int main(void)
 {
 	static const char *const sources[] = {"ret #1", "ret", "ret #8x", "l:l:ret #1", "l:ret #1\nl:ret #2", "ja l", "l:ja l", "l:"};
@@ -168,5 +273,6 @@ int main(void)
 	source("ret #1", 7);
 	far_and_long();
 	kept_program();
+	kept_card();
 	return 0;
 }

@@ -58,6 +58,57 @@ static uint32_t put_in(upc_fault *fault)
 	return number;
 }
 
+static const upc_shape shape = {UPC_UNI, 2, 2, 1, 4};
+static const upc_contract contract = {UPC_CBR1, 5, 0, 0, 0};
+static upc_card card;
+static upc_id id;
+
+/* Makes a card, and lets it go again. */
+static uint32_t make_card(upc_fault *fault)
+{
+	upc_card made = {0, 0};
+	uint32_t number = upc_card_new(&shape, &made, fault);
+
+	upc_card_free(&made);
+	return number;
+}
+
+/* Puts a program into the card, and takes it out again. */
+static uint32_t load(upc_fault *fault)
+{
+	upc_id other = {7, 7};
+	upc_fault later;
+	uint32_t number = upc_card_load(&card, program, octets, &other, fault);
+
+	if (number == 0 && upc_card_retire(&card, &other, &later) != 0)
+		return 99;
+	return number == 0 || (other.slot == 7 && other.generation == 7) ? number : 99;
+}
+
+/* Sets up a connection, has a cell judged on it, and ends it. */
+static uint32_t set_up(upc_fault *fault)
+{
+	uint8_t cell[UPC_CELL_OCTETS] = {0, 0x10, 0x06, 0x40};
+	upc_answer answer;
+	upc_journal journal;
+	upc_fault later;
+	uint32_t number = upc_card_setup(&card, 1, 100, &id, &contract, 1, fault);
+
+	if (number != 0)
+		return number;
+	if (upc_card_arrive(&card, cell, sizeof cell, 0, &answer, &later) != 0)
+		return 99;
+	return upc_card_release(&card, 1, 100, &journal, &later) == 0 && journal.cells == 1 ? 0 : 99;
+}
+
+/* Empties the journal of a connection. */
+static uint32_t cut(upc_fault *fault)
+{
+	upc_journal journal;
+
+	return upc_card_cut(&card, 1, 101, &journal, fault);
+}
+
 /* Calls with each request refused in turn, until no request is. Returns whether each answer was right. */
 static int try_call(const char *name, uint32_t (*call)(upc_fault *))
 {
@@ -89,9 +140,16 @@ static int try_call(const char *name, uint32_t (*call)(upc_fault *))
 int main(void)
 {
 	upc_fault fault;
+	int failed;
 
 	if (upc_assemble((const uint8_t *)source, sizeof source - 1, program, sizeof program, &octets, &fault) != 0)
 		return 1;
-	return !(try_call("upc_assemble", assemble) && try_call("upc_check", check) && try_call("upc_listing", list) &&
-	         try_call("upc_program_new", put_in));
+	if (upc_card_new(&shape, &card, &fault) != 0 || upc_card_load(&card, program, octets, &id, &fault) != 0 ||
+	    upc_card_setup(&card, 1, 101, &id, &contract, 1, &fault) != 0)
+		return 1;
+	failed = !(try_call("upc_assemble", assemble) && try_call("upc_check", check) && try_call("upc_listing", list) &&
+	           try_call("upc_program_new", put_in) && try_call("upc_card_new", make_card) && try_call("upc_card_load", load) &&
+	           try_call("upc_card_setup", set_up) && try_call("upc_card_cut", cut));
+	upc_card_free(&card);
+	return failed;
 }

@@ -7,10 +7,10 @@ use Rattle.card_core.specs.declared.ask.Ask.{Ask}
 use Rattle.card_core.specs.declared.fault.DeskFault.{DeskFault}
 use Rattle.card_core.specs.declared.fault.DeskFault.TheVariants as desk
 use Rattle.card_core.specs.declared.reply.Reply.{Reply}
-use Rattle.card_core.specs.declared.reply.Reply.TheVariants.{Loaded, NotLoaded, SetUp, NotSetUp, Refused}
+use Rattle.card_core.specs.declared.reply.Reply.TheVariants.{Loaded, NotLoaded, Retired, SetUp, NotSetUp, Reloaded, Refused}
 use Rattle.card_core.specs.declared.shape.Shape.{Shape}
 use Rattle.card_core.specs.declared.step.Step.{Step}
-use Rattle.card_core.specs.declared.step.Step.TheVariants.{Load, Setup}
+use Rattle.card_core.specs.declared.step.Step.TheVariants.{Load, Retire, Setup, Reload}
 use Rattle.gen_arena.specs.declared.id.Id.{Id}
 use Rattle.leaky.specs.declared.contract.Contract.{Contract}
 use Rattle.line_record.specs.declared.owner.Owner.{Owner}
@@ -127,3 +127,20 @@ IsSetupFault before after path channel program given fault =
     ⊎ ((card_in before ≡ None) × (fault ≡ card_missing))
     ⊎ (HasNoPath before path × (fault ≡ path_too_large))
     ⊎ ((ask : Ask) × IsAsk path channel program given ask × IsDeskFault before after (Setup ask) fault)
+
+-- The program was taken out.
+abbrev pub IsRetired : UpcCard → UpcCard → UpcId → Type 0
+IsRetired before after id = (code : List Instr) × Takes before after (Retire (id_of id)) (Retired code)
+
+-- The connection got the program, in place of this one.
+abbrev pub IsReloaded : UpcCard → UpcCard → ℕ → ℕ → UpcId → UpcId → Type 0
+IsReloaded before after path channel program earlier = (vc : Vc) × IsVc path channel vc
+    × Takes before after (Reload vc (id_of program)) (Reloaded (id_of earlier))
+
+-- Why no connection of this path and channel could take the step: there is no card, or no such path on it, or the
+-- step is refused.
+abbrev pub IsConnectionFault : UpcCard → UpcCard → ℕ → ℕ → (Vc → Step) → UpcFault → Type 0
+IsConnectionFault before after path channel step fault =
+    ((card_in before ≡ None) × (fault ≡ card_missing))
+    ⊎ (HasNoPath before path × (fault ≡ path_too_large))
+    ⊎ ((vc : Vc) × IsVc path channel vc × IsDeskFault before after (step vc) fault)

@@ -11,4 +11,5 @@ pub mod CardHandle
 pub mod CardMaking
 pub mod CardDesk
 pub mod CardArrival
+pub mod CardJournal
 pub mod inner

@@ -1,0 +1,104 @@
+//! Programs that C takes out of a card, or gives to a connection in place of another.
+
+ghost use Rattle.std.specs.Prelude.{◌≡◌, ◌≢◌, ◌<◌, List, IfOk, IfErr, OnErr, OnOk};
+ghost use Rattle.bpf_code.specs.declared.instr.Instr.{Instr};
+ghost use Rattle.card_core.specs.declared.reply.Reply.TheVariants.{Reloaded, Retired};
+ghost use Rattle.card_core.specs.declared.step.Step.TheVariants.{Reload, Retire};
+ghost use Rattle.upc_c.specs.CardDesk.{IsConnectionFault, IsDeskFault, IsReloaded, IsRetired, id_of};
+ghost use Rattle.upc_c.specs.CardHandle.{Takes, card_in};
+ghost use Rattle.upc_c.specs.Faults.{no_fault};
+
+use crate::card::UpcCard;
+use crate::desk_fault::{card_missing, told_desk};
+use crate::fault::{NO_FAULT, UpcFault, told};
+use crate::id::{UpcId, id_of, numbers_of};
+use crate::setting_up::vc_on;
+use crate::stepping::step_on;
+use bpf_verify::Program;
+use card_core::{Reply, Step};
+use gen_arena::Id;
+use std::alloc::Global;
+use upc_cell::Vc;
+
+/// Takes the step `Retire`.
+fn retire_on(alloc: Global, card: &mut UpcCard, id: Id) -> Result<Program, UpcFault>
+    ensures retired { IfOk result (λ program. Takes card.old card.new (Retire id) (Retired program)) }
+    ensures refused { IfErr result (IsDeskFault card.old card.new (Retire id)) }
+    ensures left { OnErr result (card_in card.new ≡ card_in card.old) }
+    ensures numbered { IfErr result (λ fault. 0 < fault.number) }
+{
+    match step_on(alloc, card, Step::Retire(id)) {
+        Some(Reply::Retired(program)) => Ok(program),
+        Some(Reply::Refused(found)) => Err(told_desk(found)),
+        Some(_) => unreachable!(),
+        None => Err(card_missing()),
+    }
+}
+
+/// Takes the step `Reload`.
+fn reload_on(alloc: Global, card: &mut UpcCard, vc: Vc, program: Id) -> Result<Id, UpcFault>
+    ensures reloaded { IfOk result (λ id. Takes card.old card.new (Reload vc program) (Reloaded id)) }
+    ensures refused { IfErr result (IsDeskFault card.old card.new (Reload vc program)) }
+    ensures left { OnErr result (card_in card.new ≡ card_in card.old) }
+    ensures numbered { IfErr result (λ fault. 0 < fault.number) }
+{
+    match step_on(alloc, card, Step::Reload { vc, program }) {
+        Some(Reply::Reloaded(id)) => Ok(id),
+        Some(Reply::Refused(found)) => Err(told_desk(found)),
+        Some(_) => unreachable!(),
+        None => Err(card_missing()),
+    }
+}
+
+/// Takes a program out of the card that no connection names. Returns the fault's number, or 0.
+#[unsafe(no_mangle)]
+pub extern "C" fn upc_card_retire(
+    alloc: Global,
+    card: &mut UpcCard,
+    program: &UpcId,
+    fault: &mut UpcFault,
+) -> u32
+    ensures number { result ≡ fault.new.number }
+    ensures retired { result ≡ 0 → IsRetired card.old card.new program.now }
+    ensures fine { result ≡ 0 → fault.new ≡ no_fault }
+    ensures refused { result ≢ 0 → IsDeskFault card.old card.new (Retire (id_of program.now)) fault.new }
+    ensures left { result ≢ 0 → card_in card.new ≡ card_in card.old }
+{
+    match retire_on(alloc, card, id_of(program)) {
+        Ok(_) => told(fault, NO_FAULT),
+        Err(found) => told(fault, found),
+    }
+}
+
+/// Gives the connection on this path and channel another program, and tells the one that it had. Its buckets
+/// and its journal stay. Returns the fault's number, or 0.
+#[unsafe(no_mangle)]
+pub extern "C" fn upc_card_reload(
+    alloc: Global,
+    card: &mut UpcCard,
+    path: u16,
+    channel: u16,
+    program: &UpcId,
+    earlier: &mut UpcId,
+    fault: &mut UpcFault,
+) -> u32
+    ensures number { result ≡ fault.new.number }
+    ensures reloaded { result ≡ 0 → IsReloaded card.old card.new path channel program.now earlier.new }
+    ensures fine { result ≡ 0 → fault.new ≡ no_fault }
+    ensures refused { result ≢ 0 → IsConnectionFault card.old card.new path channel
+        (λ vc. Reload vc (id_of program.now)) fault.new }
+    ensures left { result ≢ 0 → card_in card.new ≡ card_in card.old }
+    ensures earlier_left { result ≢ 0 → earlier.new ≡ earlier.old }
+{
+    let vc = match vc_on(alloc, card, path, channel) {
+        Ok(vc) => vc,
+        Err(found) => return told(fault, found),
+    };
+    match reload_on(alloc, card, vc, id_of(program)) {
+        Ok(id) => {
+            *earlier = numbers_of(id);
+            told(fault, NO_FAULT)
+        }
+        Err(found) => told(fault, found),
+    }
+}
