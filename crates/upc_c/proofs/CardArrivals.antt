@@ -1,7 +1,7 @@
 -- The whole way of a cell at port 0, which is outside before and afterwards.
-use Rattle.std.proofs.Common.{◌≡◌, ◌⊎◌, inl, inr, ℕ, zero, suc, Bool, true, false, List, [], ◌∷◌, ◌++◌, Option, Some, None, replicate, refl, sym, ap, ◌∙◌, subst}
-use Rattle.std.specs.Option.{MatchOption, option_map, IfSome, IfNone}
-use Rattle.std.specs.Prelude.{slice_get, slice_set, if◌then◌else◌, is_none, Result, Ok, Err}
+use Rattle.std.proofs.Common.{◌≡◌, ◌⊎◌, inl, inr, ℕ, zero, suc, Bool, true, false, List, [], ◌∷◌, ◌++◌, Option, Some, None, replicate, refl, ap, ◌∙◌, subst}
+use Rattle.std.specs.Option.{MatchOption, option_map}
+use Rattle.std.specs.Prelude.{slice_get, slice_set, if◌then◌else◌, is_none}
 use mathlib.Core.Logic.{∥∥₁_elim, ∥∥₁_map}
 use Rattle.card_core.specs.Agreement.{CoreView, CoreAgrees, Follows}
 use Rattle.card_core.specs.Arrival.{Answers}
@@ -9,10 +9,9 @@ use Rattle.card_core.specs.Log.{Event, Run}
 use Rattle.card_core.specs.Refusals.{enter_refusal, pick_refusal, judge_refusal, picking_refusal}
 use Rattle.card_core.specs.Shapes.{is_beyond, shape_fault}
 use Rattle.card_core.specs.Steps.{FindsNoMemory, IsRefused, Succeeds, WorldStep, left_by_judge, left_by_pick}
-use Rattle.card_core.specs.World.{World, PortState, Picking, outside, entered, picked, connection_in, opening_world, with_port}
+use Rattle.card_core.specs.World.{World, PortState, Picking, outside, entered, picked, connection_in, opening_world}
 use Rattle.card_core.specs.declared.answer.Answer.{Answer}
 use Rattle.card_core.specs.declared.answer.Answer.TheVariants.{NoConnection as UnknownCell}
-use Rattle.card_core.specs.declared.fault.CardFault.{CardFault}
 use Rattle.card_core.specs.declared.fault.CardFault.TheVariants.{Programs, Lines, Ports, Journal}
 use Rattle.card_core.specs.declared.reply.Reply.{Reply}
 use Rattle.card_core.specs.declared.reply.Reply.TheVariants.{Entered, Picked, NotNow, Answered}
@@ -20,7 +19,7 @@ use Rattle.card_core.specs.declared.shape.Shape.{Shape}
 use Rattle.card_core.specs.declared.step.Step.{Step}
 use Rattle.card_core.specs.declared.step.Step.TheVariants.{Enter, Pick, Judge}
 use Rattle.upc_cell.specs.Connection.{vc_of}
-use Rattle.upc_c.specs.ReachedCore.{IsIdle, IsReached, Reaching}
+use Rattle.upc_c.specs.ReachedCore.{IsIdle, IsReached}
 
 -- What is written to port 0, where there is one, is there.
 written : (ports : List PortState) (before state : PortState) → slice_get ports 0 ≡ Some before → slice_get (slice_set ports 0 state) 0 ≡ Some state

@@ -1,7 +1,6 @@
 -- The box of a card, and the three types by which it goes to C: the box itself, its parts, the hidden card. All
 -- three are a pointer and an allocator, and own the same.
 use mathlib.Core.List.{[]}
-use mathlib.Core.Path.{refl}
 use mir.Syntax.{impl, tnil, dnil}
 use denote.RattleType.{RattleType}
 use Rattle.card_core.proofs.serial.Core.TheLaws as core

@@ -1,23 +1,19 @@
 -- Steps of a card that steps have led to.
-use Rattle.std.proofs.Common.{◌≡◌, ◌⊎◌, inl, inr, true, false, List, [], ◌∷◌, ◌++◌, Option, Some, None, refl, sym, ap, ◌∙◌, subst}
+use Rattle.std.proofs.Common.{◌≡◌, ◌⊎◌, inl, inr, true, false, List, [], ◌∷◌, ◌++◌, Option, Some, None, refl, sym, ap, ◌∙◌}
 use Rattle.std.specs.Option.{MatchOption, option_map}
 use Rattle.std.specs.Prelude.{slice_get}
 use mathlib.Core.Logic.{∥∥₁_elim, ∥∥₁_map}
-use Rattle.bpf_code.specs.declared.instr.Instr.{Instr}
-use Rattle.gen_arena.specs.declared.id.Id.{Id}
 use Rattle.card_core.specs.Agreement.{CoreView, Follows}
 use Rattle.card_core.specs.Refusals.{load_fault, missing_fault, reload_fault, retire_fault, setup_fault}
 use Rattle.card_core.specs.Steps.{FindsNoMemory, IsRefused, Succeeds, WorldStep}
 use Rattle.card_core.specs.World.{World, PortState}
-use Rattle.card_core.specs.declared.ask.Ask.{Ask}
 use Rattle.card_core.specs.declared.fault.DeskFault.{DeskFault}
 use Rattle.card_core.specs.declared.fault.DeskFault.TheVariants.{NoMemory}
 use Rattle.card_core.specs.declared.reply.Reply.{Reply}
 use Rattle.card_core.specs.declared.reply.Reply.TheVariants.{NotLoaded, NotSetUp, Refused}
 use Rattle.card_core.specs.declared.step.Step.{Step}
 use Rattle.card_core.specs.declared.step.Step.TheVariants.{Enter, Pick, Judge, Load, Retire, Setup, Reload, Release, Cut}
-use Rattle.upc_cell.specs.declared.vc.Vc.{Vc}
-use Rattle.upc_c.specs.ReachedCore.{IsReached, Reaching}
+use Rattle.upc_c.specs.ReachedCore.{IsReached}
 use Rattle.upc_c.specs.inner.DeskReplies.{is_of_desk, is_reply_to}
 
 -- A step of the desk succeeds, finds no memory, or is refused by a fault.

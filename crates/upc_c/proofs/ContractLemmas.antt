@@ -1,5 +1,5 @@
 -- The contracts of a connection, made one after another.
-use Rattle.std.proofs.Common.{◌≡◌, ◌⊎◌, inl, inr, ℕ, suc, ◌+◌, ◌<◌, List, [], ◌∷◌, ◌++◌, length, take, drop, get_or, refl, sym, ap, ◌∙◌, subst, arith, add-one, length-append, drop-cons}
+use Rattle.std.proofs.Common.{◌≡◌, inl, inr, ℕ, ◌+◌, ◌<◌, List, [], ◌∷◌, ◌++◌, length, take, drop, get_or, sym, subst, arith, add-one, length-append, drop-cons}
 use Rattle.std.proofs.Math.Seq.{take-suc}
 use Rattle.leaky.specs.declared.contract.Contract.{Contract}
 use Rattle.upc_c.specs.CardDesk.{AreContracts, IsFirstContractFault}

@@ -1,8 +1,8 @@
 -- A card that is as it was may take the same steps.
-use Rattle.std.proofs.Common.{◌≡◌, ◌⊎◌, inl, inr, sym, ◌∙◌}
+use Rattle.std.proofs.Common.{◌≡◌, inl, inr, sym, ◌∙◌}
 use Rattle.card_core.specs.declared.reply.Reply.{Reply}
 use Rattle.card_core.specs.declared.step.Step.{Step}
-use Rattle.upc_c.specs.CardDesk.{IsDeskFault, Refuses}
+use Rattle.upc_c.specs.CardDesk.{IsDeskFault}
 use Rattle.upc_c.specs.CardHandle.{Takes, card_in}
 use Rattle.upc_c.specs.declared.card.UpcCard.{UpcCard}
 use Rattle.upc_c.specs.declared.fault.UpcFault.{UpcFault}

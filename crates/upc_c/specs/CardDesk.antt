@@ -19,7 +19,7 @@ use Rattle.upc_cell.specs.declared.vc.Vc.{Vc}
 use Rattle.upc_c.specs.CardHandle.{IsShapeIn, Takes, card_in, card_missing}
 use Rattle.upc_c.specs.Faults.{plain_fault, out_of_memory}
 use Rattle.upc_c.specs.GivenContract.{IsContract, AreAContract, IsContractFault}
-use Rattle.upc_c.specs.Programs.{IsProgram, IsDecodeRefusal, IsCheckRefusal}
+use Rattle.upc_c.specs.Programs.{IsDecodeRefusal, IsCheckRefusal}
 use Rattle.upc_c.specs.declared.card.UpcCard.{UpcCard}
 use Rattle.upc_c.specs.declared.contract.UpcContract.{UpcContract}
 use Rattle.upc_c.specs.declared.fault.UpcFault.{UpcFault}

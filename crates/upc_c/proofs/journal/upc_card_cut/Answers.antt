@@ -1,5 +1,5 @@
 -- The card was as it was when the step was taken.
-use Rattle.std.proofs.Common.{◌⊎◌, inr}
+use Rattle.std.proofs.Common.{inr}
 use Rattle.upc_c.proofs.SettingUp.{desk-fault-from, takes-from}
 use Rattle.upc_c.proofs.journal.upc_card_cut.Goals as goal
 

@@ -1,5 +1,5 @@
 -- The card was as it was when the step was taken.
-use Rattle.std.proofs.Common.{◌⊎◌, inr, subst}
+use Rattle.std.proofs.Common.{inr, subst}
 use Rattle.card_core.specs.declared.reply.Reply.TheVariants.{Reloaded}
 use Rattle.card_core.specs.declared.step.Step.TheVariants.{Reload}
 use Rattle.gen_arena.specs.declared.id.Id.{Id}

@@ -1,5 +1,5 @@
 -- What was asked for is the numbers' ask, and the card was as it was when it was asked.
-use Rattle.std.proofs.Common.{◌≡◌, ◌⊎◌, inl, inr}
+use Rattle.std.proofs.Common.{inr}
 use Rattle.upc_c.proofs.SettingUp.{desk-fault-from, takes-from}
 use Rattle.upc_c.proofs.setting_up.upc_card_setup.Goals as goal
 
