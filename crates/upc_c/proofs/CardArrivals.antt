@@ -19,7 +19,7 @@ use Rattle.card_core.specs.declared.shape.Shape.{Shape}
 use Rattle.card_core.specs.declared.step.Step.{Step}
 use Rattle.card_core.specs.declared.step.Step.TheVariants.{Enter, Pick, Judge}
 use Rattle.upc_cell.specs.Connection.{vc_of}
-use Rattle.upc_c.specs.ReachedCore.{IsIdle, IsReached}
+use Rattle.upc_c.specs.inner.ReachedCore.{IsIdle, IsReached}
 
 -- What is written to port 0, where there is one, is there.
 written : (ports : List PortState) (before state : PortState) → slice_get ports 0 ≡ Some before → slice_get (slice_set ports 0 state) 0 ≡ Some state

@@ -13,7 +13,7 @@ use Rattle.card_core.specs.declared.reply.Reply.{Reply}
 use Rattle.card_core.specs.declared.reply.Reply.TheVariants.{NotLoaded, NotSetUp, Refused}
 use Rattle.card_core.specs.declared.step.Step.{Step}
 use Rattle.card_core.specs.declared.step.Step.TheVariants.{Enter, Pick, Judge, Load, Retire, Setup, Reload, Release, Cut}
-use Rattle.upc_c.specs.ReachedCore.{IsReached}
+use Rattle.upc_c.specs.inner.ReachedCore.{IsReached}
 use Rattle.upc_c.specs.inner.DeskReplies.{is_of_desk, is_reply_to}
 
 -- A step of the desk succeeds, finds no memory, or is refused by a fault.

@@ -6,7 +6,6 @@ pub mod CellHeader
 pub mod Telling
 pub mod Programs
 pub mod ProgramHandle
-pub mod ReachedCore
 pub mod CardHandle
 pub mod CardMaking
 pub mod CardDesk

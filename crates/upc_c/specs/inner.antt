@@ -1,3 +1,4 @@
 -- What only the model of a type needs.
 pub mod Hidden
 pub mod DeskReplies
+pub mod ReachedCore

@@ -9,7 +9,7 @@ ghost use Rattle.upc_c.specs.CardArrival.{Arrives, IsArrivalFault, IsPoliced, re
 ghost use Rattle.upc_c.specs.CardHandle.{card_in, card_missing};
 ghost use Rattle.upc_c.specs.Faults.{no_fault};
 ghost use Rattle.upc_c.specs.Judging.{number_of};
-ghost use Rattle.upc_c.specs.ReachedCore.{IsReached};
+ghost use Rattle.upc_c.specs.inner.ReachedCore.{IsReached};
 
 use crate::card::UpcCard;
 use crate::cell::cell_of;

@@ -2,7 +2,7 @@
 
 ghost use Rattle.std.specs.Option.{ForSome};
 ghost use Rattle.std.specs.Prelude.{◌≡◌, ◌↔◌, None};
-ghost use Rattle.upc_c.specs.ReachedCore.{IsReached};
+ghost use Rattle.upc_c.specs.inner.ReachedCore.{IsReached};
 
 use crate::hidden::HiddenCard;
 

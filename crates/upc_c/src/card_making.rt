@@ -5,7 +5,7 @@ ghost use Rattle.card_core.specs.Agreement.{CoreView};
 ghost use Rattle.upc_c.specs.CardHandle.{card_in, card_there};
 ghost use Rattle.upc_c.specs.CardMaking.{IsEmptyCard, IsNoCard, told_card};
 ghost use Rattle.upc_c.specs.Faults.{no_fault};
-ghost use Rattle.upc_c.specs.ReachedCore.{IsReached};
+ghost use Rattle.upc_c.specs.inner.ReachedCore.{IsReached};
 
 use crate::card::UpcCard;
 use crate::fault::{NO_FAULT, OF_A_SHAPE, OF_THE_CALL, UpcFault, fault_at, told};

@@ -1,11 +1,11 @@
 //! Programs that C puts into a card.
 
-ghost use Rattle.std.specs.Prelude.{◌≡◌, ◌≢◌, ◌<◌, IfOk, IfErr, OnErr};
+ghost use Rattle.std.specs.Prelude.{◌≡◌, ◌≢◌, ◌<◌, ◌%◌, length, IfOk, IfErr, OnErr};
 ghost use Rattle.card_core.specs.declared.reply.Reply.TheVariants.{Loaded};
 ghost use Rattle.card_core.specs.declared.step.Step.TheVariants.{Load};
 ghost use Rattle.upc_c.specs.CardDesk.{IsDeskFault, IsLoaded, IsLoadFault};
 ghost use Rattle.upc_c.specs.CardHandle.{Takes, card_in};
-ghost use Rattle.upc_c.specs.Faults.{no_fault};
+ghost use Rattle.upc_c.specs.Faults.{no_fault, ragged};
 
 use crate::card::UpcCard;
 use crate::desk_fault::{card_missing, told_desk};
@@ -47,6 +47,7 @@ pub extern "C" fn upc_card_load(
     ensures loaded { result ≡ 0 → IsLoaded card.old card.new octets.now id.new }
     ensures fine { result ≡ 0 → fault.new ≡ no_fault }
     ensures refused { result ≢ 0 → IsLoadFault card.old card.new octets.now fault.new }
+    ensures ragged { 0 < length octets.now % 8 → fault.new ≡ ragged }
     ensures left { result ≢ 0 → card_in card.new ≡ card_in card.old }
     ensures id_left { result ≢ 0 → id.new ≡ id.old }
 {

@@ -4,7 +4,7 @@ ghost use Rattle.std.specs.Prelude.{◌≡◌, ◌≢◌, false, true, None, Som
 ghost use Rattle.card_core.specs.Agreement.{Follows};
 ghost use Rattle.card_core.specs.Kept.{RefusalKeeps};
 ghost use Rattle.upc_c.specs.CardHandle.{IsShapeIn, Takes, card_in};
-ghost use Rattle.upc_c.specs.ReachedCore.{IsReached};
+ghost use Rattle.upc_c.specs.inner.ReachedCore.{IsReached};
 ghost use Rattle.upc_c.specs.inner.DeskReplies.{is_of_desk, is_reply_to};
 
 use crate::card::UpcCard;

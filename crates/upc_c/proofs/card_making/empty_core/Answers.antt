@@ -1,6 +1,6 @@
 -- An empty core agrees with the opening world, to which the empty log leads.
 use Rattle.std.proofs.Common.{sym, subst}
-use Rattle.upc_c.specs.ReachedCore.{IsReached}
+use Rattle.upc_c.specs.inner.ReachedCore.{IsReached}
 use Rattle.upc_c.proofs.CardArrivals.{opening-reached}
 use Rattle.upc_c.proofs.card_making.empty_core.Goals as goal
 
