@@ -16,5 +16,5 @@ returns-else-from-len-clause-free c =
     let first = c.self.invariant.first in
     subst (λ (held : List Bool). (line : ℕ) → line < length held → slice_get held line ≡ Some true) c.self.view_is
     (λ line within.
-        let there : line < length marks = omega (arith, within, length-map marks (λ (mark : ℕ). not (mark == 0))) in
-        are_held-held marks line there (first.below line (omega arith) (omega (arith, there, c.self.invariant.first.within))))
+    let there : line < length marks = omega (arith, within, length-map marks (λ (mark : ℕ). not (mark == 0))) in
+    are_held-held marks line there (first.below line (omega arith) (omega (arith, there, c.self.invariant.first.within))))
