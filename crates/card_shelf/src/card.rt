@@ -1,6 +1,6 @@
 //! One card of a shelf.
 
-ghost use Rattle.std.specs.Prelude.{◌≡◌, ◌<◌, ◌≤◌, ℕ, [], All, OnOk, length, vec_capacity};
+ghost use Rattle.std.specs.Prelude.{◌≡◌, ◌<◌, All, OnOk, length};
 ghost use Rattle.card_shelf.specs.Own.{ServesAll};
 ghost use Rattle.card_shelf.specs.inner.Cards.{IsReady};
 ghost use Rattle.card_shelf.specs.inner.Places.{picked};

@@ -1,7 +1,6 @@
 //! What the cards tell of their arrivals, in the order of all arrivals.
 
-ghost use Rattle.std.specs.Prelude.{◌≡◌, ◌<◌, ◌≤◌, ℕ, List, [], Some, length, replicate, vec_capacity, slice_get};
-ghost use Rattle.card_shelf.specs.Own.{own_arrivals};
+ghost use Rattle.std.specs.Prelude.{◌≡◌, ◌<◌, ◌≤◌, [], length, replicate, vec_capacity};
 ghost use Rattle.card_shelf.specs.inner.Cards.{tolds_of};
 ghost use Rattle.card_shelf.specs.inner.Gathered.{TellsOwn, TellEach};
 
