@@ -146,8 +146,10 @@ static void kept_program(void)
 static void no_card(const char *what, uint32_t side, uint64_t programs, uint64_t lines, uint64_t ports, uint64_t journal)
 {
 	upc_shape shape = {side, programs, lines, ports, journal};
-	upc_card card = {0, 0}, before = {0, 0};
+	upc_card card, before;
 
+	memset(&card, 0, sizeof card);
+	memset(&before, 0, sizeof before);
 	tell(what, upc_card_new(&shape, &card, &fault), &card, &before, sizeof card);
 }
 
