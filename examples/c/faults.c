@@ -146,11 +146,9 @@ static void kept_program(void)
 static void no_card(const char *what, uint32_t side, uint64_t programs, uint64_t lines, uint64_t ports, uint64_t journal)
 {
 	upc_shape shape = {side, programs, lines, ports, journal};
-	upc_card card, before;
+	static upc_card card, none;
 
-	memset(&card, 0, sizeof card);
-	memset(&before, 0, sizeof before);
-	tell(what, upc_card_new(&shape, &card, &fault), &card, &before, sizeof card);
+	tell(what, upc_card_new(&shape, &card, &fault), &card, &none, sizeof card);
 }
 
 /* A cell on VPI/VCI 1/CHANNEL at a moment. */
