@@ -181,8 +181,10 @@ static void card_desk(upc_card *card, upc_id id, upc_contract it)
 	upc_id other = {3, 1}, unread = {3, 1};
 	upc_contract none = it;
 
-	tell("load no program", upc_card_load(card, wrong, sizeof wrong, &other, &fault), &other, &unread, sizeof other);
-	tell("load one more", upc_card_load(card, octets, sizeof octets, &other, &fault), &other, &unread, sizeof other);
+	tell("load no program", upc_card_load(card, wrong, sizeof wrong, &other, &fault), &other.generation, &unread.generation,
+	     sizeof other.generation);
+	tell("load one more", upc_card_load(card, octets, sizeof octets, &other, &fault), &other.generation, &unread.generation,
+	     sizeof other.generation);
 	none.peak_increment = 0;
 	set_up("five contracts", card, 1, 1, id, it, 5);
 	set_up("no contract's numbers", card, 1, 1, id, none, 1);
