@@ -41,11 +41,11 @@ reason_of_answer MomentTooLate = Some (plain_fault 8 5 0)
 reason_of_answer JournalFull = Some (plain_fault 8 6 0)
 reason_of_answer NoMemory = Some out_of_memory
 
--- Why the cell of these octets wasn't judged: the number of octets; then that there is no card; then what the
--- card answers to it.
+-- Why the cell of these octets wasn't judged: the number of octets, and the card is as it was; then that there is
+-- no card; then what the card answers to it.
 abbrev pub IsArrivalFault : UpcCard → UpcCard → List ℕ → ℕ → UpcFault → Type 0
 IsArrivalFault before after cell moment fault =
-    IsCellFault cell fault
-    ⊎ ((length cell ≡ 52) × (card_in before ≡ None) × (fault ≡ card_missing))
+    (IsCellFault cell fault × (card_in after ≡ card_in before))
+    ⊎ ((length cell ≡ 52) × (card_in before ≡ None) × (card_in after ≡ None) × (fault ≡ card_missing))
     ⊎ ((length cell ≡ 52)
     × ((answer : Answer) × Arrives before after cell moment answer × (reason_of_answer answer ≡ Some fault)))

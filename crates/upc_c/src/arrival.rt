@@ -81,7 +81,7 @@ fn arrive_on(
 ) -> Result<Judgement, UpcFault>
     ensures judged { IfOk result (λ judgement.
         Arrives card.old card.new cell.now moment (answer_to cell.now (Ok judgement))) }
-    ensures refused { IfErr result (λ fault. ((card_in card.old ≡ None) × (fault ≡ card_missing))
+    ensures refused { IfErr result (λ fault. ((card_in card.old ≡ None) × (card_in card.new ≡ None) × (fault ≡ card_missing))
         ⊎ ((answer : TheAnswer) × Arrives card.old card.new cell.now moment answer
         × (reason_of_answer answer ≡ Some fault))) }
     ensures numbered { IfErr result (λ fault. 0 < fault.number) }

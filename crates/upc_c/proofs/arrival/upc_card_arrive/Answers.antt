@@ -1,7 +1,6 @@
 use Rattle.upc_c.proofs.Policing.{arrives-so}
 use Rattle.upc_c.proofs.arrival.upc_card_arrive.Goals as goal
 
--- src/arrival.rt:111:1
 pub returns-clause-judged : goal.returns-clause-judged
 returns-clause-judged c = λ _. record {
   sized = c.in-Ok.ensures.length;

@@ -4,7 +4,6 @@ use Rattle.upc_c.specs.inner.ReachedCore.{IsReached}
 use Rattle.upc_c.proofs.CardArrivals.{opening-reached}
 use Rattle.upc_c.proofs.card_making.empty_core.Goals as goal
 
--- src/card_making.rt:38:1
 pub returns-in-Ok-new-clause-reached : goal.returns-in-Ok-new-clause-reached
 returns-in-Ok-new-clause-reached c =
     subst IsReached (sym c.in-Ok-new.ensures.ok) (opening-reached c.in_ok-shape.shape c.in-Ok.core c.in-Ok.ensures.refused c.in-Ok.ensures.agrees)

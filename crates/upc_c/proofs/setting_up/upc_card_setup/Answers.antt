@@ -3,7 +3,6 @@ use Rattle.std.proofs.Common.{inr}
 use Rattle.upc_c.proofs.SettingUp.{desk-fault-from, takes-from}
 use Rattle.upc_c.proofs.setting_up.upc_card_setup.Goals as goal
 
--- src/setting_up.rt:56:1
 pub returns-in-Ok-setup_on-clause-set : goal.returns-in-Ok-setup_on-clause-set
 returns-in-Ok-setup_on-clause-set c = λ _. (
   _,
@@ -11,7 +10,6 @@ returns-in-Ok-setup_on-clause-set c = λ _. (
   (_, takes-from c.args.card.now c.vc_on.new.card c.setup_on.new.card _ _ c.vc_on.ensures.kept c.in-Ok-setup_on.ensures.set),
 )
 
--- src/setting_up.rt:56:1
 pub returns-in-Err-setup_on-clause-refused : goal.returns-in-Err-setup_on-clause-refused
 returns-in-Err-setup_on-clause-refused c = λ _. inr (inr (inr (
   _,
