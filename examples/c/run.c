@@ -1,0 +1,301 @@
+/* `upc run` over the library: reads a script and prints its answers, those of the program, a line for each line with words.
+ * It knows the faults of scripts whose words have the right forms, and BadLine for others. */
+#include <inttypes.h>
+#include <stdio.h>
+#include <stdlib.h>
+#include <string.h>
+#include "upc.h"
+
+enum { MOST_NAMES = 4096, MOST_OCTETS = 32768, MOST_LINE = 70000 };
+
+/* The script's card, the side of its cells, and the programs by their names: p1 is the first. */
+static upc_card card;
+static uint32_t side;
+static upc_id names[MOST_NAMES];
+static unsigned long named;
+
+static const char *name_of(const upc_fault *fault)
+{
+	static const char *const verify[] = {"Empty", "TooLong", "BadScratch", "ZeroDivisor", "BadShift", "JumpOutside",
+	                                     "NoReturn", "Unwritten"};
+	static const char *const arrive[] = {"NoConnection", "Released", "Stale", "MomentBack", "MomentTooLate", "JournalFull"};
+	static const char *const desk[] = {"NoProgram", "NoConnection", "Taken", "NoLine", "InUse", "ProgramsFull", "Exhausted",
+	                                   "BadContracts"};
+	static const char *const shape[] = {"Programs", "Lines", "Ports", "Journal"};
+	static const char *const gcra[] = {"ZeroIncrement", "TooLarge"};
+	static const char *const decode[] = {"Ragged", "UnknownCode"};
+
+	switch (fault->kind) {
+	case UPC_VERIFY: return verify[fault->number - 1];
+	case UPC_ARRIVE: return arrive[fault->number - 1];
+	case UPC_DESK: return desk[fault->number - 1];
+	case UPC_SHAPE: return shape[fault->number - 1];
+	case UPC_GCRA: return gcra[fault->number - 1];
+	case UPC_DECODE: return decode[fault->number - 1];
+	default: return "WrongLength";
+	}
+}
+
+static void print_fault(const upc_fault *fault)
+{
+	static const char *const kinds[] = {"", "", "cell", "decode", "asm", "verify", "gcra", "", "arrive", "shape", "desk"};
+	uint32_t number = fault->number;
+
+	if (fault->kind == UPC_CALL) { /* the numbers of a word are out of their limits, or memory was refused */
+		if (number == UPC_NO_MEMORY)
+			exit(3);
+		printf("fault script 1 BadLine\n");
+		return;
+	}
+	printf("fault %s %" PRIu32 " %s", kinds[fault->kind], number, name_of(fault));
+	if (fault->kind == UPC_CELL || (fault->kind == UPC_ARRIVE && number == 4) ||
+	    (fault->kind == UPC_VERIFY && number > 2 && number != 7) || (fault->kind == UPC_DECODE && number == 2))
+		printf(" %lu", (unsigned long)fault->place);
+	if (fault->kind == UPC_VERIFY && number == 8)
+		printf(" %" PRIu32, fault->word);
+	if (fault->kind == UPC_DECODE && number == 2)
+		printf(" %04" PRIx32, fault->code);
+	printf("\n");
+}
+
+/* How many octets the digits spell, at most MOST_OCTETS; -1 where they spell none. */
+static long octets_of(const char *digits, uint8_t *octets)
+{
+	size_t length = strlen(digits), k;
+
+	if (length % 2 != 0 || length > 2 * MOST_OCTETS || strspn(digits, "0123456789abcdefABCDEF") != length)
+		return -1;
+	for (k = 0; k < length / 2; k++) {
+		char pair[3] = {digits[2 * k], digits[2 * k + 1], 0};
+
+		octets[k] = (uint8_t)strtoul(pair, NULL, 16);
+	}
+	return (long)(length / 2);
+}
+
+/* The program of this name, if it was given. */
+static const upc_id *program_of(unsigned long name)
+{
+	return name >= 1 && name <= named ? &names[name - 1] : NULL;
+}
+
+/* The latest name of a program. */
+static unsigned long name_in(const upc_id *id)
+{
+	unsigned long name = named;
+
+	while (name > 0 && (names[name - 1].slot != id->slot || names[name - 1].generation != id->generation))
+		name--;
+	return name;
+}
+
+static void open_card(const char *line)
+{
+	upc_shape shape = {UPC_UNI, 0, 0, 0, 0};
+	upc_fault fault;
+	char word[4] = "uni";
+
+	if (sscanf(line, "card %" SCNu64 " %" SCNu64 " %" SCNu64 " %" SCNu64 " %3s", &shape.programs, &shape.lines, &shape.ports,
+	           &shape.journal, word) < 4) {
+		printf("fault script 2 NoCard\n");
+		exit(1);
+	}
+	shape.side = side = strcmp(word, "nni") == 0 ? UPC_NNI : UPC_UNI;
+	if (upc_card_new(&shape, &card, &fault) != 0) {
+		print_fault(&fault);
+		exit(1);
+	}
+	printf("ready\n");
+}
+
+static void load(const char *digits)
+{
+	static uint8_t octets[MOST_OCTETS];
+	long count = octets_of(digits, octets);
+	upc_fault fault;
+
+	if (count < 0)
+		printf("fault script 3 BadHex\n");
+	else if (named == MOST_NAMES)
+		exit(3);
+	else if (upc_card_load(&card, octets, (size_t)count, &names[named], &fault) != 0)
+		print_fault(&fault);
+	else
+		printf("loaded p%lu\n", ++named);
+}
+
+static void retire(unsigned long name)
+{
+	const upc_id *program = program_of(name);
+	upc_fault fault;
+
+	if (program == NULL)
+		printf("fault desk 1 NoProgram\n");
+	else if (upc_card_retire(&card, program, &fault) != 0)
+		print_fault(&fault);
+	else
+		printf("retired p%lu\n", name);
+}
+
+/* The contracts that the words spell; -1 where one spells none. */
+static int contracts_of(char *words, upc_contract *contracts)
+{
+	static const char *const kinds[] = {"cbr1:", "vbr1:", "vbr2:", "vbr3:"};
+	int count = 0;
+	char *word;
+
+	for (word = strtok(words, " \t\n"); word != NULL; word = strtok(NULL, " \t\n"), count++) {
+		upc_contract contract = {0, 0, 0, 0, 0};
+		int k, numbers;
+
+		for (k = 0; k < 4 && strncmp(word, kinds[k], 5) != 0; k++)
+			;
+		numbers = sscanf(word + (k < 4 ? 5 : 0), "%" SCNu64 "/%" SCNu64 ":%" SCNu64 "/%" SCNu64, &contract.peak_increment,
+		                 &contract.peak_limit, &contract.sustained_increment, &contract.sustained_limit);
+		if (k == 4 || count == UPC_MOST_CONTRACTS || numbers != (k == 0 ? 2 : 4))
+			return -1;
+		contract.kind = (uint32_t)k + 1;
+		contracts[count] = contract;
+	}
+	return count;
+}
+
+static void set_up(unsigned path, unsigned channel, unsigned long name, char *words)
+{
+	upc_contract contracts[UPC_MOST_CONTRACTS];
+	const upc_id *program = program_of(name);
+	int count = contracts_of(words, contracts), k;
+	upc_fault fault;
+
+	if (count < 1 || channel > 65535 || path > 4095) {
+		printf("fault script 1 BadLine\n");
+		return;
+	}
+	for (k = 0; k < count && program == NULL; k++)
+		if (upc_contract_check(&contracts[k], &fault) != 0) {
+			print_fault(&fault);
+			return;
+		}
+	if (program == NULL)
+		printf("fault desk 1 NoProgram\n");
+	else if (upc_card_setup(&card, (uint16_t)path, (uint16_t)channel, program, contracts, (size_t)count, &fault) != 0)
+		print_fault(&fault);
+	else
+		printf("set %u/%u\n", path, channel);
+}
+
+static void reload(unsigned path, unsigned channel, unsigned long name)
+{
+	const upc_id *program = program_of(name);
+	upc_fault fault;
+	upc_id earlier;
+
+	if (program == NULL)
+		printf("fault desk 1 NoProgram\n");
+	else if (upc_card_reload(&card, (uint16_t)path, (uint16_t)channel, program, &earlier, &fault) != 0)
+		print_fault(&fault);
+	else
+		printf("reloaded %u/%u p%lu\n", path, channel, name);
+}
+
+static void print_journal(const char *word, unsigned path, unsigned channel, const upc_journal *journal)
+{
+	printf("%s %u/%u %lu %" PRIu64 " %" PRIu64 " %" PRIu64 " %" PRIu64 "\n", word, path, channel, (unsigned long)journal->cells,
+	       journal->after.passed - journal->before.passed, journal->after.tagged - journal->before.tagged,
+	       journal->after.discarded - journal->before.discarded, journal->after.refused - journal->before.refused);
+}
+
+static void release(unsigned path, unsigned channel)
+{
+	upc_journal journal;
+	upc_fault fault;
+
+	if (upc_card_release(&card, (uint16_t)path, (uint16_t)channel, &journal, &fault) != 0)
+		print_fault(&fault);
+	else
+		print_journal("released", path, channel, &journal);
+}
+
+static void cut(unsigned path, unsigned channel)
+{
+	upc_journal journal;
+	upc_fault fault;
+
+	if (upc_card_cut(&card, (uint16_t)path, (uint16_t)channel, &journal, &fault) != 0)
+		print_fault(&fault);
+	else
+		print_journal("cut", path, channel, &journal);
+}
+
+static void police(uint64_t moment, const char *digits)
+{
+	static const char *const verdicts[] = {"pass", "tag", "discard", "refuse"};
+	static uint8_t octets[MOST_OCTETS];
+	long count = octets_of(digits, octets);
+	upc_answer answer;
+	upc_fields fields;
+	upc_fault fault;
+
+	if (count < 0) {
+		printf("fault script 3 BadHex\n");
+		return;
+	}
+	if (count == 4) { /* a header alone stands for a cell with a payload of zeros */
+		memset(octets + 4, 0, UPC_CELL_OCTETS - 4);
+		count = UPC_CELL_OCTETS;
+	}
+	if (upc_card_arrive(&card, octets, (size_t)count, moment, &answer, &fault) != 0 ||
+	    upc_cell_fields(octets, (size_t)count, side, &fields, &fault) != 0) {
+		print_fault(&fault);
+		return;
+	}
+	printf("%s %u/%u p%lu %" PRIu32, verdicts[answer.verdict], (unsigned)fields.vpi, (unsigned)fields.vci,
+	       name_in(&answer.program), answer.value);
+	if (answer.verdict == UPC_PASS || answer.verdict == UPC_TAG)
+		printf(" %02x%02x%02x%02x", octets[0], octets[1], octets[2], octets[3]);
+	printf("\n");
+}
+
+static void obey(char *line)
+{
+	static char digits[MOST_LINE];
+	unsigned path, channel;
+	unsigned long name;
+	uint64_t moment;
+	int end = 0;
+
+	if (sscanf(line, "load %69999s", digits) == 1)
+		load(digits);
+	else if (sscanf(line, "retire p%lu", &name) == 1)
+		retire(name);
+	else if (sscanf(line, "setup %u %u p%lu%n", &path, &channel, &name, &end) == 3)
+		set_up(path, channel, name, line + end);
+	else if (sscanf(line, "reload %u %u p%lu", &path, &channel, &name) == 3)
+		reload(path, channel, name);
+	else if (sscanf(line, "release %u %u", &path, &channel) == 2)
+		release(path, channel);
+	else if (sscanf(line, "cut %u %u", &path, &channel) == 2)
+		cut(path, channel);
+	else if (sscanf(line, "cell %" SCNu64 " %69999s", &moment, digits) == 2)
+		police(moment, digits);
+	else
+		printf("fault script 1 BadLine\n");
+}
+
+int main(void)
+{
+	static char line[MOST_LINE];
+
+	while (fgets(line, sizeof line, stdin)) {
+		const char *word = line + strspn(line, " \t");
+
+		if (*word == '\n' || *word == '#' || *word == 0)
+			continue;
+		if (card.live == 0)
+			open_card(word);
+		else
+			obey(line);
+	}
+	upc_card_free(&card);
+	return 0;
+}
