@@ -199,7 +199,7 @@ typedef struct upc_id {
 	uint32_t generation;
 } upc_id;
 
-/* What is told of a judged cell. */
+/* The answer to a judged cell. */
 typedef struct upc_answer {
 	uint32_t verdict; /* one of enum upc_verdict */
 	uint32_t value;   /* what the program gave: the number of a contract, from 1, or any other, which names none */
@@ -217,7 +217,7 @@ typedef struct upc_counts {
 	uint64_t refused;
 } upc_counts;
 
-/* What is told of a connection's journal. */
+/* What a release or a cut returns of a connection's journal. */
 typedef struct upc_journal {
 	size_t cells;      /* the cells judged since the last cut, or since the connection was set up */
 	upc_counts before; /* the counts of its line before the first of them */

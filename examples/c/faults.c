@@ -1,4 +1,4 @@
-/* Asks each call for what it refuses, and prints the faults; a call that wrote where it refused is told. */
+/* Asks each call for what it refuses, and prints the faults; it says so where a call wrote although it refused. */
 #include <stdio.h>
 #include <string.h>
 #include "upc.h"

@@ -240,7 +240,7 @@ static void police(uint64_t moment, const char *digits)
 		printf("fault script 3 BadHex\n");
 		return;
 	}
-	if (count == 4) { /* a header alone stands for a cell with a payload of zeros */
+	if (count == 4) { /* a header alone means a cell with a payload of zeros */
 		memset(octets + 4, 0, UPC_CELL_OCTETS - 4);
 		count = UPC_CELL_OCTETS;
 	}

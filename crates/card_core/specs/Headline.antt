@@ -134,7 +134,7 @@ judging port judged = record {
   reply = Answered (Judged judged.line judged.number judged.moment judged.value judged.program judged.verdict judged.cell);
 }
 
--- The event in which this connection was set up, as so many-th among all.
+-- The event in which this connection was set up, with this number among all.
 abbrev pub setting_up : Ask → ℕ → Event
 setting_up ask incarnation = record {
   step = Setup ask;

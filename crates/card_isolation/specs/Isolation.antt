@@ -14,7 +14,7 @@ account_of side vc log = by_arrival (own_events side vc log)
 -- Take two logs, of cards whose cells have the same header and whose journals hold as many entries. Where
 -- the same was done for a virtual connection, in the same order, the same came of it, whatever else was
 -- done on either card: before it and in between, for other connections, at whichever ports, with as many
--- lines and programs as there are. Neither log has more than 2^62 events: behind 2^62 cells of a line a card
+-- lines and programs as there are. Neither log has more than 2^62 events: after 2^62 cells of a line a card
 -- answers that its journal is full.
 abbrev pub ConnectionsAreIsolated : Type 0
 ConnectionsAreIsolated = (shape other : Shape) (log another : List Event) (vc : Vc)

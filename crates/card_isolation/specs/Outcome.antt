@@ -1,5 +1,5 @@
 -- What comes of an act, but for what a card may choose or shares among all its connections: ids,
--- incarnations, line numbers, and the counts of a line. In place of an id stands the code that was put in
+-- incarnations, line numbers, and the counts of a line. In place of an id there is the code that was put in
 -- under it.
 use Rattle.std.specs.Prelude.{ℕ, Bool, List, Option, map}
 use Rattle.bpf_code.specs.declared.instr.Instr.{Instr}

@@ -11,7 +11,7 @@ use Rattle.card_core.specs.Headline.{judged_cells}
 use Rattle.card_isolation.specs.Outcome.{Outcome, was_judged}
 use Rattle.card_isolation.specs.OwnEvents.{OwnEvent, own_events}
 
--- What is told of a judged cell, but for its line, the count of that line, and the id of its program.
+-- What the answer says of a judged cell, but for its line, the count of that line, and the id of its program.
 pub record ToldCell : Type 0 where
   pub moment : ℕ
   pub value : ℕ

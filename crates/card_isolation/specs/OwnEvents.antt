@@ -67,7 +67,7 @@ own_event side vc notes (Answered answer) (Pick port) = own_where (notes.has_own
 own_event side vc notes (Answered answer) (Judge port) = own_where (notes.has_own port) (judges port) (outcome_of notes.codes answer)
 own_event side vc notes _ _ = None
 
--- These events, behind this one if there is one.
+-- This event, if there is one, and then these.
 abbrev pub behind : Option OwnEvent → List OwnEvent → List OwnEvent
 behind None later = later
 behind (Some event) later = event ∷ later

@@ -1,4 +1,4 @@
-//! Laws over the logs of a card. These functions do nothing: each stands for the law that is its contract.
+//! Laws over the logs of a card. These functions do nothing: the contract of each is a law.
 
 ghost use Rattle.card_isolation.specs.Isolation.{ConnectionsAreIsolated};
 ghost use Rattle.card_isolation.specs.OwnCells.{JudgedCellsAreOwn};

@@ -5,7 +5,7 @@ use Rattle.upc_cell.specs.declared.vc.Vc.{Vc}
 use Rattle.upc_cell.specs.Connection.{vc_of}
 use Rattle.card_shelf.specs.declared.arrival.Arrival.{Arrival}
 
--- The card of a virtual connection, among so many: path and channel as one number, and its remainder.
+-- The card of a virtual connection, among this number of cards: path and channel as one number, and its remainder.
 abbrev pub card_of : Vc → ℕ → ℕ
 card_of vc cards = (65536 * vc.vpi + vc.vci) % cards
 

@@ -20,7 +20,7 @@ IsWayOf arrival answer events =
     (events ≡ events_of (Enter 0 arrival.cell arrival.moment ∷ Pick 0 ∷ []) (Entered ∷ Answered answer ∷ []))
     ⊎ (events ≡ events_of (Enter 0 arrival.cell arrival.moment ∷ Pick 0 ∷ Judge 0 ∷ []) (Entered ∷ Picked ∷ Answered answer ∷ []))
 
--- These are the steps of the arrivals, one arrival after another, where this is told of them.
+-- These are the steps of the arrivals, one arrival after another, where these are the answers.
 abbrev pub AreWaysOf : List Arrival → List (Result Judgement Unjudged) → List Event → Type 0
 AreWaysOf [] [] events = events ≡ []
 AreWaysOf [] (told ∷ more) events = ⊥

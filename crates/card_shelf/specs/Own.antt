@@ -8,7 +8,7 @@ use Rattle.card_shelf.specs.declared.arrival.Arrival.{Arrival}
 use Rattle.card_shelf.specs.Dealing.{card_for}
 use Rattle.card_shelf.specs.Policing.{Serves}
 
--- The arrivals of the card of this number, among so many cards.
+-- The arrivals of the card of this number, among this number of cards.
 abbrev pub own_arrivals : Side → ℕ → ℕ → List Arrival → List Arrival
 own_arrivals side cards number [] = []
 own_arrivals side cards number (arrival ∷ later) =
@@ -16,7 +16,7 @@ own_arrivals side cards number (arrival ∷ later) =
     then arrival ∷ own_arrivals side cards number later
     else own_arrivals side cards number later
 
--- What is told of these, where this is told of all.
+-- The answers of the card of this number, among the answers to all.
 abbrev pub own_told : Side → ℕ → ℕ → List Arrival → List (Result Judgement Unjudged) → List (Result Judgement Unjudged)
 own_told side cards number [] told = []
 own_told side cards number (arrival ∷ later) [] = []
@@ -33,7 +33,7 @@ ServesAll old (arrival ∷ later) [] new = ⊥
 ServesAll old (arrival ∷ later) (told ∷ more) new =
     (between : CoreView) × Serves arrival told old between × ServesAll between later more new
 
--- Each card answers its own of these arrivals, one after another, and this is told of all.
+-- Each card answers its own of these arrivals, one after another, and these are the answers to all.
 abbrev pub EachServes : Side → List CoreView → List Arrival → List (Result Judgement Unjudged) → List CoreView → Type 0
 EachServes side old arrivals told new = (number : ℕ) (card next : CoreView)
     → slice_get old number ≡ Some card → slice_get new number ≡ Some next

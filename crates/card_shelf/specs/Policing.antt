@@ -18,7 +18,7 @@ Serves arrival told old new = Answers old 0 arrival.cell arrival.moment (answer_
 abbrev pub Polices : Side → List CoreView → Arrival → Result Judgement Unjudged → List CoreView → Type 0
 Polices side old arrival told new = ChangesCard old (card_for side (length old) arrival) (Serves arrival told) new
 
--- The arrivals are policed one after another, in their order, and this is told of each.
+-- The arrivals are policed one after another, in their order, with these answers.
 abbrev pub PolicesAll : Side → List CoreView → List Arrival → List (Result Judgement Unjudged) → List CoreView → Type 0
 PolicesAll side old [] [] new = new ≡ old
 PolicesAll side old [] (told ∷ more) new = ⊥

@@ -15,7 +15,7 @@ pub record ShelfView : Type 0 where
   pub shape : Shape
   pub cards : List CoreView
 
--- Why a shelf of so many cards can't be made: there are to be none or more than 64, or else the shape has a fault.
+-- Why a shelf of this number of cards can't be made: there are to be none or more than 64, or else the shape has a fault.
 abbrev pub shelf_fault : Shape → ℕ → Option ShelfFault
 shelf_fault shape cards = if is_beyond cards 64 then Some Cards else option_map Card (shape_fault shape)
 

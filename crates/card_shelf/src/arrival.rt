@@ -1,4 +1,4 @@
-//! What comes to a shelf, and what is told of it.
+//! Arrivals at a shelf, and the answers to them.
 
 use card_core::{Judgement, Unjudged};
 use upc_cell::Cell;
@@ -11,5 +11,5 @@ pub struct Arrival {
     pub moment: u64,
 }
 
-/// What is told of an arrival: how it was judged, or why it wasn't. The cell itself is the caller's.
+/// The answer to an arrival: how it was judged, or why it wasn't. The cell itself is the caller's.
 pub type Told = Result<Judgement, Unjudged>;

@@ -10,7 +10,7 @@ use crate::arrival::{Arrival, Told};
 use card_core::Core;
 use std::alloc::AllocError;
 
-/// A card of a shelf, with room for what is told of its arrivals. Nothing else on the shelf is reached from
+/// A card of a shelf, with room for the answers to its arrivals. Nothing else on the shelf is reached from
 /// it, so that a thread may have it for itself.
 #[derive(Drop)]
 pub(crate) struct Card {
@@ -19,7 +19,7 @@ pub(crate) struct Card {
 }
 
 impl Card {
-    /// Forgets what it told, and makes room to tell of so many arrivals.
+    /// Drops its earlier answers, and reserves room for this number of answers.
     pub(crate) fn make_room(&mut self, many: usize) -> Result<(), AllocError>
         ensures core { self.new.core ≡ self.old.core }
         ensures ready { OnOk result (IsReady self.new many) }

@@ -9,7 +9,7 @@ use crate::arrival::Arrival;
 use std::alloc::{AllocError, Global};
 use upc_cell::{Side, Vc};
 
-/// The number of the card, from 0, that serves a virtual connection, among so many cards.
+/// The number of the card, from 0, that serves a virtual connection, among this number of cards.
 pub(crate) fn card_of(vc: Vc, cards: usize) -> usize
     requires { 0 < cards }
     ensures card { result ≡ card_of vc cards }
@@ -18,7 +18,7 @@ pub(crate) fn card_of(vc: Vc, cards: usize) -> usize
     (usize::from(vc.vpi) * 65536 + usize::from(vc.vci)) % cards
 }
 
-/// For each of so many cards the places of its arrivals, in their order.
+/// For each of the cards the places of its arrivals, in their order.
 pub(crate) fn deal(
     alloc: Global,
     side: Side,

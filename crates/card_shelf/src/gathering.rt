@@ -9,7 +9,7 @@ use crate::card::Card;
 use crate::dealing::card_of;
 use upc_cell::Side;
 
-/// What is told of these arrivals, each by its card, in their order. `next` has a zero for each card, and
+/// The answers to these arrivals, each from its card, in their order. `next` has a zero for each card, and
 /// `told` room for all: both are handed in, so that no memory is asked for once cards have moved.
 pub(crate) fn gather(
     cards: &[Card],

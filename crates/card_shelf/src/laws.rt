@@ -1,4 +1,4 @@
-//! Laws over what a shelf does. These functions do nothing: each stands for the law that is its contract.
+//! Laws over what a shelf does. These functions do nothing: the contract of each is a law.
 
 ghost use Rattle.card_shelf.specs.Logs.{CardsGoOnByTheirArrivals};
 

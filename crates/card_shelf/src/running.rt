@@ -18,7 +18,7 @@ use std::thread;
 use std::thread::Threads;
 use upc_cell::Side;
 
-/// The cards police these arrivals, each its own, on so many threads at most. All memory is taken before
+/// The cards police these arrivals, each its own, on at most this number of threads. All memory is taken before
 /// any card moves.
 pub(crate) fn police_all<R: Threads + Sync>(
     rt: &R,
@@ -59,7 +59,7 @@ fn make_room(cards: &mut [Card], dealt: &[Vec<usize>]) -> Result<(), AllocError>
     Ok(())
 }
 
-/// Each card polices the arrivals at its places, on so many threads at most.
+/// Each card polices the arrivals at its places, on at most this number of threads.
 fn police_each<R: Threads + Sync>(
     rt: &R,
     cards: &mut [Card],

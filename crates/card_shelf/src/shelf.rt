@@ -46,7 +46,7 @@ impl Shelf {
     ghost use Rattle.card_shelf.specs.Policing.{PolicesAll};
     ghost use Rattle.card_shelf.specs.Own.{EachServes};
 
-    /// A shelf of so many cards of this shape, each without programs and connections.
+    /// A shelf of this number of cards, each of this shape and without programs and connections.
     ///
     /// # Errors
     ///
@@ -221,7 +221,7 @@ ghost use Rattle.card_core.specs.Shapes.{IsShape};
 ghost use Rattle.card_core.specs.World.{opening_world};
 ghost use Rattle.card_shelf.specs.inner.Cards.{cores_of, AreAtRest};
 
-/// So many cards of this shape.
+/// This number of cards of this shape.
 fn new_cards(alloc: Global, shape: Shape, many: usize) -> Option<Vec<Card>>
     requires { IsShape shape }
     ensures many { IfSome result (λ cards. length cards.items ≡ many) }

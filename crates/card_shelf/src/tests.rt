@@ -124,7 +124,7 @@ fn arrivals(alloc: Global) -> Result<Vec<Arrival>, Fail> {
     Ok(all)
 }
 
-/// What is told that does not depend on which card has the connection.
+/// The part of an answer that does not depend on which card has the connection.
 fn seen(told: &Told) -> Result<(Verdict, u64, u64, u32), Unjudged> {
     match told {
         Ok(judgement) => Ok((

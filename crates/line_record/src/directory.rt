@@ -84,7 +84,7 @@ impl Directory {
         Directory::empty(alloc, lines, first - 1).ok_or(DirFault::NoMemory)
     }
 
-    /// A directory without connections, where so many incarnations were given; `None` where the
+    /// A directory without connections, where this number of incarnations was given; `None` where the
     /// memory is refused.
     fn empty(alloc: Global, lines: u16, used: u64) -> Option<Self>
         requires some { 0 < lines }

@@ -40,7 +40,7 @@ impl Model for HeldLines {
 impl HeldLines {
     ghost use Rattle.std.specs.Prelude.{◌≡◌, ◌<◌, ℕ, length, replicate, slice_get, slice_set, true, false, Some, IfSome, MatchOption};
 
-    /// So many lines, each of them free; `None` where the memory is refused.
+    /// This number of lines, each of them free; `None` where the memory is refused.
     pub(crate) fn new(alloc: Global, lines: u16) -> Option<Self>
         ensures { IfSome result (λ held. held ≡ replicate lines false) }
     {
@@ -86,7 +86,7 @@ impl HeldLines {
     }
 }
 
-/// The marks of so many free lines; `None` where the memory is refused.
+/// The marks of this number of free lines; `None` where the memory is refused.
 fn free_marks(alloc: Global, lines: u16) -> Option<Vec<u8>>
     ensures { IfSome result (λ marks. marks.items ≡ replicate lines FREE) }
 {

@@ -31,7 +31,7 @@ impl ProgramUses {
     ghost use Rattle.std.specs.Prelude.{◌≡◌, ◌+◌, ◌-◌, ◌<◌, ◌↔◌, length, replicate, IfSome, IsTrue};
     ghost use Rattle.line_record.specs.inner.ProgramUses.{place_of, uses_of, with_uses};
 
-    /// So many places without a use; `None` where the memory is refused.
+    /// This number of places without a use; `None` where the memory is refused.
     pub(crate) fn new(alloc: Global, places: u16) -> Option<Self>
         requires { 0 < places }
         ensures { IfSome result (λ uses. uses ≡ replicate places 0) }

@@ -14,7 +14,7 @@ use upc_cell::{Cell, Side, Vc};
 /// How many channels a path has.
 const CHANNELS: usize = 65536;
 
-/// A cell that comes to a port, and what is told of it: that memory lacked, until it is answered.
+/// A cell that enters a port, and the answer to it: an allocation failure, until there is one.
 #[derive(Clone, Copy)]
 pub struct DealtCell {
     /// In ticks.
@@ -58,7 +58,7 @@ impl<'a> Deal<'a> {
     ghost use Rattle.std.specs.Prelude.{◌≡◌, ◌<◌, IfOk, OnOk, length};
     ghost use Rattle.port_dialogue.specs.inner.Dealing.{dealt, none_dealt, DealsCell, DealsCellLine, DealsDeskLine};
 
-    /// No line yet, for so many ports.
+    /// No line yet, for this number of ports.
     fn new(alloc: Global, ports: usize) -> Result<Deal<'a>, AllocError>
         ensures { IfOk result (λ deal. dealt deal ≡ none_dealt ports) }
     {
@@ -118,7 +118,7 @@ impl<'a> Deal<'a> {
     }
 }
 
-/// Deals the lines: each cell to one of so many ports, that of its connection, and all others to the desk.
+/// Deals the lines: each cell to the port of its connection, and all others to the desk.
 pub fn deal_lines(
     alloc: Global,
     side: Side,

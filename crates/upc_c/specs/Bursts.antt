@@ -1,4 +1,4 @@
--- The burst tolerance that C is told.
+-- The burst tolerance that C gets.
 use Rattle.std.specs.Prelude.{◌≡◌, ◌⊎◌, ◌^◌, ◌<◌, ◌≤◌, ℕ}
 use Rattle.leaky.specs.Tolerance.{tolerance_of}
 use Rattle.upc_c.specs.Faults.{plain_fault}

@@ -1,4 +1,4 @@
--- A cell that comes to a card that C holds.
+-- A cell that arrives at a card that C holds.
 use Rattle.std.specs.Prelude.{◌≡◌, ◌⊎◌, ℕ, List, length, Option, Some, None}
 use Rattle.card_core.specs.Agreement.{CoreView}
 use Rattle.card_core.specs.Arrival.{Answers}
@@ -22,7 +22,7 @@ pub record Arrives (before after : UpcCard) (cell : List ℕ) (moment : ℕ) (an
   pub has : card_in after ≡ Some new
   pub answers : Answers old 0 cell moment answer new
 
--- The cell was judged: this is told of it, and these are the octets of the leaving cell.
+-- The cell was judged: this is the answer, and these are the octets of the leaving cell.
 pub record IsPoliced (before after : UpcCard) (cell : List ℕ) (moment : ℕ) (told : UpcAnswer) (leaving : List ℕ) : Type 0 where
   pub sized : length cell ≡ 52
   pub verdict : Verdict
@@ -30,7 +30,7 @@ pub record IsPoliced (before after : UpcCard) (cell : List ℕ) (moment : ℕ) (
   pub arrives : Arrives before after cell moment
       (Judged told.line told.number told.moment told.value (id_of told.program) verdict leaving)
 
--- Why a cell isn't judged, as C is told it. A judged cell has no such fault.
+-- Why a cell isn't judged, as a fault for C. A judged cell has no such fault.
 abbrev pub reason_of_answer : Answer → Option UpcFault
 reason_of_answer (Judged line number moment value program verdict cell) = None
 reason_of_answer NoConnection = Some (plain_fault 8 1 0)

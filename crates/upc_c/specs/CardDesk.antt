@@ -29,7 +29,7 @@ use Rattle.upc_c.specs.declared.id.UpcId.{UpcId}
 abbrev pub id_of : UpcId → Id
 id_of given = record { slot = given.slot; generation = given.generation }
 
--- Why the desk refuses, as C is told it.
+-- Why the desk refuses, as a fault for C.
 abbrev pub told_desk : DeskFault → UpcFault
 told_desk desk.NoProgram = plain_fault 10 1 0
 told_desk desk.NoConnection = plain_fault 10 2 0

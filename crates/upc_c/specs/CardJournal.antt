@@ -1,4 +1,4 @@
--- The journal of a connection, as C is told of it.
+-- The journal of a connection, as C gets it.
 use Rattle.std.specs.Prelude.{◌≡◌, ℕ, length}
 use Rattle.card_core.specs.declared.reply.Reply.TheVariants.{Released, Cut as CutOff}
 use Rattle.card_core.specs.declared.step.Step.TheVariants.{Release, Cut}
@@ -20,7 +20,7 @@ counts_of tally = record {
   refused = tally.refused;
 }
 
--- What is told of a journal that was handed out: how many cells it has, and the counts of its line before the first
+-- What C gets of a journal that was handed out: how many cells it has, and the counts of its line before the first
 -- and after the last of them.
 abbrev pub told_journal : PieceView → UpcJournal
 told_journal piece = record {
@@ -29,12 +29,12 @@ told_journal piece = record {
   after = counts_of piece.end.counts;
 }
 
--- The connection has ended, and this is told of its last journal.
+-- The connection has ended, and C gets this of its last journal.
 abbrev pub IsReleased : UpcCard → UpcCard → ℕ → ℕ → UpcJournal → Type 0
 IsReleased before after path channel told = (vc : Vc) × IsVc path channel vc
     × ((piece : PieceView) × Takes before after (Release vc) (Released piece) × (told ≡ told_journal piece))
 
--- The connection's journal was handed out, and this is told of it.
+-- The connection's journal was handed out, and C gets this of it.
 abbrev pub IsCut : UpcCard → UpcCard → ℕ → ℕ → UpcJournal → Type 0
 IsCut before after path channel told = (vc : Vc) × IsVc path channel vc
     × ((piece : PieceView) × Takes before after (Cut vc) (CutOff piece) × (told ≡ told_journal piece))

@@ -23,7 +23,7 @@ pub record IsShapeOf (given : UpcShape) (shape : Shape) : Type 0 where
 abbrev pub IsEmptyCard : UpcShape → CoreView → Type 0
 IsEmptyCard given core = (shape : Shape) × IsShapeOf given shape × CoreAgrees core (opening_world shape)
 
--- Why a card can't be made, as C is told it.
+-- Why a card can't be made, as a fault for C.
 abbrev pub told_card : CardFault → UpcFault
 told_card Programs = plain_fault 9 1 0
 told_card Lines = plain_fault 9 2 0

@@ -1,4 +1,4 @@
--- The header of a cell, as C is told it.
+-- The header of a cell, as C gets it.
 use Rattle.std.specs.Prelude.{◌≡◌, ◌≢◌, ◌⊎◌, ◌<◌, ℕ, List, length}
 use Rattle.upc_cell.specs.Header.{gfc_of, vci_of, pti_of, clp_of}
 use Rattle.upc_cell.specs.Side.{vpi_at}

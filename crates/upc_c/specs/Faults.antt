@@ -30,7 +30,7 @@ unknown_side = plain_fault 1 5 0
 abbrev pub out_of_memory : UpcFault
 out_of_memory = plain_fault 1 1 0
 
--- The room is too small, and so many octets are needed.
+-- The room is too small, and this number of octets is needed.
 abbrev pub no_room : ℕ → UpcFault
 no_room needed = plain_fault 1 2 needed
 

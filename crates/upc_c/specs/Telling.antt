@@ -1,4 +1,4 @@
--- The faults of the libraries below, as C is told them.
+-- The faults of the libraries below, as C gets them.
 use Rattle.std.specs.Prelude.{ℕ}
 use Rattle.bpf_asm.specs.declared.fault.AsmFault.{AsmFault}
 use Rattle.bpf_asm.specs.declared.fault.AsmKind.{AsmKind}

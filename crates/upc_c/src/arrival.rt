@@ -25,7 +25,7 @@ use line_record::LineFault;
 use std::alloc::Global;
 use upc_cell::Cell;
 
-/// What is told of a judged cell.
+/// The answer to a judged cell.
 #[repr(C)]
 #[derive(Clone, Copy, Debug)]
 pub struct UpcAnswer {

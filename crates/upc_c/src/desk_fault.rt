@@ -1,4 +1,4 @@
-//! Why the desk refuses, as C is told it.
+//! Why the desk refuses, as a fault for C.
 
 ghost use Rattle.std.specs.Prelude.{◌≡◌, ◌<◌};
 ghost use Rattle.upc_c.specs.CardDesk.{told_desk};

@@ -1,4 +1,4 @@
-//! A program behind a pointer whose type C doesn't see.
+//! A program at a pointer whose type C doesn't see.
 
 mod card;
 mod parts;

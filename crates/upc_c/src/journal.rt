@@ -32,7 +32,7 @@ pub struct UpcCounts {
     pub refused: u64,
 }
 
-/// What is told of a journal.
+/// What C gets of a journal.
 #[repr(C)]
 #[derive(Clone, Copy, Debug)]
 pub struct UpcJournal {
@@ -56,7 +56,7 @@ fn counts_of(tally: Tally) -> UpcCounts
     }
 }
 
-/// What is told of a journal that was handed out.
+/// What C gets of a journal that was handed out.
 fn told_journal(piece: &Piece) -> UpcJournal
     ensures { result ≡ told_journal piece.now }
 {

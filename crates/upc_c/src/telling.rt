@@ -1,4 +1,4 @@
-//! The faults of the libraries below, as C is told them.
+//! The faults of the libraries below, as C gets them.
 
 ghost use Rattle.std.specs.Prelude.{◌≡◌, ◌<◌};
 ghost use Rattle.upc_c.specs.Telling.{told_asm, told_decode, told_list, told_verify};

@@ -14,7 +14,7 @@ cores_of cards = map (λ card. card.core) cards
 abbrev pub tolds_of : List Card → List (List (Result Judgement Unjudged))
 tolds_of cards = map (λ card. card.told.items) cards
 
--- The card has told nothing yet, and has room to tell of so many arrivals.
+-- The card has no answer yet, and has room for this number of answers.
 pub record IsReady (card : Card) (many : ℕ) : Type 0 where
   pub empty : card.told.items ≡ []
   pub room : many ≤ vec_capacity card.told

@@ -11,13 +11,13 @@ abbrev pub CountsOwn : Side → ℕ → List Arrival → List ℕ → Type 0
 CountsOwn side cards arrivals counts = (number count : ℕ) → slice_get counts number ≡ Some count
     → count ≡ length (own_arrivals side cards number arrivals)
 
--- What is told of these arrivals is, card by card, what the card told first.
+-- The answers to these arrivals are, card by card, the first answers of the card.
 abbrev pub IsGathered : Side → ℕ → List Arrival → List (List (Result Judgement Unjudged)) → List (Result Judgement Unjudged) → Type 0
 IsGathered side cards arrivals cards_told told = (number : ℕ) (ts : List (Result Judgement Unjudged))
     → slice_get cards_told number ≡ Some ts
     → own_told side cards number arrivals told ≡ take (length (own_arrivals side cards number arrivals)) ts
 
--- What is told of all arrivals is, card by card, what the card told.
+-- The answers to all arrivals are, card by card, the answers of the card.
 abbrev pub TellsOwn : Side → ℕ → List Arrival → List (Result Judgement Unjudged) → List (List (Result Judgement Unjudged)) → Type 0
 TellsOwn side cards arrivals told cards_told = (number : ℕ) (ts : List (Result Judgement Unjudged))
     → slice_get cards_told number ≡ Some ts → own_told side cards number arrivals told ≡ ts

@@ -14,11 +14,11 @@ place_of counts program = program.slot % length counts
 abbrev pub uses_of : List ℕ → Id → ℕ
 uses_of counts program = slice_index counts (place_of counts program)
 
--- The table with so many uses at the program's place.
+-- The table with this number of uses at the program's place.
 abbrev pub with_uses : List ℕ → Id → ℕ → List ℕ
 with_uses counts program uses = slice_set counts (place_of counts program) uses
 
--- There is a program, and of so many places this is the one where it is counted.
+-- There is a program, and of this number of places this is the one where it is counted.
 abbrev pub is_counted_at : ℕ → ℕ → Option Id → Bool
 is_counted_at places place None = false
 is_counted_at places place (Some program) = program.slot % places == place

@@ -54,7 +54,7 @@ pub record Dealt : Type 0 where
   pub desk : List (List ℕ)
   pub arrivals : List (List DealtCell)
 
--- No line was dealt, for so many ports.
+-- No line was dealt, for this number of ports.
 abbrev pub none_dealt : ℕ → Dealt
 none_dealt ports = record { order = []; desk = []; arrivals = replicate ports [] }
 

@@ -1,4 +1,4 @@
-//! A card behind a pointer whose type C doesn't see.
+//! A card at a pointer whose type C doesn't see.
 
 ghost use Rattle.std.specs.Prelude.{◌≡◌, Option, Some, None};
 ghost use Rattle.card_core.specs.Agreement.{CoreView};

@@ -36,7 +36,7 @@ fn shared_card(alloc: Global) -> Result<Core, Fail> {
     Ok(core)
 }
 
-/// A cell of path 1 and channel 101 comes to port 1, and is picked.
+/// A cell of path 1 and channel 101 enters port 1, and is picked.
 fn pick_another(core: &mut Core, moment: u64) -> bool {
     let mut octets = *cell().bytes();
     octets[3] = 0x50;
