@@ -4,7 +4,7 @@ use Rattle.std.specs.List.{before_first}
 use Rattle.std.proofs.lemmas.Bool.{and_cases, and_left, and_parts, and_from, and_right, eqb-true, not-true}
 use Rattle.bpf_asm.specs.SourceLines.{source_lines}
 use Rattle.bpf_asm.specs.inner.Feeds.{no_feed}
-use Rattle.dialogue.specs.Lines.{without_return}
+use Rattle.text_io.specs.Lines.{without_return}
 use Rattle.bpf_asm.proofs.LineCuts.{line_ended}
 use Rattle.bpf_asm.specs.StatementSpelling.{Part, text, num, label, part_octets, part_tokens, spelling_octets, spelling_tokens}
 use Rattle.bpf_asm.specs.Tokens.{Token, name, number, faulty, mark, is_run, is_word, signed, signed_behind, pieces_of, tokens_of}

@@ -4,7 +4,7 @@ use Rattle.std.proofs.lemmas.Bool.{and_from, and_parts, and_right, lt-ltb}
 use Rattle.std.proofs.lemmas.Fmt.{decimal_by_steps}
 use Rattle.bpf_asm.specs.Numbers.{digit_of, number_of, value_behind, value_of, within_word}
 use Rattle.bpf_asm.specs.Tokens.{name, number, tokens_of, word_token}
-use Rattle.dialogue.specs.Words.{is_digit}
+use Rattle.text_io.specs.Words.{is_digit}
 use Rattle.bpf_asm.specs.inner.WordRuns.{all_word}
 use Rattle.bpf_asm.proofs.Pieces.{tokens_of-word}
 use Rattle.bpf_asm.proofs.OctetTests.{digit_no_sign, digit_of-digit, digit_within, digit_word}

@@ -18,7 +18,7 @@ use Rattle.bpf_code.specs.declared.instr.By.{By}
 use Rattle.bpf_code.specs.declared.instr.By.TheVariants.{Imm, X}
 use Rattle.bpf_code.specs.declared.instr.Instr.{Instr}
 use Rattle.bpf_code.specs.declared.instr.Instr.TheVariants.{LoadAbs, LoadInd, LoadImm, LoadMem, LoadLen, LdxImm, LdxMem, LdxLen, LdxMsh, Store, StoreX, Alu, Neg, Jump, Branch, RetK, RetA, Tax, Txa}
-use Rattle.dialogue.specs.Words.{is_blank, is_digit}
+use Rattle.text_io.specs.Words.{is_blank, is_digit}
 use Rattle.bpf_code.proofs.Public.{code_octets-plainly}
 
 -- A number that a token holds has at most 32 bits.

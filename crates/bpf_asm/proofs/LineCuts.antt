@@ -4,7 +4,7 @@ use Rattle.std.proofs.lemmas.Bool.{and_parts, not-true}
 use Rattle.std.proofs.lemmas.List.{drop_all, drop_more, take_all}
 use Rattle.bpf_asm.specs.SourceLines.{source_lines}
 use Rattle.bpf_asm.specs.inner.Feeds.{no_feed}
-use Rattle.dialogue.specs.Lines.{begun_with, lines_of, said, without_return}
+use Rattle.text_io.specs.Lines.{begun_with, lines_of, said, without_return}
 
 ended : (line rest : List ℕ) → no_feed line ≡ true → lines_of (line ++ 10 ∷ rest) ≡ (record { octets = line; ended = true }) ∷ lines_of rest
 ended [] rest n = refl

@@ -4,7 +4,7 @@ use Rattle.std.proofs.lemmas.Bool.{and_parts, eqb-true, leb-true}
 use Rattle.std.proofs.lemmas.Bool.Decides.{nat_tests}
 use Rattle.bpf_asm.specs.Numbers.{digit_of}
 use Rattle.bpf_asm.specs.Tokens.{is_word}
-use Rattle.dialogue.specs.Words.{is_digit}
+use Rattle.text_io.specs.Words.{is_digit}
 
 -- A digit is from 48 to 57.
 pub digit_bounds : (octet : ℕ) → is_digit octet ≡ true → (48 ≤ octet) × (octet ≤ 57)

@@ -2,7 +2,7 @@
 use Rattle.std.proofs.Common.{◌≡◌, ◌≢◌, ℕ, ◌<◌, Bool, true, false, ◌&&◌, ◌==◌, if◌then◌else◌, List, [], ◌∷◌, Option, Some, None, length, get_or, drop, refl, sym, ap, ◌∙◌, arith}
 use Rattle.std.proofs.lemmas.Bool.{ne_eqb}
 use Rattle.std.specs.List.{cons_option, filter_map}
-use Rattle.dialogue.specs.Words.{is_blank, is_digit}
+use Rattle.text_io.specs.Words.{is_blank, is_digit}
 use Rattle.bpf_asm.specs.inner.Reading.{cut_mark, is_ended}
 use Rattle.bpf_asm.specs.Numbers.{number_of}
 use Rattle.bpf_asm.specs.Tokens.{Token, name, mark, is_run, is_word, joined, number_token, pieces_of, signed, signed_behind, token_of, tokens_of, tokens_read, word_token}

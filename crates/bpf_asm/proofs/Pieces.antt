@@ -5,7 +5,7 @@ use Rattle.std.proofs.lemmas.List.Elements.{filter_map-append}
 use Rattle.std.proofs.lemmas.Bool.{and_left, and_parts, and_right, eqb-true, or_cases}
 use Rattle.bpf_asm.specs.Tokens.{Token, is_run, is_word, joined, pieces_of, token_of, tokens_of, word_token, mark}
 use Rattle.bpf_asm.specs.inner.WordRuns.{all_word}
-use Rattle.dialogue.specs.Words.{is_blank}
+use Rattle.text_io.specs.Words.{is_blank}
 
 -- The text ends in an octet of a word.
 abbrev pub ends_word : List ℕ → Bool

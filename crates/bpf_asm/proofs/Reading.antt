@@ -5,7 +5,7 @@ use Rattle.std.proofs.lemmas.List.{at_drop_all, at_drop_more, drop_more, take_mo
 use Rattle.bpf_asm.specs.Numbers.{digit_of, is_hexadecimal, number_of, value_behind, value_in, within_word}
 use Rattle.bpf_asm.specs.Tokens.{is_run, is_word, mark, name, number, faulty, number_token, pieces_of, tokens_of, word_token}
 use Rattle.bpf_asm.specs.inner.WordRuns.{all_word}
-use Rattle.dialogue.specs.Words.{is_blank, is_digit}
+use Rattle.text_io.specs.Words.{is_blank, is_digit}
 use Rattle.bpf_asm.proofs.Pieces.{tokens_of-blank, tokens_of-mark, tokens_of-words}
 
 all_word-snoc : (word : List ℕ) (octet : ℕ) → all_word word ≡ true → is_word octet ≡ true → all_word (word ++ octet ∷ []) ≡ true

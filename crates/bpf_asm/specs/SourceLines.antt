@@ -1,7 +1,7 @@
 -- The lines of a source.
 use Rattle.std.specs.Prelude.{ℕ, ◌==◌, List, map}
 use Rattle.std.specs.List.{before_first}
-use Rattle.dialogue.specs.Lines.{lines_of, said}
+use Rattle.text_io.specs.Lines.{lines_of, said}
 
 -- The lines of a source are those of any text: each ends by a line feed, and a carriage return just
 -- before it is dropped.

@@ -3,7 +3,7 @@ use Rattle.std.specs.Prelude.{ℕ, ◌-◌, ◌%◌, ◌^◌, Bool, true, false,
 use Rattle.std.specs.List.{filter_map}
 use Rattle.bpf_asm.specs.SourceLines.{without_comment}
 use Rattle.bpf_asm.specs.Numbers.{number_of}
-use Rattle.dialogue.specs.Words.{is_blank, is_digit}
+use Rattle.text_io.specs.Words.{is_blank, is_digit}
 
 -- A name, a number, a word that begins with a digit and is no number, or any other octet. The
 -- grammar knows the octets `# [ ] + - * ( ) & , :` alone.

@@ -4,8 +4,8 @@ ghost use Rattle.std.specs.Prelude.{◌≡◌, ◌<◌, ◌≤◌, [], ◌∷◌
 ghost use Rattle.bpf_asm.specs.SourceLines.{source_lines};
 ghost use Rattle.bpf_asm.specs.inner.Feeds.{no_feed};
 
-use dialogue::before_return;
 use memchr::memchr;
+use text_io::before_return;
 
 /// How many octets stand before the first line feed.
 fn line_len(text: &[u8]) -> usize

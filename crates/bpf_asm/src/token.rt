@@ -6,7 +6,7 @@ ghost use Rattle.bpf_asm.specs.Numbers.{digit_of, is_hexadecimal, number_of, val
 ghost use Rattle.bpf_asm.specs.inner.Seen.{token_seen};
 ghost use Rattle.bpf_asm.specs.Tokens.{is_run, is_word, mark, tokens_of, tokens_read, word_token};
 ghost use Rattle.bpf_asm.specs.inner.WordRuns.{all_word};
-ghost use Rattle.dialogue.specs.Words.{is_blank, is_digit};
+ghost use Rattle.text_io.specs.Words.{is_blank, is_digit};
 
 /// A token, with the octets of its name in the line.
 #[derive(Clone, Copy)]

@@ -1,12 +1,12 @@
 -- The texts of the subcommands: each input has one of each, and one alone where it is told whole.
 use Rattle.std.proofs.Common.{◌≡◌, ℕ, List}
-use Rattle.dialogue.specs.declared.ending.Done.{Done}
+use Rattle.text_io.specs.declared.ending.Done.{Done}
 use Rattle.upc.specs.Subcommand.{IsTextOf, IsToldWhole}
 use Rattle.upc.specs.declared.choice.Choice.{Choice}
 use Rattle.upc.specs.declared.choice.Choice.TheVariants.{Check, Eval, Run, Ports}
-use Rattle.program_dialogue.proofs.Public.{some-check_text, one-check_text, some-eval_text, one-eval_text}
-use Rattle.card_dialogue.proofs.Public.{some-run_text, one-run_text}
-use Rattle.port_dialogue.proofs.Public.{some-ports_text}
+use Rattle.upc_programs.proofs.Public.{some-check_text, one-check_text, some-eval_text, one-eval_text}
+use Rattle.upc_run.proofs.Public.{some-run_text, one-run_text}
+use Rattle.upc_ports.proofs.Public.{some-ports_text}
 
 pub some-text_of : (choice : Choice) (octets : List ℕ) → (text : List ℕ) × (done : Done) × IsTextOf choice octets text done
 some-text_of Check octets = some-check_text octets

@@ -1,8 +1,8 @@
 -- What the end of a run says to whoever started the program.
 use Rattle.std.specs.Prelude.{ℕ, Result, Ok, Err}
-use Rattle.dialogue.specs.declared.ending.Done.{Done}
-use Rattle.dialogue.specs.declared.ending.Done.TheVariants.{Whole, Ended}
-use Rattle.dialogue.specs.declared.ending.RunFault.{RunFault}
+use Rattle.text_io.specs.declared.ending.Done.{Done}
+use Rattle.text_io.specs.declared.ending.Done.TheVariants.{Whole, Ended}
+use Rattle.text_io.specs.declared.ending.RunFault.{RunFault}
 
 -- The exit status: 0 where the whole input was answered, 1 where a fault line ended the run, 3 where
 -- the call failed.

@@ -1,12 +1,12 @@
 -- What the program does with the choice that its words came to, and with which exit status it ends.
 use Rattle.std.specs.Prelude.{◌≡◌, ◌⊎◌, ℕ, List, ◌++◌, codes, Result, Ok, Err}
 use Rattle.std.specs.String.{string_bytes}
-use Rattle.dialogue.specs.Devices.{Adds, IsPart, TakesEnough, one_more}
-use Rattle.dialogue.specs.Limits.{most_ahead}
-use Rattle.dialogue.specs.Printing.{IsFront}
-use Rattle.dialogue.specs.declared.ending.Done.{Done}
-use Rattle.dialogue.specs.declared.ending.RunFault.{RunFault}
-use Rattle.dialogue.specs.declared.ending.RunFault.TheVariants.{ReadFailed, WriteFailed, NoMemory}
+use Rattle.text_io.specs.Devices.{Adds, IsPart, TakesEnough, one_more}
+use Rattle.text_io.specs.Limits.{most_ahead}
+use Rattle.text_io.specs.Printing.{IsFront}
+use Rattle.text_io.specs.declared.ending.Done.{Done}
+use Rattle.text_io.specs.declared.ending.RunFault.{RunFault}
+use Rattle.text_io.specs.declared.ending.RunFault.TheVariants.{ReadFailed, WriteFailed, NoMemory}
 use Rattle.upc.specs.ExitStatus.{status_of}
 use Rattle.upc.specs.Subcommand.{IsTextOf}
 use Rattle.upc.specs.declared.choice.Choice.{Choice}

@@ -1,12 +1,12 @@
 -- What each subcommand prints.
 use Rattle.std.specs.Prelude.{ℕ, List, ⊤}
-use Rattle.program_dialogue.specs.Check.{IsCheckText}
-use Rattle.program_dialogue.specs.Eval.{IsEvalText}
-use Rattle.card_dialogue.specs.RunText.{IsRunText}
-use Rattle.port_dialogue.specs.PortsText.{IsPortsText}
+use Rattle.upc_programs.specs.Check.{IsCheckText}
+use Rattle.upc_programs.specs.Eval.{IsEvalText}
+use Rattle.upc_run.specs.RunText.{IsRunText}
+use Rattle.upc_ports.specs.PortsText.{IsPortsText}
 use Rattle.upc.specs.declared.choice.Choice.{Choice}
 use Rattle.upc.specs.declared.choice.Choice.TheVariants.{Check, Eval, Run, Ports}
-use Rattle.dialogue.specs.declared.ending.Done.{Done}
+use Rattle.text_io.specs.declared.ending.Done.{Done}
 
 -- The text of the octets of a whole input, and how it ends; of a script that ports run, as far as it is told.
 abbrev pub IsTextOf : Choice → List ℕ → List ℕ → Done → Type 0

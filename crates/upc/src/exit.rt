@@ -3,7 +3,7 @@
 ghost use Rattle.std.specs.Prelude.{◌≡◌};
 ghost use Rattle.upc.specs.ExitStatus.{status_of};
 
-use dialogue::{Done, RunFault};
+use text_io::{Done, RunFault};
 
 /// The exit status for how a call ended: 0 for a whole answer, 1 where a fault line ended it early,
 /// 3 where it failed.

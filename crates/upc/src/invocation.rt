@@ -1,17 +1,17 @@
 //! The choice that the words came to, carried out between three devices, with the exit status.
 
 ghost use Rattle.std.specs.Prelude.{◌≡◌, ◌≢◌, ◌⊎◌, ◌++◌, Ok as TheOk, OnOk, OnErr, IfOk};
-ghost use Rattle.dialogue.specs.Devices.{IsPart, one_more};
+ghost use Rattle.text_io.specs.Devices.{IsPart, one_more};
 ghost use Rattle.upc.specs.Invocation.{CarriesOut, IsStatusFor, failure_line};
 ghost use Rattle.upc.specs.declared.choice.Choice.TheVariants.{Ports};
 
 use crate::choice::{Choice, Stop};
 use crate::exit::status;
 use crate::subcommand::{run_alone, run_subcommand};
-use dialogue::{Input, Output, RunFault, give_all};
 use std::alloc::Global;
 use std::sync::Wait;
 use std::thread::Threads;
+use text_io::{Input, Output, RunFault, give_all};
 
 /// The line that tells why a run failed.
 fn line_of(fault: RunFault) -> &'static [u8]

@@ -1,7 +1,7 @@
 //! Laws of the definitions: functions that do nothing, each for the sake of its contract.
 
 ghost use Rattle.std.specs.Prelude.{◌≡◌, ℕ, List};
-ghost use Rattle.dialogue.specs.declared.ending.Done.{Done as TheDone};
+ghost use Rattle.text_io.specs.declared.ending.Done.{Done as TheDone};
 ghost use Rattle.upc.specs.Subcommand.{IsTextOf, IsToldWhole};
 ghost use Rattle.upc.specs.declared.choice.Choice.{Choice as TheChoice};
 

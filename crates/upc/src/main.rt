@@ -11,15 +11,15 @@ mod subcommand;
 mod tests;
 mod words;
 
-pub use card_dialogue::run_script;
 pub use choice::{Choice, Stop, choose};
-use dialogue::{Giving, Taking};
 pub use exit::status;
 use invocation::{carry_out, carry_out_alone};
-pub use port_dialogue::{run_ports, run_ports_with};
-pub use program_dialogue::{check_source, eval_bytes};
 use std::io::IsTerminal;
 use std::process::ExitCode;
+use text_io::{Giving, Taking};
+pub use upc_ports::{run_ports, run_ports_with};
+pub use upc_programs::{check_source, eval_bytes};
+pub use upc_run::run_script;
 use words::words_after_name;
 
 fn main(rt: HostRuntime) -> ExitCode {

@@ -1,21 +1,21 @@
 //! The subcommand that was chosen, between two devices.
 
 ghost use Rattle.std.specs.Prelude.{◌≡◌, ◌≢◌, IfOk, OnErr, ℕ, List, [], Ok};
-ghost use Rattle.dialogue.specs.Devices.{Adds, TakesEnough};
-ghost use Rattle.dialogue.specs.Limits.{most_ahead};
-ghost use Rattle.dialogue.specs.Failures.{read_failures, write_failures};
-ghost use Rattle.dialogue.specs.Printing.{IsFront};
+ghost use Rattle.text_io.specs.Devices.{Adds, TakesEnough};
+ghost use Rattle.text_io.specs.Limits.{most_ahead};
+ghost use Rattle.text_io.specs.Failures.{read_failures, write_failures};
+ghost use Rattle.text_io.specs.Printing.{IsFront};
 ghost use Rattle.upc.specs.Subcommand.{IsTextOf};
 ghost use Rattle.upc.specs.declared.choice.Choice.TheVariants.{Ports};
 
 use crate::choice::Choice;
-use card_dialogue::run_script;
-use dialogue::{Done, Input, Output, RunFault};
-use port_dialogue::run_ports;
-use program_dialogue::{check_source, eval_bytes};
 use std::alloc::Global;
 use std::sync::Wait;
 use std::thread::Threads;
+use text_io::{Done, Input, Output, RunFault};
+use upc_ports::run_ports;
+use upc_programs::{check_source, eval_bytes};
+use upc_run::run_script;
 
 /// Runs a subcommand over the whole input: any that is done by one thread, and so always ends.
 ///

@@ -6,11 +6,11 @@ mod devices;
 mod statuses;
 
 use crate::{Choice, check_source, eval_bytes, run_ports, run_script};
-use dialogue::{Done, Giving, RunFault, Taking};
 use std::alloc::Global;
 use std::sync::Wait;
 use std::test::Fail;
 use std::thread::Threads;
+use text_io::{Done, Giving, RunFault, Taking};
 
 /// What a subcommand's own call prints for an input, and how it ends.
 fn printed<R: Threads + Wait + Sync>(

@@ -1,9 +1,9 @@
 -- A machine that tells of each line whether an even number of lines came before it. Its world is the list
 -- of all lines so far, of which it holds one bit.
 use Rattle.std.specs.Prelude.{◌≡◌, ℕ, Bool, true, false, not, List, [], ◌∷◌, codes, Option, Some}
-use Rattle.dialogue.specs.Printing.{Rules, IsTotal}
-use Rattle.dialogue.specs.declared.ending.Done.{Done}
-use Rattle.dialogue.specs.declared.ending.Done.TheVariants.{Whole}
+use Rattle.text_io.specs.Printing.{Rules, IsTotal}
+use Rattle.text_io.specs.declared.ending.Done.{Done}
+use Rattle.text_io.specs.declared.ending.Done.TheVariants.{Whole}
 use Rattle.std.proofs.Common.{refl}
 
 -- The lines so far, the latest first.

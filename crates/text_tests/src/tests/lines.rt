@@ -4,13 +4,13 @@ mod devices;
 mod parity;
 
 use devices::{Catcher, Dropper};
-use dialogue::{
-    Done, Giving, Input, LineWords, RunFault, Taking, answer_lines, first_word, gather, give_all,
-    line_words,
-};
 use parity::Parity;
 use std::alloc::Global;
 use std::test::Fail;
+use text_io::{
+    Done, Giving, Input, LineWords, RunFault, Taking, answer_lines, first_word, gather, give_all,
+    line_words,
+};
 
 /// Runs the machine over devices that fail once so many calls have gone well: how it ends, what was
 /// written, and how many octets are left.

@@ -1,13 +1,13 @@
 //! Scripts whose cells come to ports that are threads of their own, with gates; and why a card is not closed.
 
-use dialogue::{Done, Giving, RunFault, Taking};
 use port_card::{CloseFault, Gate};
-use port_dialogue::run_ports_with;
 use std::alloc::Global;
 use std::sync::Wait;
 use std::sync::atomic::{AtomicU64, Ordering};
 use std::test::Fail;
 use std::thread::{self, Threads};
+use text_io::{Done, Giving, RunFault, Taking};
+use upc_ports::run_ports_with;
 
 /// The most turns that a gate makes.
 const TURNS: u64 = 10_000_000;

@@ -4,12 +4,12 @@ ghost use Rattle.std.specs.Prelude.{◌≡◌, drop};
 
 use crate::Choice;
 use crate::subcommand::run_subcommand;
-use dialogue::{Done, Failed, Input, Output, RunFault};
 use std::alloc::{AllocError, Global};
 use std::process::Abort;
 use std::sync::Wait;
 use std::test::Fail;
 use std::thread::Threads;
+use text_io::{Done, Failed, Input, Output, RunFault};
 
 /// A subcommand, what it reads, and what it answers.
 #[derive(Clone, Copy)]

@@ -3,12 +3,12 @@
 use super::devices::{Catcher, Dropper};
 use crate::invocation::carry_out;
 use crate::{choose, status};
-use dialogue::{Done, RunFault};
 use std::alloc::{AllocError, Global};
 use std::process::Abort;
 use std::sync::Wait;
 use std::test::Fail;
 use std::thread::Threads;
+use text_io::{Done, RunFault};
 
 /// What a run of the program left behind.
 #[derive(Drop)]

@@ -2,8 +2,8 @@
 
 ghost use Rattle.std.specs.Prelude.{◌≡◌};
 
-use dialogue::{Failed, Input, Output};
 use std::alloc::Global;
+use text_io::{Failed, Input, Output};
 
 /// Gives one octet a call.
 #[derive(Drop)]

@@ -3,8 +3,8 @@
 ghost use Rattle.std.specs.Prelude.{◌≡◌};
 ghost use Rattle.text_tests.specs.examples.Parity.{answer_of};
 
-use dialogue::{Done, Machine, Turn};
 use std::alloc::AllocError;
+use text_io::{Done, Machine, Turn};
 
 fn text_of(even: bool) -> &'static [u8]
     ensures { result.now ≡ answer_of even }

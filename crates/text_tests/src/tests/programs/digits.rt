@@ -1,8 +1,8 @@
 //! Cell words beside the library's reading of them.
 
-use program_dialogue::cell_of_digits;
 use std::process::Abort;
 use upc_cell::Cell;
+use upc_words::cell_of_digits;
 
 /// Asks that a word is read as the library reads it, whose octets these are, if it reads any.
 fn expect_as(rt: &impl Abort, word: &[u8], read: bool, octets: [u8; 52]) {

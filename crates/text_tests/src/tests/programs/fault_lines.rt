@@ -3,10 +3,10 @@
 use bpf_asm::{AsmFault, AsmKind};
 use bpf_code::DecodeFault;
 use bpf_verify::Fault;
-use program_dialogue::{add_asm_fault, add_decode_fault, add_verify_fault};
 use std::process::Abort;
 use std::string::String;
 use std::test::Fail;
+use upc_words::{add_asm_fault, add_decode_fault, add_verify_fault};
 
 /// Asks that these answers are this line.
 fn expect(rt: &impl Abort, answers: &Vec<u8>, line: &String) {

@@ -1,9 +1,9 @@
 //! The fault lines of rates, shapes and the desk: `fault`, the family, and the fault as its own crate prints it.
 
 use card_core::{CardFault, DeskFault};
-use card_dialogue::{add_desk_fault, add_gcra_fault, add_shape_fault};
 use leaky::GcraFault;
 use std::test::Fail;
+use upc_run::{add_desk_fault, add_gcra_fault, add_shape_fault};
 
 #[test]
 fn a_fault_of_a_rate_is_printed_as_itself(rt: HostRuntime) -> Result<(), Fail> {

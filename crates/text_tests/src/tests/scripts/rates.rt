@@ -1,9 +1,9 @@
 //! The contracts that a script asks for.
 
 use arrayvec::ArrayVec;
-use card_dialogue::{Rate, Wanted, contracts_of};
 use leaky::{Contract, Gcra};
 use std::test::Fail;
+use upc_run::{Rate, Wanted, contracts_of};
 
 /// The greatest number of ticks of a rate.
 const MOST: u64 = 281474976710656;

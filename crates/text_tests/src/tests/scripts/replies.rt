@@ -1,13 +1,13 @@
 //! The lines of replies that no script of one port gets, and the longest ones.
 
 use card_core::Answer;
-use card_dialogue::add_answer;
 use gen_arena::Id;
 use leaky::Verdict;
 use std::alloc::{AllocError, Global};
 use std::process::Abort;
 use std::test::Fail;
 use upc_cell::{Cell, Side, Vc};
+use upc_run::add_answer;
 
 /// A cell that was judged so, with the greatest value and a header of ones.
 fn judged(verdict: Verdict) -> Answer {

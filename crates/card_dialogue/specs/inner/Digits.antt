@@ -1,8 +1,0 @@
--- Digits, one after another.
-use Rattle.std.specs.Prelude.{ℕ, ◌+◌, ◌-◌, ◌*◌, if◌then◌else◌, Option, None}
-use Rattle.card_dialogue.specs.ScriptWords.{most_number, up_to}
-use Rattle.dialogue.specs.Words.{is_digit}
-
--- The value with one more digit behind it, if the octet is a digit and the value isn't too large.
-abbrev pub with_digit : ℕ → ℕ → Option ℕ
-with_digit high octet = if is_digit octet then up_to most_number (high * 10 + (octet - 48)) else None

@@ -1,6 +1,0 @@
--- The rules are total.
-use Rattle.dialogue.proofs.Public.{some-text}
-use Rattle.dialogue.proofs.laws.lines_have_a_text.Goals as goal
-
-pub returns : goal.returns
-returns g c = some-text g.M.Machine.rules g.met.M.Machine.is_total

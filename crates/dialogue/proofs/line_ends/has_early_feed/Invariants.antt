@@ -1,6 +1,0 @@
--- As long as none was found, none of the octets so far is a line feed.
-use Rattle.std.proofs.Common.{◌≡◌, ◌≢◌, ℕ, ◌<◌, false, get_or}
-use Rattle.dialogue.proofs.line_ends.has_early_feed.Given as goal
-
-abbrev pub invariant-loop-at : goal.invariant-loop-at
-invariant-loop-at l = l.found ≡ false → (k : ℕ) → k < l.at → get_or l.octets k 0 ≢ 10

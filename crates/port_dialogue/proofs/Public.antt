@@ -1,9 +1,0 @@
--- What the crates above may use in their proofs.
-use Rattle.std.proofs.Common.{ℕ, List}
-use Rattle.dialogue.specs.declared.ending.Done.{Done}
-use Rattle.port_dialogue.specs.PortsText.{IsPortsText}
-use Rattle.port_dialogue.proofs.PortsTexts as texts
-
--- A script has a text of `ports`.
-pub some-ports_text : (octets : List ℕ) → (text : List ℕ) × (done : Done) × IsPortsText octets text done
-some-ports_text = texts.some-ports_text

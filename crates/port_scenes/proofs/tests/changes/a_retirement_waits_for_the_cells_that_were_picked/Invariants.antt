@@ -1,4 +1,0 @@
-use Rattle.port_scenes.proofs.tests.changes.a_retirement_waits_for_the_cells_that_were_picked.Given as goal
-
-abbrev pub ghosts-waiting : goal.ghosts-waiting
-ghosts-waiting g a = record { names = a.blanks }

@@ -1,4 +1,0 @@
-use Rattle.port_scenes.proofs.tests.journals.a_full_journal_is_cut.Given as goal
-
-abbrev pub ghosts-filled : goal.ghosts-filled
-ghosts-filled g a = record { names = a.blanks }

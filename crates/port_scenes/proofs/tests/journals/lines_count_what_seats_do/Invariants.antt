@@ -1,4 +1,0 @@
-use Rattle.port_scenes.proofs.tests.journals.lines_count_what_seats_do.Given as goal
-
-abbrev pub ghosts-policed : goal.ghosts-policed
-ghosts-policed g a = record { names = a.blanks }

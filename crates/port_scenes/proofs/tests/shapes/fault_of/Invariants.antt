@@ -1,4 +1,0 @@
-use Rattle.port_scenes.proofs.tests.shapes.fault_of.Given as goal
-
-abbrev pub ghosts-refused : goal.ghosts-refused
-ghosts-refused a = record { names = a.blanks }

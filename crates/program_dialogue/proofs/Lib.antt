@@ -1,6 +1,0 @@
-pub mod HexadecimalLemmas
-pub mod CellWordLemmas
-pub mod DigitLemmas
-pub mod OneText
-pub mod CheckText
-pub mod Public

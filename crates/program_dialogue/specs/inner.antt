@@ -1,3 +1,0 @@
--- What only private functions and proofs need.
-pub mod DigitNumbers
-pub mod EvalLaws

@@ -1,4 +1,0 @@
-use Rattle.refusals.proofs.running.make_alone.Given as goal
-
-abbrev pub ghosts-make_card : goal.ghosts-make_card
-ghosts-make_card a = record { names = a.blanks }

@@ -1,4 +1,0 @@
-use Rattle.refusals.proofs.running.try_card.Given as goal
-
-abbrev pub ghosts-live : goal.ghosts-live
-ghosts-live g a = record { names = a.blanks }

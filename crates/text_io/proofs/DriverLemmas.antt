@@ -1,0 +1,262 @@
+-- One turn of the run over lines: what was said still leads to an answer to the whole input.
+use Rattle.std.proofs.Common.{◌≡◌, ◌≢◌, ℕ, ◌+◌, ◌<◌, ◌≤◌, ◌||◌, nat_le, nat_lt, Bool, true, false, List, [], ◌∷◌, ◌++◌, Result, Ok, Err, IfOk, length, get_or, take, drop, refl, ap, sym, ◌∙◌, subst, arith, append_assoc, append-nil}
+use Rattle.std.specs.Result.{is_err, OnErr, OnOk}
+use Rattle.std.proofs.lemmas.List.{take-append-drop, drop_more, length-take, get_or-take}
+use Rattle.std.proofs.lemmas.Bool.Decides.{nat_tests}
+use Rattle.text_io.specs.Lines.{Line, lines_of}
+use Rattle.text_io.specs.Limits.{is_over, most_input_lines, most_line_octets}
+use Rattle.text_io.specs.Devices.{Adds, IsPart, TakesEnough}
+use Rattle.text_io.specs.inner.Moving.{Moves}
+use Rattle.text_io.specs.Printing.{Rules, IsTotal, Prints, IsFront}
+use Rattle.text_io.specs.Answering.{OfEach}
+use Rattle.text_io.specs.inner.Progress.{Passes, Progress}
+use Rattle.text_io.specs.declared.ending.Done.{Done}
+use Rattle.text_io.specs.declared.ending.Done.TheVariants.{Ended}
+use Rattle.text_io.specs.declared.machine.Turn.TheVariants.{GoesOn, Ends}
+use Rattle.text_io.specs.declared.ending.RunFault.{RunFault}
+use Rattle.text_io.proofs.LinesLemmas.{NoFeed, lines-at_feed, lines-first}
+use Rattle.text_io.proofs.PrintingLemmas.{some-text, prints-over}
+
+-- Octets with a line feed at a place: the line before it, and what stands behind.
+pub split-at_feed : (octets rest : List ℕ) (count : ℕ) → count < length octets → get_or octets count 0 ≡ 10
+    → octets ++ rest ≡ take count octets ++ 10 ∷ (drop (count + 1) octets ++ rest)
+split-at_feed octets rest count below feed =
+    ap (λ xs. xs ++ rest) (sym (take-append-drop count octets) ∙ ap (λ xs. take count octets ++ xs) (drop_more octets count 0 below ∙ ap (λ c. c ∷ drop (count + 1) octets) feed))
+    ∙ append_assoc (take count octets) (10 ∷ drop (count + 1) octets) rest
+
+-- A window whose octets O are, cut at the first line feed.
+pub split-window : (window O rest : List ℕ) (count : ℕ) → O ≡ window → count < length window → get_or window count 0 ≡ 10
+    → window ++ rest ≡ take count O ++ 10 ∷ (drop (count + 1) O ++ rest)
+split-window window O rest count e below feed =
+    let B : List ℕ → Type 0 = λ xs. count < length xs in
+    let F : List ℕ → Type 0 = λ xs. get_or xs count 0 ≡ 10 in
+    ap (λ xs. xs ++ rest) (sym e) ∙ split-at_feed O rest count (subst B (sym e) below) (subst F (sym e) feed)
+
+pub no-feed-front : (window O : List ℕ) (count : ℕ) → O ≡ window → ((k : ℕ) → k < count → get_or window k 0 ≢ 10) → NoFeed (take count O)
+no-feed-front window O count e before k below =
+    let within : k < count = omega (arith, length-take count O) in
+    let Q : ℕ → Type 0 = λ n. n ≢ 10 in
+    subst Q (ap (λ xs. get_or xs k 0) (sym e) ∙ sym (get_or-take count O k 0 within)) (before k within)
+
+-- What a result's test tells.
+pub at-err : {T E : Type 0} (r : Result T E) (P : Type 0) → is_err r ≡ true → OnErr r P → P
+at-err (Ok x) P e h = cc
+at-err (Err y) P e h = h
+
+pub at-ok : {T E : Type 0} (r : Result T E) (P : Type 0) → is_err r ≡ false → OnOk r P → P
+at-ok (Ok x) P e h = h
+at-ok (Err y) P e h = cc
+
+-- No line feed in octets that are told in another way.
+pub none-at : {O window : List ℕ} → O ≡ window → ((k : ℕ) → k < length window → get_or window k 0 ≢ 10) → (k : ℕ) → k < length O → get_or O k 0 ≢ 10
+none-at {O = O} {window = window} e none =
+    let P : List ℕ → Type 0 = λ xs. (k : ℕ) → k < length xs → get_or xs k 0 ≢ 10 in subst P (sym e) none
+
+-- The same text of the same octets, told in another way.
+pub retold : {World : Type 0} (rules : Rules World) (start : World) (octets octets' text text' : List ℕ) (done : Done)
+    → octets ≡ octets' → text ≡ text' → Prints rules 0 start (lines_of octets) text done → Prints rules 0 start (lines_of octets') text' done
+retold {World = World} rules start octets octets' text text' done same alike prints =
+    let P : List ℕ → Type 0 = λ xs. Prints {World = World} rules 0 start (lines_of xs) text done in
+    let Q : List ℕ → Type 0 = λ xs. Prints {World = World} rules 0 start (lines_of octets') xs done in
+    subst Q alike (subst P same prints)
+
+-- Nothing is answered yet.
+pub begin : {World : Type 0} (rules : Rules World) (shown : World → Type 0) (Known Held : Type 0) (whole before : List ℕ)
+    → Progress rules shown shown Known Held whole whole before before [] 0
+begin rules shown Known Held whole before = record {
+  answered = [];
+  said = [];
+  came = λ _. refl;
+  gave = λ _. ([], sym (append-nil before), refl);
+  reaches = λ start sound is_shown. record { present = start; sound = sound; is_shown = is_shown; leads = λ behind more done prints. prints };
+}
+
+-- A line and what comes behind it, as a front and the rest.
+line-front : (answered line behind : List ℕ) → answered ++ (line ++ 10 ∷ behind) ≡ (answered ++ (line ++ 10 ∷ [])) ++ behind
+line-front answered line behind =
+    ap (λ xs. answered ++ xs) (sym (append_assoc line (10 ∷ []) behind)) ∙ sym (append_assoc answered (line ++ 10 ∷ []) behind)
+
+-- A line that a machine answered, and the run goes on.
+pub progress-line : {World : Type 0} (rules : Rules World) (shown now now' : World → Type 0) (Known Held : Type 0)
+    (whole left line behind before held old new : List ℕ) (met : ℕ)
+    → NoFeed line → left ≡ line ++ 10 ∷ behind → Passes rules met now (record { octets = line; ended = true }) GoesOn now' old new
+    → Progress rules shown now Known Held whole left before held old met → Progress rules shown now' Known Held whole behind before held new (met + 1)
+progress-line {World = World} rules shown now now' Known Held whole left line behind before held old new met none cut passes p = record {
+  answered = p.answered ++ (line ++ 10 ∷ []);
+  said = p.said ++ passes.0;
+  came = λ known. p.came known ∙ ap (λ xs. p.answered ++ xs) cut ∙ line-front p.answered line behind;
+  gave = λ is_held.
+      let gave = p.gave is_held in
+      (gave.0, gave.1, ap (λ xs. xs ++ passes.0) gave.2 ∙ append_assoc gave.0 old passes.0 ∙ ap (λ xs. gave.0 ++ xs) (sym passes.1));
+  reaches = λ start sound is_shown.
+      let r = p.reaches start sound is_shown in
+      let after = passes.2 r.present r.sound r.is_shown in
+      record {
+        present = after.0;
+        sound = after.1;
+        is_shown = after.2;
+        leads = λ rest more done prints.
+            let Q : List Line → Type 0 = λ lines. Prints {World = World} rules met r.present lines (passes.0 ++ more) done in
+            retold rules start (p.answered ++ (line ++ 10 ∷ rest)) ((p.answered ++ (line ++ 10 ∷ [])) ++ rest)
+            (p.said ++ (passes.0 ++ more)) ((p.said ++ passes.0) ++ more) done
+            (line-front p.answered line rest) (sym (append_assoc p.said passes.0 more))
+            (r.leads (line ++ 10 ∷ rest) (passes.0 ++ more) done
+            (subst Q (sym (lines-at_feed line rest none)) (after.3 (lines_of rest) more done prints)));
+      };
+}
+
+-- Some of what waited was given.
+pub progress-given : {World : Type 0} (rules : Rules World) (shown now : World → Type 0) (Known Held : Type 0)
+    (whole left before held held' waiting waiting' : List ℕ) (met : ℕ)
+    → (Held → Moves held held' waiting waiting')
+    → Progress rules shown now Known Held whole left before held waiting met → Progress rules shown now Known Held whole left before held' waiting' met
+progress-given rules shown now Known Held whole left before held held' waiting waiting' met moves p = record {
+  answered = p.answered;
+  said = p.said;
+  came = p.came;
+  gave = λ is_held.
+      let gave = p.gave is_held in
+      let moved = moves is_held in (
+        gave.0 ++ moved.0,
+        moved.2 ∙ ap (λ xs. xs ++ moved.0) gave.1 ∙ append_assoc before gave.0 moved.0,
+        gave.2 ∙ ap (λ xs. gave.0 ++ xs) moved.1 ∙ sym (append_assoc gave.0 moved.0 waiting'),
+      );
+  reaches = p.reaches;
+}
+
+-- All of what waited was given.
+pub all-moved : (before after waiting left : List ℕ) → after ≡ before ++ waiting → left ≡ [] → Moves before after waiting left
+all-moved before after waiting left given none = (waiting, sym (append-nil waiting) ∙ ap (λ xs. waiting ++ xs) (sym none), given)
+
+-- What is left is told in another way.
+pub progress-left : {World : Type 0} (rules : Rules World) (shown now : World → Type 0) (Known Held : Type 0)
+    (whole left left' before held waiting : List ℕ) (met : ℕ) → (Known → left ≡ left')
+    → Progress rules shown now Known Held whole left before held waiting met → Progress rules shown now Known Held whole left' before held waiting met
+progress-left rules shown now Known Held whole left left' before held waiting met same p = record {
+  answered = p.answered;
+  said = p.said;
+  came = λ known. p.came known ∙ ap (λ xs. p.answered ++ xs) (same known);
+  gave = p.gave;
+  reaches = p.reaches;
+}
+
+-- The last answers and what was given before them are the text of the whole input.
+pub text-of : {World : Type 0} (rules : Rules World) (shown now : World → Type 0) (Known Held : Type 0)
+    (whole left before held held' old here : List ℕ) (met : ℕ) (done : Done) → Known → Held
+    → OfEach rules now (λ present. Prints rules met present (lines_of left) here done) → held' ≡ held ++ (old ++ here)
+    → Progress rules shown now Known Held whole left before held old met
+    → OfEach rules shown (λ start. Adds (λ text. Prints rules 0 start (lines_of whole) text done) before held')
+text-of rules shown now Known Held whole left before held held' old here met done known is_held closes given p = λ start sound is_shown.
+    let r = p.reaches start sound is_shown in
+    let gave = p.gave is_held in (
+      gave.0 ++ (old ++ here),
+      given ∙ ap (λ xs. xs ++ (old ++ here)) gave.1 ∙ append_assoc before gave.0 (old ++ here),
+      retold rules start (p.answered ++ left) whole (p.said ++ here) (gave.0 ++ (old ++ here)) done
+          (sym (p.came known)) (ap (λ xs. xs ++ here) gave.2 ∙ append_assoc gave.0 old here)
+          (r.leads left here done (closes r.present r.sound r.is_shown)),
+    )
+
+-- A part of the last answers makes the beginning of such a text.
+pub front-of-last : {World : Type 0} (rules : Rules World) (shown now : World → Type 0) (Known Held : Type 0)
+    (whole left before held held' old : List ℕ) (met : ℕ) → Known → Held
+    → OfEach rules now (λ present. (here : List ℕ) × (done : Done) × IsPart held held' (old ++ here) × Prints rules met present (lines_of left) here done)
+    → Progress rules shown now Known Held whole left before held old met
+    → OfEach rules shown (λ start. Adds (IsFront (Prints rules 0 start (lines_of whole))) before held')
+front-of-last rules shown now Known Held whole left before held held' old met known is_held closes p = λ start sound is_shown.
+    let r = p.reaches start sound is_shown in
+    let gave = p.gave is_held in
+    let last = closes r.present r.sound r.is_shown in
+    let here = last.0 in
+    let part = last.2 in (
+      gave.0 ++ part.0,
+      part.3 ∙ ap (λ xs. xs ++ part.0) gave.1 ∙ append_assoc before gave.0 part.0,
+      (
+        part.1,
+        last.1,
+        retold rules start (p.answered ++ left) whole (p.said ++ here) ((gave.0 ++ part.0) ++ part.1) last.1
+            (sym (p.came known))
+            (ap (λ xs. xs ++ here) gave.2 ∙ append_assoc gave.0 old here ∙ ap (λ xs. gave.0 ++ xs) part.2 ∙ sym (append_assoc gave.0 part.0 part.1))
+            (r.leads left here last.1 last.3),
+      ),
+    )
+
+-- And so does a part of what waits, since whatever is left has some answer.
+pub front-of : {World : Type 0} (rules : Rules World) → IsTotal rules → (shown now : World → Type 0) (Known Held : Type 0)
+    (whole left before held held' old : List ℕ) (met : ℕ) → Known → Held → IsPart held held' old
+    → Progress rules shown now Known Held whole left before held old met
+    → OfEach rules shown (λ start. Adds (IsFront (Prints rules 0 start (lines_of whole))) before held')
+front-of rules total shown now Known Held whole left before held held' old met known is_held part p =
+    front-of-last rules shown now Known Held whole left before held held' old met known is_held
+    (λ present sound is_shown.
+    let text = some-text rules total (lines_of left) met present sound in (
+      text.0,
+      text.1,
+      (part.0, part.1 ++ text.0, ap (λ xs. xs ++ text.0) part.2 ∙ append_assoc part.0 part.1 text.0, part.3),
+      text.2,
+    ))
+    p
+
+-- No more was taken than what had to be answered, and so many octets.
+pub enough : {World : Type 0} (rules : Rules World) (shown now : World → Type 0) (Known Held : Type 0)
+    (whole left near ahead rest before held old here : List ℕ) (met most : ℕ) (done : Done) → Known
+    → left ≡ near ++ (ahead ++ rest) → length ahead ≤ most
+    → OfEach rules now (λ present. Prints rules met present (lines_of near) here done)
+    → Progress rules shown now Known Held whole left before held old met
+    → OfEach rules shown (λ start. TakesEnough (λ octets. (text : List ℕ) × Prints rules 0 start (lines_of octets) text done) most whole rest)
+enough rules shown now Known Held whole left near ahead rest before held old here met most done known cut short closes p = λ start sound is_shown.
+    let r = p.reaches start sound is_shown in (
+      p.answered ++ near,
+      ahead,
+      p.came known ∙ ap (λ xs. p.answered ++ xs) cut ∙ sym (append_assoc p.answered near (ahead ++ rest)),
+      short,
+      (p.said ++ here, r.leads near here done (closes r.present r.sound r.is_shown)),
+    )
+
+-- A line that ends the run, whatever comes behind it.
+pub line-ends : {World : Type 0} (rules : Rules World) (now now' : World → Type 0) (line behind old new : List ℕ) (met : ℕ)
+    → NoFeed line → (passes : Passes rules met now (record { octets = line; ended = true }) Ends now' old new)
+    → OfEach rules now (λ present. Prints rules met present (lines_of (line ++ 10 ∷ behind)) passes.0 Ended)
+line-ends {World = World} rules now now' line behind old new met none passes = λ present sound is_shown.
+    let Q : List Line → Type 0 = λ lines. Prints {World = World} rules met present lines passes.0 Ended in
+    subst Q (sym (lines-at_feed line behind none)) (passes.2 present sound is_shown (lines_of behind))
+
+-- Octets without a line feed that are over the limits already.
+long-text : {World : Type 0} (rules : Rules World) (met : ℕ) (before : World) (octets rest : List ℕ)
+    → 0 < length octets → NoFeed octets → ((line : Line) → length octets ≤ length line.octets → is_over met line ≡ true)
+    → Prints rules met before (lines_of (octets ++ rest)) rules.too_long Ended
+long-text rules met before [] rest some none over = absurd (omega arith)
+long-text {World = World} rules met before (c ∷ cs) rest some none over =
+    let first = lines-first c cs rest none in
+    let Q : List Line → Type 0 = λ lines. Prints {World = World} rules met before lines rules.too_long Ended in
+    subst Q (sym first.cut) (prints-over rules met before first.line first.lines (over first.line first.long))
+
+-- What is longer than a line over the limits is over them.
+over-longer : (met n m : ℕ) → n ≤ m → (nat_le most_input_lines met || nat_lt most_line_octets n) ≡ true → (nat_le most_input_lines met || nat_lt most_line_octets m) ≡ true
+over-longer met n m longer over = grind (arith, nat_tests)
+
+-- A window without a line feed that is over the limits already, whatever comes behind it.
+pub window-over : {World : Type 0} (rules : Rules World) (now : World → Type 0) (met waiting : ℕ) (window window' rest : List ℕ) (result : Bool)
+    → window' ≡ window → waiting ≡ length window' → 0 < waiting → ((k : ℕ) → k < length window' → get_or window' k 0 ≢ 10)
+    → result ≡ (nat_le most_input_lines met || nat_lt most_line_octets waiting) → result ≡ true
+    → OfEach rules now (λ present. Prints rules met present (lines_of (window ++ rest)) rules.too_long Ended)
+window-over {World = World} rules now met waiting window window' rest result same sized some none is over = λ present sound is_shown.
+    let P : List ℕ → Type 0 = λ xs. Prints {World = World} rules met present (lines_of (xs ++ rest)) rules.too_long Ended in
+    subst P same
+    (long-text rules met present window' rest (omega arith) none
+    (λ line longer. over-longer met waiting (length line.octets) (omega arith) (sym is ∙ over)))
+
+-- What holds of the one end of a run, of whatever was answered.
+pub at-done : (result : Result Done RunFault) (done : Done) (P : Done → Type 0) → IfOk result (λ value. value ≡ done) → P done → IfOk result P
+at-done (Ok value) done P same holds = subst P (sym same) holds
+at-done (Err fault) done P same holds = tt
+
+-- Where all was given, it holds of the one end of a run.
+pub at-given : (result : Result Done RunFault) (done : Done) (All : Type 0) (P : Done → Type 0)
+    → IfOk result (λ value. value ≡ done) → OnOk result All → (All → P done) → IfOk result P
+at-given (Ok value) done All P same all holds = subst P (sym same) (holds all)
+at-given (Err fault) done All P same all holds = tt
+
+-- Where the call failed.
+pub at-fault : (result : Result Done RunFault) (Part Front : Type 0) → OnErr result Part → (Part → Front) → OnErr result Front
+at-fault (Ok value) Part Front part holds = tt
+at-fault (Err fault) Part Front part holds = holds part

@@ -1,0 +1,22 @@
+-- What was given and what waits to be given lead to an answer to the whole input.
+use Rattle.std.proofs.Common.{◌≡◌, ◌-◌, ◌*◌, ◌≤◌, ◌++◌, length}
+use Rattle.text_io.specs.Limits.{most_ahead, most_input_lines}
+use Rattle.text_io.specs.inner.Progress.{Progress}
+use Rattle.text_io.proofs.driver.answer_lines.Given as goal
+
+abbrev pub invariant-loop-count : goal.invariant-loop-count
+invariant-loop-count g l =
+    let m = g.M.Machine in
+    record {
+      met : l.met ≤ most_input_lines;
+      bounded : length l.window ≤ most_ahead;
+      reading : g.I.Input.failures l.input ≡ g.I.Input.failures l.fn.input;
+      writing : g.O.Output.failures l.output ≡ g.O.Output.failures l.fn.output;
+      goes : Progress m.rules (m.shows l.fn.machine) (m.shows l.machine) g.I.Input.is_known g.O.Output.is_known
+          (g.I.Input.rest l.fn.input) (l.window ++ g.I.Input.rest l.input)
+          (g.O.Output.held l.fn.output) (g.O.Output.held l.output) l.answers.items l.met;
+    }
+
+-- Each line counts more than a window holds, and each refill makes the window longer.
+abbrev pub decreases-loop-count : goal.decreases-loop-count
+decreases-loop-count g l = (1000001 - l.met) * 200000 - length l.window

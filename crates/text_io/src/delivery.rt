@@ -1,0 +1,67 @@
+//! Gathered answers on their way to an output.
+
+ghost use Rattle.std.specs.Prelude.{◌≡◌, ◌++◌, List, ℕ, [], take, Err, IfOk, OnOk, OnErr};
+ghost use Rattle.text_io.specs.Devices.{one_more, IsPart};
+ghost use Rattle.text_io.specs.Failures.{write_failures};
+
+use crate::device::{Failed, Output};
+use crate::ending::{Done, RunFault};
+
+/// Gives all of the octets, in as many calls as the output wants.
+///
+/// # Errors
+///
+/// `Failed` at the first call that failed; octets from the front were given before it.
+pub fn give_all<O: Output>(output: &mut O, octets: &[u8]) -> Result<(), Failed>
+    ensures ok { O.is_known → OnOk result (O.held output.new ≡ O.held output.old ++ octets.now) }
+    ensures front { O.is_known → IsPart (O.held output.old) (O.held output.new) octets.now }
+    ensures calm { OnOk result (O.failures output.new ≡ O.failures output.old) }
+    ensures failed { OnErr result (O.failures output.new ≡ one_more (O.failures output.old)) }
+{
+    let mut given = 0;
+    while given < octets.len() {
+        given += output.give(&octets[given..])?;
+    }
+    Ok(())
+}
+
+/// Gives the gathered answers, and has none afterwards.
+///
+/// # Errors
+///
+/// `Failed` at the first call that failed; octets from the front were given before it.
+pub fn give_answers<O: Output>(output: &mut O, answers: &mut Vec<u8>) -> Result<(), Failed>
+    ensures ok { O.is_known → OnOk result (O.held output.new ≡ O.held output.old ++ answers.old.items) }
+    ensures none { OnOk result (answers.new.items ≡ []) }
+    ensures front { O.is_known → IsPart (O.held output.old) (O.held output.new) answers.old.items }
+    ensures calm { OnOk result (O.failures output.new ≡ O.failures output.old) }
+    ensures failed { OnErr result (O.failures output.new ≡ one_more (O.failures output.old)) }
+{
+    give_all(output, answers)?;
+    answers.clear();
+    Ok(())
+}
+
+/// Gives the last answers of a run that ends so.
+///
+/// # Errors
+///
+/// `WriteFailed` at the first call that failed; octets from the front were given before it.
+pub fn give_last<O: Output>(
+    output: &mut O,
+    answers: &mut Vec<u8>,
+    done: Done,
+) -> Result<Done, RunFault>
+    ensures done { IfOk result (λ value. value ≡ done) }
+    ensures given { O.is_known → OnOk result
+        (O.held output.new ≡ O.held output.old ++ answers.old.items) }
+    ensures front { O.is_known → OnErr result
+        (IsPart (O.held output.old) (O.held output.new) answers.old.items) }
+    ensures fault { OnErr result (result ≡ Err RunFault.WriteFailed) }
+    ensures writing { O.failures output.new ≡ write_failures result (O.failures output.old) }
+{
+    match give_answers(output, answers) {
+        Ok(()) => Ok(done),
+        Err(_) => Err(RunFault::WriteFailed),
+    }
+}

@@ -1,0 +1,234 @@
+//! The run of a machine over the lines of an input.
+
+ghost use Rattle.std.specs.Prelude.{◌≡◌, ◌≢◌, ℕ, ◌+◌, ◌<◌, ◌≤◌, ◌++◌, ◌||◌, List, [], true, Ok, Err, length, slice_index, nat_le, nat_lt, IfOk, OnOk, OnErr};
+ghost use Rattle.text_io.specs.Answering.{OfEach};
+ghost use Rattle.text_io.specs.Devices.{Adds, IsPart, TakesEnough, one_more};
+ghost use Rattle.text_io.specs.inner.Moving.{Moves};
+ghost use Rattle.text_io.specs.Limits.{most_ahead, most_input_lines, most_line_octets};
+ghost use Rattle.text_io.specs.Lines.{lines_of};
+ghost use Rattle.text_io.specs.Printing.{Prints, IsFront};
+ghost use Rattle.text_io.specs.Failures.{read_failures, write_failures};
+ghost use Rattle.text_io.specs.inner.Progress.{Passes};
+ghost use Rattle.text_io.specs.declared.ending.Done.{Done as TheDone};
+
+use crate::delivery::{give_answers, give_last};
+use crate::device::{Failed, Input, Output};
+use crate::ending::{Done, RunFault};
+use crate::line_ends::before_return;
+use crate::machine::{Machine, Turn};
+use crate::window::Window;
+use std::alloc::{AllocError, Global};
+
+/// The most lines of an input.
+const MOST_INPUT_LINES: u32 = 1000000;
+
+/// The most octets of a line, its carriage return counted and its line feed not.
+const MOST_LINE_OCTETS: usize = 70000;
+
+/// So many octets of answers are given at once, without waiting for more.
+const ENOUGH: usize = 65536;
+
+/// Whether a line of this length, with so many lines before it, is over the limits.
+fn is_over_limits(met: u32, octets: usize) -> bool
+    ensures { result ≡ (nat_le most_input_lines met || nat_lt most_line_octets octets) }
+{
+    met >= MOST_INPUT_LINES || octets > MOST_LINE_OCTETS
+}
+
+/// Answers a line that a line feed ended.
+fn answer_line<M: Machine>(
+    machine: &mut M,
+    met: u32,
+    octets: &[u8],
+    answers: &mut Vec<u8>,
+) -> Result<Turn, AllocError>
+    ensures passes { IfOk result (λ turn. Passes M.rules met (M.shows machine.old)
+        (record { octets = octets.now; ended = true }) turn (M.shows machine.new) answers.old.items answers.new.items) }
+    ensures within { IfOk result (λ turn. turn ≡ Turn.GoesOn → (met < most_input_lines) × (length octets.now ≤ most_line_octets)) }
+{
+    // A carriage return counts to the length, although the line doesn't say it.
+    let counted = octets.len();
+    if is_over_limits(met, counted) {
+        machine.refuse(answers)?;
+        return Ok(Turn::Ends);
+    }
+    machine.answer(before_return(octets), answers)
+}
+
+/// Answers the octets behind the last line feed, if there are any, and the end of the input.
+fn answer_end<M: Machine>(
+    machine: &mut M,
+    met: u32,
+    octets: &[u8],
+    answers: &mut Vec<u8>,
+) -> Result<Done, AllocError>
+    requires { (k : ℕ) → k < length octets.now → slice_index octets.now k ≢ 10 }
+    ensures { IfOk result (λ done. (here : List ℕ) × (answers.new.items ≡ answers.old.items ++ here)
+        × OfEach M.rules (M.shows machine.old) (λ before. Prints M.rules met before (lines_of octets.now) here done)) }
+{
+    if octets.is_empty() {
+        return machine.close(answers);
+    }
+    if is_over_limits(met, octets.len()) {
+        machine.refuse(answers)?;
+        return Ok(Done::Ended);
+    }
+    match machine.answer(octets, answers)? {
+        Turn::Ends => Ok(Done::Ended),
+        Turn::GoesOn => machine.close(answers),
+    }
+}
+
+/// Gives what is answered, and then takes more from the input into the window.
+fn refill<I: Input, O: Output>(
+    window: &mut Window,
+    input: &mut I,
+    output: &mut O,
+    answers: &mut Vec<u8>,
+) -> Result<usize, RunFault>
+    requires { length window.old ≤ most_line_octets }
+    ensures octets { I.is_known → IfOk result (λ _. window.old ++ I.rest input.old ≡ window.new ++ I.rest input.new) }
+    ensures count { IfOk result (λ count. length window.new ≡ length window.old + count) }
+    ensures bounded { length window.new ≤ most_ahead }
+    ensures same { result ≡ Ok 0 → window.new ≡ window.old }
+    ensures end { I.is_known → result ≡ Ok 0 → I.rest input.new ≡ [] }
+    ensures given { O.is_known → OnOk result
+        (O.held output.new ≡ O.held output.old ++ answers.old.items) }
+    ensures none { OnOk result (answers.new.items ≡ []) }
+    ensures front { O.is_known → OnErr result
+        (IsPart (O.held output.old) (O.held output.new) answers.old.items) }
+    ensures reading { I.failures input.new ≡ read_failures result (I.failures input.old) }
+    ensures writing { O.failures output.new ≡ write_failures result (O.failures output.old) }
+{
+    if give_answers(output, answers).is_err() {
+        return Err(RunFault::WriteFailed);
+    }
+    match window.fill(input) {
+        Ok(count) => Ok(count),
+        Err(_) => Err(RunFault::ReadFailed),
+    }
+}
+
+/// Gives what is answered, where that is enough for a call of the output.
+fn give_if_enough<O: Output>(output: &mut O, answers: &mut Vec<u8>) -> Result<(), Failed>
+    ensures moved { O.is_known → OnOk result
+        (Moves (O.held output.old) (O.held output.new) answers.old.items answers.new.items) }
+    ensures front { O.is_known → OnErr result
+        (IsPart (O.held output.old) (O.held output.new) answers.old.items) }
+    ensures calm { OnOk result (O.failures output.new ≡ O.failures output.old) }
+    ensures failed { OnErr result (O.failures output.new ≡ one_more (O.failures output.old)) }
+{
+    if answers.len() < ENOUGH {
+        return Ok(());
+    }
+    give_answers(output, answers)
+}
+
+/// Ends a run by a line over the limits.
+fn end_too_long<O: Output, M: Machine>(
+    output: &mut O,
+    machine: &M,
+    answers: &mut Vec<u8>,
+) -> Result<Done, RunFault>
+    ensures done { IfOk result (λ done. done ≡ Done.Ended) }
+    ensures given { O.is_known → OnOk result
+        (O.held output.new ≡ O.held output.old ++ (answers.old.items ++ M.rules.too_long)) }
+    ensures front { O.is_known → OnErr result
+        (IsPart (O.held output.old) (O.held output.new) (answers.old.items ++ M.rules.too_long)) }
+    ensures fault { result ≢ Err RunFault.ReadFailed }
+    ensures writing { O.failures output.new ≡ write_failures result (O.failures output.old) }
+{
+    match machine.refuse(answers) {
+        Err(_) => Err(RunFault::NoMemory),
+        Ok(()) => give_last(output, answers, Done::Ended),
+    }
+}
+
+/// Answers what waits at the end of the input, and gives the last answers.
+fn finish<O: Output, M: Machine>(
+    output: &mut O,
+    machine: &mut M,
+    met: u32,
+    octets: &[u8],
+    answers: &mut Vec<u8>,
+) -> Result<Done, RunFault>
+    requires { (k : ℕ) → k < length octets.now → slice_index octets.now k ≢ 10 }
+    ensures given { IfOk result (λ done. (here : List ℕ)
+        × (O.is_known → O.held output.new ≡ O.held output.old ++ (answers.old.items ++ here))
+        × OfEach M.rules (M.shows machine.old) (λ before. Prints M.rules met before (lines_of octets.now) here done)) }
+    ensures front { O.is_known → OnErr result
+        (OfEach M.rules (M.shows machine.old) (λ before. (here : List ℕ) × (done : TheDone)
+        × IsPart (O.held output.old) (O.held output.new) (answers.old.items ++ here)
+        × Prints M.rules met before (lines_of octets.now) here done)) }
+    ensures fault { result ≢ Err RunFault.ReadFailed }
+    ensures writing { O.failures output.new ≡ write_failures result (O.failures output.old) }
+{
+    match answer_end(machine, met, octets, answers) {
+        Err(_) => Err(RunFault::NoMemory),
+        Ok(done) => give_last(output, answers, done),
+    }
+}
+
+/// Runs a machine over the lines of an input. Answers are gathered and given in large pieces, and
+/// whatever is answered is given before the input is asked for more.
+///
+/// # Errors
+///
+/// `ReadFailed` and `WriteFailed` where that device failed, once; `NoMemory` where memory was refused.
+/// What was written is then a beginning of a text.
+pub fn answer_lines<I: Input, O: Output, M: Machine>(
+    alloc: Global,
+    input: &mut I,
+    output: &mut O,
+    machine: &mut M,
+) -> Result<Done, RunFault>
+    // What was written is an answer to the lines of the whole input, or a beginning of one.
+    ensures text { I.is_known → O.is_known → IfOk result (λ done.
+        OfEach M.rules (M.shows machine.old) (λ start.
+        Adds (λ text. Prints M.rules 0 start (lines_of (I.rest input.old)) text done) (O.held output.old) (O.held output.new))) }
+    ensures front { I.is_known → O.is_known → OnErr result
+        (OfEach M.rules (M.shows machine.old) (λ start.
+        Adds (IsFront (Prints M.rules 0 start (lines_of (I.rest input.old)))) (O.held output.old) (O.held output.new))) }
+
+    // No more of the input was taken than what had to be answered, and what a window holds.
+    ensures left { I.is_known → IfOk result (λ done. OfEach M.rules (M.shows machine.old) (λ start.
+        TakesEnough (λ octets. (text : List ℕ) × Prints M.rules 0 start (lines_of octets) text done) most_ahead
+        (I.rest input.old) (I.rest input.new))) }
+    ensures whole { I.is_known → result ≡ Ok Done.Whole → I.rest input.new ≡ [] }
+
+    ensures reading { I.failures input.new ≡ read_failures result (I.failures input.old) }
+    ensures writing { O.failures output.new ≡ write_failures result (O.failures output.old) }
+{
+    let Ok(mut window) = Window::new(alloc) else {
+        return Err(RunFault::NoMemory);
+    };
+    let mut answers = Vec::new(alloc);
+    let mut met: u32 = 0;
+    loop {
+        match window.find_line() {
+            Some(count) => {
+                match answer_line(machine, met, &window.octets()[..count], &mut answers) {
+                    Err(_) => return Err(RunFault::NoMemory),
+                    Ok(Turn::Ends) => return give_last(output, &mut answers, Done::Ended),
+                    Ok(Turn::GoesOn) => {}
+                }
+                window.skip(count + 1);
+                met += 1;
+                if give_if_enough(output, &mut answers).is_err() {
+                    return Err(RunFault::WriteFailed);
+                }
+            }
+            None => {
+                let waiting = window.octets().len();
+                if waiting > 0 && is_over_limits(met, waiting) {
+                    return end_too_long(output, machine, &mut answers);
+                }
+                match refill(&mut window, input, output, &mut answers) {
+                    Err(fault) => return Err(fault),
+                    Ok(0) => return finish(output, machine, met, window.octets(), &mut answers),
+                    Ok(_) => {}
+                }
+            }
+        }
+    }
+}

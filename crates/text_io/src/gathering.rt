@@ -1,0 +1,86 @@
+//! The whole of an input, under a limit.
+
+ghost use Rattle.std.specs.Prelude.{◌≡◌, ◌≢◌, ◌+◌, ◌<◌, ◌≤◌, ◌^◌, ◌++◌, [], length, take, Ok, Err, IfOk, OnOk, option_map};
+ghost use Rattle.text_io.specs.Gathered.{gathered, LeavesBehind};
+ghost use Rattle.text_io.specs.Failures.{read_failures};
+
+use crate::device::Input;
+use crate::ending::RunFault;
+use crate::filling::take_behind;
+use std::alloc::{AllocError, Global};
+
+/// The room to begin with, which is doubled where it is full.
+const FIRST_ROOM: usize = 65536;
+
+/// Makes room for some octets behind the first ones, which fill it, and keeps these. The room grows to
+/// one octet more than the limit, by which an input is known to be over it.
+fn make_room(room: &mut Vec<u8>, end: usize, most: usize) -> Result<(), AllocError>
+    requires full { end ≡ length room.old.items }
+    requires within { end ≤ most }
+    requires counted { most < 2 ^ 32 }
+    ensures front { OnOk result (take end room.new.items ≡ take end room.old.items) }
+    ensures behind { OnOk result (end < length room.new.items) }
+    ensures bounded { OnOk result (length room.new.items ≤ most + 1) }
+{
+    let wanted = FIRST_ROOM.max(2 * end).min(most + 1);
+    room.resize(wanted, 0)
+}
+
+/// Takes more octets of the input behind the first ones, and says how many: none only at its end.
+fn take_more<I: Input>(
+    input: &mut I,
+    room: &mut Vec<u8>,
+    end: usize,
+    most: usize,
+) -> Result<usize, RunFault>
+    requires within { end ≤ length room.old.items }
+    requires bounded { length room.old.items ≤ most + 1 }
+    requires wanted { end ≤ most }
+    requires counted { most < 2 ^ 32 }
+    ensures within { IfOk result (λ count. end + count ≤ length room.new.items) }
+    ensures bounded { OnOk result (length room.new.items ≤ most + 1) }
+    ensures octets { I.is_known → IfOk result (λ count.
+        take end room.old.items ++ I.rest input.old ≡ take (end + count) room.new.items ++ I.rest input.new) }
+    ensures end { I.is_known → result ≡ Ok 0 → I.rest input.new ≡ [] }
+    ensures reading { I.failures input.new ≡ read_failures result (I.failures input.old) }
+    ensures fault { result ≢ Err RunFault.WriteFailed }
+{
+    if end == room.len() && make_room(room, end, most).is_err() {
+        return Err(RunFault::NoMemory);
+    }
+    take_behind(input, room, end).map_err(|_| RunFault::ReadFailed)
+}
+
+/// All octets of an input; none where there are more than `most`, and then one octet more than that was
+/// taken, and no further.
+///
+/// # Errors
+///
+/// `ReadFailed` where the input failed, `NoMemory` where memory was refused.
+pub fn gather<I: Input>(
+    alloc: Global,
+    input: &mut I,
+    most: u32,
+) -> Result<Option<Vec<u8>>, RunFault>
+    ensures whole { I.is_known → IfOk result (λ found.
+        option_map (λ octets. octets.items) found ≡ gathered most (I.rest input.old)) }
+    ensures left { I.is_known → IfOk result (λ found.
+        LeavesBehind most (option_map (λ octets. octets.items) found) (I.rest input.old) (I.rest input.new)) }
+    ensures reading { I.failures input.new ≡ read_failures result (I.failures input.old) }
+    ensures fault { result ≢ Err RunFault.WriteFailed }
+{
+    let most = most as usize;
+    let mut room = Vec::new(alloc);
+    let mut end = 0;
+    while end <= most {
+        match take_more(input, &mut room, end, most) {
+            Err(fault) => return Err(fault),
+            Ok(0) => {
+                room.truncate(end);
+                return Ok(Some(room));
+            }
+            Ok(count) => end += count,
+        }
+    }
+    Ok(None)
+}

@@ -1,0 +1,45 @@
+//! Machines that answer lines.
+
+ghost use Rattle.std.specs.Prelude.{◌≡◌, ◌++◌, IfOk, OnOk};
+ghost use Rattle.text_io.specs.Printing.{Rules, IsTotal};
+ghost use Rattle.text_io.specs.Answering.{Answers, AnswersEnd};
+
+use crate::ending::Done;
+use std::alloc::AllocError;
+
+/// Whether the run goes on after a line.
+#[derive(Clone, Copy, PartialEq, Eq, Debug)]
+pub enum Turn {
+    /// The next line is answered too.
+    GoesOn,
+    /// The line ends the run.
+    Ends,
+}
+
+/// A machine that is shown line after line and answers each.
+///
+/// Its rules say what the answers may be, as steps from world to world. A machine need not hold its world:
+/// it shows worlds, and answers as the rules allow from each of them.
+pub trait Machine {
+    ghost World: { Type 0 };
+
+    ghost shows: { Self → World → Type 0 };
+
+    ghost rules: { Rules World };
+
+    /// Answers what a line says, at the end of the answers.
+    fn answer(&mut self, line: &[u8], answers: &mut Vec<u8>) -> Result<Turn, AllocError>
+        ensures { IfOk result (λ turn.
+            Answers rules (shows self.old) line.now turn (shows self.new) answers.old.items answers.new.items) };
+
+    /// Answers the end of the input, at the end of the answers.
+    fn close(&mut self, answers: &mut Vec<u8>) -> Result<Done, AllocError>
+        ensures { IfOk result (λ done.
+            AnswersEnd rules (shows self.old) done answers.old.items answers.new.items) };
+
+    /// Answers a line over the limits, at the end of the answers.
+    fn refuse(&self, answers: &mut Vec<u8>) -> Result<(), AllocError>
+        ensures { OnOk result (answers.new.items ≡ answers.old.items ++ rules.too_long) };
+
+    ghost is_total: { IsTotal rules };
+}

@@ -1,0 +1,90 @@
+//! std's readers and writers as devices.
+
+ghost use Rattle.std.specs.Prelude.{◌≡◌, unwrap_or, IsSome, []};
+ghost use Rattle.text_io.specs.Devices.{one_more};
+
+use crate::device::{Failed, Input, Output};
+use std::io::{Read, Write};
+
+/// A reader of std as a source of octets. Every error, an interrupted call included, is a failure.
+#[derive(Drop)]
+pub struct Taking<R> {
+    /// The reader, which may be taken back.
+    pub reader: R,
+    /// How many calls have failed.
+    pub failures: u64,
+}
+
+impl<R> Taking<R> {
+    /// The source that reads from this reader.
+    pub fn new(reader: R) -> Taking<R>
+        ensures reader { result.reader ≡ reader }
+        ensures calm { result.failures ≡ 0 }
+    {
+        Taking {
+            reader,
+            failures: 0,
+        }
+    }
+}
+
+impl<R: Read> Input for Taking<R> {
+    ghost is_known = { (r : _) → IsSome (R.remaining r) };
+
+    ghost rest = { λ taking. unwrap_or (R.remaining taking.reader) [] };
+
+    ghost failures = { λ taking. taking.failures };
+
+    fn take(&mut self, room: &mut [u8]) -> Result<usize, Failed> {
+        match self.reader.read(room) {
+            Ok(count) => Ok(count),
+            Err(_) => Err(one_failure(&mut self.failures)),
+        }
+    }
+}
+
+/// Counts one more failure.
+fn one_failure(failures: &mut u64) -> Failed
+    ensures { failures.new ≡ one_more failures.old }
+{
+    *failures = failures.wrapping_add(1);
+    Failed
+}
+
+/// A writer of std as a sink of octets. Every error, an interrupted call included, is a failure, and
+/// so is a write of no octets of a text that isn't empty.
+#[derive(Drop)]
+pub struct Giving<W> {
+    /// The writer, which may be taken back.
+    pub writer: W,
+    /// How many calls have failed.
+    pub failures: u64,
+}
+
+impl<W> Giving<W> {
+    /// The sink that writes to this writer.
+    pub fn new(writer: W) -> Giving<W>
+        ensures writer { result.writer ≡ writer }
+        ensures calm { result.failures ≡ 0 }
+    {
+        Giving {
+            writer,
+            failures: 0,
+        }
+    }
+}
+
+impl<W: Write> Output for Giving<W> {
+    ghost is_known = { (w : _) → IsSome (W.contents w) };
+
+    ghost held = { λ giving. unwrap_or (W.contents giving.writer) [] };
+
+    ghost failures = { λ giving. giving.failures };
+
+    fn give(&mut self, octets: &[u8]) -> Result<usize, Failed> {
+        match self.writer.write(octets) {
+            Ok(count) if 0 < count || octets.is_empty() => Ok(count),
+            _ => Err(one_failure(&mut self.failures)),
+        }
+    }
+}

@@ -1,0 +1,142 @@
+//! The octets that were taken from an input and not yet answered.
+
+ghost use Rattle.std.specs.Prelude.{◌≡◌, ◌≢◌, ℕ, ◌+◌, ◌<◌, ◌≤◌, ◌++◌, ◌-◌, [], length, take, drop, slice_index, slice_range, vec_len, IfOk, OnOk, OnErr, Ok, IfSome, IfNone};
+ghost use Rattle.text_io.specs.Devices.{one_more};
+ghost use Rattle.text_io.specs.Limits.{most_ahead, most_line_octets};
+
+use crate::device::{Failed, Input};
+use crate::filling::take_behind;
+use crate::line_ends::first_feed;
+use std::alloc::{AllocError, Global};
+use std::marker::Model;
+use std::mem;
+
+/// How many octets a window has room for: more than a line may be long.
+const WINDOW_ROOM: usize = 131072;
+
+/// The octets that were taken from an input and not yet answered, each of them looked at once for
+/// its line feed. Contracts see the list of them.
+#[derive(Drop)]
+pub struct Window {
+    buffer: Vec<u8>,
+    /// As long as the buffer: what waits moves here before more is taken.
+    spare: Vec<u8>,
+    /// The first octet that waits.
+    start: usize,
+    /// How many of them were looked at and are no line feed.
+    looked: usize,
+    /// Behind the last octet that waits.
+    end: usize,
+}
+
+impl Model for Window {
+    ghost use Rattle.std.specs.Prelude.{List, ℕ, slice_range};
+    ghost use Rattle.text_io.specs.inner.Waiting.{IsWindow};
+
+    ghost Value = { List ℕ };
+
+    ghost view = { λ w. slice_range w.buffer.items w.start w.end };
+
+    ghost invariant = { λ w. IsWindow w.buffer.items w.spare.items w.start w.looked w.end };
+}
+
+impl Window {
+    /// A window in which nothing waits.
+    pub fn new(alloc: Global) -> Result<Window, AllocError>
+        ensures { IfOk result (λ window. window ≡ []) }
+    {
+        let buffer = vec![in alloc; 0u8; WINDOW_ROOM]?;
+        let spare = vec![in alloc; 0u8; WINDOW_ROOM]?;
+        Ok(Window {
+            buffer,
+            spare,
+            start: 0,
+            looked: 0,
+            end: 0,
+        })
+    }
+
+    /// The octets that wait.
+    pub fn octets(&self) -> &[u8]
+        ensures { result.now ≡ self.now }
+    {
+        &self.buffer[self.start..self.end]
+    }
+
+    /// How many octets stand before the first line feed, where there is one.
+    #[inline(always)]
+    pub fn find_line(&mut self) -> Option<usize>
+        ensures same { self.new ≡ self.old }
+        ensures within { IfSome result (λ count. count < length self.new) }
+        ensures feed { IfSome result (λ count. slice_index self.new count ≡ 10) }
+        ensures before { IfSome result (λ count. (k : ℕ) → k < count → slice_index self.new k ≢ 10) }
+        ensures none { IfNone result ((k : ℕ) → k < length self.new → slice_index self.new k ≢ 10) }
+    {
+        match first_feed(&self.buffer[self.start..self.end], self.looked) {
+            Some(count) => {
+                self.looked = count;
+                Some(count)
+            }
+            None => {
+                self.looked = self.end - self.start;
+                None
+            }
+        }
+    }
+
+    /// Lets the first octets go.
+    pub fn skip(&mut self, count: usize)
+        requires { count ≤ length self.old }
+        ensures { self.new ≡ drop count self.old }
+    {
+        self.start += count;
+        self.looked = self.looked.saturating_sub(count);
+    }
+
+    /// Takes more octets from the input behind those that wait, and says how many: none only at the
+    /// input's end.
+    pub fn fill<I: Input>(&mut self, input: &mut I) -> Result<usize, Failed>
+        requires { length self.old ≤ most_line_octets }
+        ensures octets { I.is_known → IfOk result
+            (λ _. self.old ++ I.rest input.old ≡ self.new ++ I.rest input.new) }
+        ensures count { IfOk result (λ count. length self.new ≡ length self.old + count) }
+        ensures bounded { length self.new ≤ most_ahead }
+        ensures end { I.is_known → result ≡ Ok 0 → I.rest input.new ≡ [] }
+        ensures front { take (length self.old) self.new ≡ self.old }
+        ensures same { OnErr result (self.new ≡ self.old) }
+        ensures kept { I.is_known → OnErr result (I.rest input.new ≡ I.rest input.old) }
+        ensures calm { OnOk result (I.failures input.new ≡ I.failures input.old) }
+        ensures failed { OnErr result (I.failures input.new ≡ one_more (I.failures input.old)) }
+    {
+        if 0 < self.start {
+            bring_forward(&mut self.buffer, &mut self.spare, self.start, self.end);
+            self.end -= self.start;
+            self.start = 0;
+        }
+        let count = take_behind(input, &mut self.buffer, self.end)?;
+        self.end += count;
+        Ok(count)
+    }
+}
+
+/// Moves the octets from one place up to another to the front of the buffer, by way of the spare one,
+/// which takes the buffer's place.
+fn bring_forward(buffer: &mut Vec<u8>, spare: &mut Vec<u8>, start: usize, end: usize)
+    requires ordered { start ≤ end }
+    requires within { end ≤ vec_len buffer.old }
+    requires alike { vec_len spare.old ≡ vec_len buffer.old }
+    ensures front { slice_range buffer.new.items 0 (end - start) ≡ slice_range buffer.old.items start end }
+    ensures room { length buffer.new.items ≡ length buffer.old.items }
+    ensures spare_room { length spare.new.items ≡ length spare.old.items }
+{
+    put_in_front(spare, &buffer[start..end]);
+    mem::swap(buffer, spare);
+}
+
+/// Writes the octets over the first ones of the room.
+fn put_in_front(room: &mut [u8], octets: &[u8])
+    requires { length octets.now ≤ length room.old }
+    ensures { room.new ≡ octets.now ++ drop (length octets.now) room.old }
+{
+    room[..octets.len()].copy_from_slice(octets);
+}

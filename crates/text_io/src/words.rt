@@ -1,0 +1,61 @@
+//! The words of a line.
+
+ghost use Rattle.std.specs.Prelude.{◌≡◌, ◌<◌, ◌∷◌, [], length, slice_index, false, MatchOption};
+ghost use Rattle.text_io.specs.LineWords.{IsLineWords};
+ghost use Rattle.text_io.specs.Words.{words_of, is_blank};
+
+use memchr::memchr2;
+
+/// The line from its first octet on that is neither a space nor a tab.
+fn after_blanks(line: &[u8]) -> &[u8]
+    ensures same { words_of result.now ≡ words_of line.now }
+    ensures begins { 0 < length result.now → is_blank (slice_index result.now 0) ≡ false }
+{
+    let mut rest = line;
+    while let [b' ' | b'\t', behind @ ..] = rest {
+        rest = behind;
+    }
+    rest
+}
+
+/// The first word of a line and what stands behind it; none where the line has no words.
+pub fn first_word(line: &[u8]) -> Option<(&[u8], &[u8])>
+    ensures { MatchOption result
+        (words_of line.now ≡ [])
+        (λ found. words_of line.now ≡ found.0.now ∷ words_of found.1.now) }
+{
+    let line = after_blanks(line);
+    if line.is_empty() {
+        return None;
+    }
+    match memchr2(b' ', b'\t', line) {
+        Some(end) => Some((&line[..end], &line[end + 1..])),
+        None => Some((line, &[])),
+    }
+}
+
+/// What a line asks, as far as its words are counted.
+pub enum LineWords<'a> {
+    /// The line has no words, or is a remark: it asks for nothing.
+    Silent,
+    /// One word.
+    One(&'a [u8]),
+    /// More than one word.
+    Several,
+}
+
+/// What a line asks, as far as its words are counted.
+pub fn line_words(line: &[u8]) -> LineWords<'_>
+    ensures { IsLineWords (words_of line.now) result }
+{
+    let Some((word, rest)) = first_word(line) else {
+        return LineWords::Silent;
+    };
+    if let [b'#', ..] = word {
+        return LineWords::Silent;
+    }
+    match first_word(rest) {
+        None => LineWords::One(word),
+        Some(_) => LineWords::Several,
+    }
+}

@@ -1,0 +1,95 @@
+-- What the reading of a script prints.
+use Rattle.std.proofs.Common.{◌≡◌, ℕ, ◌+◌, Bool, true, false, List, [], ◌∷◌, ◌++◌, Option, Some, None, refl, ap, sym, subst, ◌∙◌}
+use Rattle.std.specs.Prelude.{MatchOption, MatchBool}
+use Rattle.text_io.specs.Lines.{Line, said, lines_of}
+use Rattle.text_io.specs.Limits.{is_over}
+use Rattle.text_io.specs.Printing.{Prints}
+use Rattle.text_io.specs.Words.{words_of, is_silent}
+use Rattle.text_io.specs.declared.ending.Done.TheVariants.{Whole, Ended}
+use Rattle.card_core.specs.Shapes.{shape_fault}
+use Rattle.card_core.specs.declared.fault.CardFault.{CardFault}
+use Rattle.card_core.specs.declared.shape.Shape.{Shape}
+use Rattle.upc_run.specs.CardLine.{card_of}
+use Rattle.upc_run.specs.CardFaults.{no_card, shape_fault_line}
+use Rattle.upc_ports.specs.PortsText.{Reading, unread, EndsBy, OpensOrEnds, ReadsWords, ReadSteps, ReadCloses, reading_rules, IsReadingText}
+
+-- A line after which the reading goes on prints nothing.
+shaped-silent : (reading : Reading) (shape : Shape) (fault : Option CardFault) (text : List ℕ) (next : Option Reading) (world : Reading) → next ≡ Some world
+    → MatchOption fault ((text ≡ []) × (next ≡ Some (record reading { opened = true; shape = shape }))) (λ f. EndsBy (shape_fault_line f) text next)
+    → text ≡ []
+shaped-silent reading shape None text next world on told = told.0
+shaped-silent reading shape (Some fault) text next world on told = let ends : next ≡ None = told.1 in cc
+
+opened-silent : (reading : Reading) (shape : Option Shape) (text : List ℕ) (next : Option Reading) (world : Reading) → next ≡ Some world
+    → MatchOption shape (EndsBy no_card text next) (λ s. OpensOrEnds reading s text next) → text ≡ []
+opened-silent reading None text next world on told = let ends : next ≡ None = told.1 in cc
+opened-silent reading (Some shape) text next world on told = shaped-silent reading shape (shape_fault shape) text next world on told
+
+words-silent : (opened : Bool) (reading : Reading) (line : List ℕ) (text : List ℕ) (next : Option Reading) (world : Reading) → next ≡ Some world
+    → ReadsWords opened reading line text next → text ≡ []
+words-silent false reading line text next world on told = opened-silent reading (card_of (words_of line)) text next world on told
+words-silent true reading line text next world on told = told.0
+
+steps-silent_by : (silent : Bool) (reading : Reading) (line : List ℕ) (text : List ℕ) (next : Option Reading) (world : Reading) → next ≡ Some world
+    → MatchBool silent ((text ≡ []) × (next ≡ Some reading)) (ReadsWords reading.opened reading line text next) → text ≡ []
+steps-silent_by true reading line text next world on told = told.0
+steps-silent_by false reading line text next world on told = words-silent reading.opened reading line text next world on told
+
+closes-silent : (opened : Bool) (text : List ℕ) → ReadCloses opened text Whole → text ≡ []
+closes-silent false text told = let ends : Whole ≡ Ended = told.1 in cc
+closes-silent true text told = told.0
+
+-- A line prints nothing in a reading to the whole end, where what is left prints nothing.
+goes-silent : (next : Option Reading) (lines : List Line) (line : Line) (met : ℕ) (opened : Reading) (text here more : List ℕ)
+    → ((world : Reading) (left : List ℕ) → Prints reading_rules (met + 1) world lines left Whole → left ≡ [])
+    → text ≡ here ++ more → ReadSteps opened (said line) here next
+    → MatchOption next ((more ≡ []) × (Whole ≡ Ended)) (λ world. Prints reading_rules (met + 1) world lines more Whole)
+    → text ≡ []
+goes-silent None lines line met opened text here more later cut step rest = let ends : Whole ≡ Ended = rest.1 in cc
+goes-silent (Some world) lines line met opened text here more later cut step rest =
+    let first : here ≡ [] = steps-silent_by (is_silent (words_of (said line))) opened (said line) here (Some world) world refl step in
+    cut ∙ ap (λ (t : List ℕ). t ++ more) first ∙ later world more rest
+
+line-silent : (over : Bool) (lines : List Line) (line : Line) (met : ℕ) (opened : Reading) (text : List ℕ)
+    → ((world : Reading) (left : List ℕ) → Prints reading_rules (met + 1) world lines left Whole → left ≡ [])
+    → MatchBool over ((text ≡ reading_rules.too_long) × (Whole ≡ Ended))
+    ((here : List ℕ) × (more : List ℕ) × (next : Option Reading) × (text ≡ here ++ more) × ReadSteps opened (said line) here next
+    × MatchOption next ((more ≡ []) × (Whole ≡ Ended)) (λ world. Prints reading_rules (met + 1) world lines more Whole))
+    → text ≡ []
+line-silent true lines line met opened text later told = let ends : Whole ≡ Ended = told.1 in cc
+line-silent false lines line met opened text later (here, more, next, cut, step, rest) =
+    goes-silent next lines line met opened text here more later cut step rest
+
+-- A reading to the whole end prints nothing.
+whole-silent : (lines : List Line) (met : ℕ) (opened : Reading) (text : List ℕ)
+    → Prints reading_rules met opened lines text Whole → text ≡ []
+whole-silent [] met opened text told = closes-silent opened.opened text told
+whole-silent (line ∷ lines) met opened text told =
+    line-silent (is_over met line) lines line met opened text (λ world left. whole-silent lines (met + 1) world left) told
+
+pub reading-silent : (octets text : List ℕ) → IsReadingText octets text Whole → text ≡ []
+reading-silent octets text told = whole-silent (lines_of octets) 0 unread text told
+
+-- The line that opens a card leads on, with its shape and all that was kept.
+opens-words : (reading next : Reading) (line text : List ℕ) (shape : Shape) → text ≡ [] → next ≡ record reading { opened = true; shape = shape }
+    → card_of (words_of line) ≡ Some shape → shape_fault shape ≡ None → ReadsWords false reading line text (Some next)
+opens-words reading next line text shape silent goes card fits =
+    let P : Option CardFault → Type 0 = λ fault. MatchOption fault
+    ((text ≡ []) × (Some next ≡ Some (record reading { opened = true; shape = shape }))) (λ f. EndsBy (shape_fault_line f) text (Some next)) in
+    let here : OpensOrEnds reading shape text (Some next) = subst P (sym fits) (silent, ap (λ (w : Reading). Some w) goes) in
+    let Q : Option Shape → Type 0 = λ found. MatchOption found (EndsBy no_card text (Some next)) (λ s. OpensOrEnds reading s text (Some next)) in
+    subst Q (sym card) here
+
+pub opens : (opened : Bool) (was shape : Shape) (kept line : List ℕ) → is_silent (words_of line) ≡ false → opened ≡ false
+    → card_of (words_of line) ≡ Some shape → shape_fault shape ≡ None → (world : Reading) → world ≡ record { opened = opened; shape = was; kept = kept }
+    → ReadSteps world line [] (Some (record { opened = true; shape = shape; kept = kept }))
+opens opened was shape kept line speaks closed card fits world shown =
+    let next : Reading = record { opened = true; shape = shape; kept = kept } in
+    let text : List ℕ = [] in
+    let P : Bool → Type 0 = λ o. ReadsWords o (record { opened = o; shape = was; kept = kept }) line text (Some next) in
+    let there : ReadsWords opened (record { opened = opened; shape = was; kept = kept }) line text (Some next) =
+    subst P (sym closed) (opens-words (record { opened = false; shape = was; kept = kept }) next line text shape refl refl card fits) in
+    let Q : Bool → Type 0 = λ silent. MatchBool silent ((text ≡ []) × (Some next ≡ Some (record { opened = opened; shape = was; kept = kept })))
+    (ReadsWords opened (record { opened = opened; shape = was; kept = kept }) line text (Some next)) in
+    let R : Reading → Type 0 = λ w. ReadSteps w line text (Some next) in
+    subst R (sym shown) (subst Q (sym speaks) there)

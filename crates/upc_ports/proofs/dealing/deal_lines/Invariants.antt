@@ -1,0 +1,14 @@
+-- Of each way to read the octets as lines some are left, and whoever deals them has dealt all.
+use Rattle.std.proofs.Common.{◌≡◌, ℕ, List, length}
+use Rattle.upc_ports.specs.inner.Dealing.{AreLinesOf, dealt, none_dealt}
+use Rattle.upc_ports.proofs.DealingLemmas.{IsDealing}
+use Rattle.upc_ports.proofs.dealing.deal_lines.Given as goal
+
+abbrev pub invariant-loop-line : goal.invariant-loop-line
+invariant-loop-line l = record {
+  dealing : (whole : List (List ℕ)) → AreLinesOf l.lines whole → IsDealing l.side whole (none_dealt l.ports) l.rest (dealt l.deal);
+  ports : length l.deal.arrivals.items ≡ l.ports;
+}
+
+abbrev pub decreases-loop-line : goal.decreases-loop-line
+decreases-loop-line l = length l.rest

@@ -1,0 +1,81 @@
+-- The text of `upc ports`. The whole script is read before anything of it is run: its first line with words opens a
+-- card, and each later one is kept. Where the script can't be run, the one line that tells why is the whole text.
+use Rattle.std.specs.Prelude.{◌≡◌, ◌⊎◌, ℕ, Bool, true, false, List, [], ◌∷◌, ◌++◌, Option, Some, None, MatchOption, MatchBool}
+use Rattle.line_record.specs.Line.{LineView}
+use Rattle.card_core.specs.Shapes.{shape_fault}
+use Rattle.card_core.specs.declared.shape.Shape.{Shape}
+use Rattle.upc_cell.specs.declared.side.Side.TheVariants.{Uni}
+use Rattle.text_io.specs.Lines.{lines_of}
+use Rattle.text_io.specs.Printing.{Rules, Prints}
+use Rattle.text_io.specs.Words.{words_of, is_silent}
+use Rattle.text_io.specs.declared.ending.Done.{Done}
+use Rattle.text_io.specs.declared.ending.Done.TheVariants.{Whole, Ended}
+use Rattle.upc_words.specs.FaultLines.{too_long}
+use Rattle.upc_run.specs.CardFaults.{no_card, shape_fault_line}
+use Rattle.upc_run.specs.CardLine.{card_of}
+use Rattle.upc_ports.specs.ClosingText.{closing_text, done_of}
+
+-- What was read of a script so far.
+pub record Reading : Type 0 where
+  pub opened : Bool  -- whether a line has opened a card
+  pub shape : Shape  -- the shape of that card; until then that of the smallest card
+  pub kept : List ℕ  -- the later lines with words, each ended by a line feed
+
+-- Nothing was read yet.
+abbrev pub unread : Reading
+unread = record { opened = false; shape = record { programs = 1; lines = 1; ports = 1; journal = 1; side = Uni }; kept = [] }
+
+-- A fault of the line that opens the card ends the reading.
+abbrev pub EndsBy : List ℕ → List ℕ → Option Reading → Type 0
+EndsBy fault text next = (text ≡ fault) × (next ≡ None)
+
+-- The line opens a card of this shape, or the shape is out of its limits.
+abbrev pub OpensOrEnds : Reading → Shape → List ℕ → Option Reading → Type 0
+OpensOrEnds reading shape text next =
+    MatchOption (shape_fault shape) ((text ≡ []) × (next ≡ Some (record reading { opened = true; shape = shape })))
+    (λ fault. EndsBy (shape_fault_line fault) text next)
+
+-- A line with words: the first opens the card, and each later one is kept whole, with a line feed.
+abbrev pub ReadsWords : Bool → Reading → List ℕ → List ℕ → Option Reading → Type 0
+ReadsWords false reading said text next =
+    MatchOption (card_of (words_of said)) (EndsBy no_card text next) (λ shape. OpensOrEnds reading shape text next)
+ReadsWords true reading said text next = (text ≡ []) × (next ≡ Some (record reading { kept = reading.kept ++ said ++ 10 ∷ [] }))
+
+-- What a line says leads to the next world; none where it ends the reading. A line without words and a
+-- remark are passed over.
+abbrev pub ReadSteps : Reading → List ℕ → List ℕ → Option Reading → Type 0
+ReadSteps reading said text next =
+    MatchBool (is_silent (words_of said)) ((text ≡ []) × (next ≡ Some reading)) (ReadsWords reading.opened reading said text next)
+
+-- The end of the input. Without a card it is a fault.
+abbrev pub ReadCloses : Bool → List ℕ → Done → Type 0
+ReadCloses false text done = (text ≡ no_card) × (done ≡ Ended)
+ReadCloses true text done = (text ≡ []) × (done ≡ Whole)
+
+-- Every world may be reached.
+abbrev pub IsSoundReading : Reading → Type 0
+IsSoundReading reading = Unit {0}
+
+-- The rules of the reading.
+abbrev pub reading_rules : Rules Reading
+reading_rules = record { steps = ReadSteps; closes = λ reading. ReadCloses reading.opened; too_long = too_long; is_sound = IsSoundReading }
+
+-- What the reading of a whole script prints, and how it ends.
+abbrev pub IsReadingText : List ℕ → List ℕ → Done → Type 0
+IsReadingText octets text done = Prints reading_rules 0 unread (lines_of octets) text done
+
+-- The text of a script that was run: what its lines were answered, of which no more is said here, and then what the
+-- close of its card tells.
+pub record IsClosedText (text : List ℕ) (done : Done) : Type 0 where
+  pub answers : List ℕ
+  pub lines : List LineView
+  pub uneven : Option ℕ
+  pub cut : text ≡ answers ++ closing_text lines uneven
+  pub ends : done ≡ done_of uneven
+
+-- The text of the octets of a whole script, as far as it is told, and how it ends. A script that can't be run has the
+-- text of its reading, and is ended. One that is run has many: which answers cells and desk lines get where they meet is
+-- open.
+abbrev pub IsPortsText : List ℕ → List ℕ → Done → Type 0
+IsPortsText octets text done =
+    ((done ≡ Ended) × IsReadingText octets text Ended) ⊎ (IsReadingText octets [] Whole × IsClosedText text done)

@@ -1,0 +1,108 @@
+-- Who answers which line of a script, from its first cell line on.
+use Rattle.std.specs.Prelude.{◌≡◌, ◌≢◌, ℕ, ◌+◌, ◌*◌, ◌%◌, ◌<◌, Bool, false, if◌then◌else◌, List, [], ◌∷◌, ◌++◌, All, Some, Err, MatchBool, codes, length, map, replicate, slice_get, slice_index, slice_set}
+use Rattle.std.specs.Str.{bytes_eq}
+use Rattle.upc_cell.specs.Connection.{vc_of}
+use Rattle.upc_cell.specs.declared.side.Side.{Side}
+use Rattle.upc_cell.specs.declared.vc.Vc.{Vc}
+use Rattle.line_record.specs.declared.fault.LineFault.TheVariants.{NoMemory}
+use Rattle.card_core.specs.declared.answer.Unjudged.TheVariants.{Refused}
+use Rattle.text_io.specs.Words.{words_of}
+use Rattle.upc_run.specs.ScriptCommands.{command_of}
+use Rattle.upc_ports.specs.declared.cell_line.CellLine.{CellLine}
+use Rattle.upc_ports.specs.declared.cell_line.CellLine.TheVariants.{Comes, IsFaulty}
+use Rattle.upc_ports.specs.declared.dealing.Answerer.{Answerer}
+use Rattle.upc_ports.specs.declared.dealing.Answerer.TheVariants.{Port, Desk, Fault}
+use Rattle.upc_ports.specs.declared.dealing.Deal.{Deal}
+use Rattle.upc_ports.specs.declared.dealing.DealtCell.{DealtCell}
+use Rattle.upc_ports.specs.inner.CellLine.{IsCellLine}
+
+-- No octet of the line is a line feed.
+abbrev pub IsOneLine : List ℕ → Type 0
+IsOneLine line = (k : ℕ) → k < length line → slice_index line k ≢ 10
+
+-- The text of these lines, each of which a line feed ends.
+abbrev pub text_of : List (List ℕ) → List ℕ
+text_of [] = []
+text_of (line ∷ lines) = line ++ 10 ∷ text_of lines
+
+-- The octets are the text of these lines.
+pub record AreLinesOf (octets : List ℕ) (lines : List (List ℕ)) : Type 0 where
+  pub text : octets ≡ text_of lines
+  pub each : All IsOneLine lines
+
+-- Whether the words are those of a cell line, whatever follows the first.
+abbrev pub is_cell_line : List (List ℕ) → Bool
+is_cell_line [] = false
+is_cell_line (word ∷ words) = bytes_eq word (codes "cell")
+
+-- The lines from the first cell line on.
+abbrev pub from_first_cell : List (List ℕ) → List (List ℕ)
+from_first_cell [] = []
+from_first_cell (line ∷ lines) = if is_cell_line (words_of line) then line ∷ lines else from_first_cell lines
+
+-- How many channels a path has.
+abbrev pub channels : ℕ
+channels = 65536
+
+-- The number of the port that a connection's cells come to, of so many: by its path and its channel.
+abbrev pub port_of : Vc → ℕ → ℕ
+port_of vc ports = (vc.vpi * channels + vc.vci) % ports
+
+-- What was dealt: who answers each line, in the script's order; the desk's lines; and each port's cells.
+pub record Dealt : Type 0 where
+  pub order : List Answerer
+  pub desk : List (List ℕ)
+  pub arrivals : List (List DealtCell)
+
+-- No line was dealt, for this number of ports.
+abbrev pub none_dealt : ℕ → Dealt
+none_dealt ports = record { order = []; desk = []; arrivals = replicate ports [] }
+
+-- What a deal says.
+abbrev pub dealt : Deal → Dealt
+dealt deal = record {
+  order = deal.order.items;
+  desk = map (λ line. line.now) deal.desk.items;
+  arrivals = map (λ own. own.items) deal.arrivals.items;
+}
+
+-- A cell that was not answered yet.
+abbrev pub unanswered : ℕ → List ℕ → DealtCell
+unanswered moment cell = record { moment = moment; cell = cell; told = Err (Refused NoMemory) }
+
+-- A cell goes to the port of its connection, after that port's earlier cells.
+pub record DealsCell (side : Side) (moment : ℕ) (cell : List ℕ) (before after : Dealt) : Type 0 where
+  pub own : List DealtCell
+  pub there : slice_get before.arrivals (port_of (vc_of side cell) (length before.arrivals)) ≡ Some own
+  pub dealt : after ≡ record before {
+    order = before.order ++ Port (port_of (vc_of side cell) (length before.arrivals)) (length own) ∷ [];
+    arrivals = slice_set before.arrivals (port_of (vc_of side cell) (length before.arrivals)) (own ++ unanswered moment cell ∷ []);
+  }
+
+-- A cell line is a port's where it brings a cell, and nobody's where it has a fault.
+abbrev pub DealsFound : Side → CellLine → Dealt → Dealt → Type 0
+DealsFound side (Comes moment cell) before after = DealsCell side moment cell before after
+DealsFound side (IsFaulty fault) before after = after ≡ record before { order = before.order ++ Fault fault ∷ [] }
+
+-- What a cell line brings is dealt.
+pub record DealsCellLine (side : Side) (line : List ℕ) (before after : Dealt) : Type 0 where
+  pub found : CellLine
+  pub brings : IsCellLine (command_of side (words_of line)) found
+  pub dealt : DealsFound side found before after
+
+-- Any other line is the desk's next.
+abbrev pub DealsDeskLine : List ℕ → Dealt → Dealt → Type 0
+DealsDeskLine line before after = after ≡ record before {
+  order = before.order ++ Desk (length before.desk) ∷ [];
+  desk = before.desk ++ line ∷ [];
+}
+
+-- One line is dealt.
+abbrev pub DealsLine : Side → List ℕ → Dealt → Dealt → Type 0
+DealsLine side line before after =
+    MatchBool (is_cell_line (words_of line)) (DealsCellLine side line before after) (DealsDeskLine line before after)
+
+-- All lines are dealt, one after another.
+abbrev pub DealsAll : Side → List (List ℕ) → Dealt → Dealt → Type 0
+DealsAll side [] before after = after ≡ before
+DealsAll side (line ∷ lines) before after = (next : Dealt) × DealsLine side line before next × DealsAll side lines next after

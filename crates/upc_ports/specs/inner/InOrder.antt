@@ -1,0 +1,46 @@
+-- What is printed of the answers to a script's later lines, in the script's order.
+use Rattle.std.specs.Prelude.{◌≡◌, ℕ, List, [], ◌∷◌, ◌++◌, Option, None, Some, slice_get}
+use Rattle.gen_arena.specs.declared.id.Id.{Id}
+use Rattle.upc_cell.specs.Connection.{vc_of}
+use Rattle.upc_cell.specs.declared.side.Side.{Side}
+use Rattle.upc_words.specs.FaultLines.{bad_line, bad_hex, wrong_length}
+use Rattle.card_core.specs.Sections.{answer_to}
+use Rattle.upc_run.specs.Replies.{answer_text}
+use Rattle.upc_ports.specs.declared.cell_line.CellLineFault.{CellLineFault}
+use Rattle.upc_ports.specs.declared.cell_line.CellLineFault.TheVariants.{BadLine, BadHex, WrongLength}
+use Rattle.upc_ports.specs.declared.dealing.Answerer.{Answerer}
+use Rattle.upc_ports.specs.declared.dealing.Answerer.TheVariants.{Port, Desk, Fault}
+use Rattle.upc_ports.specs.declared.dealing.DealtCell.{DealtCell}
+
+-- What is printed of a cell line that brings no cell.
+abbrev pub fault_text : CellLineFault → List ℕ
+fault_text BadLine = bad_line
+fault_text BadHex = bad_hex
+fault_text (WrongLength count) = wrong_length count
+
+-- The cell at this place among a port's own.
+abbrev pub cell_at : Option (List DealtCell) → ℕ → Option DealtCell
+cell_at None place = None
+cell_at (Some own) place = slice_get own place
+
+-- The text is that of the cell's answer; nothing is printed where there is no such cell.
+abbrev pub TellsCell : Side → List Id → Option DealtCell → List ℕ → Type 0
+TellsCell side names None text = text ≡ []
+TellsCell side names (Some arrival) text = answer_text names (vc_of side arrival.cell) (answer_to arrival.cell arrival.told) ≡ Some text
+
+-- The text that the desk gave, if it gave one.
+abbrev pub given_text : Option (List ℕ) → List ℕ
+given_text None = []
+given_text (Some text) = text
+
+-- What one answerer tells, of cells that came to ports and of texts that the desk gave.
+abbrev pub Tells : Side → List Id → List (List DealtCell) → List (List ℕ) → Answerer → List ℕ → Type 0
+Tells side names arrivals told (Port number place) text = TellsCell side names (cell_at (slice_get arrivals number) place) text
+Tells side names arrivals told (Desk number) text = text ≡ given_text (slice_get told number)
+Tells side names arrivals told (Fault fault) text = text ≡ fault_text fault
+
+-- What all answerers tell: the text of each, one after another, and nothing else.
+abbrev pub AllTell : Side → List Id → List (List DealtCell) → List (List ℕ) → List Answerer → List ℕ → Type 0
+AllTell side names arrivals told [] text = text ≡ []
+AllTell side names arrivals told (answerer ∷ order) text = (here : List ℕ) × (more : List ℕ) × (text ≡ here ++ more)
+    × Tells side names arrivals told answerer here × AllTell side names arrivals told order more

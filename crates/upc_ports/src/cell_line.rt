@@ -1,0 +1,57 @@
+//! The cell lines of a script.
+
+ghost use Rattle.std.specs.Prelude.{◌≡◌, ◌++◌, IfOk, OnOk};
+ghost use Rattle.text_io.specs.Words.{words_of};
+ghost use Rattle.upc_run.specs.ScriptCommands.{command_of};
+ghost use Rattle.upc_ports.specs.inner.CellLine.{IsCellLine};
+ghost use Rattle.upc_ports.specs.inner.InOrder.{fault_text};
+
+use std::alloc::{AllocError, Global};
+use upc_cell::{Cell, Side};
+use upc_run::{Command, read_command};
+use upc_words::{CellWord, add_bad_hex, add_bad_line, add_wrong_length, cell_of_word};
+
+/// Why a cell line brings no cell.
+#[derive(Clone, Copy)]
+pub enum CellLineFault {
+    /// It has a word of another form, or too few words or too many.
+    BadLine,
+    /// Its cell isn't hexadecimal.
+    BadHex,
+    /// Its cell has so many octets.
+    WrongLength(usize),
+}
+
+/// What a cell line brings.
+#[derive(Clone, Copy)]
+pub enum CellLine {
+    /// A cell, at this moment in ticks.
+    Comes(u64, Cell),
+    /// No cell.
+    IsFaulty(CellLineFault),
+}
+
+/// Reads a line whose first word is that of a cell line.
+pub fn read_cell_line(alloc: Global, side: Side, line: &[u8]) -> Result<CellLine, AllocError>
+    ensures { IfOk result (IsCellLine (command_of side (words_of line.now))) }
+{
+    let Some(Command::Cell(moment, word)) = read_command(side, line) else {
+        return Ok(CellLine::IsFaulty(CellLineFault::BadLine));
+    };
+    match cell_of_word(alloc, word)? {
+        CellWord::OfCell(cell) => Ok(CellLine::Comes(moment, cell)),
+        CellWord::OfOthers(count) => Ok(CellLine::IsFaulty(CellLineFault::WrongLength(count))),
+        CellWord::NoDigits => Ok(CellLine::IsFaulty(CellLineFault::BadHex)),
+    }
+}
+
+/// Adds the answer to a line that brings no cell.
+pub fn add_cell_line_fault(answers: &mut Vec<u8>, fault: CellLineFault) -> Result<(), AllocError>
+    ensures { OnOk result (answers.new.items ≡ answers.old.items ++ fault_text fault) }
+{
+    match fault {
+        CellLineFault::BadLine => add_bad_line(answers),
+        CellLineFault::BadHex => add_bad_hex(answers),
+        CellLineFault::WrongLength(count) => add_wrong_length(answers, count),
+    }
+}

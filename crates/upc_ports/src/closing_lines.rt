@@ -1,0 +1,55 @@
+//! What the close of a card tells: the totals of the verdicts, or the first line that is uneven.
+
+ghost use Rattle.std.specs.Prelude.{◌≡◌, ◌++◌, OnOk};
+ghost use Rattle.upc_words.specs.FaultLines.{line};
+ghost use Rattle.upc_ports.specs.ClosingText.{closing_text, done_of, totals_line, uneven_line};
+
+use line_record::Tally;
+use port_card::Closing;
+use std::alloc::AllocError;
+use text_io::Done;
+use upc_run::add_tally;
+use upc_words::add_number;
+
+/// Adds the totals of the verdicts.
+#[tactic(auto, using(std::proofs::lemmas::List::append_assoc))]
+fn add_totals(answers: &mut Vec<u8>, totals: Tally) -> Result<(), AllocError>
+    ensures { OnOk result (answers.new.items ≡ answers.old.items ++ totals_line totals) }
+{
+    answers.extend_from_slice(b"totals")?;
+    add_tally(answers, totals)?;
+    answers.push(b'\n')?;
+    Ok(())
+}
+
+/// Adds the answer to a card of which this line, from 0, counted otherwise than the seats did.
+#[tactic(auto, using(std::proofs::lemmas::List::append_assoc))]
+fn add_uneven(answers: &mut Vec<u8>, number: u16) -> Result<(), AllocError>
+    ensures { OnOk result (answers.new.items ≡ answers.old.items ++ uneven_line number) }
+{
+    answers.extend_from_slice(b"fault card 1 Uneven ")?;
+    add_number(answers, u64::from(number))?;
+    answers.push(b'\n')?;
+    Ok(())
+}
+
+/// Adds the totals, or the first line that counted otherwise than the seats did.
+pub fn add_closing(answers: &mut Vec<u8>, closing: &Closing) -> Result<(), AllocError>
+    ensures { OnOk result (answers.new.items
+        ≡ answers.old.items ++ closing_text closing.now.lines.items closing.now.uneven) }
+{
+    match closing.uneven {
+        Some(number) => add_uneven(answers, number),
+        None => add_totals(answers, closing.total()),
+    }
+}
+
+/// How the run of a script ends whose card was closed so: a line that is uneven ends it early.
+pub fn done_after(closing: &Closing) -> Done
+    ensures { result ≡ done_of closing.now.uneven }
+{
+    match closing.uneven {
+        Some(_) => Done::Ended,
+        None => Done::Whole,
+    }
+}

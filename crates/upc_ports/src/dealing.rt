@@ -1,0 +1,144 @@
+//! The lines of a script from its first cell line on, dealt to the ports and the desk that answer them.
+
+ghost use Rattle.std.specs.Prelude.{◌≡◌, ◌<◌, ℕ, List, IfOk, OnOk, length, map};
+ghost use Rattle.upc_ports.specs.inner.Dealing.{port_of, dealt, none_dealt, AreLinesOf, DealsAll, DealsCell, DealsCellLine, DealsDeskLine};
+
+use crate::cell_line::{CellLine, CellLineFault, read_cell_line};
+use crate::script_lines::{first_line, is_cell_line};
+use card_core::{Judgement, Unjudged};
+use line_record::LineFault;
+use std::alloc::{AllocError, Global};
+use upc_cell::{Cell, Side, Vc};
+use upc_run::read_cell;
+
+/// How many channels a path has.
+const CHANNELS: usize = 65536;
+
+/// A cell that enters a port, and the answer to it: an allocation failure, until there is one.
+#[derive(Clone, Copy)]
+pub struct DealtCell {
+    /// In ticks.
+    pub moment: u64,
+    pub cell: Cell,
+    /// All of the answer but the cell as it leaves, which would take the room of a cell once more.
+    pub told: Result<Judgement, Unjudged>,
+}
+
+/// Who answers a line, and as which of his lines, from 0.
+#[derive(Clone, Copy)]
+pub enum Answerer {
+    /// The port of this number, from 0.
+    Port(usize, usize),
+    /// The desk.
+    Desk(usize),
+    /// No one: it is a cell line with this fault.
+    Fault(CellLineFault),
+}
+
+/// Who answers which line.
+#[derive(Drop)]
+pub struct Deal<'a> {
+    /// In the script's order.
+    pub order: Vec<Answerer>,
+    /// The lines of the desk, in the script's order.
+    pub desk: Vec<&'a [u8]>,
+    /// The cells of each port, by its number, in the script's order.
+    pub arrivals: Vec<Vec<DealtCell>>,
+}
+
+/// The number of the port that a cell of this connection comes to, of so many.
+fn port_of(vc: Vc, ports: usize) -> usize
+    requires { 0 < ports }
+    ensures { result ≡ port_of vc ports }
+{
+    (usize::from(vc.vpi) * CHANNELS + usize::from(vc.vci)) % ports
+}
+
+impl<'a> Deal<'a> {
+    ghost use Rattle.std.specs.Prelude.{◌≡◌, ◌<◌, IfOk, OnOk, length};
+    ghost use Rattle.upc_ports.specs.inner.Dealing.{dealt, none_dealt, DealsCell, DealsCellLine, DealsDeskLine};
+
+    /// No line yet, for this number of ports.
+    fn new(alloc: Global, ports: usize) -> Result<Deal<'a>, AllocError>
+        ensures { IfOk result (λ deal. dealt deal ≡ none_dealt ports) }
+    {
+        let mut arrivals = Vec::new(alloc);
+        for _ in 0..ports {
+            arrivals.push(Vec::new(alloc))?;
+        }
+        Ok(Deal {
+            order: Vec::new(alloc),
+            desk: Vec::new(alloc),
+            arrivals,
+        })
+    }
+
+    /// Deals a cell to its port.
+    fn deal_cell(&mut self, side: Side, moment: u64, cell: Cell) -> Result<(), AllocError>
+        requires { 0 < length self.old.arrivals.items }
+        ensures { OnOk result (DealsCell side moment cell (dealt self.old) (dealt self.new)) }
+    {
+        let number = port_of(cell.vc_at(side), self.arrivals.len());
+        let own = &mut self.arrivals[number];
+        let place = own.len();
+        own.push(DealtCell {
+            moment,
+            cell,
+            told: Err(Unjudged::Refused(LineFault::NoMemory)),
+        })?;
+        self.order.push(Answerer::Port(number, place))?;
+        Ok(())
+    }
+
+    /// Deals a line to the desk.
+    fn deal_desk_line(&mut self, line: &'a [u8]) -> Result<(), AllocError>
+        ensures { OnOk result (DealsDeskLine line.now (dealt self.old) (dealt self.new)) }
+    {
+        let number = self.desk.len();
+        self.order.push(Answerer::Desk(number))?;
+        self.desk.push(line)?;
+        Ok(())
+    }
+
+    /// Deals a line whose first word is that of a cell line. The common form is read at once.
+    fn deal_cell_line(&mut self, alloc: Global, side: Side, line: &[u8]) -> Result<(), AllocError>
+        requires { 0 < length self.old.arrivals.items }
+        ensures { OnOk result (DealsCellLine side line.now (dealt self.old) (dealt self.new)) }
+    {
+        if let Some(arrival) = read_cell(line) {
+            return self.deal_cell(side, arrival.moment, arrival.cell);
+        }
+        match read_cell_line(alloc, side, line)? {
+            CellLine::Comes(moment, cell) => self.deal_cell(side, moment, cell),
+            CellLine::IsFaulty(fault) => {
+                self.order.push(Answerer::Fault(fault))?;
+                Ok(())
+            }
+        }
+    }
+}
+
+/// Deals the lines: each cell to the port of its connection, and all others to the desk.
+pub fn deal_lines(
+    alloc: Global,
+    side: Side,
+    lines: &[u8],
+    ports: usize,
+) -> Result<Deal<'_>, AllocError>
+    requires { 0 < ports }
+    ensures dealt { IfOk result (λ deal. (each : List (List ℕ)) → AreLinesOf lines.now each
+        → DealsAll side each (none_dealt ports) (dealt deal)) }
+    ensures one_each { IfOk result (λ deal. length deal.arrivals.items ≡ ports) }
+{
+    let mut deal = Deal::new(alloc, ports)?;
+    let mut rest = lines;
+    while let Some((line, later)) = first_line(rest) {
+        if is_cell_line(line) {
+            deal.deal_cell_line(alloc, side, line)?;
+        } else {
+            deal.deal_desk_line(line)?;
+        }
+        rest = later;
+    }
+    Ok(deal)
+}

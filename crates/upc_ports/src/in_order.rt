@@ -1,0 +1,102 @@
+//! What ports and desk were answered, in the script's order.
+
+ghost use Rattle.std.specs.Prelude.{◌≡◌, OnOk, map, slice_get};
+ghost use Rattle.std.specs.Option.{option_copied};
+ghost use Rattle.text_io.specs.Devices.{Adds};
+ghost use Rattle.upc_ports.specs.inner.InOrder.{AllTell, Tells, cell_at, given_text};
+ghost use Rattle.upc_run.specs.AddsSome.{AddsSome};
+ghost use Rattle.card_core.specs.Sections.{answer_to};
+ghost use Rattle.upc_run.specs.Replies.{answer_text};
+ghost use Rattle.upc_cell.specs.Connection.{vc_of};
+
+use crate::busy_ports::BusyPort;
+use crate::cell_line::add_cell_line_fault;
+use crate::dealing::{Answerer, DealtCell};
+use port_card::Ledgers;
+use std::alloc::AllocError;
+use upc_cell::Side;
+use upc_run::{Names, add_judged, add_unjudged};
+
+/// Adds what a cell was answered.
+#[tactic(auto, using(crate::proofs::InOrderLemmas::unjudged_unnumbered))]
+fn add_arrival(
+    side: Side,
+    names: &Names,
+    arrival: &DealtCell,
+    answers: &mut Vec<u8>,
+) -> Result<(), AllocError>
+    ensures { OnOk result (AddsSome
+        (answer_text names.now (vc_of side arrival.now.cell) (answer_to arrival.now.cell arrival.now.told))
+        answers.old.items answers.new.items) }
+{
+    let vc = arrival.cell.vc_at(side);
+    match &arrival.told {
+        Ok(judged) => {
+            let number = names.number_of(judged.program) as u64;
+            add_judged(answers, number, vc, &arrival.cell, judged)
+        }
+        Err(reason) => add_unjudged(answers, vc, *reason),
+    }
+}
+
+/// The cell at this place among those of the port of this number, if there is one.
+#[tactic(auto, using(crate::proofs::InOrderLemmas::get_mapped))]
+fn cell_in<S: Ledgers>(ports: &[BusyPort<S>], number: usize, place: usize) -> Option<&DealtCell>
+    ensures { option_copied result
+        ≡ cell_at (slice_get (map (λ port. port.arrivals.items) ports.now) number) place }
+{
+    ports.get(number)?.arrivals.get(place)
+}
+
+/// The text that the desk gave as the one of this number; empty where it gave none.
+#[tactic(auto, using(crate::proofs::InOrderLemmas::get_mapped))]
+fn text_in(told: &[Vec<u8>], number: usize) -> &[u8]
+    ensures { result.now ≡ given_text (slice_get (map (λ text. text.items) told.now) number) }
+{
+    match told.get(number) {
+        Some(text) => text,
+        None => &[],
+    }
+}
+
+/// Adds what one answerer has to tell.
+fn add_from<S: Ledgers>(
+    side: Side,
+    answerer: Answerer,
+    ports: &[BusyPort<S>],
+    told: &[Vec<u8>],
+    names: &Names,
+    answers: &mut Vec<u8>,
+) -> Result<(), AllocError>
+    ensures { OnOk result (Adds
+        (Tells side names.now (map (λ port. port.arrivals.items) ports.now) (map (λ text. text.items) told.now) answerer)
+        answers.old.items answers.new.items) }
+{
+    match answerer {
+        Answerer::Port(number, place) => match cell_in(ports, number, place) {
+            Some(arrival) => add_arrival(side, names, arrival, answers),
+            None => Ok(()),
+        },
+        Answerer::Desk(number) => answers.extend_from_slice(text_in(told, number)),
+        Answerer::Fault(fault) => add_cell_line_fault(answers, fault),
+    }
+}
+
+/// Adds all answers, in the script's order.
+pub fn add_in_order<S: Ledgers>(
+    side: Side,
+    order: &[Answerer],
+    ports: &[BusyPort<S>],
+    told: &[Vec<u8>],
+    names: &Names,
+    answers: &mut Vec<u8>,
+) -> Result<(), AllocError>
+    ensures { OnOk result (Adds
+        (AllTell side names.now (map (λ port. port.arrivals.items) ports.now) (map (λ text. text.items) told.now) order.now)
+        answers.old.items answers.new.items) }
+{
+    for answerer in order {
+        add_from(side, *answerer, ports, told, names, answers)?;
+    }
+    Ok(())
+}

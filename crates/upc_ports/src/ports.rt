@@ -1,0 +1,215 @@
+//! `upc ports`: a script whose cells come to ports that are threads of their own.
+
+ghost use Rattle.std.specs.Prelude.{◌≡◌, ◌≢◌, ◌<◌, [], IfOk, OnErr, ℕ, List, Ok, Err, length};
+ghost use Rattle.text_io.specs.Devices.{Adds, TakesEnough};
+ghost use Rattle.text_io.specs.Limits.{most_ahead};
+ghost use Rattle.text_io.specs.Failures.{read_failures, write_failures};
+ghost use Rattle.text_io.specs.Printing.{IsFront};
+ghost use Rattle.port_card.specs.Names.{AreFor};
+ghost use Rattle.upc_ports.specs.PortsText.{IsClosedText, IsPortsText};
+ghost use Rattle.upc_ports.specs.inner.Dealing.{AreLinesOf, from_first_cell};
+
+use crate::at_once::run_at_once;
+use crate::busy_ports::seats_of;
+use crate::closing_lines::{add_closing, done_after};
+use crate::dealing::{Deal, deal_lines};
+use crate::in_order::add_in_order;
+use crate::script::Script;
+use crate::script_desk::ScriptDesk;
+use crate::script_lines::{first_line, is_cell_line};
+use card_core::Shape;
+use port_card::{Blanks, Card, Closing, Gate, Ledgers, NoWait, PortSeat};
+use std::alloc::{AllocError, Global};
+use std::marker::Brand;
+use std::sync::Wait;
+use std::thread::Threads;
+use text_io::{Done, Input, Output, RunFault, answer_lines, give_last};
+use upc_run::{Names, add_ready};
+
+/// Answers the lines before the first cell line, and returns the lines from there on.
+fn answer_first<'a, S: Ledgers, R: Wait>(
+    rt: &R,
+    card: &Card<S>,
+    desk: &mut ScriptDesk<S>,
+    lines: &'a [u8],
+    answers: &mut Vec<u8>,
+) -> Result<&'a [u8], AllocError>
+    ensures { IfOk result (λ later. (each : List (List ℕ)) → AreLinesOf lines.now each
+        → AreLinesOf later.now (from_first_cell each)) }
+{
+    let mut rest = lines;
+    while let Some((line, later)) = first_line(rest) {
+        if is_cell_line(line) {
+            return Ok(rest);
+        }
+        desk.answer(rt, card, line, answers)?;
+        rest = later;
+    }
+    Ok(rest)
+}
+
+/// Answers the lines of a script on a card, and returns the seats.
+fn answer_lines_on<S: Ledgers + Send + Sync, G: Gate + Sync, R: Threads + Wait + Sync>(
+    rt: &R,
+    alloc: Global,
+    card: &Card<S>,
+    seats: Vec<PortSeat<S>>,
+    desk: &mut ScriptDesk<S>,
+    lines: &[u8],
+    gate: &G,
+    answers: &mut Vec<u8>,
+) -> Result<Vec<PortSeat<S>>, AllocError>
+    requires { 0 < length seats.items }
+{
+    let later = answer_first(rt, card, desk, lines, answers)?;
+    let Deal {
+        order,
+        desk: desk_lines,
+        arrivals,
+    } = deal_lines(alloc, desk.side, later, seats.len())?;
+    let (ports, told) = run_at_once(rt, alloc, card, gate, seats, arrivals, desk, &desk_lines)?;
+    add_in_order(desk.side, &order, &ports, &told, &desk.names, answers)?;
+    seats_of(alloc, ports)
+}
+
+/// Answers a whole script, and closes its card.
+fn answer_script<S: Ledgers + Send + Sync, G: Gate + Sync, R: Threads + Wait + Sync>(
+    rt: &R,
+    alloc: Global,
+    shape: Shape,
+    blanks: Blanks,
+    lines: &[u8],
+    gate: &G,
+    answers: &mut Vec<u8>,
+) -> Result<Closing, AllocError>
+    requires names { blanks ≡ S.names }
+    requires for_shape { AreFor shape S.names }
+{
+    let Ok((card, seats, desk)) = Card::<S>::new(alloc, shape, blanks) else {
+        return Err(AllocError);
+    };
+    let mut desk = ScriptDesk {
+        desk,
+        names: Names::new(alloc, shape.programs as usize)?,
+        alloc,
+        side: shape.side,
+    };
+    add_ready(answers)?;
+    let seats = answer_lines_on(rt, alloc, &card, seats, &mut desk, lines, gate, answers)?;
+    match card.close(alloc, seats) {
+        Ok(closing) => Ok(closing),
+        Err(_) => Err(AllocError),
+    }
+}
+
+/// Answers a whole script, and closes its card: no other has its ledgers.
+fn answer_alone<G: Gate + Sync, R: Threads + Wait + Sync>(
+    rt: &R,
+    alloc: Global,
+    shape: Shape,
+    lines: &[u8],
+    gate: &G,
+) -> Result<(Vec<u8>, Closing), AllocError> {
+    let mut answers = Vec::new(alloc);
+    let blanks = Blanks::new(shape.lines, shape.ports);
+    let closing = answer_script::<Brand, G, R>(
+        rt,
+        alloc,
+        shape,
+        blanks,
+        lines,
+        gate,
+        &mut answers,
+    )?;
+    Ok((answers, closing))
+}
+
+/// Runs a script that was read, and gives its text.
+fn run_lines<G: Gate + Sync, R: Threads + Wait + Sync, O: Output>(
+    rt: &R,
+    alloc: Global,
+    script: &Script,
+    output: &mut O,
+    gate: &G,
+) -> Result<Done, RunFault>
+    ensures text { O.is_known → IfOk result (λ done.
+        Adds (λ text. IsClosedText text done) (O.held output.old) (O.held output.new)) }
+    ensures front { O.is_known → OnErr result
+        (Adds (IsFront IsClosedText) (O.held output.old) (O.held output.new)) }
+    ensures fault { result ≢ Err RunFault.ReadFailed }
+    ensures writing { O.failures output.new ≡ write_failures result (O.failures output.old) }
+{
+    let Ok((mut answers, closing)) = answer_alone(rt, alloc, script.shape, &script.lines, gate)
+    else {
+        return Err(RunFault::NoMemory);
+    };
+    if add_closing(&mut answers, &closing).is_err() {
+        return Err(RunFault::NoMemory);
+    }
+    give_last(output, &mut answers, done_after(&closing))
+}
+
+/// Runs a script with a thread for each port, without waiting at any gate. See [`run_ports_with`].
+pub fn run_ports<R: Threads + Wait + Sync, I: Input, O: Output>(
+    rt: &R,
+    alloc: Global,
+    input: &mut I,
+    output: &mut O,
+) -> Result<Done, RunFault>
+    // What was written is the text of the whole input as far as it is told, or a beginning of it.
+    ensures text { I.is_known → O.is_known → IfOk result (λ done.
+        Adds (λ text. IsPortsText (I.rest input.old) text done) (O.held output.old) (O.held output.new)) }
+    ensures front { I.is_known → O.is_known → OnErr result
+        (Adds (IsFront (IsPortsText (I.rest input.old))) (O.held output.old) (O.held output.new)) }
+
+    // No more of the input was taken than what had to be answered, and what a window holds.
+    ensures left { I.is_known → IfOk result (λ done. TakesEnough
+        (λ octets. (text : List ℕ) × IsPortsText octets text done) most_ahead (I.rest input.old) (I.rest input.new)) }
+    ensures whole { I.is_known → result ≡ Ok Done.Whole → I.rest input.new ≡ [] }
+
+    ensures reading { I.failures input.new ≡ read_failures result (I.failures input.old) }
+    ensures writing { O.failures output.new ≡ write_failures result (O.failures output.old) }
+{
+    run_ports_with(rt, alloc, input, output, &NoWait)
+}
+
+/// Runs a script whose cells come to ports that are threads of their own, each waiting at this gate
+/// between the look-up and the judgement of each cell.
+///
+/// The lines before the first cell line are answered one by one. From there on each port lets its cells arrive,
+/// in the script's order, while the desk answers all other lines, in theirs. When all have ended, the
+/// answers are written in the script's order, and behind them the totals of the verdicts, over all lines
+/// of the card for their whole life.
+///
+/// # Errors
+///
+/// `ReadFailed` and `WriteFailed` where that device failed, once; `NoMemory` where memory was refused,
+/// once every thread that was started has ended. What was written is then a beginning of the text.
+pub fn run_ports_with<G: Gate + Sync, R: Threads + Wait + Sync, I: Input, O: Output>(
+    rt: &R,
+    alloc: Global,
+    input: &mut I,
+    output: &mut O,
+    gate: &G,
+) -> Result<Done, RunFault>
+    // What was written is the text of the whole input as far as it is told, or a beginning of it.
+    ensures text { I.is_known → O.is_known → IfOk result (λ done.
+        Adds (λ text. IsPortsText (I.rest input.old) text done) (O.held output.old) (O.held output.new)) }
+    ensures front { I.is_known → O.is_known → OnErr result
+        (Adds (IsFront (IsPortsText (I.rest input.old))) (O.held output.old) (O.held output.new)) }
+
+    // No more of the input was taken than what had to be answered, and what a window holds.
+    ensures left { I.is_known → IfOk result (λ done. TakesEnough
+        (λ octets. (text : List ℕ) × IsPortsText octets text done) most_ahead (I.rest input.old) (I.rest input.new)) }
+    ensures whole { I.is_known → result ≡ Ok Done.Whole → I.rest input.new ≡ [] }
+
+    ensures reading { I.failures input.new ≡ read_failures result (I.failures input.old) }
+    ensures writing { O.failures output.new ≡ write_failures result (O.failures output.old) }
+{
+    let mut script = Script::new(alloc);
+    match answer_lines(alloc, input, output, &mut script) {
+        Ok(Done::Whole) => run_lines(rt, alloc, &script, output, gate),
+        Ok(Done::Ended) => Ok(Done::Ended),
+        Err(fault) => Err(fault),
+    }
+}

@@ -1,0 +1,91 @@
+//! The script of `upc ports`, which is read whole before anything of it is run.
+
+ghost use Rattle.std.specs.Prelude.{◌≡◌};
+ghost use Rattle.upc_ports.specs.PortsText.{unread};
+
+use card_core::Shape;
+use std::alloc::{AllocError, Global};
+use text_io::{Done, LineWords, Machine, Turn, line_words};
+use upc_cell::Side;
+use upc_run::{add_no_card, add_shape_fault, read_card};
+use upc_words::add_too_long;
+
+/// What was read of a script.
+#[derive(Drop)]
+pub struct Script {
+    /// Whether a line has opened a card.
+    pub is_open: bool,
+    /// The shape of the card that a line has opened; until then that of the smallest card.
+    pub shape: Shape,
+    /// The later lines with words, each ended by a line feed.
+    pub lines: Vec<u8>,
+}
+
+impl Script {
+    /// A script of which nothing was read.
+    pub fn new(alloc: Global) -> Script
+        ensures { record { opened = result.is_open; shape = result.shape; kept = result.lines.items } ≡ unread }
+    {
+        Script {
+            is_open: false,
+            shape: Shape {
+                programs: 1,
+                lines: 1,
+                ports: 1,
+                journal: 1,
+                side: Side::Uni,
+            },
+            lines: Vec::new(alloc),
+        }
+    }
+}
+
+impl Machine for Script {
+    ghost use Rattle.std.specs.Prelude.{◌≡◌};
+    ghost use Rattle.upc_ports.specs.PortsText.{Reading, reading_rules};
+    ghost use Rattle.upc_ports.specs.inner.ReadingLaws.{reading-total};
+
+    ghost World = { Reading };
+
+    ghost shows = { λ script world.
+        world ≡ record { opened = script.is_open; shape = script.shape; kept = script.lines.items } };
+
+    ghost rules = { reading_rules };
+
+    fn answer(&mut self, line: &[u8], answers: &mut Vec<u8>) -> Result<Turn, AllocError> {
+        match line_words(line) {
+            LineWords::Silent => return Ok(Turn::GoesOn),
+            LineWords::One(_) | LineWords::Several => {}
+        }
+        if self.is_open {
+            self.lines.extend_from_slice(line)?;
+            self.lines.push(b'\n')?;
+            return Ok(Turn::GoesOn);
+        }
+        let Some(shape) = read_card(line) else {
+            add_no_card(answers)?;
+            return Ok(Turn::Ends);
+        };
+        if let Some(fault) = shape.fault() {
+            add_shape_fault(answers, fault)?;
+            return Ok(Turn::Ends);
+        }
+        self.shape = shape;
+        self.is_open = true;
+        Ok(Turn::GoesOn)
+    }
+
+    fn close(&mut self, answers: &mut Vec<u8>) -> Result<Done, AllocError> {
+        if self.is_open {
+            return Ok(Done::Whole);
+        }
+        add_no_card(answers)?;
+        Ok(Done::Ended)
+    }
+
+    fn refuse(&self, answers: &mut Vec<u8>) -> Result<(), AllocError> {
+        add_too_long(answers)
+    }
+
+    ghost is_total = { reading-total };
+}

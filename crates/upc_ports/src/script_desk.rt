@@ -1,0 +1,164 @@
+//! The desk of a running card, as a script commands it.
+
+use arrayvec::ArrayVec;
+use card_core::Ask;
+use port_card::{Card, Desk, Ledgers};
+use std::alloc::{AllocError, Global};
+use std::sync::Wait;
+use upc_cell::{Side, Vc};
+use upc_run::{
+    Command, Names, Wanted, add_cut, add_desk_fault, add_gcra_fault, add_loaded,
+    add_no_such_program, add_released, add_reloaded, add_retired, add_set, contracts_of,
+    read_command,
+};
+use upc_words::{add_bad_hex, add_bad_line, octets_of_word, read_program};
+
+/// The desk of a card, the names of the programs that were put in, and the side that the card's cells come
+/// from.
+#[derive(Drop)]
+pub struct ScriptDesk<S: Ledgers> {
+    pub desk: Desk<S>,
+    pub names: Names,
+    pub alloc: Global,
+    pub side: Side,
+}
+
+impl<S: Ledgers> ScriptDesk<S> {
+    /// Puts in the program of these octets, if they are one.
+    fn load<R: Wait>(
+        &mut self,
+        rt: &R,
+        card: &Card<S>,
+        digits: &[u8],
+        answers: &mut Vec<u8>,
+    ) -> Result<(), AllocError> {
+        let Some(octets) = octets_of_word(self.alloc, digits)? else {
+            return add_bad_hex(answers);
+        };
+        let Some(program) = read_program(self.alloc, &octets, answers)? else {
+            return Ok(());
+        };
+        match self.desk.load(rt, card, program) {
+            Ok(id) => {
+                self.names.push(id)?;
+                add_loaded(answers, self.names.count() as u64)
+            }
+            Err((fault, _)) => add_desk_fault(answers, fault),
+        }
+    }
+
+    /// Takes a program out.
+    fn retire<R: Wait>(
+        &mut self,
+        rt: &R,
+        card: &Card<S>,
+        number: u64,
+        answers: &mut Vec<u8>,
+    ) -> Result<(), AllocError> {
+        let Some(id) = self.names.named(number) else {
+            return add_no_such_program(answers);
+        };
+        match self.desk.retire(rt, card, id) {
+            Ok(_) => add_retired(answers, number),
+            Err(fault) => add_desk_fault(answers, fault),
+        }
+    }
+
+    /// Sets up a connection under contracts whose rates may be at fault.
+    fn setup<R: Wait>(
+        &mut self,
+        rt: &R,
+        card: &Card<S>,
+        vc: Vc,
+        number: u64,
+        wanted: &ArrayVec<Wanted, 4>,
+        answers: &mut Vec<u8>,
+    ) -> Result<(), AllocError> {
+        let contracts = match contracts_of(wanted) {
+            Ok(contracts) => contracts,
+            Err(fault) => return add_gcra_fault(answers, fault),
+        };
+        let Some(program) = self.names.named(number) else {
+            return add_no_such_program(answers);
+        };
+        let ask = Ask {
+            vc,
+            program,
+            contracts,
+        };
+        match self.desk.setup(rt, card, ask) {
+            Ok(_) => add_set(answers, vc),
+            Err((fault, _)) => add_desk_fault(answers, fault),
+        }
+    }
+
+    /// Gives a connection another program.
+    fn reload<R: Wait>(
+        &mut self,
+        rt: &R,
+        card: &Card<S>,
+        vc: Vc,
+        number: u64,
+        answers: &mut Vec<u8>,
+    ) -> Result<(), AllocError> {
+        let Some(program) = self.names.named(number) else {
+            return add_no_such_program(answers);
+        };
+        match self.desk.reload(rt, card, vc, program) {
+            Ok(_) => add_reloaded(answers, vc, number),
+            Err(fault) => add_desk_fault(answers, fault),
+        }
+    }
+
+    /// Ends a connection.
+    fn release<R: Wait>(
+        &mut self,
+        rt: &R,
+        card: &Card<S>,
+        vc: Vc,
+        answers: &mut Vec<u8>,
+    ) -> Result<(), AllocError> {
+        match self.desk.release(rt, card, vc) {
+            Ok(piece) => add_released(answers, vc, &piece),
+            Err(fault) => add_desk_fault(answers, fault),
+        }
+    }
+
+    /// Hands out a connection's journal.
+    fn cut<R: Wait>(
+        &mut self,
+        rt: &R,
+        card: &Card<S>,
+        vc: Vc,
+        answers: &mut Vec<u8>,
+    ) -> Result<(), AllocError> {
+        match self.desk.cut(rt, card, vc) {
+            Ok(piece) => add_cut(answers, vc, &piece),
+            Err(fault) => add_desk_fault(answers, fault),
+        }
+    }
+
+    /// Answers a line with words that is no cell line.
+    pub fn answer<R: Wait>(
+        &mut self,
+        rt: &R,
+        card: &Card<S>,
+        line: &[u8],
+        answers: &mut Vec<u8>,
+    ) -> Result<(), AllocError> {
+        let Some(command) = read_command(self.side, line) else {
+            return add_bad_line(answers);
+        };
+        match &command {
+            Command::Load(digits) => self.load(rt, card, digits, answers),
+            Command::Retire(number) => self.retire(rt, card, *number, answers),
+            Command::Setup(vc, number, wanted) => {
+                self.setup(rt, card, *vc, *number, wanted, answers)
+            }
+            Command::Reload(vc, number) => self.reload(rt, card, *vc, *number, answers),
+            Command::Release(vc) => self.release(rt, card, *vc, answers),
+            Command::Cut(vc) => self.cut(rt, card, *vc, answers),
+            Command::Cell(..) => Ok(()),
+        }
+    }
+}

@@ -1,0 +1,4 @@
+pub mod CellLineLemmas
+pub mod OneText
+pub mod CheckText
+pub mod Public

@@ -1,0 +1,17 @@
+-- A program is told by its octets, and a refusal by its fault.
+use Rattle.std.proofs.Common.{refl, ap, ◌∙◌, ◌++◌}
+use Rattle.upc_programs.specs.Check.{accepted_text}
+use Rattle.upc_words.specs.Program.{is_program, is_refused}
+use Rattle.upc_programs.proofs.check.answer_code.Goals as goal
+
+pub returns-in_ok-add_program-in-Some : goal.returns-in_ok-add_program-in-Some
+returns-in_ok-add_program-in-Some c =
+    let found = rw c.in-Some.is at c.in_ok-program.ensures in (
+      accepted_text c.in-Some.program,
+      c.in_ok-add_program-in-Some.ensures ∙ ap (λ xs. xs ++ accepted_text c.in-Some.program) found.1,
+      (is_program c.in-Some.program, found.0, (refl, refl)),
+    )
+
+pub returns-in-None : goal.returns-in-None
+returns-in-None c =
+    let found = rw c.in-None.is at c.in_ok-program.ensures in (found.0, found.2, (is_refused found.0, found.1, (refl, refl)))

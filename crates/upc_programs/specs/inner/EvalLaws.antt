@@ -1,0 +1,115 @@
+-- The laws of `eval`: every line has an answer in every world that a run reaches, and leads to such a
+-- world. They stand beside the definitions because the machine of `eval` cites them as its laws.
+use Rattle.std.proofs.Common.{◌≡◌, ℕ, ◌==◌, inl, inr, Bool, true, false, List, [], ◌∷◌, ◌++◌, Option, Some, None, length, codes, decimal, refl, subst}
+use Rattle.std.specs.Bool.{MatchBool}
+use Rattle.std.specs.Option.{MatchOption}
+use Rattle.bpf_code.specs.declared.instr.Instr.{Instr}
+use Rattle.bpf_verify.specs.Accepted.{IsAccepted}
+use Rattle.bpf_interp.proofs.Public.{Value-some}
+use Rattle.upc_programs.specs.Eval.{World, EndsBy, TellsReading, ReadsProgram, ProgramLine, TellsValue, RunsOn, CellLine, Asks, EvalSteps, EvalCloses, IsSoundWorld, eval_rules}
+use Rattle.upc_words.specs.Program.{Reading, is_program, is_refused, ChecksAs, ReadsAs}
+use Rattle.upc_words.proofs.Public.{reads-as}
+use Rattle.upc_words.specs.FaultLines.{line, bad_line, bad_hex, no_program, wrong_length, decode_fault, verify_fault}
+use Rattle.upc_words.specs.Hexadecimal.{octets_of, cell_of}
+use Rattle.text_io.specs.Printing.{IsTotal}
+use Rattle.text_io.specs.Words.{words_of, is_silent}
+use Rattle.text_io.specs.declared.ending.Done.{Done}
+use Rattle.text_io.specs.declared.ending.Done.TheVariants.{Whole, Ended}
+
+tells-reading : (reading : Reading) → (text : List ℕ) × (next : Option World) × TellsReading reading text next
+tells-reading (is_program code) = (line (codes "accepted " ++ decimal (length code)), Some (Some code), (refl, refl))
+tells-reading (is_refused fault) = (fault, None, (refl, refl))
+
+reads-program : (octets : List ℕ) → (text : List ℕ) × (next : Option World) × ReadsProgram octets text next
+reads-program octets =
+    let read = reads-as octets in
+    let told = tells-reading read.0 in
+    (told.0, told.1, (read.0, read.1, told.2))
+
+reads-word : (octets : Option (List ℕ)) → (text : List ℕ) × (next : Option World) × MatchOption octets (EndsBy bad_hex text next) (λ found. ReadsProgram found text next)
+reads-word None = (bad_hex, None, (refl, refl))
+reads-word (Some octets) = reads-program octets
+
+program-line : (words : List (List ℕ)) → (text : List ℕ) × (next : Option World) × ProgramLine words text next
+program-line [] = (bad_line, None, (refl, refl))
+program-line (word ∷ []) = reads-word (octets_of word)
+program-line (word ∷ other ∷ words) = (bad_line, None, (refl, refl))
+
+tells-value : (code : List Instr) → IsAccepted code → (octets : List ℕ) → (text : List ℕ) × TellsValue code octets text
+tells-value code accepted octets =
+    let value = Value-some code octets accepted in
+    (line (codes "value " ++ decimal value.0 ++ codes " steps " ++ decimal value.1), (value.0, value.1, value.2, refl))
+
+runs-on : (code : List Instr) → IsAccepted code → (octets : List ℕ) → (b : Bool) → (text : List ℕ) × MatchBool b (TellsValue code octets text) (text ≡ wrong_length (length octets))
+runs-on code accepted octets true = tells-value code accepted octets
+runs-on code accepted octets false = (wrong_length (length octets), refl)
+
+runs-word : (code : List Instr) → IsAccepted code → (octets : Option (List ℕ)) → (text : List ℕ) × MatchOption octets (text ≡ bad_hex) (λ found. RunsOn code (cell_of found) text)
+runs-word code accepted None = (bad_hex, refl)
+runs-word code accepted (Some octets) = runs-on code accepted (cell_of octets) (length (cell_of octets) == 52)
+
+cell-line : (code : List Instr) → IsAccepted code → (words : List (List ℕ)) → (text : List ℕ) × CellLine code words text
+cell-line code accepted [] = (bad_line, refl)
+cell-line code accepted (word ∷ []) = runs-word code accepted (octets_of word)
+cell-line code accepted (word ∷ other ∷ words) = (bad_line, refl)
+
+asks : (world : World) → IsSoundWorld world → (words : List (List ℕ)) → (text : List ℕ) × (next : Option World) × Asks world words text next
+asks None sound words = program-line words
+asks (Some code) sound words = let told = cell-line code sound words in (told.0, Some (Some code), (told.1, refl))
+
+silent-or : (world : World) → IsSoundWorld world → (words : List (List ℕ)) (b : Bool)
+    → (text : List ℕ) × (next : Option World) × MatchBool b ((text ≡ []) × (next ≡ Some world)) (Asks world words text next)
+silent-or world sound words true = ([], Some world, (refl, refl))
+silent-or world sound words false = asks world sound words
+
+eval-can_step : (world : World) (said : List ℕ) → IsSoundWorld world → (text : List ℕ) × (next : Option World) × EvalSteps world said text next
+eval-can_step world said sound = silent-or world sound (words_of said) (is_silent (words_of said))
+
+eval-can_close : (world : World) → IsSoundWorld world → (text : List ℕ) × (done : Done) × EvalCloses world text done
+eval-can_close None sound = (no_program, Ended, (refl, refl))
+eval-can_close (Some code) sound = ([], Whole, (refl, refl))
+
+-- A world that a program line leads to.
+checked-sound : (code : List Instr) (reading : Reading) (text : List ℕ) (after : World) → ChecksAs code reading → TellsReading reading text (Some after) → IsSoundWorld after
+checked-sound code (is_program accepted) text after checks told =
+    let same : Some code ≡ after = let e = told.1 in let f = checks.1 in cc in subst IsSoundWorld same checks.0
+checked-sound code (is_refused fault) text after checks told = let no : Some after ≡ None = told.1 in cc
+
+read-sound : (octets text : List ℕ) (after : World) → ReadsProgram octets text (Some after) → IsSoundWorld after
+read-sound octets text after reads =
+    elim reads.1 [
+      | inl spelled ↦ checked-sound spelled.0 reads.0 text after spelled.2 reads.2
+      | inr faulty ↦
+          let P : Reading → Type 0 = λ reading. TellsReading reading text (Some after) in
+          let ends = subst P faulty.3 reads.2 in
+          let no : Some after ≡ None = ends.1 in cc
+    ]
+
+word-sound : (octets : Option (List ℕ)) (text : List ℕ) (after : World) → MatchOption octets (EndsBy bad_hex text (Some after)) (λ found. ReadsProgram found text (Some after)) → IsSoundWorld after
+word-sound None text after ends = let no : Some after ≡ None = ends.1 in cc
+word-sound (Some octets) text after reads = read-sound octets text after reads
+
+line-sound : (words : List (List ℕ)) (text : List ℕ) (after : World) → ProgramLine words text (Some after) → IsSoundWorld after
+line-sound [] text after ends = let no : Some after ≡ None = ends.1 in cc
+line-sound (word ∷ []) text after reads = word-sound (octets_of word) text after reads
+line-sound (word ∷ other ∷ words) text after ends = let no : Some after ≡ None = ends.1 in cc
+
+asks-sound : (world after : World) (words : List (List ℕ)) (text : List ℕ) → IsSoundWorld world → Asks world words text (Some after) → IsSoundWorld after
+asks-sound None after words text sound reads = line-sound words text after reads
+asks-sound (Some code) after words text sound told = let same : Some code ≡ after = let e = told.1 in cc in subst IsSoundWorld same sound
+
+silent-sound : (world after : World) (words : List (List ℕ)) (text : List ℕ) (b : Bool) → IsSoundWorld world
+    → MatchBool b ((text ≡ []) × (Some after ≡ Some world)) (Asks world words text (Some after)) → IsSoundWorld after
+silent-sound world after words text true sound same = let back : world ≡ after = let e = same.1 in cc in subst IsSoundWorld back sound
+silent-sound world after words text false sound asked = asks-sound world after words text sound asked
+
+eval-keeps_sound : (world : World) (said text : List ℕ) (after : World) → IsSoundWorld world → EvalSteps world said text (Some after) → IsSoundWorld after
+eval-keeps_sound world said text after sound steps = silent-sound world after (words_of said) text (is_silent (words_of said)) sound steps
+
+-- The rules of `eval` are total.
+pub eval-total : IsTotal eval_rules
+eval-total = record {
+  keeps = λ world said text after sound steps. eval-keeps_sound world said text after sound steps;
+  step = eval-can_step;
+  close = eval-can_close;
+}

@@ -1,0 +1,57 @@
+//! The lines that only `eval` and `check` answer with, each added at the end of the answers.
+
+ghost use Rattle.std.specs.Prelude.{◌≡◌, ◌++◌, codes, decimal, OnOk};
+ghost use Rattle.hex.specs.Hex.{encode_lower};
+ghost use Rattle.upc_words.specs.FaultLines.{line, no_program};
+
+use std::alloc::{AllocError, Global};
+use upc_words::{TextFromEnd, add_number, add_text};
+
+/// Adds the answer to an accepted program of this many instructions.
+#[tactic(auto, using(std::proofs::lemmas::List::append_assoc))]
+pub fn add_accepted(answers: &mut Vec<u8>, instructions: usize) -> Result<(), AllocError>
+    ensures { OnOk result
+        (answers.new.items ≡ answers.old.items ++ line (codes "accepted " ++ decimal instructions)) }
+{
+    answers.extend_from_slice(b"accepted ")?;
+    add_number(answers, instructions as u64)?;
+    answers.push(b'\n')?;
+    Ok(())
+}
+
+/// Adds a line of octets, in lower case hexadecimal digits.
+#[tactic(auto, using(std::proofs::lemmas::List::append_assoc))]
+pub fn add_octets(alloc: Global, answers: &mut Vec<u8>, octets: &[u8]) -> Result<(), AllocError>
+    ensures { OnOk result (answers.new.items ≡ answers.old.items ++ line (encode_lower octets.now)) }
+{
+    let digits = hex::encode(alloc, octets)?;
+    answers.extend_from_slice(digits.as_bytes())?;
+    answers.push(b'\n')?;
+    Ok(())
+}
+
+/// Adds the answer to an input without a program.
+pub fn add_no_program(answers: &mut Vec<u8>) -> Result<(), AllocError>
+    ensures { OnOk result (answers.new.items ≡ answers.old.items ++ no_program) }
+{
+    add_text(answers, b"fault script 4 NoProgram\n")
+}
+
+/// Room for the answer to a cell: 13 octets of words, two numbers of at most ten digits, the line's end.
+const VALUE_ROOM: usize = 34;
+
+/// Adds the value that a program gave, and the number of instructions that it began.
+#[inline(always)]
+#[tactic(auto, using(std::proofs::lemmas::List::append_assoc))]
+pub fn add_value(answers: &mut Vec<u8>, value: u32, steps: u32) -> Result<(), AllocError>
+    ensures { OnOk result (answers.new.items ≡ answers.old.items
+        ++ line (codes "value " ++ decimal value ++ codes " steps " ++ decimal steps)) }
+{
+    let mut text = TextFromEnd::<VALUE_ROOM>::new();
+    text.put(b"\n");
+    text.put_short_number(steps);
+    text.put(b" steps ");
+    text.put_short_number(value);
+    text.put(b"value ");
+    answers.extend_from_slice(text.as_slice())
+}

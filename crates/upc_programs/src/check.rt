@@ -1,0 +1,118 @@
+//! `upc check`: a source of assembly, and the octets of its program.
+
+ghost use Rattle.std.specs.Prelude.{IfOk, OnOk, OnErr, option_map, ◌≡◌, ◌++◌, ℕ, List, [], Ok};
+ghost use Rattle.upc_programs.specs.Check.{IsCheckText, Tells, TellsCode, TellsSource, accepted_text};
+ghost use Rattle.text_io.specs.Devices.{Adds, TakesEnough};
+ghost use Rattle.text_io.specs.Limits.{most_ahead};
+ghost use Rattle.text_io.specs.Failures.{read_failures, write_failures};
+ghost use Rattle.text_io.specs.Printing.{IsFront};
+
+use crate::answer_texts::{add_accepted, add_octets};
+use bpf_asm::{AsmFault, AsmKind, assemble};
+use bpf_code::{Instr, encode};
+use bpf_verify::Program;
+use std::alloc::{AllocError, Global};
+use text_io::{Done, Input, Output, RunFault, gather, give_last};
+use upc_words::{add_asm_fault, add_too_long, check_code};
+
+/// The most octets of a source.
+const MOST_SOURCE_OCTETS: u32 = 1048576;
+
+/// Answers a program by the number of its instructions and their octets.
+#[tactic(auto, using(std::proofs::lemmas::List::append_assoc))]
+fn add_program(alloc: Global, program: &Program, answers: &mut Vec<u8>) -> Result<(), AllocError>
+    ensures { OnOk result (answers.new.items ≡ answers.old.items ++ accepted_text program.now) }
+{
+    let octets = encode(alloc, program.code()).map_err(|_| AllocError)?;
+    add_accepted(answers, program.code().len())?;
+    add_octets(alloc, answers, &octets)
+}
+
+/// Answers a code by its octets, or by the fault for which it is no program.
+fn answer_code(alloc: Global, code: Vec<Instr>, answers: &mut Vec<u8>) -> Result<Done, AllocError>
+    ensures { IfOk result (λ done.
+        Adds (λ text. TellsCode code.items text done) answers.old.items answers.new.items) }
+{
+    match check_code(code, answers)? {
+        Some(program) => {
+            add_program(alloc, &program, answers)?;
+            Ok(Done::Whole)
+        }
+        None => Ok(Done::Ended),
+    }
+}
+
+/// Answers a source by its code, or by the fault for which it means none.
+fn answer_source(alloc: Global, source: &[u8], answers: &mut Vec<u8>) -> Result<Done, AllocError>
+    ensures { IfOk result (λ done.
+        Adds (λ text. TellsSource source.now text done) answers.old.items answers.new.items) }
+{
+    match assemble(alloc, source) {
+        Ok(code) => answer_code(alloc, code, answers),
+        Err(
+            AsmFault {
+                kind: AsmKind::NoMemory,
+                ..
+            },
+        ) => Err(AllocError),
+        Err(fault) => {
+            add_asm_fault(answers, fault)?;
+            Ok(Done::Ended)
+        }
+    }
+}
+
+/// Answers what was gathered of an input.
+fn answer_gathered(
+    alloc: Global,
+    found: Option<Vec<u8>>,
+    answers: &mut Vec<u8>,
+) -> Result<Done, AllocError>
+    ensures { IfOk result (λ done. Adds (λ text. Tells (option_map (λ source. source.items) found) text done)
+        answers.old.items answers.new.items) }
+{
+    match found {
+        Some(source) => answer_source(alloc, &source, answers),
+        None => {
+            add_too_long(answers)?;
+            Ok(Done::Ended)
+        }
+    }
+}
+
+/// Answers an input that is a source of assembly: by the number of its program's instructions and
+/// their octets in lower case hexadecimal digits, or by its one fault.
+///
+/// # Errors
+///
+/// `ReadFailed` and `WriteFailed` where that device failed, once; `NoMemory` where memory was refused.
+/// What was written is then a beginning of the text.
+pub fn check_source<I: Input, O: Output>(
+    alloc: Global,
+    input: &mut I,
+    output: &mut O,
+) -> Result<Done, RunFault>
+    // What was written is the text of the whole input, or a beginning of it.
+    ensures text { I.is_known → O.is_known → IfOk result (λ done.
+        Adds (λ text. IsCheckText (I.rest input.old) text done) (O.held output.old) (O.held output.new)) }
+    ensures front { I.is_known → O.is_known → OnErr result
+        (Adds (IsFront (IsCheckText (I.rest input.old))) (O.held output.old) (O.held output.new)) }
+
+    // No more of the input was taken than what had to be answered, and what a window holds.
+    ensures left { I.is_known → IfOk result (λ done. TakesEnough
+        (λ octets. (text : List ℕ) × IsCheckText octets text done) most_ahead (I.rest input.old) (I.rest input.new)) }
+    ensures whole { I.is_known → result ≡ Ok Done.Whole → I.rest input.new ≡ [] }
+
+    ensures reading { I.failures input.new ≡ read_failures result (I.failures input.old) }
+    ensures writing { O.failures output.new ≡ write_failures result (O.failures output.old) }
+{
+    let found = match gather(alloc, input, MOST_SOURCE_OCTETS) {
+        Ok(found) => found,
+        Err(fault) => return Err(fault),
+    };
+    let mut answers = Vec::new(alloc);
+    match answer_gathered(alloc, found, &mut answers) {
+        Err(_) => Err(RunFault::NoMemory),
+        Ok(done) => give_last(output, &mut answers, done),
+    }
+}

@@ -1,0 +1,202 @@
+//! `upc eval`: one program, and its value on each cell.
+
+ghost use Rattle.std.specs.Prelude.{◌≡◌, ◌∷◌, ◌++◌, [], Some, None, IfOk, OnOk, OnErr, option_map, ℕ, List, Ok};
+ghost use Rattle.text_io.specs.Devices.{Adds, TakesEnough};
+ghost use Rattle.text_io.specs.Limits.{most_ahead};
+ghost use Rattle.text_io.specs.Answering.{Answers};
+ghost use Rattle.upc_programs.specs.Eval.{CellLine, ProgramLine, TellsValue, EvalSteps, IsEvalText, eval_rules};
+ghost use Rattle.text_io.specs.Failures.{read_failures, write_failures};
+ghost use Rattle.text_io.specs.Printing.{IsFront};
+
+use crate::answer_texts::{add_accepted, add_no_program, add_value};
+use bpf_interp::run;
+use bpf_verify::Program;
+use std::alloc::{AllocError, Global};
+use text_io::{Done, Input, LineWords, Machine, Output, RunFault, Turn, answer_lines, line_words};
+use upc_cell::Cell;
+use upc_words::{
+    CellWord, add_bad_hex, add_bad_line, add_too_long, add_wrong_length, cell_of_digits,
+    cell_of_word, octets_of_word, read_program,
+};
+
+/// Answers a cell by the value of the program.
+#[inline(always)]
+fn answer_cell(program: &Program, cell: &Cell, answers: &mut Vec<u8>) -> Result<(), AllocError>
+    ensures { OnOk result (Adds (TellsValue program.now cell.now) answers.old.items answers.new.items) }
+{
+    let outcome = run(program, cell);
+    add_value(answers, outcome.value, outcome.steps)
+}
+
+/// Answers a cell line of one word.
+fn answer_word(
+    alloc: Global,
+    program: &Program,
+    word: &[u8],
+    answers: &mut Vec<u8>,
+) -> Result<(), AllocError>
+    ensures { OnOk result (Adds (CellLine program.now (word.now ∷ [])) answers.old.items answers.new.items) }
+{
+    match cell_of_word(alloc, word)? {
+        CellWord::OfCell(cell) => answer_cell(program, &cell, answers),
+        CellWord::OfOthers(count) => add_wrong_length(answers, count),
+        CellWord::NoDigits => add_bad_hex(answers),
+    }
+}
+
+/// Answers a line behind the program line by its words.
+#[inline(never)]
+fn answer_words(
+    alloc: Global,
+    program: &Program,
+    line: &[u8],
+    answers: &mut Vec<u8>,
+) -> Result<(), AllocError>
+    ensures { OnOk result (Adds (λ here. EvalSteps (Some program.now) line.now here (Some (Some program.now)))
+        answers.old.items answers.new.items) }
+{
+    match line_words(line) {
+        LineWords::Silent => Ok(()),
+        LineWords::One(word) => answer_word(alloc, program, word, answers),
+        LineWords::Several => add_bad_line(answers),
+    }
+}
+
+/// Answers a line behind the program line. A line of digits alone is one word, which need not be looked for.
+#[inline(always)]
+fn answer_line(
+    alloc: Global,
+    program: &Program,
+    line: &[u8],
+    answers: &mut Vec<u8>,
+) -> Result<(), AllocError>
+    ensures { OnOk result (Adds (λ here. EvalSteps (Some program.now) line.now here (Some (Some program.now)))
+        answers.old.items answers.new.items) }
+{
+    match cell_of_digits(line) {
+        Some(cell) => answer_cell(program, &cell, answers),
+        None => answer_words(alloc, program, line, answers),
+    }
+}
+
+/// Reads a program line of one word, and answers it; none where it has a fault.
+fn read_program_line(
+    alloc: Global,
+    word: &[u8],
+    answers: &mut Vec<u8>,
+) -> Result<Option<Program>, AllocError>
+    ensures { IfOk result (λ program. Adds (λ here. ProgramLine (word.now ∷ []) here (option_map Some program))
+        answers.old.items answers.new.items) }
+{
+    let Some(octets) = octets_of_word(alloc, word)? else {
+        add_bad_hex(answers)?;
+        return Ok(None);
+    };
+    let Some(program) = read_program(alloc, &octets, answers)? else {
+        return Ok(None);
+    };
+    add_accepted(answers, program.code().len())?;
+    Ok(Some(program))
+}
+
+/// The subcommand as a machine: no program yet, or the program that answers the cells.
+#[derive(Drop)]
+struct Evaluation {
+    alloc: Global,
+    program: Option<Program>,
+}
+
+impl Evaluation {
+    /// Answers a line before there is a program. It stands apart from the lines behind it, since what
+    /// a program takes while it is made would be made room for at each of them.
+    #[inline(never)]
+    fn take_program(&mut self, line: &[u8], answers: &mut Vec<u8>) -> Result<Turn, AllocError>
+        requires { self.old.program ≡ None }
+        ensures { IfOk result (λ turn. Answers eval_rules (λ world. world ≡ self.old.program) line.now turn
+            (λ world. world ≡ self.new.program) answers.old.items answers.new.items) }
+    {
+        match line_words(line) {
+            LineWords::Silent => Ok(Turn::GoesOn),
+            LineWords::Several => {
+                add_bad_line(answers)?;
+                Ok(Turn::Ends)
+            }
+            LineWords::One(word) => {
+                self.program = read_program_line(self.alloc, word, answers)?;
+                match self.program {
+                    Some(_) => Ok(Turn::GoesOn),
+                    None => Ok(Turn::Ends),
+                }
+            }
+        }
+    }
+}
+
+impl Machine for Evaluation {
+    ghost use Rattle.upc_programs.specs.Eval.{World as EvalWorld, eval_rules};
+    ghost use Rattle.upc_programs.specs.inner.EvalLaws.{eval-total};
+
+    ghost World = { EvalWorld };
+
+    ghost shows = { λ evaluation world. world ≡ evaluation.program };
+
+    ghost rules = { eval_rules };
+
+    #[inline(always)]
+    fn answer(&mut self, line: &[u8], answers: &mut Vec<u8>) -> Result<Turn, AllocError> {
+        match &self.program {
+            Some(program) => {
+                answer_line(self.alloc, program, line, answers)?;
+                Ok(Turn::GoesOn)
+            }
+            None => self.take_program(line, answers),
+        }
+    }
+
+    fn close(&mut self, answers: &mut Vec<u8>) -> Result<Done, AllocError> {
+        if self.program.is_some() {
+            return Ok(Done::Whole);
+        }
+        add_no_program(answers)?;
+        Ok(Done::Ended)
+    }
+
+    fn refuse(&self, answers: &mut Vec<u8>) -> Result<(), AllocError> {
+        add_too_long(answers)
+    }
+
+    ghost is_total = { eval-total };
+}
+
+/// Answers the lines of an input: the first line with words is a program in hexadecimal digits, each
+/// later one is a cell, and is answered by the program's value and the number of its steps.
+///
+/// # Errors
+///
+/// `ReadFailed` and `WriteFailed` where that device failed, once; `NoMemory` where memory was refused.
+/// What was written is then a beginning of the text.
+pub fn eval_bytes<I: Input, O: Output>(
+    alloc: Global,
+    input: &mut I,
+    output: &mut O,
+) -> Result<Done, RunFault>
+    // What was written is the text of the whole input, or a beginning of it.
+    ensures text { I.is_known → O.is_known → IfOk result (λ done.
+        Adds (λ text. IsEvalText (I.rest input.old) text done) (O.held output.old) (O.held output.new)) }
+    ensures front { I.is_known → O.is_known → OnErr result
+        (Adds (IsFront (IsEvalText (I.rest input.old))) (O.held output.old) (O.held output.new)) }
+
+    // No more of the input was taken than what had to be answered, and what a window holds.
+    ensures left { I.is_known → IfOk result (λ done. TakesEnough
+        (λ octets. (text : List ℕ) × IsEvalText octets text done) most_ahead (I.rest input.old) (I.rest input.new)) }
+    ensures whole { I.is_known → result ≡ Ok Done.Whole → I.rest input.new ≡ [] }
+
+    ensures reading { I.failures input.new ≡ read_failures result (I.failures input.old) }
+    ensures writing { O.failures output.new ≡ write_failures result (O.failures output.old) }
+{
+    let mut evaluation = Evaluation {
+        alloc,
+        program: None,
+    };
+    answer_lines(alloc, input, output, &mut evaluation)
+}

@@ -1,0 +1,9 @@
+//! The subcommands about one program: `eval` runs it on each cell, and `check` assembles and checks its source.
+#![tactic(auto)]
+
+mod answer_texts;
+mod check;
+mod eval;
+
+pub use check::check_source;
+pub use eval::eval_bytes;

@@ -1,0 +1,295 @@
+-- A cell is answered alike where cards are seen alike.
+use Rattle.std.proofs.Common.{◌≡◌, ℕ, ◌+◌, ◌^◌, ◌<◌, ◌≤◌, ◌==◌, inl, inr, Bool, true, false, if◌then◌else◌, List, [], ◌∷◌, ◌++◌, length, length-append, map, drop, Option, Some, None, is_some, nat_lt, nat_le, option_map, codes, refl, sym, ap, ◌∙◌, subst, arith}
+use Rattle.std.specs.Option.{MatchOption}
+use Rattle.std.proofs.lemmas.Bool.{lt-leb}
+use Rattle.std.proofs.lemmas.Option.{same_Some}
+use Rattle.upc_cell.specs.Connection.{vc_of}
+use Rattle.upc_cell.specs.declared.vc.Vc.{Vc}
+use Rattle.bpf_code.specs.declared.instr.Instr.{Instr}
+use Rattle.gen_arena.specs.declared.id.Id.{Id}
+use Rattle.leaky.specs.declared.verdict.Verdict.{Verdict}
+use Rattle.line_record.specs.History.{NamedCell, empty_buckets, last_moment, verdict_after}
+use Rattle.card_core.specs.Refusals.{cell_refusal}
+use Rattle.card_core.specs.Steps.{Gives, WorldStep, cell_after, judged_world, judgement_of, named_cell, picking_of, verdict_on, with_cell}
+use Rattle.card_core.specs.World.{Connection, PortState, World, code_in, connection_in, entered, kept_cells, outside, picked, with_port, with_verdict}
+use Rattle.card_core.specs.inner.Sound.{IsSound}
+use Rattle.card_core.specs.declared.answer.Answer.{Answer}
+use Rattle.card_core.specs.declared.answer.Answer.TheVariants as answer
+use Rattle.card_core.specs.declared.reply.Reply.TheVariants.{Answered, Picked}
+use Rattle.card_core.specs.declared.step.Step.TheVariants.{Judge}
+use Rattle.text_io.specs.Limits.{most_input_lines}
+use Rattle.upc_run.specs.CardFaults.{arrive_fault}
+use Rattle.upc_run.specs.Replies.{answer_text, judging_text, number_of_program, verdict_text}
+use Rattle.upc_run.specs.RunText.{Arrives, IsAnswered}
+use Rattle.upc_run.specs.inner.PortZero.{PortIs}
+use Rattle.upc_run.proofs.one_script.CellCases.{entered-as, judge-case, found_so, judged_so, missed_so, pick-case, put-back, put-back_twice, put-there, refused_so, JudgeCase}
+use Rattle.upc_run.proofs.one_script.ConnectionSteps.{connections-changed, found-there, with-seen}
+use Rattle.upc_run.proofs.one_script.Numbers.{names_of, number_in, number-is}
+use Rattle.upc_run.proofs.one_script.Seen.{Seen, SeenConnection, code_of, found_at, nameless, seen, seen_connection, seen_connections, with_at}
+use Rattle.upc_run.proofs.one_script.SeenCells.{drop-nameless, last-nameless, length-nameless, map-push, verdict-nameless}
+use Rattle.upc_run.proofs.one_script.SeenConnections.{all-found, found-seen}
+use Rattle.upc_run.proofs.one_script.SeenPrograms.{code-seen}
+use Rattle.upc_run.proofs.one_script.Stands.{Stands, stands-later}
+
+-- A cell that came, as a history is seen to have it.
+abbrev pub seen_cell : List ℕ → ℕ → ℕ → NamedCell
+seen_cell octets moment value = named_cell octets moment (record { slot = 0; generation = 0 }) value
+
+-- Why a cell is not judged.
+abbrev pub seen_refusal : Seen → SeenConnection → ℕ → Option Answer
+seen_refusal s connection moment =
+    if nat_lt (2 ^ 62) moment then Some answer.MomentTooLate
+    else if nat_lt moment (last_moment 0 connection.history) then Some (answer.MomentBack (last_moment 0 connection.history))
+    else if nat_le s.shape.journal (length (drop connection.handed connection.history)) then Some answer.JournalFull
+    else None
+
+-- The verdict on it.
+abbrev pub seen_verdict : SeenConnection → NamedCell → Verdict
+seen_verdict connection cell = verdict_after connection.contracts empty_buckets connection.history cell
+
+-- What is printed of a judged cell.
+abbrev pub judged_text : Vc → SeenConnection → List ℕ → ℕ → ℕ → List ℕ
+judged_text vc connection octets moment value =
+    let verdict = seen_verdict connection (seen_cell octets moment value) in
+    verdict_text verdict (judging_text vc connection.program value) (cell_after verdict octets)
+
+-- The card behind it.
+abbrev pub judged_seen : Seen → Vc → SeenConnection → NamedCell → Seen
+judged_seen s vc connection cell = record s { connections = with_at s.connections vc (record connection { history = connection.history ++ cell ∷ [] }) }
+
+-- How a cell with this value is answered.
+abbrev pub JudgesSeen : Seen → Vc → SeenConnection → ℕ → List ℕ → ℕ → List ℕ → Seen → Type 0
+JudgesSeen s vc connection moment octets value text to =
+    MatchOption (seen_refusal s connection moment)
+    ((text ≡ judged_text vc connection octets moment value) × (to ≡ judged_seen s vc connection (seen_cell octets moment value)))
+    (λ given. (answer_text [] vc given ≡ Some text) × (to ≡ s))
+
+-- How a cell is answered whose connection is found.
+abbrev pub FoundSeen : Seen → Vc → SeenConnection → ℕ → List ℕ → List ℕ → Seen → Type 0
+FoundSeen s vc connection moment octets text to =
+    (code : List Instr) × (value : ℕ) × (code_of s.live connection.program ≡ Some code) × Gives code octets value
+    × JudgesSeen s vc connection moment octets value text to
+
+-- How a cell is answered.
+abbrev pub PolicesSeen : Seen → ℕ → List ℕ → List ℕ → Seen → Type 0
+PolicesSeen s moment octets text to =
+    MatchOption (found_at s.connections (vc_of s.shape.side octets))
+    ((text ≡ arrive_fault (codes "1 NoConnection")) × (to ≡ s))
+    (λ connection. FoundSeen s (vc_of s.shape.side octets) connection moment octets text to)
+
+-- Behind fewer lines than a script may have no line has as many verdicts as it may.
+refusal-seen : (met : ℕ) (world : World) (connection : Connection) (moment : ℕ) → Stands met world → met < most_input_lines
+    → cell_refusal world connection moment ≡ seen_refusal (seen world) (seen_connection world.given connection) moment
+refusal-seen met world connection moment stand few =
+    let counted = stand.counted connection.line in
+    let last = last-nameless 0 connection.history in
+    let kept : length (drop connection.handed (map nameless connection.history)) ≡ length (kept_cells connection) =
+    ap length (drop-nameless connection.handed connection.history) ∙ length-nameless (kept_cells connection) in
+    let unworn : nat_le (2 ^ 62) (length (world.judged connection.line)) ≡ false = lt-leb (2 ^ 62) (length (world.judged connection.line)) (omega arith) in
+    λ i. if nat_lt (2 ^ 62) moment then Some answer.MomentTooLate
+    else if nat_lt moment (sym last i) then Some (answer.MomentBack (sym last i))
+    else if nat_le world.shape.journal (sym kept i) then Some answer.JournalFull
+    else if unworn i then Some answer.JournalFull
+    else None
+
+-- What is printed of a refusal names no program.
+plain : (late back full : Bool) (last : ℕ) (given : Answer) (names : List Id) (vc : Vc)
+    → (if late then Some answer.MomentTooLate else if back then Some (answer.MomentBack last) else if full then Some answer.JournalFull else None) ≡ Some given
+    → answer_text names vc given ≡ answer_text [] vc given
+plain true back full last given names vc e =
+    subst (λ (a : Answer). answer_text names vc a ≡ answer_text [] vc a) (same_Some answer.MomentTooLate given e) refl
+plain false true full last given names vc e =
+    subst (λ (a : Answer). answer_text names vc a ≡ answer_text [] vc a) (same_Some (answer.MomentBack last) given e) refl
+plain false false true last given names vc e =
+    subst (λ (a : Answer). answer_text names vc a ≡ answer_text [] vc a) (same_Some answer.JournalFull given e) refl
+plain false false false last given names vc e = absurd (cc)
+
+refusal-plain : (s : Seen) (connection : SeenConnection) (moment : ℕ) (given : Answer) (names : List Id) (vc : Vc)
+    → seen_refusal s connection moment ≡ Some given → answer_text names vc given ≡ answer_text [] vc given
+refusal-plain s connection moment given names vc e =
+    plain (nat_lt (2 ^ 62) moment) (nat_lt moment (last_moment 0 connection.history))
+    (nat_le s.shape.journal (length (drop connection.handed connection.history))) (last_moment 0 connection.history) given names vc e
+
+-- What a cell's answer comes to: what is seen, and that the world stands with the programs that it had.
+pub record CellComes (met : ℕ) (before after : World) (moment : ℕ) (octets : List ℕ) (text : List ℕ) : Type 0 where
+  pub shown : PolicesSeen (seen before) moment octets text (seen after)
+  pub stands : Stands (met + 1) after
+  pub same : after.given ≡ before.given
+
+-- A world whose ports alone are others'.
+with-ports : (met : ℕ) (before : World) (ports : List PortState) → Stands met before → Stands (met + 1) (record before { ports = ports })
+with-ports met before ports stand =
+    let later = stands-later met before stand in
+    record { programs = later.programs; connections = later.connections; counted = later.counted }
+
+counted-more : (judged : ℕ → List Verdict) (line : ℕ) (verdict : Verdict) (other met : ℕ) → length (judged other) ≤ met
+    → length (with_verdict judged line verdict other) ≤ met + 1
+counted-more judged line verdict other met counted =
+    let choice : (b : Bool) → length (if b then judged other ++ verdict ∷ [] else judged other) ≤ met + 1 = elim [
+      | true ↦ omega (arith, length-append (judged other) (verdict ∷ []))
+      | false ↦ omega arith
+    ] in
+    choice (other == line)
+
+-- The code of a connection's program.
+code-there : (before : World) → IsSound before → (met : ℕ) → Stands met before → (vc : Vc) (connection : Connection)
+    → connection_in before.connections vc ≡ Some connection → (code : List Instr) → code_in before.given connection.program ≡ Some code
+    → code_of (seen before).live (number_in before.given connection.program) ≡ Some code
+code-there before sound met stand vc connection found code named =
+    let live = (sound.connections.each vc connection found).named_live in
+    let choice : (o : Option (List Instr)) → code_in before.live connection.program ≡ o → is_some o ≡ true → o ≡ Some code = elim [
+      | None ↦ λ e some. absurd (cc)
+      | Some other ↦ λ e some.
+          let given = sound.programs.live_given connection.program other e in
+          sym given ∙ named
+    ] in
+    code-seen before.given before.live stand.programs.known connection.program
+    ∙ choice (code_in before.live connection.program) refl live
+
+-- A world in which a cell of this value was entered and picked.
+abbrev picked_world : World → List ℕ → ℕ → Vc → Connection → ℕ → World
+picked_world before octets moment vc connection value =
+    with_port (with_port before 0 (entered octets moment)) 0 (picked (picking_of octets moment vc connection value))
+
+-- A cell of no connection.
+missed-comes : (met : ℕ) (before after : World) (names : List Id) (moment : ℕ) (octets : List ℕ) (given : Answer) (text : List ℕ)
+    → Stands met before → PortIs before outside → connection_in before.connections (vc_of before.shape.side octets) ≡ None
+    → given ≡ answer.NoConnection → after ≡ with_port (with_port before 0 (entered octets moment)) 0 outside
+    → answer_text names (vc_of before.shape.side octets) given ≡ Some text → CellComes met before after moment octets text
+missed-comes met before after names moment octets given text stand free none is world told =
+    let vc = vc_of before.shape.side octets in
+    let nothing : found_at (seen before).connections vc ≡ None =
+    found-seen before.given before.connections vc ∙ ap (option_map (seen_connection before.given)) none in
+    let back = put-back before.ports (entered octets moment) free in
+    let text_is : text ≡ arrive_fault (codes "1 NoConnection") =
+    sym (same_Some _ text (ap (answer_text names vc) (sym is) ∙ told)) in
+    let shown : seen after ≡ seen before = ap seen world ∙ (λ i. record (seen before) { ports = back i }) in
+    let Answers : Option SeenConnection → Type 0 = λ o.
+    MatchOption o ((text ≡ arrive_fault (codes "1 NoConnection")) × (seen after ≡ seen before))
+    (λ connection. FoundSeen (seen before) vc connection moment octets text (seen after)) in
+    record {
+      shown = subst Answers (sym nothing) (text_is, shown);
+      stands = subst (λ (w : World). Stands (met + 1) w) (sym world) (with-ports met before _ stand);
+      same = ap (λ (w : World). w.given) world;
+    }
+
+-- What is printed of a judgement.
+judged-told : (before : World) (names : List Id) (vc : Vc) (connection : Connection) (octets : List ℕ) (moment value : ℕ) (text : List ℕ)
+    → names ≡ names_of before.given
+    → answer_text names vc (judgement_of (picked_world before octets moment vc connection value) (picking_of octets moment vc connection value) connection) ≡ Some text
+    → text ≡ judged_text vc (seen_connection before.given connection) octets moment value
+judged-told before names vc connection octets moment value text known told =
+    let number : number_of_program names connection.program ≡ number_in before.given connection.program =
+    ap (λ ids. number_of_program ids connection.program) known ∙ number-is before.given connection.program in
+    let verdict = verdict-nameless connection.contracts empty_buckets connection.history (named_cell octets moment connection.program value) in
+    sym (same_Some _ text told)
+    ∙ (λ i. verdict_text (sym verdict i) (judging_text vc (number i) value) (cell_after (sym verdict i) octets))
+
+-- What is seen of a judgement.
+judged-shown : (before : World) (vc : Vc) (connection : Connection) (octets : List ℕ) (moment value : ℕ) → PortIs before outside
+    → seen (judged_world (picked_world before octets moment vc connection value) 0 (picking_of octets moment vc connection value) connection)
+    ≡ judged_seen (seen before) vc (seen_connection before.given connection) (seen_cell octets moment value)
+judged-shown before vc connection octets moment value free =
+    let cell = named_cell octets moment connection.program value in
+    let pushed = map-push connection.history cell in
+    let connections = with-seen before.given before.connections vc (with_cell connection cell)
+    ∙ (λ i. with_at (seen_connections before.given before.connections) vc (record (seen_connection before.given connection) { history = pushed i })) in
+    let back = put-back_twice before.ports (entered octets moment) (picked (picking_of octets moment vc connection value)) free in
+    λ i. record (seen before) { connections = connections i; ports = back i }
+
+judged-stands : (met : ℕ) (before : World) (vc : Vc) (connection : Connection) (octets : List ℕ) (moment value : ℕ) → Stands met before
+    → connection_in before.connections vc ≡ Some connection
+    → Stands (met + 1) (judged_world (picked_world before octets moment vc connection value) 0 (picking_of octets moment vc connection value) connection)
+judged-stands met before vc connection octets moment value stand found =
+    let cell = named_cell octets moment connection.program value in
+    let known = all-found (λ one. 0 < number_in before.given one.program) before.connections vc connection stand.connections.known found in
+    let later = stands-later met before stand in
+    record {
+      programs = later.programs;
+      connections = connections-changed before.shape.lines before.given before.connections vc connection (with_cell connection cell) stand.connections found refl known;
+      counted = λ line. counted-more before.judged connection.line (verdict_on connection cell) line met (stand.counted line);
+    }
+
+-- A cell whose connection is found.
+found-comes : (met : ℕ) (before after : World) (names : List Id) (moment : ℕ) (octets : List ℕ) (given : Answer) (text : List ℕ)
+    → Stands met before → IsSound before → met < most_input_lines → names ≡ names_of before.given → PortIs before outside
+    → (connection : Connection) → connection_in before.connections (vc_of before.shape.side octets) ≡ Some connection
+    → (code : List Instr) → code_in before.given connection.program ≡ Some code → (value : ℕ) → Gives code octets value
+    → JudgeCase (picked_world before octets moment (vc_of before.shape.side octets) connection value)
+    (picking_of octets moment (vc_of before.shape.side octets) connection value) connection (Answered given) after
+    → answer_text names (vc_of before.shape.side octets) given ≡ Some text → CellComes met before after moment octets text
+found-comes met before after names moment octets given text stand sound few known free connection found code named value gives judging told =
+    let vc = vc_of before.shape.side octets in
+    let c = seen_connection before.given connection in
+    let refusal = refusal-seen met before connection moment stand few in
+    let there = found-there before.given before.connections vc connection found in
+    let code_there = code-there before sound met stand vc connection found code named in
+    let Judged : Option Answer → Type 0 = λ o.
+    MatchOption o ((text ≡ judged_text vc c octets moment value) × (seen after ≡ judged_seen (seen before) vc c (seen_cell octets moment value)))
+    (λ answer. (answer_text [] vc answer ≡ Some text) × (seen after ≡ seen before)) in
+    let Answers : Option SeenConnection → Type 0 = λ o.
+    MatchOption o ((text ≡ arrive_fault (codes "1 NoConnection")) × (seen after ≡ seen before))
+    (λ one. FoundSeen (seen before) vc one moment octets text (seen after)) in
+    let answered : Judged (seen_refusal (seen before) c moment) → PolicesSeen (seen before) moment octets text (seen after) = λ judged.
+    subst Answers (sym there) (code, value, code_there, gives, judged) in
+    elim judging [
+      | judged_so allowed answers world ↦
+          let is : given ≡ judgement_of (picked_world before octets moment vc connection value) (picking_of octets moment vc connection value) connection = cc in
+          let told_so = ap (answer_text names vc) (sym is) ∙ told in
+          record {
+            shown = answered (subst Judged (sym allowed ∙ refusal) (
+              judged-told before names vc connection octets moment value text known told_so,
+              ap seen world ∙ judged-shown before vc connection octets moment value free,
+            ));
+            stands = subst (λ (w : World). Stands (met + 1) w) (sym world) (judged-stands met before vc connection octets moment value stand found);
+            same = ap (λ (w : World). w.given) world;
+          }
+      | refused_so other refused answers world ↦
+          let is : given ≡ other = cc in
+          let told_so = ap (answer_text names vc) (sym is) ∙ told in
+          let back = put-back_twice before.ports (entered octets moment) (picked (picking_of octets moment vc connection value)) free in
+          record {
+            shown = answered (subst Judged (sym refused ∙ refusal) (
+              sym (refusal-plain (seen before) c moment other names vc (sym refusal ∙ refused)) ∙ told_so,
+              ap seen world ∙ (λ i. record (seen before) { ports = back i }),
+            ));
+            stands = subst (λ (w : World). Stands (met + 1) w) (sym world) (with-ports met before _ stand);
+            same = ap (λ (w : World). w.given) world;
+          }
+    ]
+
+-- How a cell is answered that has entered.
+answered-comes : (met : ℕ) (before after : World) (names : List Id) (moment : ℕ) (octets : List ℕ) (given : Answer) (text : List ℕ)
+    → Stands met before → IsSound before → met < most_input_lines → names ≡ names_of before.given → PortIs before outside
+    → IsAnswered (with_port before 0 (entered octets moment)) given after
+    → answer_text names (vc_of before.shape.side octets) given ≡ Some text → CellComes met before after moment octets text
+answered-comes met before after names moment octets given text stand sound few known free (inl picks) told =
+    let came = with_port before 0 (entered octets moment) in
+    elim (pick-case came after octets moment (Answered given) (put-there before.ports outside (entered octets moment) free) picks) [
+      | missed_so none answers world ↦
+          let is : given ≡ answer.NoConnection = cc in
+          missed-comes met before after names moment octets given text stand free none is world told
+      | found_so connection found code named value gives answers world ↦ absurd (cc)
+    ]
+answered-comes met before after names moment octets given text stand sound few known free (inr judges) told =
+    let came = with_port before 0 (entered octets moment) in
+    let entering = put-there before.ports outside (entered octets moment) free in
+    elim (pick-case came judges.0 octets moment Picked entering judges.1) [
+      | missed_so none answers world ↦ absurd (cc)
+      | found_so connection found code named value gives answers world ↦
+          let picking = picking_of octets moment (vc_of before.shape.side octets) connection value in
+          let there = put-there came.ports (entered octets moment) (picked picking) entering in
+          let judging = subst (λ (w : World). WorldStep w (Judge 0) (Answered given) after) world judges.2 in
+          found-comes met before after names moment octets given text stand sound few known free connection found code named value gives
+          (judge-case (with_port came 0 (picked picking)) after picking connection (Answered given) there found refl judging) told
+    ]
+
+-- A cell arrives.
+pub cell-comes : (met : ℕ) (before after : World) (names : List Id) (moment : ℕ) (octets : List ℕ) (given : Answer) (text : List ℕ)
+    → Stands met before → IsSound before → met < most_input_lines → names ≡ names_of before.given → PortIs before outside
+    → Arrives before octets moment given after
+    → answer_text names (vc_of before.shape.side octets) given ≡ Some text → CellComes met before after moment octets text
+cell-comes met before after names moment octets given text stand sound few known free arrives told =
+    let is = entered-as before arrives.0 octets moment free arrives.1 in
+    answered-comes met before after names moment octets given text stand sound few known free
+    (subst (λ (w : World). IsAnswered w given after) is arrives.2) told

@@ -1,0 +1,117 @@
+-- What holds of a card's world behind so many lines of a script.
+use Rattle.std.proofs.Common.{◌≡◌, ℕ, ◌+◌, ◌≤◌, ◌⊎◌, List, [], ◌++◌, length, Option, Some, None, option_map, sym, ap, ◌∙◌, subst, inl, inr, arith, append-nil}
+use Rattle.std.specs.Option.{MatchOption}
+use Rattle.upc_cell.specs.declared.vc.Vc.{Vc}
+use Rattle.card_core.specs.Steps.{FindsNoMemory, IsRefused, Succeeds}
+use Rattle.card_core.specs.World.{Connection, Loading, World, opening_world, times_given}
+use Rattle.card_core.specs.declared.fault.DeskFault.{DeskFault}
+use Rattle.card_core.specs.declared.reply.Reply.{Reply}
+use Rattle.card_core.specs.declared.shape.Shape.{Shape}
+use Rattle.card_core.specs.declared.step.Step.{Step}
+use Rattle.upc_run.specs.CardFaults.{desk_fault}
+use Rattle.upc_run.specs.Replies.{reply_text}
+use Rattle.upc_run.specs.RunText.{id_loaded}
+use Rattle.upc_run.specs.ScriptCommands.{Command}
+use Rattle.upc_run.proofs.one_script.Numbers.{AreOnce, names_of}
+use Rattle.upc_run.proofs.one_script.OpenPlaces.{AreApart, AreBelow}
+use Rattle.upc_run.proofs.one_script.Seen.{Seen, seen}
+use Rattle.upc_run.proofs.one_script.SeenConnections.{line_of}
+use Rattle.upc_run.proofs.one_script.SeenPrograms.{AreKnown, NameKnown}
+
+-- The slot of a program.
+abbrev pub slot_of : Loading → ℕ
+slot_of loading = loading.id.slot
+
+-- No id was given twice; live programs have names, and slots of their own; and no slot was given more often
+-- than there were lines.
+pub record StandPrograms (met bound : ℕ) (given live : List Loading) : Type 0 where
+  pub once : AreOnce given
+  pub known : AreKnown given live
+  pub apart : AreApart slot_of live
+  pub below : AreBelow slot_of bound live
+  pub worn : (slot : ℕ) → times_given given slot ≤ met
+
+-- Connections' programs have names, and each has a line of its own.
+pub record StandConnections (bound : ℕ) (given : List Loading) (connections : List (Vc × Connection)) : Type 0 where
+  pub known : NameKnown given connections
+  pub apart : AreApart line_of connections
+  pub below : AreBelow line_of bound connections
+
+-- And no line has more verdicts than there were lines of the script.
+pub record Stands (met : ℕ) (world : World) : Type 0 where
+  pub programs : StandPrograms met world.shape.programs world.given world.live
+  pub connections : StandConnections world.shape.lines world.given world.connections
+  pub counted : (line : ℕ) → length (world.judged line) ≤ met
+
+pub opening-stands : (met : ℕ) (shape : Shape) → Stands met (opening_world shape)
+opening-stands met shape = record {
+  programs = record { once = tt; known = tt; apart = tt; below = tt; worn = λ slot. omega arith };
+  connections = record { known = tt; apart = tt; below = tt };
+  counted = λ line. omega arith;
+}
+
+pub programs-later : (met bound : ℕ) (given live : List Loading) → StandPrograms met bound given live → StandPrograms (met + 1) bound given live
+programs-later met bound given live stand = record {
+  once = stand.once;
+  known = stand.known;
+  apart = stand.apart;
+  below = stand.below;
+  worn = λ slot. let worn = stand.worn slot in omega arith;
+}
+
+-- A world stands behind one more line.
+pub stands-later : (met : ℕ) (world : World) → Stands met world → Stands (met + 1) world
+stands-later met world stand = record {
+  programs = programs-later met world.shape.programs world.given world.live stand.programs;
+  connections = stand.connections;
+  counted = λ line. let counted = stand.counted line in omega arith;
+}
+
+-- A line led from a world to another and gave this reply: its text is the one that is found, the card is seen as
+-- told, and stands behind one more line.
+pub record Comes (met : ℕ) (before after : World) (reply : Reply) (found : Option (List ℕ)) (text : List ℕ) (to : Seen) : Type 0 where
+  pub told : found ≡ Some text
+  pub shown : seen after ≡ to
+  pub stands : Stands (met + 1) after
+  pub named : names_of after.given ≡ names_of before.given ++ id_loaded reply
+
+-- The text of a command of the desk: that of its fault, or this where it has none.
+abbrev pub answered : Option DeskFault → Option (List ℕ) → Option (List ℕ)
+answered None found = found
+answered (Some fault) found = desk_fault fault
+
+-- What is seen after a command of the desk, where it has a fault and where it has none.
+abbrev pub left : Option DeskFault → Seen → Seen → Seen
+left None before after = after
+left (Some fault) before after = before
+
+-- The text of a reply that is known.
+pub retold : (command : Command) (programs : ℕ) (reply known : Reply) (text : List ℕ) → reply ≡ known
+    → reply_text command programs reply ≡ Some text → reply_text command programs known ≡ Some text
+retold command programs reply known text same told = ap (reply_text command programs) (sym same) ∙ told
+
+-- No name is given.
+pub unnamed : (before after : World) (reply : Reply) → after.given ≡ before.given → id_loaded reply ≡ []
+    → names_of after.given ≡ names_of before.given ++ id_loaded reply
+unnamed before after reply same none =
+    ap names_of same ∙ sym (ap (λ ids. names_of before.given ++ ids) none ∙ append-nil (names_of before.given))
+
+-- A refusal of the desk.
+pub refused-comes : (met : ℕ) (before after : World) (reply : Reply) (fault : DeskFault) (text : List ℕ) → Stands met before
+    → after ≡ before → id_loaded reply ≡ [] → desk_fault fault ≡ Some text → Comes met before after reply (desk_fault fault) text (seen before)
+refused-comes met before after reply fault text stand same none told = record {
+  told = told;
+  shown = ap seen same;
+  stands = subst (λ (world : World). Stands (met + 1) world) (sym same) (stands-later met before stand);
+  named = unnamed before after reply (ap (λ (world : World). world.given) same) none;
+}
+
+-- A step of the desk succeeds, finds no memory, or is refused by the fault that is found.
+pub desk-split : (P : Option DeskFault → Type 0) (wrap : DeskFault → Reply) (found : Option DeskFault) (before after : World) (step : Step) (reply : Reply)
+    → (Succeeds before step reply after → P None) → (FindsNoMemory before step reply after → P None)
+    → ((fault : DeskFault) → IsRefused before step (wrap fault) reply after → P (Some fault))
+    → MatchOption (option_map wrap found) (Succeeds before step reply after ⊎ FindsNoMemory before step reply after)
+    (λ refused. IsRefused before step refused reply after) → P found
+desk-split P wrap None before after step reply succeeds lacks refused (inl goes) = succeeds goes
+desk-split P wrap None before after step reply succeeds lacks refused (inr none) = lacks none
+desk-split P wrap (Some fault) before after step reply succeeds lacks refused is = refused fault is

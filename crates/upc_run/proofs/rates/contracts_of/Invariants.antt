@@ -1,0 +1,6 @@
+-- The contracts of the wanted so far are made.
+use Rattle.upc_run.proofs.RateLemmas.{MadeOf}
+use Rattle.upc_run.proofs.rates.contracts_of.Given as goal
+
+abbrev pub invariant-loop-ask : goal.invariant-loop-ask
+invariant-loop-ask l = MadeOf l.ask-items l.contracts.items l.ask-index

@@ -1,0 +1,37 @@
+-- The program is put in, under the next name, or its putting in is refused.
+use Rattle.std.proofs.Common.{◌≡◌, ◌∙◌, ◌+◌, ◌++◌, ◌∷◌, [], Some, ap, codes, length, length-append, sym, arith}
+use Rattle.std.specs.Prelude.{suc}
+use Rattle.card_core.specs.declared.reply.Reply.TheVariants.{Loaded, NotLoaded}
+use Rattle.card_core.specs.declared.step.Step.TheVariants.{Load}
+use Rattle.upc_words.specs.FaultLines.{line}
+use Rattle.upc_run.specs.Replies.{program_name}
+use Rattle.upc_run.specs.RunText.{Takes}
+use Rattle.upc_run.specs.ScriptCommands.{load}
+use Rattle.upc_run.proofs.AddingLemmas.{adds-some}
+use Rattle.upc_run.specs.inner.Policing.{Held}
+use Rattle.upc_run.proofs.MovesLemmas.{moves-at, moves-taken, no-name, on-ok}
+use Rattle.upc_run.proofs.script_card.ScriptCard.put.Goals as goal
+
+pub returns : goal.returns
+returns c =
+    let old : Held = record { core = c.self.inside.core; names = c.self.inside.names } in
+    let new : Held = record { core = c.load.new.self; names = c.push.new.self } in
+    let command = load c.args.digits.now in
+    let pushed : new.names ≡ old.names ++ c.in-Ok.id ∷ [] = c.in_ok-push.ensures in
+    let count : c.count.result ≡ suc (length old.names) =
+    c.count.ensures ∙ ap length pushed ∙ length-append old.names (c.in-Ok.id ∷ []) ∙ (let more : length old.names + 1 ≡ suc (length old.names) = omega arith in more) in
+    on-ok c.add_loaded.result c.add_loaded.ensures (λ added.
+    moves-at (λ before. Takes before command (Load c.args.program)) old _ new _ _ c.self.view_is
+    (moves-taken old new command (Load c.args.program) (Loaded c.in-Ok.id) _ _ _ c.in-Ok.ensures.follows pushed added
+    (λ before after stepped. ap (λ n. Some (line (codes "loaded " ++ program_name n))) (sym count))))
+
+pub returns-in-Err : goal.returns-in-Err
+returns-in-Err c =
+    let old : Held = record { core = c.self.inside.core; names = c.self.inside.names } in
+    let new : Held = record { core = c.load.new.self; names = c.self.inside.names } in
+    let command = load c.args.digits.now in
+    on-ok c.add_desk_fault.result c.add_desk_fault.ensures (λ added.
+    let told = adds-some _ _ _ added in
+    moves-at (λ before. Takes before command (Load c.args.program)) old _ new _ _ c.self.view_is
+    (moves-taken old new command (Load c.args.program) (NotLoaded c.in-Err.fault c.in-Err.field-0-1) told.0 _ _ c.in-Err.ensures.follows
+    (no-name old.names) told.1 (λ before after stepped. told.2)))

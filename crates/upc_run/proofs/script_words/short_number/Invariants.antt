@@ -1,0 +1,12 @@
+-- What is left spells the number of the word behind the value so far, which has no more digits than were read.
+use Rattle.std.proofs.Common.{◌≡◌, ◌<◌, ◌≤◌, ◌-◌, ◌^◌, length}
+use Rattle.upc_run.specs.ScriptWords.{number_of}
+use Rattle.upc_run.proofs.NumberLemmas.{number_behind}
+use Rattle.upc_run.proofs.script_words.short_number.Given as goal
+
+abbrev pub invariant-loop-rest : goal.invariant-loop-rest
+invariant-loop-rest l =
+    (number_behind l.value l.rest ≡ number_of l.word) × (length l.rest ≤ length l.word) × (l.value < 10 ^ (length l.word - length l.rest))
+
+abbrev pub decreases-loop-rest : goal.decreases-loop-rest
+decreases-loop-rest l = length l.rest

@@ -1,0 +1,46 @@
+-- The line that opens a card: how large it is, and which side its cells come from.
+use Rattle.std.specs.Prelude.{ℕ, if◌then◌else◌, List, [], ◌∷◌, codes, Option, Some, None}
+use Rattle.std.specs.Option.{option_and_then}
+use Rattle.std.specs.Str.{bytes_eq}
+use Rattle.upc_cell.specs.declared.side.Side.{Side}
+use Rattle.upc_cell.specs.declared.side.Side.TheVariants.{Uni, Nni}
+use Rattle.card_core.specs.declared.shape.Shape.{Shape}
+use Rattle.upc_run.specs.ScriptWords.{with_both, number_of}
+
+-- The interface that a word names.
+abbrev pub side_of : List ℕ → Option Side
+side_of word =
+    if bytes_eq word (codes "uni") then Some Uni
+    else if bytes_eq word (codes "nni") then Some Nni
+    else None
+
+-- Two numbers, a word each.
+abbrev pub two_numbers : List ℕ → List ℕ → Option (ℕ × ℕ)
+two_numbers word other = with_both (λ one another. (one, another)) (number_of word) (number_of other)
+
+-- A shape by its four numbers and its side.
+abbrev pub shape_with : Side → ℕ × ℕ → ℕ × ℕ → Shape
+shape_with side store queues = record {
+  programs = store.0;
+  lines = store.1;
+  ports = queues.0;
+  journal = queues.1;
+  side = side;
+}
+
+-- The shape that four words ask for.
+abbrev pub sized_shape : List ℕ → List ℕ → List ℕ → List ℕ → Side → Option Shape
+sized_shape programs lines ports journal side =
+    with_both (shape_with side) (two_numbers programs lines) (two_numbers ports journal)
+
+-- The shape that the words behind `card` ask for: without a fifth the cells are users'.
+abbrev pub shape_of : List (List ℕ) → Option Shape
+shape_of (programs ∷ lines ∷ ports ∷ journal ∷ []) = sized_shape programs lines ports journal Uni
+shape_of (programs ∷ lines ∷ ports ∷ journal ∷ side ∷ []) =
+    option_and_then (sized_shape programs lines ports journal) (side_of side)
+shape_of _ = None
+
+-- `card PROGRAMS LINES PORTS JOURNAL`, or with a side behind them.
+abbrev pub card_of : List (List ℕ) → Option Shape
+card_of [] = None
+card_of (name ∷ words) = if bytes_eq name (codes "card") then shape_of words else None

@@ -1,0 +1,90 @@
+//! The line that opens a card.
+
+ghost use Rattle.std.specs.Prelude.{◌≡◌};
+ghost use Rattle.text_io.specs.Words.{words_of};
+ghost use Rattle.upc_run.specs.CardLine.{card_of, shape_of, side_of, sized_shape};
+
+use crate::script_words::number;
+use card_core::Shape;
+use text_io::first_word;
+use upc_cell::Side;
+
+/// The interface that a word names.
+fn named_side(word: &[u8]) -> Option<Side>
+    ensures { result ≡ side_of word.now }
+{
+    if word == b"uni".as_slice() {
+        Some(Side::Uni)
+    } else if word == b"nni".as_slice() {
+        Some(Side::Nni)
+    } else {
+        None
+    }
+}
+
+/// The shape that four words ask for.
+fn sized(programs: &[u8], lines: &[u8], ports: &[u8], journal: &[u8], side: Side) -> Option<Shape>
+    ensures { result ≡ sized_shape programs.now lines.now ports.now journal.now side }
+{
+    let Some(programs) = number(programs) else {
+        return None;
+    };
+    let Some(lines) = number(lines) else {
+        return None;
+    };
+    let Some(ports) = number(ports) else {
+        return None;
+    };
+    let Some(journal) = number(journal) else {
+        return None;
+    };
+    Some(Shape {
+        programs,
+        lines,
+        ports,
+        journal,
+        side,
+    })
+}
+
+/// The shape that the words behind `card` ask for.
+fn shape_behind(line: &[u8]) -> Option<Shape>
+    ensures { result ≡ shape_of (words_of line.now) }
+{
+    let Some((programs, rest)) = first_word(line) else {
+        return None;
+    };
+    let Some((lines, rest)) = first_word(rest) else {
+        return None;
+    };
+    let Some((ports, rest)) = first_word(rest) else {
+        return None;
+    };
+    let Some((journal, rest)) = first_word(rest) else {
+        return None;
+    };
+    let Some((word, rest)) = first_word(rest) else {
+        return sized(programs, lines, ports, journal, Side::Uni);
+    };
+    if first_word(rest).is_some() {
+        return None;
+    }
+    match named_side(word) {
+        Some(side) => sized(programs, lines, ports, journal, side),
+        None => None,
+    }
+}
+
+/// The shape that a line's words ask for; none where it is no line that opens a card.
+pub fn read_card(line: &[u8]) -> Option<Shape>
+    ensures { result ≡ card_of (words_of line.now) }
+{
+    let Some((name, rest)) = first_word(line) else {
+        return None;
+    };
+    if name == b"card".as_slice() {
+        shape_behind(rest)
+    } else {
+        None
+    }
+}

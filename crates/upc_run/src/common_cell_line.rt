@@ -1,0 +1,61 @@
+//! The line of a cell in its common form, as programs write it: its words with one space between them, and
+//! nothing before and after. A line of another form is read by its words.
+
+ghost use Rattle.std.specs.Prelude.{◌≡◌, ◌∷◌, ◌++◌, ℕ, List, codes, length, IfSome, IfNone};
+ghost use Rattle.upc_run.specs.CommonLine.{IsCommonLine};
+
+use crate::script_words::number;
+use upc_cell::Cell;
+use upc_words::{CELL_DIGITS, HEADER_DIGITS, cell_of_digits};
+
+/// A cell of a script, and the moment when it comes, in ticks.
+#[derive(Clone, Copy, Debug)]
+pub struct Arrival {
+    pub moment: u64,
+    pub cell: Cell,
+}
+
+/// What stands behind the command of a cell and the space that ends it.
+#[inline(always)]
+fn behind_command(line: &[u8]) -> Option<&[u8]>
+    ensures rest { IfSome result (λ rest. line.now ≡ codes "cell " ++ rest.now) }
+    ensures none { IfNone result ((rest : List ℕ) → line.now ≡ codes "cell " ++ rest → ⊥) }
+{
+    match line {
+        [b'c', b'e', b'l', b'l', b' ', rest @ ..] => Some(rest),
+        _ => None,
+    }
+}
+
+/// The last octets of a text, so many of them, and what stands before the space in front of them.
+#[inline(always)]
+fn cut_before(text: &[u8], count: usize) -> Option<(&[u8], &[u8])>
+    ensures parts { IfSome result (λ parts. (text.now ≡ parts.0.now ++ 32 ∷ parts.1.now) × (length parts.1.now ≡ count)) }
+    ensures none { IfNone result ((before last : List ℕ) → text.now ≡ before ++ 32 ∷ last → length last ≡ count → ⊥) }
+{
+    if text.len() < count {
+        return None;
+    }
+    let (front, last) = text.split_at(text.len() - count);
+    match front {
+        [before @ .., b' '] => Some((before, last)),
+        _ => None,
+    }
+}
+
+/// The cell of a line of the common form: none where the line has another form. No digit is a space, so the place
+/// of the last space tells how long the word is.
+#[inline(always)]
+pub fn read_cell(line: &[u8]) -> Option<Arrival>
+    ensures cell { IfSome result (λ found. IsCommonLine line.now found.moment found.cell) }
+    ensures none { IfNone result ((moment : ℕ) → (cell : List ℕ) → IsCommonLine line.now moment cell → ⊥) }
+{
+    let rest = behind_command(line)?;
+    let parts = match cut_before(rest, HEADER_DIGITS) {
+        Some(parts) => parts,
+        None => cut_before(rest, CELL_DIGITS)?,
+    };
+    let moment = number(parts.0)?;
+    let cell = cell_of_digits(parts.1)?;
+    Some(Arrival { moment, cell })
+}

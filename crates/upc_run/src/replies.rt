@@ -1,0 +1,369 @@
+//! The lines by which what the card replies is answered, each added at the end of the answers.
+
+ghost use Rattle.std.specs.Prelude.{◌≡◌, ◌+◌, ◌≤◌, ◌++◌, codes, decimal, length, map, Ok, OnOk};
+ghost use Rattle.line_record.specs.Tally.{tally_of};
+ghost use Rattle.card_core.specs.Sections.{answer_to, unjudged_answer};
+ghost use Rattle.card_core.specs.Steps.{cell_after};
+ghost use Rattle.upc_words.specs.FaultLines.{line};
+ghost use Rattle.upc_run.specs.CardFaults.{arrive_fault};
+ghost use Rattle.upc_run.specs.Replies.{connection_name, header_text, judging_text, numbered_answer_text, piece_text, program_name, tally_text, verdict_text};
+ghost use Rattle.upc_run.specs.AddsSome.{AddsSome};
+
+use card_core::{Answer, Judgement, Unjudged};
+use leaky::Verdict;
+use line_record::{Piece, Tally};
+use std::alloc::AllocError;
+use upc_cell::{Cell, Vc};
+use upc_words::{TextFromEnd, add_number, add_text};
+
+/// Adds the name of the program of this number.
+#[tactic(auto, using(std::proofs::lemmas::List::append_assoc))]
+fn add_program(answers: &mut Vec<u8>, number: u64) -> Result<(), AllocError>
+    ensures { OnOk result (answers.new.items ≡ answers.old.items ++ program_name number) }
+{
+    answers.push(b'p')?;
+    add_number(answers, number)
+}
+
+/// Adds a connection's path and channel.
+#[tactic(auto, using(std::proofs::lemmas::List::append_assoc))]
+fn add_connection(answers: &mut Vec<u8>, vc: Vc) -> Result<(), AllocError>
+    ensures { OnOk result (answers.new.items ≡ answers.old.items ++ connection_name vc) }
+{
+    add_number(answers, u64::from(vc.vpi))?;
+    answers.push(b'/')?;
+    add_number(answers, u64::from(vc.vci))
+}
+
+/// Adds the answer to the line that opened a card.
+pub fn add_ready(answers: &mut Vec<u8>) -> Result<(), AllocError>
+    ensures { OnOk result (answers.new.items ≡ answers.old.items ++ codes "ready\n") }
+{
+    add_text(answers, b"ready\n")
+}
+
+/// Adds the answer to a program that was put in, whose name has this number, from 1.
+#[tactic(auto, using(std::proofs::lemmas::List::append_assoc))]
+pub fn add_loaded(answers: &mut Vec<u8>, number: u64) -> Result<(), AllocError>
+    ensures { OnOk result
+        (answers.new.items ≡ answers.old.items ++ line (codes "loaded " ++ program_name number)) }
+{
+    answers.extend_from_slice(b"loaded ")?;
+    add_program(answers, number)?;
+    answers.push(b'\n')?;
+    Ok(())
+}
+
+/// Adds the answer to a program that was taken out, whose name has this number.
+#[tactic(auto, using(std::proofs::lemmas::List::append_assoc))]
+pub fn add_retired(answers: &mut Vec<u8>, number: u64) -> Result<(), AllocError>
+    ensures { OnOk result
+        (answers.new.items ≡ answers.old.items ++ line (codes "retired " ++ program_name number)) }
+{
+    answers.extend_from_slice(b"retired ")?;
+    add_program(answers, number)?;
+    answers.push(b'\n')?;
+    Ok(())
+}
+
+/// Adds the answer to a connection that was set up.
+#[tactic(auto, using(std::proofs::lemmas::List::append_assoc))]
+pub fn add_set(answers: &mut Vec<u8>, vc: Vc) -> Result<(), AllocError>
+    ensures { OnOk result
+        (answers.new.items ≡ answers.old.items ++ line (codes "set " ++ connection_name vc)) }
+{
+    answers.extend_from_slice(b"set ")?;
+    add_connection(answers, vc)?;
+    answers.push(b'\n')?;
+    Ok(())
+}
+
+/// Adds the answer to a connection that got the program whose name has this number.
+#[tactic(auto, using(std::proofs::lemmas::List::append_assoc))]
+pub fn add_reloaded(answers: &mut Vec<u8>, vc: Vc, number: u64) -> Result<(), AllocError>
+    ensures { OnOk result (answers.new.items ≡ answers.old.items
+        ++ line (codes "reloaded " ++ connection_name vc ++ codes " " ++ program_name number)) }
+{
+    answers.extend_from_slice(b"reloaded ")?;
+    add_connection(answers, vc)?;
+    answers.push(b' ')?;
+    add_program(answers, number)?;
+    answers.push(b'\n')?;
+    Ok(())
+}
+
+/// Adds a number behind a blank.
+#[tactic(auto, using(std::proofs::lemmas::List::append_assoc))]
+fn add_count(answers: &mut Vec<u8>, count: u64) -> Result<(), AllocError>
+    ensures { OnOk result (answers.new.items ≡ answers.old.items ++ (codes " " ++ decimal count)) }
+{
+    answers.push(b' ')?;
+    add_number(answers, count)
+}
+
+/// Adds the counts of each verdict, each behind a blank.
+#[tactic(auto, using(std::proofs::lemmas::List::append_assoc))]
+pub fn add_tally(answers: &mut Vec<u8>, tally: Tally) -> Result<(), AllocError>
+    ensures { OnOk result (answers.new.items ≡ answers.old.items ++ tally_text tally) }
+{
+    add_count(answers, tally.passed)?;
+    add_count(answers, tally.tagged)?;
+    add_count(answers, tally.discarded)?;
+    add_count(answers, tally.refused)
+}
+
+/// How many cells of a piece got each verdict: what its end counts beyond its start. No entry is looked at.
+fn tally_within(piece: &Piece) -> Tally
+    ensures { result ≡ tally_of (map (λ entry. entry.verdict) piece.now.entries) }
+{
+    let _run = piece.entries();
+    let before = piece.start().counts;
+    let after = piece.end().counts;
+    Tally {
+        passed: after.passed - before.passed,
+        tagged: after.tagged - before.tagged,
+        discarded: after.discarded - before.discarded,
+        refused: after.refused - before.refused,
+    }
+}
+
+/// Adds the number of a piece's cells, and of those of each verdict.
+#[tactic(auto, using(std::proofs::lemmas::List::append_assoc))]
+fn add_piece(answers: &mut Vec<u8>, piece: &Piece) -> Result<(), AllocError>
+    ensures { OnOk result (answers.new.items ≡ answers.old.items ++ piece_text piece.now) }
+{
+    add_count(answers, piece.entries().len() as u64)?;
+    add_tally(answers, tally_within(piece))
+}
+
+/// Adds the answer to a connection that ended, whose last journal is this piece.
+#[tactic(auto, using(std::proofs::lemmas::List::append_assoc))]
+pub fn add_released(answers: &mut Vec<u8>, vc: Vc, piece: &Piece) -> Result<(), AllocError>
+    ensures { OnOk result (answers.new.items ≡ answers.old.items
+        ++ line (codes "released " ++ connection_name vc ++ piece_text piece.now)) }
+{
+    answers.extend_from_slice(b"released ")?;
+    add_connection(answers, vc)?;
+    add_piece(answers, piece)?;
+    answers.push(b'\n')?;
+    Ok(())
+}
+
+/// Adds the answer to a connection whose journal was handed out as this piece.
+#[tactic(auto, using(std::proofs::lemmas::List::append_assoc))]
+pub fn add_cut(answers: &mut Vec<u8>, vc: Vc, piece: &Piece) -> Result<(), AllocError>
+    ensures { OnOk result (answers.new.items ≡ answers.old.items
+        ++ line (codes "cut " ++ connection_name vc ++ piece_text piece.now)) }
+{
+    answers.extend_from_slice(b"cut ")?;
+    add_connection(answers, vc)?;
+    add_piece(answers, piece)?;
+    answers.push(b'\n')?;
+    Ok(())
+}
+
+/// Room for the answer to a cell: a verdict of at most eight octets, three numbers of at most ten digits and
+/// one of at most twenty, eight digits of a header, and six octets between them and behind.
+const ANSWER_ROOM: usize = 72;
+
+/// Puts the connection that a cell came on, the program that named its contract, and the value that it
+/// gave.
+#[inline(always)]
+fn put_judging(text: &mut TextFromEnd<ANSWER_ROOM>, vc: Vc, number: u64, value: u32)
+    requires { length text.old ≤ 10 }
+    ensures text { text.new ≡ judging_text vc number value ++ text.old }
+    ensures length { length text.new ≤ 54 + length text.old }
+{
+    text.put_short_number(value);
+    text.put(b" ");
+    text.put_number(number);
+    text.put(b" p");
+    text.put_short_number(u32::from(vc.vci));
+    text.put(b"/");
+    text.put_short_number(u32::from(vc.vpi));
+}
+
+/// Puts the header of a leaving cell.
+#[inline(always)]
+fn put_header(text: &mut TextFromEnd<ANSWER_ROOM>, cell: &Cell)
+    requires { length text.old ≤ 1 }
+    ensures text { text.new ≡ header_text cell.now ++ text.old }
+    ensures length { length text.new ≡ 9 + length text.old }
+{
+    let mut digits = [0; 8];
+    if hex::encode_to_slice(&cell.bytes()[..4], &mut digits).is_err() {
+        unreachable!();
+    }
+    text.put(&digits);
+    text.put(b" ");
+}
+
+/// Adds the answer to a judged cell that leaves.
+#[inline(always)]
+#[tactic(auto, using(std::proofs::lemmas::List::append_assoc))]
+fn add_leaving(
+    answers: &mut Vec<u8>,
+    verdict: &[u8],
+    vc: Vc,
+    number: u64,
+    value: u32,
+    cell: &Cell,
+) -> Result<(), AllocError>
+    requires { length verdict.now ≤ 8 }
+    ensures { OnOk result (answers.new.items ≡ answers.old.items
+        ++ line (verdict.now ++ judging_text vc number value ++ header_text cell.now)) }
+{
+    let mut text = TextFromEnd::new();
+    text.put(b"\n");
+    put_header(&mut text, cell);
+    put_judging(&mut text, vc, number, value);
+    text.put(verdict);
+    answers.extend_from_slice(text.as_slice())
+}
+
+/// Adds the answer to a judged cell that doesn't leave.
+#[inline(always)]
+#[tactic(auto, using(std::proofs::lemmas::List::append_assoc))]
+fn add_kept(
+    answers: &mut Vec<u8>,
+    verdict: &[u8],
+    vc: Vc,
+    number: u64,
+    value: u32,
+) -> Result<(), AllocError>
+    requires { length verdict.now ≤ 8 }
+    ensures { OnOk result (answers.new.items ≡ answers.old.items
+        ++ line (verdict.now ++ judging_text vc number value)) }
+{
+    let mut text = TextFromEnd::new();
+    text.put(b"\n");
+    put_judging(&mut text, vc, number, value);
+    text.put(verdict);
+    answers.extend_from_slice(text.as_slice())
+}
+
+/// Adds the answer to a cell that came before the last judged one of its connection.
+#[tactic(auto, using(std::proofs::lemmas::List::append_assoc))]
+fn add_moment_back(answers: &mut Vec<u8>, last: u64) -> Result<(), AllocError>
+    ensures { OnOk result
+        (answers.new.items ≡ answers.old.items ++ arrive_fault (codes "4 MomentBack " ++ decimal last)) }
+{
+    let mut text = TextFromEnd::<ANSWER_ROOM>::new();
+    text.put(b"\n");
+    text.put_number(last);
+    text.put(b"fault arrive 4 MomentBack ");
+    answers.extend_from_slice(text.as_slice())?;
+    Ok(())
+}
+
+/// Adds the answer to a cell that got this verdict and leaves so, where it leaves.
+#[inline(always)]
+fn add_verdict(
+    answers: &mut Vec<u8>,
+    verdict: Verdict,
+    vc: Vc,
+    number: u64,
+    value: u32,
+    leaving: &Cell,
+) -> Result<(), AllocError>
+    ensures { OnOk result (answers.new.items ≡ answers.old.items
+        ++ verdict_text verdict (judging_text vc number value) leaving.now) }
+{
+    match verdict {
+        Verdict::Pass => add_leaving(answers, b"pass ", vc, number, value, leaving),
+        Verdict::Tag => add_leaving(answers, b"tag ", vc, number, value, leaving),
+        Verdict::Discard => add_kept(answers, b"discard ", vc, number, value),
+        Verdict::Refuse => add_kept(answers, b"refuse ", vc, number, value),
+    }
+}
+
+/// Adds the answer to a cell that came so and got this verdict.
+#[inline(never)]
+fn add_told(
+    answers: &mut Vec<u8>,
+    verdict: Verdict,
+    vc: Vc,
+    number: u64,
+    value: u32,
+    cell: &Cell,
+) -> Result<(), AllocError>
+    ensures { OnOk result (answers.new.items ≡ answers.old.items
+        ++ verdict_text verdict (judging_text vc number value) (cell_after verdict cell.now)) }
+{
+    match verdict {
+        Verdict::Tag => {
+            let tagged = cell.tagged();
+            add_verdict(answers, Verdict::Tag, vc, number, value, &tagged)
+        }
+        Verdict::Pass => add_verdict(answers, Verdict::Pass, vc, number, value, cell),
+        Verdict::Discard => add_verdict(answers, Verdict::Discard, vc, number, value, cell),
+        Verdict::Refuse => add_verdict(answers, Verdict::Refuse, vc, number, value, cell),
+    }
+}
+
+/// Adds the answer to a cell that came on this connection and was judged so, by the contract that the
+/// program named whose name has this number, from 1.
+///
+/// # Errors
+///
+/// `AllocError` where memory was refused.
+#[inline(always)]
+pub fn add_judged(
+    answers: &mut Vec<u8>,
+    number: u64,
+    vc: Vc,
+    cell: &Cell,
+    judged: &Judgement,
+) -> Result<(), AllocError>
+    ensures { OnOk result (AddsSome (numbered_answer_text number vc (answer_to cell.now (Ok judged.now)))
+        answers.old.items answers.new.items) }
+{
+    add_told(answers, judged.verdict, vc, number, judged.value, cell)
+}
+
+/// Adds the answer to a cell that came on this connection and wasn't judged. What takes the room of a cell
+/// that was stays in here.
+///
+/// # Errors
+///
+/// `AllocError` where memory was refused, here or to the cell.
+#[inline(never)]
+pub fn add_unjudged(answers: &mut Vec<u8>, vc: Vc, reason: Unjudged) -> Result<(), AllocError>
+    ensures { OnOk result
+        (AddsSome (numbered_answer_text 0 vc (unjudged_answer reason)) answers.old.items answers.new.items) }
+{
+    add_answer(answers, 0, vc, &reason.answer())
+}
+
+/// Adds the answer to a cell that came on this connection, where the program that named its contract has
+/// a name of this number, from 1; a cell that isn't judged has no such program.
+///
+/// # Errors
+///
+/// `AllocError` where memory was refused, here or to the cell.
+#[inline(never)]
+pub fn add_answer(
+    answers: &mut Vec<u8>,
+    number: u64,
+    vc: Vc,
+    answer: &Answer,
+) -> Result<(), AllocError>
+    ensures { OnOk result
+        (AddsSome (numbered_answer_text number vc answer.now) answers.old.items answers.new.items) }
+{
+    match answer {
+        Answer::Judged {
+            value,
+            verdict,
+            cell,
+            ..
+        } => add_verdict(answers, *verdict, vc, number, *value, cell),
+        Answer::NoConnection => add_text(answers, b"fault arrive 1 NoConnection\n"),
+        Answer::Released => add_text(answers, b"fault arrive 2 Released\n"),
+        Answer::Stale => add_text(answers, b"fault arrive 3 Stale\n"),
+        Answer::MomentBack { last } => add_moment_back(answers, *last),
+        Answer::MomentTooLate => add_text(answers, b"fault arrive 5 MomentTooLate\n"),
+        Answer::JournalFull => add_text(answers, b"fault arrive 6 JournalFull\n"),
+        Answer::NoMemory => Err(AllocError),
+    }
+}

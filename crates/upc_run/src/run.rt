@@ -1,0 +1,139 @@
+//! `upc run`: a card, and the commands and cells of a script.
+
+ghost use Rattle.std.specs.Prelude.{◌≡◌, ◌++◌, [], Some, IfOk, OnOk, OnErr, ℕ, List, Ok};
+ghost use Rattle.text_io.specs.Devices.{Adds, TakesEnough};
+ghost use Rattle.text_io.specs.Limits.{most_ahead};
+ghost use Rattle.text_io.specs.Failures.{read_failures, write_failures};
+ghost use Rattle.text_io.specs.Printing.{IsFront};
+ghost use Rattle.text_io.specs.Words.{words_of};
+ghost use Rattle.upc_run.specs.RunText.{IsRunText};
+ghost use Rattle.upc_run.specs.inner.Policing.{OpensAs};
+
+use crate::card_faults::{add_no_card, add_shape_fault};
+use crate::card_line::read_card;
+use crate::replies::add_ready;
+use crate::script_card::ScriptCard;
+use std::alloc::{AllocError, Global};
+use text_io::{Done, Input, LineWords, Machine, Output, RunFault, Turn, answer_lines, line_words};
+use upc_words::add_too_long;
+
+/// Opens the card that the first line with words asks for; none where it asks for none that there is, and
+/// then the line is answered by its fault.
+fn open(alloc: Global, line: &[u8], answers: &mut Vec<u8>) -> Result<Option<ScriptCard>, AllocError>
+    ensures { IfOk result (λ card. OpensAs (words_of line.now) card answers.old.items answers.new.items) }
+{
+    let Some(shape) = read_card(line) else {
+        add_no_card(answers)?;
+        return Ok(None);
+    };
+    match ScriptCard::new(alloc, shape) {
+        Ok(card) => {
+            add_ready(answers)?;
+            Ok(Some(card))
+        }
+        Err(fault) => {
+            add_shape_fault(answers, fault)?;
+            Ok(None)
+        }
+    }
+}
+
+/// The subcommand as a machine: no card yet, or the card.
+#[derive(Drop)]
+struct Policing {
+    alloc: Global,
+    card: Option<ScriptCard>,
+}
+
+impl Policing {
+    ghost use Rattle.std.specs.Prelude.{◌≡◌, None, IfOk};
+    ghost use Rattle.text_io.specs.Answering.{Answers};
+    ghost use Rattle.upc_run.specs.RunText.{run_rules};
+    ghost use Rattle.upc_run.specs.inner.Policing.{ShowsRun};
+
+    /// Answers a line before there is a card. It stands apart from the lines behind it, since what a card
+    /// takes while it is made would be made room for at each of them.
+    #[inline(never)]
+    fn answer_first(&mut self, line: &[u8], answers: &mut Vec<u8>) -> Result<Turn, AllocError>
+        requires { self.old.card ≡ None }
+        ensures { IfOk result (λ turn. Answers run_rules (ShowsRun self.old.card) line.now turn
+            (ShowsRun self.new.card) answers.old.items answers.new.items) }
+    {
+        match line_words(line) {
+            LineWords::Silent => return Ok(Turn::GoesOn),
+            LineWords::One(_) | LineWords::Several => {}
+        }
+        self.card = open(self.alloc, line, answers)?;
+        match self.card {
+            Some(_) => Ok(Turn::GoesOn),
+            None => Ok(Turn::Ends),
+        }
+    }
+}
+
+impl Machine for Policing {
+    ghost use Rattle.upc_run.specs.RunText.{RunWorld, run_rules};
+    ghost use Rattle.upc_run.specs.inner.Policing.{ShowsRun};
+    ghost use Rattle.upc_run.specs.inner.RunLaws.{run-total};
+
+    ghost World = { RunWorld };
+
+    ghost shows = { λ policing world. ShowsRun policing.card world };
+
+    ghost rules = { run_rules };
+
+    #[inline(always)]
+    fn answer(&mut self, line: &[u8], answers: &mut Vec<u8>) -> Result<Turn, AllocError> {
+        match &mut self.card {
+            Some(card) => {
+                card.answer(self.alloc, line, answers)?;
+                Ok(Turn::GoesOn)
+            }
+            None => self.answer_first(line, answers),
+        }
+    }
+
+    fn close(&mut self, answers: &mut Vec<u8>) -> Result<Done, AllocError> {
+        if self.card.is_some() {
+            return Ok(Done::Whole);
+        }
+        add_no_card(answers)?;
+        Ok(Done::Ended)
+    }
+
+    fn refuse(&self, answers: &mut Vec<u8>) -> Result<(), AllocError> {
+        add_too_long(answers)
+    }
+
+    ghost is_total = { run-total };
+}
+
+/// Answers the lines of a script: the first line with words opens a card, and each later one is a command
+/// to its desk or a cell, and is answered by what the card replies.
+///
+/// # Errors
+///
+/// `ReadFailed` and `WriteFailed` where that device failed, once; `NoMemory` where memory was refused.
+/// What was written is then a beginning of the text.
+pub fn run_script<I: Input, O: Output>(
+    alloc: Global,
+    input: &mut I,
+    output: &mut O,
+) -> Result<Done, RunFault>
+    // What was written is the text of the whole input, or a beginning of it.
+    ensures text { I.is_known → O.is_known → IfOk result (λ done.
+        Adds (λ text. IsRunText (I.rest input.old) text done) (O.held output.old) (O.held output.new)) }
+    ensures front { I.is_known → O.is_known → OnErr result
+        (Adds (IsFront (IsRunText (I.rest input.old))) (O.held output.old) (O.held output.new)) }
+
+    // No more of the input was taken than what had to be answered, and what a window holds.
+    ensures left { I.is_known → IfOk result (λ done. TakesEnough
+        (λ octets. (text : List ℕ) × IsRunText octets text done) most_ahead (I.rest input.old) (I.rest input.new)) }
+    ensures whole { I.is_known → result ≡ Ok Done.Whole → I.rest input.new ≡ [] }
+
+    ensures reading { I.failures input.new ≡ read_failures result (I.failures input.old) }
+    ensures writing { O.failures output.new ≡ write_failures result (O.failures output.old) }
+{
+    let mut policing = Policing { alloc, card: None };
+    answer_lines(alloc, input, output, &mut policing)
+}

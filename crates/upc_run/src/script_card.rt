@@ -1,0 +1,314 @@
+//! The card that a script has opened, and the commands that it obeys.
+
+use crate::card_faults::{add_desk_fault, add_gcra_fault, add_no_such_program};
+use crate::commands::{Command, read_command};
+use crate::common_cell_line::read_cell;
+use crate::names::Names;
+use crate::rates::contracts_of;
+use crate::replies::{
+    add_cut, add_judged, add_loaded, add_released, add_reloaded, add_retired, add_set, add_unjudged,
+};
+use crate::script_words::Wanted;
+use arrayvec::ArrayVec;
+use bpf_verify::Program;
+use card_core::{Ask, CardFault, Core, Judgement, Shape, Unjudged};
+use std::alloc::{AllocError, Global};
+use std::marker::Model;
+use text_io::{LineWords, line_words};
+use upc_cell::{Cell, Side, Vc};
+use upc_words::{
+    CellWord, add_bad_hex, add_bad_line, add_wrong_length, cell_of_word, octets_of_word,
+    read_program,
+};
+
+/// The port that every cell of a script comes to.
+const PORT: u8 = 0;
+
+/// A card, and the names of the programs that were put in.
+#[derive(Drop)]
+pub struct ScriptCard {
+    core: Core,
+    names: Names,
+}
+
+impl Model for ScriptCard {
+    ghost use Rattle.upc_run.specs.inner.Policing.{Held};
+
+    ghost Value = { Held };
+
+    ghost view = { λ card. record { core = card.core; names = card.names } };
+}
+
+// The functions of the desk are not inlined: the path of a cell would pay for their room on the stack.
+impl ScriptCard {
+    ghost use Rattle.std.specs.Prelude.{◌≡◌, ◌⊎◌, [], IfOk, IfErr, OnOk, MatchResult, None, Some, option_map};
+    ghost use Rattle.card_core.specs.Sections.{answer_to};
+    ghost use Rattle.card_core.specs.Shapes.{shape_fault};
+    ghost use Rattle.upc_run.specs.CardLine.{card_of};
+    ghost use Rattle.upc_run.specs.ScriptCommands.{load, retire, setup, reload, release, cut, cell};
+    ghost use Rattle.card_core.specs.declared.step.Step.TheVariants.{Load};
+    ghost use Rattle.upc_run.specs.RunText.{Asks, CommandLine, LoadsOctets, Obeys, Polices, Takes, TakesNamed, new_card};
+    ghost use Rattle.upc_run.specs.CommandSeen.{command_seen};
+    ghost use Rattle.upc_run.specs.inner.Policing.{AnswersCell, Moves, SaysLine, ShowsCard};
+    ghost use Rattle.text_io.specs.Words.{words_of};
+
+    /// A card of this shape, to which nothing has come.
+    ///
+    /// # Errors
+    ///
+    /// `Programs`, `Lines`, `Ports`, `Journal`: the first number of the shape that is out of its
+    /// limits. Then `NoMemory`, where memory is refused.
+    pub fn new(alloc: Global, shape: Shape) -> Result<Self, CardFault>
+        ensures shows { IfOk result (λ card. ShowsCard card (new_card shape)) }
+        ensures refused { MatchResult result
+            (λ _. shape_fault shape ≡ None)
+            (λ fault. (shape_fault shape ≡ Some fault) ⊎ (fault ≡ CardFault.NoMemory)) }
+    {
+        let core = match Core::new(alloc, shape) {
+            Ok(core) => core,
+            Err(fault) => return Err(fault),
+        };
+        match Names::new(alloc, shape.programs as usize) {
+            Ok(names) => Ok(ScriptCard { core, names }),
+            Err(_) => Err(CardFault::NoMemory),
+        }
+    }
+
+    /// Puts a program in.
+    #[inline(never)]
+    fn put(
+        &mut self,
+        digits: &[u8],
+        program: Program,
+        answers: &mut Vec<u8>,
+    ) -> Result<(), AllocError>
+        ensures { OnOk result (Moves (λ before. Takes before (load digits.now) (Load program))
+            self.old self.new answers.old.items answers.new.items) }
+    {
+        let id = match self.core.load(program) {
+            Ok(id) => id,
+            Err((fault, _)) => return add_desk_fault(answers, fault),
+        };
+        self.names.push(id)?;
+        add_loaded(answers, self.names.count() as u64)
+    }
+
+    /// Puts in the program of these octets, if they are one.
+    #[inline(never)]
+    fn load(
+        &mut self,
+        alloc: Global,
+        digits: &[u8],
+        answers: &mut Vec<u8>,
+    ) -> Result<(), AllocError>
+        ensures { OnOk result (Moves (λ before. Obeys before (load digits.now))
+            self.old self.new answers.old.items answers.new.items) }
+    {
+        let Some(octets) = octets_of_word(alloc, digits)? else {
+            return add_bad_hex(answers);
+        };
+        match read_program(alloc, &octets, answers)? {
+            Some(program) => self.put(digits, program, answers),
+            None => Ok(()),
+        }
+    }
+
+    /// Takes a program out.
+    #[inline(never)]
+    fn retire(&mut self, number: u64, answers: &mut Vec<u8>) -> Result<(), AllocError>
+        ensures { OnOk result (Moves (λ before. Obeys before (retire number))
+            self.old self.new answers.old.items answers.new.items) }
+    {
+        let Some(id) = self.names.named(number) else {
+            return add_no_such_program(answers);
+        };
+        match self.core.retire(id) {
+            Ok(_) => add_retired(answers, number),
+            Err(fault) => add_desk_fault(answers, fault),
+        }
+    }
+
+    /// Sets up a connection under contracts whose rates may be at fault.
+    #[inline(never)]
+    fn setup(
+        &mut self,
+        vc: Vc,
+        number: u64,
+        wanted: &ArrayVec<Wanted, 4>,
+        answers: &mut Vec<u8>,
+    ) -> Result<(), AllocError>
+        ensures { OnOk result (Moves (λ before. Obeys before (setup vc number wanted.now.items))
+            self.old self.new answers.old.items answers.new.items) }
+    {
+        let contracts = match contracts_of(wanted) {
+            Ok(contracts) => contracts,
+            Err(fault) => return add_gcra_fault(answers, fault),
+        };
+        let Some(program) = self.names.named(number) else {
+            return add_no_such_program(answers);
+        };
+        let ask = Ask {
+            vc,
+            program,
+            contracts,
+        };
+        match self.core.setup(ask) {
+            Ok(_) => add_set(answers, vc),
+            Err((fault, _)) => add_desk_fault(answers, fault),
+        }
+    }
+
+    /// Gives a connection another program.
+    #[inline(never)]
+    fn reload(&mut self, vc: Vc, number: u64, answers: &mut Vec<u8>) -> Result<(), AllocError>
+        ensures { OnOk result (Moves (λ before. Obeys before (reload vc number))
+            self.old self.new answers.old.items answers.new.items) }
+    {
+        let Some(program) = self.names.named(number) else {
+            return add_no_such_program(answers);
+        };
+        match self.core.reload(vc, program) {
+            Ok(_) => add_reloaded(answers, vc, number),
+            Err(fault) => add_desk_fault(answers, fault),
+        }
+    }
+
+    /// Ends a connection.
+    #[inline(never)]
+    fn release(&mut self, vc: Vc, answers: &mut Vec<u8>) -> Result<(), AllocError>
+        ensures { OnOk result (Moves (λ before. Obeys before (release vc))
+            self.old self.new answers.old.items answers.new.items) }
+    {
+        match self.core.release(vc) {
+            Ok(piece) => add_released(answers, vc, &piece),
+            Err(fault) => add_desk_fault(answers, fault),
+        }
+    }
+
+    /// Hands out a connection's journal.
+    #[inline(never)]
+    fn cut(&mut self, vc: Vc, answers: &mut Vec<u8>) -> Result<(), AllocError>
+        ensures { OnOk result (Moves (λ before. Obeys before (cut vc))
+            self.old self.new answers.old.items answers.new.items) }
+    {
+        match self.core.cut(vc) {
+            Ok(piece) => add_cut(answers, vc, &piece),
+            Err(fault) => add_desk_fault(answers, fault),
+        }
+    }
+
+    /// What becomes of a cell, from its entering the port to its answer. It has none where the port isn't
+    /// free, as it is before every command.
+    #[inline(always)]
+    fn arrive(&mut self, cell: &Cell, moment: u64) -> Option<Result<Judgement, Unjudged>>
+        ensures { AnswersCell self.old cell.now moment (option_map (λ told. answer_to cell.now told) result) self.new }
+    {
+        self.core.arrive(PORT, cell, moment)
+    }
+
+    /// Polices a cell.
+    #[inline(always)]
+    fn police(&mut self, moment: u64, cell: &Cell, answers: &mut Vec<u8>) -> Result<(), AllocError>
+        ensures { OnOk result (Moves (λ before. Polices before moment cell.now)
+            self.old self.new answers.old.items answers.new.items) }
+    {
+        let vc = cell.vc_at(self.core.shape().side);
+        let Some(told) = self.arrive(cell, moment) else {
+            return Ok(());
+        };
+        let judged = match told {
+            Ok(judged) => judged,
+            Err(reason) => return add_unjudged(answers, vc, reason),
+        };
+        let number = self.names.number_of(judged.program) as u64;
+        add_judged(answers, number, vc, cell, &judged)
+    }
+
+    /// Polices the cell that a word spells, if it spells one.
+    #[inline(never)]
+    fn cell(
+        &mut self,
+        alloc: Global,
+        moment: u64,
+        word: &[u8],
+        answers: &mut Vec<u8>,
+    ) -> Result<(), AllocError>
+        ensures { OnOk result (Moves (λ before. Obeys before (cell moment word.now))
+            self.old self.new answers.old.items answers.new.items) }
+    {
+        match cell_of_word(alloc, word)? {
+            CellWord::OfCell(cell) => self.police(moment, &cell, answers),
+            CellWord::OfOthers(count) => add_wrong_length(answers, count),
+            CellWord::NoDigits => add_bad_hex(answers),
+        }
+    }
+
+    /// Obeys a command.
+    fn obey(
+        &mut self,
+        alloc: Global,
+        command: &Command<'_>,
+        answers: &mut Vec<u8>,
+    ) -> Result<(), AllocError>
+        ensures { OnOk result (Moves (λ before. Obeys before (command_seen command.now))
+            self.old self.new answers.old.items answers.new.items) }
+    {
+        match command {
+            Command::Cell(moment, word) => self.cell(alloc, *moment, word, answers),
+            Command::Load(digits) => self.load(alloc, digits, answers),
+            Command::Retire(number) => self.retire(*number, answers),
+            Command::Setup(vc, number, wanted) => self.setup(*vc, *number, wanted, answers),
+            Command::Reload(vc, number) => self.reload(*vc, *number, answers),
+            Command::Release(vc) => self.release(*vc, answers),
+            Command::Cut(vc) => self.cut(*vc, answers),
+        }
+    }
+
+    /// Answers a line with words.
+    fn answer_command(
+        &mut self,
+        alloc: Global,
+        line: &[u8],
+        answers: &mut Vec<u8>,
+    ) -> Result<(), AllocError>
+        ensures { OnOk result (Moves (λ before. CommandLine before (words_of line.now))
+            self.old self.new answers.old.items answers.new.items) }
+    {
+        match read_command(self.core.shape().side, line) {
+            Some(command) => self.obey(alloc, &command, answers),
+            None => add_bad_line(answers),
+        }
+    }
+
+    /// Answers a line by its words.
+    #[inline(never)]
+    fn answer_words(
+        &mut self,
+        alloc: Global,
+        line: &[u8],
+        answers: &mut Vec<u8>,
+    ) -> Result<(), AllocError>
+        ensures { OnOk result (Moves (SaysLine line.now) self.old self.new answers.old.items answers.new.items) }
+    {
+        match line_words(line) {
+            LineWords::Silent => Ok(()),
+            LineWords::One(_) | LineWords::Several => self.answer_command(alloc, line, answers),
+        }
+    }
+
+    /// Answers a line. That of a cell in the common form is read at once, without a look for its words.
+    #[inline(always)]
+    pub fn answer(
+        &mut self,
+        alloc: Global,
+        line: &[u8],
+        answers: &mut Vec<u8>,
+    ) -> Result<(), AllocError>
+        ensures { OnOk result (Moves (SaysLine line.now) self.old self.new answers.old.items answers.new.items) }
+    {
+        match read_cell(line) {
+            Some(arrival) => self.police(arrival.moment, &arrival.cell, answers),
+            None => self.answer_words(alloc, line, answers),
+        }
+    }
+}

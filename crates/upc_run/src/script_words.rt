@@ -1,0 +1,219 @@
+//! The words of a script: numbers, names of programs and of connections, rates and contracts.
+
+ghost use Rattle.std.specs.Prelude.{◌≡◌, ◌<◌, ◌≤◌, length, option_map};
+ghost use Rattle.upc_run.specs.declared.script_words.Rate.{Rate as TheRate};
+ghost use Rattle.upc_run.specs.declared.script_words.Wanted.{Wanted as TheWanted};
+ghost use Rattle.upc_run.specs.ScriptWords.{cut_at, number_of, number_up_to, program_of, rate_of, two_rates, vc_named, wanted_of};
+ghost use Rattle.upc_run.specs.inner.Digits.{with_digit};
+
+use memchr::memchr;
+use upc_cell::{Side, Vc};
+
+/// A rate as a script asks for it, whose numbers may be out of all limits.
+#[derive(Clone, Copy, Debug, PartialEq, Eq)]
+pub struct Rate {
+    /// The time from one cell to the next, in ticks.
+    pub increment: u64,
+    /// How much too early a cell may come, in ticks.
+    pub limit: u64,
+}
+
+/// A contract as a script asks for it. Of two rates the first is the peak's.
+#[derive(Clone, Copy, Debug, PartialEq, Eq)]
+pub enum Wanted {
+    Cbr1(Rate),
+    Vbr1(Rate, Rate),
+    Vbr2(Rate, Rate),
+    Vbr3(Rate, Rate),
+}
+
+/// Both numbers 0: what no rate may be, in a place that no contract has taken yet.
+impl Default for Wanted {
+    ghost use Rattle.upc_run.specs.ScriptWords.{IsBlankContract};
+
+    ghost is_default = { IsBlankContract };
+
+    fn default() -> Wanted {
+        Wanted::Cbr1(Rate {
+            increment: 0,
+            limit: 0,
+        })
+    }
+}
+
+/// The greatest value that any digit may stand behind: with 9 it is 2^64 - 7.
+const MOST_BEFORE: u64 = 1844674407370955160;
+
+/// The value with one more digit behind it; none where the octet is no digit, or the value is above
+/// 2^64 - 1. Where the value was small enough before, it need not be tested afterwards.
+#[inline(always)]
+fn shifted(value: u64, octet: u8) -> Option<u64>
+    ensures { result ≡ with_digit value octet }
+{
+    if octet < b'0' || octet > b'9' {
+        return None;
+    }
+    let digit = u64::from(octet - b'0');
+    if value <= MOST_BEFORE {
+        return Some(10 * value + digit);
+    }
+    match value.checked_mul(10) {
+        Some(tens) => tens.checked_add(digit),
+        None => None,
+    }
+}
+
+/// So many digits spell no number that is too large.
+const FEW_DIGITS: usize = 19;
+
+/// The value with one more digit behind it; none where the octet is no digit.
+#[inline(always)]
+fn appended(value: u64, octet: u8) -> Option<u64>
+    requires { value ≤ MOST_BEFORE }
+    ensures { result ≡ with_digit value octet }
+{
+    let digit = u64::from(octet).wrapping_sub(u64::from(b'0'));
+    if digit > 9 {
+        return None;
+    }
+    Some(10 * value + digit)
+}
+
+/// The number that a word of few digits spells. None of its values is tested.
+#[inline(always)]
+fn short_number(word: &[u8]) -> Option<u64>
+    requires some { 0 < length word.now }
+    requires few { length word.now ≤ FEW_DIGITS }
+    ensures { result ≡ number_of word.now }
+{
+    let mut value = 0u64;
+    let mut rest = word;
+    while let [octet, behind @ ..] = rest {
+        let Some(next) = appended(value, *octet) else {
+            return None;
+        };
+        value = next;
+        rest = behind;
+    }
+    Some(value)
+}
+
+/// The number that a word of many digits spells, of at most 2^64 - 1.
+#[inline(never)]
+fn long_number(word: &[u8]) -> Option<u64>
+    requires { 0 < length word.now }
+    ensures { result ≡ number_of word.now }
+{
+    let mut value = 0u64;
+    let mut rest = word;
+    while let [octet, behind @ ..] = rest {
+        let Some(next) = shifted(value, *octet) else {
+            return None;
+        };
+        value = next;
+        rest = behind;
+    }
+    Some(value)
+}
+
+/// The number that a word spells, of at most 2^64 - 1.
+#[inline(always)]
+pub fn number(word: &[u8]) -> Option<u64>
+    ensures { result ≡ number_of word.now }
+{
+    if word.is_empty() {
+        None
+    } else if word.len() <= FEW_DIGITS {
+        short_number(word)
+    } else {
+        long_number(word)
+    }
+}
+
+/// The number that a word spells, where it is at most this.
+fn number_at_most(most: u16, word: &[u8]) -> Option<u16>
+    ensures { result ≡ number_up_to most word.now }
+{
+    match number(word) {
+        Some(number) if number <= u64::from(most) => Some(number as u16),
+        _ => None,
+    }
+}
+
+/// The number of a program's name.
+pub fn program(word: &[u8]) -> Option<u64>
+    ensures { result ≡ program_of word.now }
+{
+    match word {
+        [b'p', digits @ ..] => number(digits),
+        _ => None,
+    }
+}
+
+/// The virtual connection that two words name at a side.
+pub fn connection(side: Side, path: &[u8], channel: &[u8]) -> Option<Vc>
+    ensures { result ≡ vc_named side path.now channel.now }
+{
+    let Some(vpi) = number_at_most(side.last_vpi(), path) else {
+        return None;
+    };
+    let Some(vci) = number_at_most(u16::MAX, channel) else {
+        return None;
+    };
+    match Vc::new_at(side, vpi, vci) {
+        Ok(vc) => Some(vc),
+        Err(_) => None,
+    }
+}
+
+/// What stands before the first such mark, and what stands behind it.
+fn cut(mark: u8, text: &[u8]) -> Option<(&[u8], &[u8])>
+    ensures { option_map (λ parts. (parts.0.now, parts.1.now)) result ≡ cut_at mark text.now }
+{
+    match memchr(mark, text) {
+        Some(place) => Some((&text[..place], &text[place + 1..])),
+        None => None,
+    }
+}
+
+/// The rate that a word asks for.
+fn one_rate(word: &[u8]) -> Option<Rate>
+    ensures { result ≡ rate_of word.now }
+{
+    let (increment, limit) = cut(b'/', word)?;
+    Some(Rate {
+        increment: number(increment)?,
+        limit: number(limit)?,
+    })
+}
+
+/// Two rates with a colon between them.
+fn both_rates(word: &[u8]) -> Option<(Rate, Rate)>
+    ensures { (join : TheRate → TheRate → TheWanted) → option_map (λ both. join both.0 both.1) result ≡ two_rates join word.now }
+{
+    let (peak, sustained) = cut(b':', word)?;
+    Some((one_rate(peak)?, one_rate(sustained)?))
+}
+
+/// The contract that a word asks for.
+pub fn contract(word: &[u8]) -> Option<Wanted>
+    ensures { result ≡ wanted_of word.now }
+{
+    let (kind, behind) = cut(b':', word)?;
+    if kind == b"cbr1".as_slice() {
+        return Some(Wanted::Cbr1(one_rate(behind)?));
+    }
+    if kind == b"vbr1".as_slice() {
+        let (peak, sustained) = both_rates(behind)?;
+        return Some(Wanted::Vbr1(peak, sustained));
+    }
+    if kind == b"vbr2".as_slice() {
+        let (peak, sustained) = both_rates(behind)?;
+        return Some(Wanted::Vbr2(peak, sustained));
+    }
+    if kind == b"vbr3".as_slice() {
+        let (peak, sustained) = both_rates(behind)?;
+        return Some(Wanted::Vbr3(peak, sustained));
+    }
+    None
+}

@@ -1,0 +1,5 @@
+pub mod HexadecimalLemmas
+pub mod CellWordLemmas
+pub mod DigitLemmas
+pub mod ReadingLemmas
+pub mod Public
