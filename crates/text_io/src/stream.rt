@@ -21,10 +21,8 @@ impl<R> Taking<R> {
         ensures reader { result.reader ≡ reader }
         ensures calm { result.failures ≡ 0 }
     {
-        Taking {
-            reader,
-            failures: 0,
-        }
+        let failures = 0;
+        Taking { reader, failures }
     }
 }
 
@@ -67,10 +65,8 @@ impl<W> Giving<W> {
         ensures writer { result.writer ≡ writer }
         ensures calm { result.failures ≡ 0 }
     {
-        Giving {
-            writer,
-            failures: 0,
-        }
+        let failures = 0;
+        Giving { writer, failures }
     }
 }
 

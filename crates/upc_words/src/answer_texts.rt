@@ -30,7 +30,7 @@ pub fn add_text(answers: &mut Vec<u8>, text: &[u8]) -> Result<(), AllocError>
 fn add_numbered(answers: &mut Vec<u8>, text: &[u8], number: usize) -> Result<(), AllocError>
     ensures { OnOk result (answers.new.items ≡ answers.old.items ++ line (text.now ++ decimal number)) }
 {
-    answers.extend_from_slice(text)?;
+    add_text(answers, text)?;
     add_number(answers, number as u64)?;
     answers.push(b'\n')?;
     Ok(())

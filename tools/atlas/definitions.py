@@ -1,25 +1,13 @@
-#!/usr/bin/env python3
-"""Prints docs/DEFINITIONS.md: what one has to believe.
+"""The definitions of specs/, and which of them are promised.
 
 A definition is promised where the contract of a public function, the view of a public type or a law cites it, or
-where a promised definition does. Each is printed with the sentence above it, crate by crate, in the order in which
-`specs/Lib.antt` names the files. What only private functions and proofs need stands in `specs/inner/`, and what only
-tests need in `specs/examples/`; neither is printed.
-
-`tests/definitions --check` compares the list with docs/DEFINITIONS.md and says what is wrong with the definitions: a
-promised one without a sentence, among the helping ones, or of a type that no caller can name, and a helping one
-among the promised. Its last line is 'N passed, M failed'.
+where a promised definition does.
 """
 import os
 import re
-import sys
 
-ROOT = os.path.dirname(os.path.dirname(os.path.realpath(__file__)))
-HEAD = """# Definitions
+from .files import ROOT, crates, files_below, text_of
 
-What one has to believe: every definition that the contract of a public function, the view of a public type or a law
-cites, and all that these cite in turn, with the sentence that stands above it. What only helps a proof stands in
-`crates/*/specs/inner/`, and isn't here. Made by `tests/definitions > docs/DEFINITIONS.md`."""
 # A word of a definition or a clause, or the dot of a path.
 WORD = re.compile(r"[^\s(){}\[\],.;:→×⊎λ|↦]+|\.")
 IMPORT = re.compile(r"^\s*(?:ghost )?use (Rattle\.[^\s;{]*?)(?:\.\{([^}]*)\}| as ([^\s;]+))?;?$", re.M)
@@ -27,31 +15,12 @@ BEGINS = re.compile(r"(?:(?:abbrev|unfoldable) )*(pub )?(?:(record|data) )?([^\s
 # Ghost items of an impl that are obligations, and promise nothing that a clause doesn't.
 OBLIGATIONS = ("laws", "is_total", "total", "matches_partial_cmp", "matches_eq", "respects_eq")
 
-
-def text_of(path):
-    with open(path, encoding="utf-8") as it:
-        return it.read()
-
-
-def files_below(folder, ending):
-    for at, _, names in sorted(os.walk(folder)):
-        for name in sorted(names):
-            if name.endswith(ending):
-                yield f"{at}/{name}"
-
-
-def crates():
-    for line in text_of(f"{ROOT}/crates.txt").split("\n"):
-        if re.match(r"[a-z]", line):
-            yield re.split(r"[ :]", line)[0]
-
-
 class Definition:
-    """A definition: its module, its name, the sentence above it, its text, and the names of its parts."""
+    """A definition: its module, its name, the sentence above it, its text, its line, and the names of its parts."""
 
     def __init__(self, module, name, kind, sentence, line):
         self.module, self.name, self.kind, self.sentence = module, name, kind, sentence
-        self.text, self.parts = line, []
+        self.text, self.parts, self.line = line, [], 0
 
     def add(self, line):
         self.text += "\n" + line
@@ -64,8 +33,8 @@ class Module:
     """A file of specs/: its path, its first sentence, its definitions in order, and what it imports."""
 
     def __init__(self, crate, path):
-        inside = os.path.relpath(path, f"{ROOT}/crates/{crate}/specs")[: -len(".antt")]
-        self.crate, self.path, self.inside = crate, os.path.relpath(path, ROOT), inside
+        inside = path.removeprefix(f"crates/{crate}/specs/").removesuffix(".antt")
+        self.crate, self.path, self.inside = crate, path, inside
         self.name = f"Rattle.{crate}.specs." + inside.replace("/", ".")
         self.sentence, self.definitions = "", {}
         source = text_of(path)
@@ -74,28 +43,28 @@ class Module:
 
     def read(self, lines):
         said, current, begun, indent = [], None, False, ""
-        for line in lines:
+        for at, line in enumerate(lines):
             if line.startswith("module "):
                 indent, said, current = "  ", [], None
                 continue
-            stands = line[len(indent) :] if line.startswith(indent) else line
-            if stands.startswith("-- "):
-                said, current = said + [stands[3:]], None
-            elif stands.startswith(("use ", "pub use ", "pub mod ")):
+            own = line[len(indent) :] if line.startswith(indent) else line
+            if own.startswith("-- "):
+                said, current = said + [own[3:]], None
+            elif own.startswith(("use ", "pub use ", "pub mod ")):
                 self.sentence = self.sentence if begun else " ".join(said)
                 said, begun = [], True
-            elif not stands.strip():
+            elif not own.strip():
                 current = None
                 if not begun:
                     self.sentence, said, begun = " ".join(said), [], True
-            elif stands[0] in " \t":
+            elif own[0] in " \t":
                 if current:
-                    current.add(stands)
+                    current.add(own)
             else:
-                current = self.begin(stands, said, current)
+                current = self.begin(own, said, current, at + 1)
                 said = []
 
-    def begin(self, line, said, current):
+    def begin(self, line, said, current, number):
         found = BEGINS.match(line)
         if not found:
             return current
@@ -104,6 +73,7 @@ class Module:
             self.definitions[name].add(line)
         else:
             self.definitions[name] = Definition(self, name, kind, " ".join(said), line)
+            self.definitions[name].line = number
         return self.definitions[name]
 
     def helps(self):
@@ -135,7 +105,7 @@ class Specs:
     def __init__(self):
         self.modules = {}
         for crate in crates():
-            for path in files_below(f"{ROOT}/crates/{crate}/specs", ".antt"):
+            for path in files_below(f"crates/{crate}/specs", ".antt"):
                 module = Module(crate, path)
                 self.modules[module.name] = module
 
@@ -143,7 +113,7 @@ class Specs:
         return self.modules[module].named(name) if module in self.modules else None
 
     def cited(self, text, imported, home=None):
-        """The definitions that a text cites, which stands in the module `home`, if in any."""
+        """Yields the definitions that a text cites. `home` is the module of the text, if it is in one."""
         names, aliases = imported
         words = WORD.findall(text)
         for at, word in enumerate(words):
@@ -159,9 +129,12 @@ class Specs:
 
 def public_names(crate):
     """The names that a library gives to its callers, and its public modules; None for a program."""
-    root = f"{ROOT}/crates/{crate}/src/lib.rt"
-    if not os.path.exists(root):
-        return None
+    root = f"crates/{crate}/src/lib.rt"
+    return names_given(root) if os.path.exists(f"{ROOT}/{root}") else None
+
+
+def names_given(root):
+    """Returns the names that a root file gives to callers, and its public modules."""
     source = text_of(root)
     names = set()
     for listed, one in re.findall(r"^pub use [\w:]+::(?:\{([^}]*)\}|(\w+));", source, re.M):
@@ -208,8 +181,8 @@ def block(lines, at):
 def promises(crate):
     """The texts by which a crate promises something: contracts of public functions, views of public types."""
     public = public_names(crate)
-    for path in files_below(f"{ROOT}/crates/{crate}/src", ".rt"):
-        inside = os.path.relpath(path, f"{ROOT}/crates/{crate}/src")[: -len(".rt")]
+    for path in files_below(f"crates/{crate}/src", ".rt"):
+        inside = path.removeprefix(f"crates/{crate}/src/").removesuffix(".rt")
         if inside.split("/")[0] == "tests":
             continue
         source = text_of(path)
@@ -246,7 +219,7 @@ def promises_of(lines, public, inside):
 def invariants(crate):
     """The invariants of public types: they may be promised, but need not."""
     public = public_names(crate)
-    for path in files_below(f"{ROOT}/crates/{crate}/src", ".rt"):
+    for path in files_below(f"crates/{crate}/src", ".rt"):
         source = text_of(path)
         lines, owner = source.split("\n"), None
         for at, line in enumerate(lines):
@@ -269,31 +242,15 @@ def reached(specs, texts):
 
 def in_order(specs, crate):
     """The modules of a crate that may be promised, in the order of reading."""
-    order = re.findall(r"^pub mod (\w+)", text_of(f"{ROOT}/crates/{crate}/specs/Lib.antt"), re.M)
+    order = re.findall(r"^pub mod (\w+)", text_of(f"crates/{crate}/specs/Lib.antt"), re.M)
     names = [f"Rattle.{crate}.specs.{it}" for it in order]
     return [specs.modules[it] for it in names if it in specs.modules and not specs.modules[it].helps()]
 
 
 def sentence(said):
+    """Returns a sentence with its capital and its stop."""
     said = said[:1].upper() + said[1:]
     return said if said.endswith((".", ":")) else said + "."
-
-
-def printed(specs, promised):
-    lines = [HEAD]
-    for crate in crates():
-        if not os.path.exists(f"{ROOT}/crates/{crate}/specs/Lib.antt"):
-            continue
-        lines.append(f"\n## {crate}")
-        for module in in_order(specs, crate):
-            ours = [it for it in module.definitions.values() if it in promised]
-            if not ours:
-                continue
-            lines.append(f"\n### `{module.path}`\n")
-            if module.sentence:
-                lines.append(sentence(module.sentence) + "\n")
-            lines.extend(f"- `{it.name}`: {sentence(it.sentence)}" if it.sentence else f"- `{it.name}`" for it in ours)
-    return "\n".join(lines) + "\n"
 
 
 def hidden_types(definition):
@@ -320,25 +277,3 @@ def faults(specs, promised, allowed):
                 yield f"{where} only helps, and stands among what is promised"
             if it in promised:
                 yield from (f"{where} is promised, and cites {name}, which no caller can name" for name in hidden_types(it))
-
-
-def main():
-    specs = Specs()
-    promised = reached(specs, [it for crate in crates() for it in promises(crate)])
-    allowed = reached(specs, [it for crate in crates() for it in invariants(crate)])
-    promised |= {it for it in allowed if not it.module.helps()}
-    if sys.argv[1:] != ["--check"]:
-        print(printed(specs, promised), end="")
-        return 0
-    found = list(faults(specs, promised, allowed))
-    if printed(specs, promised) != text_of(f"{ROOT}/docs/DEFINITIONS.md"):
-        found.append("docs/DEFINITIONS.md isn't what tests/definitions prints")
-    for it in found:
-        print(it)
-    count = sum(len(it.definitions) for it in specs.modules.values()) + 1
-    print(f"{count - len(found)} passed, {len(found)} failed")
-    return 1 if found else 0
-
-
-if __name__ == "__main__":
-    sys.exit(main())

@@ -1,0 +1,113 @@
+"""What the sources and pages have to be like."""
+import os
+import re
+
+from . import definitions
+from .definitions import reached
+from .files import ROOT, exists, files_below, text_of
+
+LINK = re.compile(r"\]\(([^)#\s]+)(?:#[^)]*)?\)")
+# A name in a page that reads like a function or a definition: of one word with an underscore or a `::`, or of two capitals.
+NAME = re.compile(r"`([A-Za-z_][\w]*(?:::[\w]+)+|[a-z]+(?:_[a-z0-9]+)+|[A-Z][a-z]+[A-Z]\w*)(?:\(\))?`")
+
+
+def comments(sources):
+    """Yields each public function without a doc comment."""
+    for it in sources.functions:
+        if sources.is_open(it) and not it.sentence and not (it.owner and it.trait):
+            yield f"{it.path}:{it.line}: {it.full} has no doc comment"
+
+
+def turned(sources):
+    """Yields each public function with a promise that no edit turns and that doesn't say why, and edits that serve nothing."""
+    known = {}
+    for it in sources.functions:
+        known.setdefault((it.crate, it.name), []).append(it)
+    for it in sources.functions:
+        promises = any(clause.kind == "ensures" for clause in it.clauses)
+        if sources.is_open(it) and promises and not it.is_law and not it.no_edit and not sources.edits_of(it) and not sources.edits_below(it):
+            yield f"{it.path}:{it.line}: no edit turns {it.full}, and no comment 'no edit: ..' says why"
+    for it in sources.edits:
+        if it.fault:
+            yield f"{it.path}: {it.fault}"
+        last = it.function.rpartition("::")[2]
+        if it.function and (it.crate, last) not in known:
+            yield f"{it.path}: {it.crate} has no function {it.function}"
+
+
+def defined(sources):
+    """Yields what is wrong with the definitions."""
+    promises = [it for crate in sources.crates for it in definitions.promises(crate)]
+    may = [it for crate in sources.crates for it in definitions.invariants(crate)]
+    promised, allowed = reached(sources.specs, promises), reached(sources.specs, may)
+    promised |= {it for it in allowed if not it.module.helps()}
+    yield from definitions.faults(sources.specs, promised, allowed)
+
+
+def pages_of(sources):
+    """Returns the pages: README, docs/ and those of the crates, and where each link begins."""
+    pages = ["README.md", *files_below("docs", ".md"), "bench/README.md", "reference/README.md"]
+    pages += [it for it in files_below("bench", ".md") if it not in pages]
+    return [it for it in [*pages, *(f"crates/{crate}/README.md" for crate in sources.crates)] if exists(it)]
+
+
+def linked(sources):
+    """Yields each link of a page to a file that doesn't exist."""
+    for page in pages_of(sources):
+        for target in LINK.findall(text_of(page)):
+            if not re.match(r"https?:", target) and not exists(os.path.normpath(f"{os.path.dirname(page)}/{target}")):
+                yield f"{page}: no file {target}"
+
+
+def named(sources):
+    """Yields each name of a function or definition in docs/ that doesn't exist."""
+    known = {it.name for it in sources.functions} | {clause.name for it in sources.functions for clause in it.clauses}
+    known |= {name for module in sources.specs.modules.values() for it in module.definitions.values() for name in [it.name, *it.parts]}
+    known |= set(sources.crates)
+    code = "\n".join(text_of(it) for crate in sources.crates for it in files_below(f"crates/{crate}/src", ".rt"))
+    words = set(re.findall(r"\w+", code)) | set(re.findall(r"\w+", text_of("include/upc.h")))
+    for folder in ("bench", "tools", "tests", "bin", "reference"):
+        for at, _, names in os.walk(f"{ROOT}/{folder}"):
+            words |= {part for name in names for part in (name, name.rpartition(".")[0])}
+    for it in files_below("bench", ".rs"):
+        words |= set(re.findall(r"\w+", text_of(it)))
+    for page in ["README.md", *files_below("docs", ".md")]:
+        for name in NAME.findall(text_of(page)):
+            last = name.rpartition("::")[2]
+            if last not in known and last not in words and name not in KIT_NAMES:
+                yield f"{page}: nothing is called {name}"
+
+
+# Names of the toolchain's and of other programs', which pages may name.
+KIT_NAMES = {"bpf_filter", "bpf_validate", "rte_meter", "may_wait", "tests_may", "std_alloc", "std_heap", "opt_level"}
+
+
+def coded(sources):
+    """Yields what is wrong with the code of the crates' pages: it has to be in the file that the page names above it, line by line."""
+    for crate in sources.crates:
+        page = f"crates/{crate}/README.md"
+        if not exists(page):
+            yield f"{page}: there is none"
+            continue
+        text = text_of(page)
+        code = "\n".join(line.strip() for fence in re.findall(r"^```\w*\n(.*?)^```", text, re.M | re.S) for line in fence.split("\n") if line.strip())
+        source = re.search(r"^.*\(\[`(\w+)`\]\(([^)]*)\)\):$", text, re.M)
+        if not code:
+            yield f"{page}: it has no code"
+        elif not source:
+            yield f"{page}: it doesn't say where its code is from"
+        else:
+            path = os.path.normpath(f"crates/{crate}/{source[2]}")
+            lines = "\n".join(line.strip() for line in text_of(path).split("\n") if line.strip()) if exists(path) else ""
+            if code not in lines:
+                yield f"{page}: its code isn't in {source[2]}"
+
+
+CHECKS = (comments, turned, defined, linked, named, coded)
+
+
+def checked(sources):
+    """Returns how many things were looked at, and what is wrong."""
+    wrong = [it for check in CHECKS for it in check(sources)]
+    looked = sum(sources.is_open(it) for it in sources.functions) + len(sources.edits) + sum(len(it.definitions) for it in sources.specs.modules.values()) + len(pages_of(sources))
+    return looked, wrong

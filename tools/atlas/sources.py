@@ -1,0 +1,179 @@
+"""All of it together: for each function and definition what belongs to it."""
+import functools
+import re
+
+from . import definitions, edits, functions
+from .files import below, crates, exists, files_below, text_of
+
+
+class Sources:
+    """The repository's functions, definitions, tests, edits and cases, and how they belong together."""
+
+    def __init__(self):
+        self.crates = crates()
+        self.functions = [it for crate in self.crates for it in functions.functions_of(crate)]
+        self.specs = definitions.Specs()
+        self.by_name = {}
+        for it in self.functions:
+            self.by_name.setdefault(it.name, []).append(it)
+        self.test_crates = {it.crate for it in self.functions if it.is_test}
+
+    @functools.cached_property
+    def edits(self):
+        return [it for crate in self.crates for it in edits.edits_of(crate)]
+
+    @functools.cached_property
+    def patches(self):
+        return [it for crate in self.crates for it in edits.patches_of(crate)]
+
+    @functools.cached_property
+    def edits_by_function(self):
+        found = {}
+        for it in self.edits:
+            found.setdefault(it.function.rpartition("::")[2], []).append(it)
+        return found
+
+    def edits_of(self, function):
+        """Returns the edits that turn this function, those of each gate first."""
+        ends = lambda it: function.full == it.function or function.full.endswith("::" + it.function)
+        return [it for it in self.edits_by_function.get(function.name, []) if it.crate == function.crate and ends(it)]
+
+    def edits_below(self, function):
+        """Returns the edits that turn private functions to which this one hands its work, itself or by others."""
+        seen, left, found = {function}, [function], []
+        while left:
+            for it in self.called_by(left.pop()):
+                if it not in seen and not self.is_open(it):
+                    seen.add(it)
+                    left.append(it)
+                    found += self.edits_of(it)
+        return found
+
+    def proof_of(self, function):
+        """Returns the folder of what is written of a function's proof, or nothing."""
+        path = "/".join(it for it in (function.module.replace("::", "/"), function.owner + function.trait, function.name) if it)
+        folder = f"crates/{function.crate}/proofs/{path}"
+        return folder if exists(folder) else ""
+
+    def called_by(self, function):
+        """Returns the functions of its own crate that a function calls."""
+        found = []
+        for owner, is_method, name in function.calls():
+            for it in self.by_name.get(name, []):
+                if it.crate == function.crate and it is not function and self.is_called(it, owner, is_method, function):
+                    found.append(it)
+        return sorted(found, key=lambda it: (it.path, it.line))
+
+    def is_called(self, it, owner, is_method, caller):
+        """Returns whether a call names this function, as far as its text says."""
+        if owner in ("Self", "self"):
+            return it.owner == caller.owner
+        if owner and owner[0].isupper():
+            return it.owner == owner
+        return bool(it.owner) == is_method if not owner else not it.owner
+
+    @functools.cached_property
+    def reached_by_tests(self):
+        """For each test what it calls, itself or by functions of the tests' own modules."""
+        found = {}
+        for crate in self.test_crates:
+            ours = [it for it in self.functions if it.crate == crate]
+            calls = {it: it.calls() for it in ours}
+            names = {}
+            for it in ours:
+                names.setdefault(it.name, []).append(it)
+            for test in (it for it in ours if it.is_test):
+                seen, left = {test}, [test]
+                while left:
+                    for _, _, name in calls[left.pop()]:
+                        for it in names.get(name, []):
+                            if it not in seen and it.module.startswith(("tests", test.module)):
+                                seen.add(it)
+                                left.append(it)
+                found[test] = {call for it in seen for call in calls[it]}, {it.path for it in seen}
+        return found
+
+    @functools.cached_property
+    def owners_of_methods(self):
+        found = {}
+        for it in self.functions:
+            if it.owner:
+                found.setdefault(it.name, set()).add(it.owner)
+        return found
+
+    def tests_of(self, function):
+        """Returns the tests that call a function."""
+        found = []
+        for test, (called, paths) in self.reached_by_tests.items():
+            if function.crate != test.crate and function.crate not in below(test.crate, self.crates):
+                continue
+            for owner, is_method, name in called:
+                if name == function.name and self.is_test_call(function, owner, is_method, paths):
+                    found.append(test)
+                    break
+        return found
+
+    def is_test_call(self, function, owner, is_method, paths):
+        if owner and owner[0].isupper():
+            return owner == function.owner
+        if not is_method:
+            return not function.owner
+        # A method's type isn't in the call: where several types have a method of this name, the file has to name the type.
+        others = self.owners_of_methods[function.name] if function.owner else ()
+        return bool(function.owner) and (len(others) == 1 or any(re.search(rf"\b{function.owner}\b", text_of(it)) for it in paths))
+
+    def cited_by(self, function):
+        """Returns the definitions that a function's clauses cite, in their order."""
+        imported = imports_of(function.path)
+        found = []
+        for clause in function.clauses:
+            for it in self.specs.cited(clause.text, imported):
+                if it not in found:
+                    found.append(it)
+        return found
+
+    @functools.cached_property
+    def promisers(self):
+        """For each definition the public functions whose clauses reach it."""
+        found = {}
+        for function in self.functions:
+            if self.is_open(function):
+                for it in definitions.reached(self.specs, [(clause.text, imports_of(function.path)) for clause in function.clauses]):
+                    found.setdefault(it, []).append(function)
+        return found
+
+    @functools.cached_property
+    def public(self):
+        roots = {crate: next(it for it in (f"crates/{crate}/src/lib.rt", f"crates/{crate}/src/main.rt") if exists(it)) for crate in self.crates}
+        return {crate: definitions.names_given(root) for crate, root in roots.items()}
+
+    def is_open(self, it):
+        """Returns whether callers in other crates can call a function."""
+        if it.module.split("::")[0] == "tests" or it.is_test:
+            return False
+        names, modules = self.public[it.crate]
+        if it.owner:
+            return it.owner in names and (it.is_pub or it.trait in names)
+        return it.is_pub and (it.name in names or it.module in modules)
+
+    @functools.cached_property
+    def cases(self):
+        """The cases of tests/worked/: the name of each and what it shows."""
+        found = {}
+        for line in text_of("tests/worked/index").split("\n"):
+            words = line.split(None, 3)
+            if len(words) == 4 and not line.startswith("#"):
+                found[words[0]] = words[3]
+        return found
+
+
+@functools.lru_cache(maxsize=None)
+def imports_of(path):
+    """Returns what a source file imports for its clauses."""
+    return definitions.imports(text_of(path))
+
+
+@functools.lru_cache(maxsize=None)
+def lemma_files(crate):
+    """Returns the files of lemmas of a crate."""
+    return [it for it in files_below(f"crates/{crate}/proofs", ".antt") if not it.endswith(("Answers.antt", "Invariants.antt", "Proof.antt"))]
