@@ -1,10 +1,10 @@
 -- Lemmas for proofs of other crates. Each is the statement of a public law.
 use Rattle.std.proofs.Common.{◌≡◌, ℕ, ◌⊎◌, List}
-use Rattle.bpf_asm.proofs.CodeOrFault as whole
-use Rattle.bpf_asm.proofs.Fitting as fitting
-use Rattle.bpf_asm.proofs.NeverBoth as both
-use Rattle.bpf_asm.proofs.OneFault as faults
-use Rattle.bpf_asm.proofs.OneMeaning as meanings
+use Rattle.bpf_asm.proofs.totality.CodeOrFault as whole
+use Rattle.bpf_asm.proofs.meanings.Fitting as fitting
+use Rattle.bpf_asm.proofs.meanings.NeverBoth as both
+use Rattle.bpf_asm.proofs.meanings.OneFault as faults
+use Rattle.bpf_asm.proofs.meanings.OneMeaning as meanings
 use Rattle.bpf_asm.specs.Faults.{IsFault}
 use Rattle.bpf_asm.specs.Meaning.{IsMeaning}
 use Rattle.bpf_asm.specs.declared.fault.AsmFault.{AsmFault}

@@ -6,10 +6,10 @@ ghost use Rattle.bpf_asm.specs.SourceLines.{source_lines};
 ghost use Rattle.bpf_asm.specs.Meaning.{IsMeaning};
 ghost use Rattle.bpf_asm.specs.inner.Drafts.{IsDraftOf, IsFaultAt};
 
-use crate::draft::Draft;
 use crate::fault::{AsmFault, AsmKind};
 use crate::resolver::resolve_all;
 use crate::source_lines::next_line;
+use crate::unresolved::Draft;
 use bpf_code::Instr;
 use std::alloc::Global;
 

@@ -2,18 +2,18 @@
 #![tactic(auto)]
 
 mod assembler;
-mod cutting;
-mod draft;
 mod fault;
 mod labels;
 pub mod laws;
+mod line;
 mod lister;
 mod mnemonic;
-mod parse;
-mod reader;
+mod operand;
 mod resolver;
 mod source_lines;
+mod statement;
 mod token;
+mod unresolved;
 
 pub use assembler::assemble;
 pub use fault::{AsmFault, AsmKind, ListFault};

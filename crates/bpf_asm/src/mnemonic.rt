@@ -6,8 +6,8 @@ ghost use Rattle.bpf_asm.specs.inner.Seen.{statement_seen};
 ghost use Rattle.bpf_asm.specs.StatementSpelling.{plain};
 ghost use Rattle.bpf_asm.specs.Tokens.{tokens_read};
 
-use crate::cutting::{after_name, at_end};
-use crate::parse::{
+use crate::operand::{after_name, at_end};
+use crate::statement::{
     LentStatement, arithmetic, branch, end, header, index_load, inverse, jump, packet_load,
     scratch, word_load,
 };

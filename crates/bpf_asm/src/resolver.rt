@@ -9,10 +9,10 @@ ghost use Rattle.bpf_asm.specs.inner.LabelPlaces.{place_of};
 ghost use Rattle.bpf_asm.specs.inner.Seen.{statement_seen};
 ghost use Rattle.bpf_asm.specs.inner.Drafts.{AgreesWith, Drafts, IsSideFault};
 
-use crate::draft::Draft;
 use crate::fault::{AsmFault, AsmKind};
 use crate::labels::Labels;
-use crate::parse::LentStatement;
+use crate::statement::LentStatement;
+use crate::unresolved::Draft;
 use bpf_code::Instr;
 
 /// The greatest offset of a branch, whose fields have 8 bits.

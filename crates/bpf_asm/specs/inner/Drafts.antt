@@ -9,13 +9,13 @@ use Rattle.bpf_asm.specs.inner.Pending.{IsPending}
 use Rattle.bpf_asm.specs.inner.LabelPlaces.{place_of}
 use Rattle.bpf_asm.specs.inner.Seen.{statement_seen}
 use Rattle.bpf_asm.specs.StatementSpelling.{Statement}
-use Rattle.bpf_asm.specs.declared.draft.Draft.{Draft}
-use Rattle.bpf_asm.specs.declared.draft.Unresolved.{Unresolved}
+use Rattle.bpf_asm.specs.declared.unresolved.Draft.{Draft}
+use Rattle.bpf_asm.specs.declared.unresolved.Unresolved.{Unresolved}
 use Rattle.bpf_asm.specs.declared.fault.AsmFault.{AsmFault}
 use Rattle.bpf_asm.specs.declared.fault.AsmKind.{AsmKind}
 use Rattle.bpf_asm.specs.declared.fault.AsmKind.TheVariants.{LabelTwice, NoMemory}
-use Rattle.bpf_asm.specs.declared.parse.LentStatement.{LentStatement}
-use Rattle.bpf_asm.specs.declared.parse.LentStatement.TheVariants.{Plain, Jump as LabelJump, Branch as LabelBranch}
+use Rattle.bpf_asm.specs.declared.statement.LentStatement.{LentStatement}
+use Rattle.bpf_asm.specs.declared.statement.LentStatement.TheVariants.{Plain, Jump as LabelJump, Branch as LabelBranch}
 use Rattle.bpf_code.specs.declared.instr.Instr.{Instr}
 use Rattle.bpf_code.specs.declared.instr.Instr.TheVariants.{Jump, Branch}
 

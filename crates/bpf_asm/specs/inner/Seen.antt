@@ -3,9 +3,9 @@ use Rattle.std.specs.Prelude.{option_copied, option_map}
 use Rattle.bpf_asm.specs.Tokens.{Token, name, number, faulty, mark}
 use Rattle.bpf_asm.specs.StatementSpelling.{Statement, plain, jump, branch}
 use Rattle.bpf_asm.specs.Grammar.{Line}
-use Rattle.bpf_asm.specs.declared.reader.LentLine.{LentLine}
-use Rattle.bpf_asm.specs.declared.parse.LentStatement.{LentStatement}
-use Rattle.bpf_asm.specs.declared.parse.LentStatement.TheVariants.{Plain, Jump, Branch}
+use Rattle.bpf_asm.specs.declared.line.LentLine.{LentLine}
+use Rattle.bpf_asm.specs.declared.statement.LentStatement.{LentStatement}
+use Rattle.bpf_asm.specs.declared.statement.LentStatement.TheVariants.{Plain, Jump, Branch}
 use Rattle.bpf_asm.specs.declared.token.LentToken.{LentToken}
 use Rattle.bpf_asm.specs.declared.token.LentToken.TheVariants.{Name, Number, Faulty, Mark}
 

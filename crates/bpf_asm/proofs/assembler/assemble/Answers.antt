@@ -4,9 +4,9 @@ use Rattle.bpf_asm.specs.Labels.{statements_of}
 use Rattle.bpf_asm.specs.Meaning.{IsMeaning, MeanFrom}
 use Rattle.bpf_asm.specs.inner.Pending.{IsPending}
 use Rattle.bpf_asm.specs.declared.fault.AsmFault.{AsmFault}
-use Rattle.bpf_asm.proofs.Agreement.{if_ok}
-use Rattle.bpf_asm.proofs.Assembled.{dangling_source, if_err, means_source, operand_source}
-use Rattle.bpf_asm.proofs.Refusals.{memory_alone, never_accepted, refused_alone}
+use Rattle.bpf_asm.proofs.drafts.Agreement.{if_ok}
+use Rattle.bpf_asm.proofs.drafts.Assembled.{dangling_source, if_err, means_source, operand_source}
+use Rattle.bpf_asm.proofs.drafts.Refusals.{memory_alone, never_accepted, refused_alone}
 use Rattle.bpf_asm.proofs.assembler.assemble.Goals as goal
 
 pub returns-in-Some-clause-fault : goal.returns-in-Some-clause-fault

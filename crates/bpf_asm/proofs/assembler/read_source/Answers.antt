@@ -1,6 +1,6 @@
 use Rattle.std.proofs.Common.{arith}
 use Rattle.bpf_asm.specs.SourceLines.{source_lines}
-use Rattle.bpf_asm.proofs.Sources.{taken_more}
+use Rattle.bpf_asm.proofs.drafts.Sources.{taken_more}
 use Rattle.bpf_asm.proofs.assembler.read_source.Goals as goal
 
 pub loop-line-preserved : goal.loop-line-preserved

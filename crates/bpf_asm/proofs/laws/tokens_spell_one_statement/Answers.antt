@@ -1,6 +1,6 @@
 use Rattle.std.proofs.Common.{◌≡◌, Some, sym, ◌∙◌}
 use Rattle.bpf_asm.specs.StatementSpelling.{Statement}
-use Rattle.bpf_asm.proofs.ReadBack.{reads_back}
+use Rattle.bpf_asm.proofs.spellings.ReadBack.{reads_back}
 use Rattle.bpf_asm.proofs.laws.tokens_spell_one_statement.Goals as goal
 
 some_statement : (one other : Statement) → Some one ≡ Some other → one ≡ other

@@ -1,7 +1,7 @@
 use Rattle.std.proofs.Common.{length, arith}
 use Rattle.bpf_asm.specs.Listing.{StaysWithin}
-use Rattle.bpf_asm.proofs.Leaving.{leaves_if, stays_if}
-use Rattle.bpf_asm.proofs.Places.{leaving_found, places_all, places_more}
+use Rattle.bpf_asm.proofs.listings.Leaving.{leaves_if, stays_if}
+use Rattle.bpf_asm.proofs.listings.Places.{leaving_found, places_all, places_more}
 use Rattle.bpf_asm.proofs.lister.first_leaving.Goals as goal
 
 pub returns-then-leaves-clause-found : goal.returns-then-leaves-clause-found

@@ -1,4 +1,4 @@
-use Rattle.bpf_asm.proofs.Leaving.{jump_leaves, branch_leaves_first, branch_leaves_second}
+use Rattle.bpf_asm.proofs.listings.Leaving.{jump_leaves, branch_leaves_first, branch_leaves_second}
 use Rattle.bpf_asm.proofs.lister.leaves.Goals as goal
 
 pub returns-in-Jump : goal.returns-in-Jump

@@ -1,10 +1,10 @@
 use Rattle.std.proofs.Common.{arith}
 use Rattle.bpf_asm.specs.Listing.{listing_of}
 use Rattle.bpf_code.specs.Widths.{FitsFields}
-use Rattle.bpf_asm.proofs.ListingSteps.{written_more, written_all}
-use Rattle.bpf_asm.proofs.Places.{places_all, places_more}
-use Rattle.bpf_asm.proofs.RoundTrip.{listing_means}
-use Rattle.bpf_asm.proofs.Rows.{ok_mapped}
+use Rattle.bpf_asm.proofs.listings.ListingSteps.{written_more, written_all}
+use Rattle.bpf_asm.proofs.listings.Places.{places_all, places_more}
+use Rattle.bpf_asm.proofs.listings.RoundTrip.{listing_means}
+use Rattle.bpf_asm.proofs.listings.Rows.{ok_mapped}
 use Rattle.bpf_asm.proofs.lister.listing.Goals as goal
 
 pub loop-at-preserved : goal.loop-at-preserved

@@ -1,7 +1,7 @@
 use Rattle.std.proofs.Common.{◌≡◌, ◌++◌, drop}
 use Rattle.bpf_asm.specs.Listing.{listing_from, listing_of}
 use Rattle.bpf_code.specs.Widths.{FitsFields}
-use Rattle.bpf_asm.proofs.Places.{PlacesBelow}
+use Rattle.bpf_asm.proofs.listings.Places.{PlacesBelow}
 use Rattle.bpf_asm.proofs.lister.listing.Given as goal
 
 abbrev pub invariant-loop-at : goal.invariant-loop-at

@@ -1,6 +1,6 @@
 use Rattle.std.proofs.Common.{◌^◌, codes, arith}
-use Rattle.bpf_asm.proofs.Leaving.{jump_within, branch_within}
-use Rattle.bpf_asm.proofs.Rows.{long_text, LdxLen_text, LdxMsh_text}
+use Rattle.bpf_asm.proofs.listings.Leaving.{jump_within, branch_within}
+use Rattle.bpf_asm.proofs.listings.Rows.{long_text, LdxLen_text, LdxMsh_text}
 use Rattle.bpf_asm.proofs.lister.put_instruction.Goals as goal
 
 pub overflow_add-place : goal.overflow_add-place

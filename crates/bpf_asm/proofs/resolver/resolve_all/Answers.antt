@@ -1,5 +1,5 @@
 use Rattle.std.proofs.Common.{refl, arith}
-use Rattle.bpf_asm.proofs.ResolvedTo.{next_at, next_at_within, next_fault, next_resolved, resolved_all}
+use Rattle.bpf_asm.proofs.drafts.ResolvedTo.{next_at, next_at_within, next_fault, next_resolved, resolved_all}
 use Rattle.std.proofs.lemmas.List.{drop_all}
 use Rattle.bpf_asm.proofs.resolver.resolve_all.Goals as goal
 

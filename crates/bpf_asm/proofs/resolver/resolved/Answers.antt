@@ -1,7 +1,7 @@
 use Rattle.std.proofs.Common.{refl, ap}
 use Rattle.std.specs.Option.{option_copied}
 use Rattle.bpf_asm.specs.inner.Seen.{statement_seen}
-use Rattle.bpf_asm.proofs.Resolving.{first_side, jump_fault, second_side}
+use Rattle.bpf_asm.proofs.drafts.Resolving.{first_side, jump_fault, second_side}
 use Rattle.bpf_asm.proofs.resolver.resolved.Goals as goal
 
 pub returns-in-Ok-clause-ok : goal.returns-in-Ok-clause-ok

@@ -1,5 +1,5 @@
 use Rattle.std.proofs.Common.{length, arith}
-use Rattle.bpf_asm.proofs.Searches.{searched_free}
+use Rattle.bpf_asm.proofs.octets.Searches.{searched_free}
 use Rattle.bpf_asm.proofs.source_lines.line_len.Goals as goal
 
 pub returns-in-Some-clause-line : goal.returns-in-Some-clause-line

@@ -1,7 +1,7 @@
 use Rattle.std.proofs.Common.{◌<◌, length, arith}
 use Rattle.std.proofs.lemmas.List.{take_rest}
-use Rattle.bpf_asm.proofs.LineCuts.{line_cut, line_rest, lines_none}
-use Rattle.bpf_asm.proofs.OctetTests.{is_zero, not_zero}
+use Rattle.bpf_asm.proofs.octets.LineCuts.{line_cut, line_rest, lines_none}
+use Rattle.bpf_asm.proofs.octets.OctetTests.{is_zero, not_zero}
 use Rattle.bpf_asm.proofs.source_lines.next_line.Goals as goal
 
 pub returns-then-is_empty-clause-lines : goal.returns-then-is_empty-clause-lines

@@ -1,4 +1,4 @@
-use Rattle.bpf_asm.proofs.Peeks.{spent-read}
+use Rattle.bpf_asm.proofs.cuts.Peeks.{spent-read}
 use Rattle.bpf_asm.proofs.token.is_spent.Goals as goal
 
 pub returns : goal.returns

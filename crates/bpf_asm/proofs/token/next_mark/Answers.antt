@@ -1,10 +1,10 @@
 use Rattle.std.proofs.Common.{sym, ◌∙◌, ap}
 use Rattle.std.proofs.lemmas.List.{take_rest}
 use Rattle.bpf_asm.specs.inner.Reading.{cut_mark}
-use Rattle.bpf_asm.proofs.Cuts.{mark_none}
-use Rattle.bpf_asm.proofs.OctetTests.{is_zero, not_zero}
-use Rattle.bpf_asm.proofs.Peeks.{no_mark, read-same}
-use Rattle.bpf_asm.proofs.Reading.{mark_first, tokens_of-none}
+use Rattle.bpf_asm.proofs.cuts.Cuts.{mark_none}
+use Rattle.bpf_asm.proofs.octets.OctetTests.{is_zero, not_zero}
+use Rattle.bpf_asm.proofs.cuts.Peeks.{no_mark, read-same}
+use Rattle.bpf_asm.proofs.octets.Reading.{mark_first, tokens_of-none}
 use Rattle.bpf_asm.proofs.token.next_mark.Goals as goal
 
 pub returns-then-is_empty : goal.returns-then-is_empty

@@ -2,8 +2,8 @@ use Rattle.std.proofs.Common.{◌≡◌, ◌∷◌, take, drop, sym, ◌∙◌}
 use Rattle.std.proofs.lemmas.List.{take_rest}
 use Rattle.bpf_asm.specs.inner.Seen.{token_seen}
 use Rattle.bpf_asm.specs.Tokens.{tokens_of, word_token}
-use Rattle.bpf_asm.proofs.Reading.{mark_first, tokens_of-none, word_first}
-use Rattle.bpf_asm.proofs.OctetTests.{is_zero, not_zero}
+use Rattle.bpf_asm.proofs.octets.Reading.{mark_first, tokens_of-none, word_first}
+use Rattle.bpf_asm.proofs.octets.OctetTests.{is_zero, not_zero}
 use Rattle.bpf_asm.proofs.token.next_token.Goals as goal
 
 pub returns-then-is_empty-clause-tokens : goal.returns-then-is_empty-clause-tokens

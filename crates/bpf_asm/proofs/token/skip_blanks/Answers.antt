@@ -1,4 +1,4 @@
-use Rattle.bpf_asm.proofs.Reading.{blank_more}
+use Rattle.bpf_asm.proofs.octets.Reading.{blank_more}
 use Rattle.std.proofs.Common.{sym, ◌∙◌, arith}
 use Rattle.bpf_asm.proofs.token.skip_blanks.Goals as goal
 

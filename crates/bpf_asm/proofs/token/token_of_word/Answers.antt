@@ -1,5 +1,5 @@
 use Rattle.std.proofs.Common.{sym, ◌∙◌}
-use Rattle.bpf_asm.proofs.Reading.{faulty_word, name_word, number_word}
+use Rattle.bpf_asm.proofs.octets.Reading.{faulty_word, name_word, number_word}
 use Rattle.bpf_asm.proofs.token.token_of_word.Goals as goal
 
 pub returns-in-Some : goal.returns-in-Some

@@ -1,7 +1,7 @@
 use Rattle.std.proofs.Common.{◌≡◌, ◌+◌, ◌*◌, ◌<◌, ◌≤◌, ◌^◌, ℕ, length, get_or, drop, subst, arith}
 use Rattle.bpf_asm.specs.Numbers.{digit_of, value_behind}
-use Rattle.bpf_asm.proofs.Reading.{value_end, value_large, value_more, value_stops}
-use Rattle.bpf_asm.proofs.OctetTests.{not_zero}
+use Rattle.bpf_asm.proofs.octets.Reading.{value_end, value_large, value_more, value_stops}
+use Rattle.bpf_asm.proofs.octets.OctetTests.{not_zero}
 use Rattle.bpf_asm.proofs.token.value.Goals as goal
 
 pub returns-then-digit-base : goal.returns-then-digit-base

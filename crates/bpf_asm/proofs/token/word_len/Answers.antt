@@ -1,4 +1,4 @@
-use Rattle.bpf_asm.proofs.Reading.{word_more}
+use Rattle.bpf_asm.proofs.octets.Reading.{word_more}
 use Rattle.std.proofs.Common.{sym, ◌∙◌, arith}
 use Rattle.bpf_asm.proofs.token.word_len.Goals as goal
 

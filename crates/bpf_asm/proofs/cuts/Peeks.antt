@@ -1,0 +1,88 @@
+-- What a text begins with, as far as its first octet tells.
+use Rattle.std.proofs.Common.{◌≡◌, ◌≢◌, ℕ, ◌<◌, Bool, true, false, ◌&&◌, ◌==◌, if◌then◌else◌, List, [], ◌∷◌, Option, Some, None, length, get_or, drop, refl, sym, ap, ◌∙◌, arith}
+use Rattle.std.proofs.lemmas.Bool.{ne_eqb}
+use Rattle.std.specs.List.{cons_option, filter_map}
+use Rattle.text_io.specs.Words.{is_blank, is_digit}
+use Rattle.bpf_asm.specs.inner.Reading.{cut_mark, is_ended}
+use Rattle.bpf_asm.specs.Numbers.{number_of}
+use Rattle.bpf_asm.specs.Tokens.{Token, name, mark, is_run, is_word, joined, number_token, pieces_of, signed, signed_behind, token_of, tokens_of, tokens_read, word_token}
+use Rattle.bpf_asm.proofs.cuts.Cuts.{read_none, some_behind}
+use Rattle.bpf_asm.proofs.octets.Reading.{mark_first, tokens_of-none}
+
+-- A piece that begins with an octet of a word.
+word-token_of : (octet : ℕ) (rest : List ℕ) → is_word octet ≡ true → token_of (octet ∷ rest) ≡ Some (word_token (octet ∷ rest))
+word-token_of octet rest w =
+    ap (λ (t : Bool). if t then Some (word_token (octet ∷ rest)) else (if is_blank octet then None else Some (mark octet))) w
+
+-- An octet of a word begins the first token.
+begun : (octet : ℕ) (pieces : List (List ℕ)) → is_word octet ≡ true
+    → (word : List ℕ) × (tokens : List Token) × (filter_map token_of (joined octet pieces) ≡ word_token (octet ∷ word) ∷ tokens)
+begun octet [] w = ([], [], ap (λ (o : Option Token). cons_option o []) (word-token_of octet [] w))
+begun octet (piece ∷ pieces) w =
+    elim (is_run piece) as (λ r. (word : List ℕ) × (tokens : List Token) × (filter_map token_of (if is_word octet && r then (octet ∷ piece) ∷ pieces else (octet ∷ []) ∷ piece ∷ pieces) ≡ word_token (octet ∷ word) ∷ tokens)) [
+      | true ↦ (
+        piece,
+        filter_map token_of pieces,
+        ap (λ (t : Bool). filter_map token_of (if t && true then (octet ∷ piece) ∷ pieces else (octet ∷ []) ∷ piece ∷ pieces)) w
+            ∙ ap (λ (o : Option Token). cons_option o (filter_map token_of pieces)) (word-token_of octet piece w),
+      )
+      | false ↦ (
+        [],
+        filter_map token_of (piece ∷ pieces),
+        ap (λ (t : Bool). filter_map token_of (if t && false then (octet ∷ piece) ∷ pieces else (octet ∷ []) ∷ piece ∷ pieces)) w
+            ∙ ap (λ (o : Option Token). cons_option o (filter_map token_of (piece ∷ pieces))) (word-token_of octet [] w),
+      )
+    ]
+
+word-begun : (octet : ℕ) (rest : List ℕ) → is_word octet ≡ true
+    → (word : List ℕ) × (tokens : List Token) × (tokens_of (octet ∷ rest) ≡ word_token (octet ∷ word) ∷ tokens)
+unfolding tokens_of pieces_of
+word-begun octet rest w = begun octet (pieces_of rest) w
+
+-- Which is no mark.
+number-no_mark : (octet : ℕ) (found : Option ℕ) (tokens : List Token) → cut_mark octet (signed_behind (number_token found) tokens) ≡ None
+number-no_mark octet (Some value) tokens = refl
+number-no_mark octet None tokens = refl
+
+word-no_mark : (octet first : ℕ) (word : List ℕ) (tokens : List Token) → cut_mark octet (signed_behind (word_token (first ∷ word)) tokens) ≡ None
+unfolding word_token
+word-no_mark octet first word tokens =
+    elim (is_digit first) as (λ d. cut_mark octet (signed_behind (if d then number_token (number_of (first ∷ word)) else name (first ∷ word)) tokens) ≡ None) [
+      | true ↦ number-no_mark octet (number_of (first ∷ word)) tokens
+      | false ↦ refl
+    ]
+
+read-begun : (text : List ℕ) (token : Token) (tokens : List Token) → tokens_of text ≡ token ∷ tokens → tokens_read text ≡ signed_behind token (signed tokens)
+unfolding tokens_read signed
+read-begun text token tokens e = ap signed e
+
+-- Where a word stands no mark is cut.
+pub no_mark : (text : List ℕ) → 0 < length text → is_word (get_or text 0 0) ≡ true → (octet : ℕ) → cut_mark octet (tokens_read text) ≡ None
+no_mark [] some w octet = absurd (omega arith)
+no_mark (first ∷ rest) some w octet =
+    let begins = word-begun first rest w in
+    rw (read-begun (first ∷ rest) (word_token (first ∷ begins.0)) begins.1 begins.2) (word-no_mark octet first begins.0 (signed begins.1))
+
+pub read-same : (text skipped : List ℕ) → tokens_of skipped ≡ tokens_of text → tokens_read skipped ≡ tokens_read text
+unfolding tokens_read
+read-same text skipped e = ap signed e
+
+-- A text that begins with no blank has a token.
+first-token : (first : ℕ) (rest : List ℕ) (b : Bool) → is_word first ≡ b → is_blank first ≡ false → is_ended (tokens_read (first ∷ rest)) ≡ false
+first-token first rest true w blank =
+    let begins = word-begun first rest w in
+    ap is_ended (read-begun (first ∷ rest) (word_token (first ∷ begins.0)) begins.1 begins.2) ∙ some_behind (word_token (first ∷ begins.0)) (signed begins.1)
+first-token first rest false w blank =
+    let begins = mark_first (first ∷ rest) (omega arith) w blank in
+    ap is_ended (read-begun (first ∷ rest) (mark first) (tokens_of (drop 1 (first ∷ rest))) begins) ∙ some_behind (mark first) (signed (tokens_of (drop 1 (first ∷ rest))))
+
+spent-skipped : (skipped : List ℕ) (t : Bool) → (0 < length skipped → is_blank (get_or skipped 0 0) ≡ false) → t ≡ (length skipped == 0) → t ≡ is_ended (tokens_read skipped)
+spent-skipped [] t begins is = is ∙ sym (ap is_ended (read_none [] (tokens_of-none [] refl)))
+spent-skipped (first ∷ rest) t begins is =
+    let more : length (first ∷ rest) ≢ 0 = λ e. omega (arith, e) in
+    is ∙ ne_eqb (length (first ∷ rest)) 0 more ∙ sym (first-token first rest (is_word first) refl (begins (omega arith)))
+
+-- What is left behind blanks tells whether there is a token.
+pub spent-read : (text skipped : List ℕ) (t : Bool) → tokens_of skipped ≡ tokens_of text
+    → (0 < length skipped → is_blank (get_or skipped 0 0) ≡ false) → t ≡ (length skipped == 0) → t ≡ is_ended (tokens_read text)
+spent-read text skipped t same begins is = spent-skipped skipped t begins is ∙ ap is_ended (read-same text skipped same)

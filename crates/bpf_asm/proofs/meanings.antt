@@ -1,0 +1,4 @@
+pub mod OneMeaning
+pub mod OneFault
+pub mod NeverBoth
+pub mod Fitting

@@ -1,0 +1,6 @@
+pub mod OctetTests
+pub mod Searches
+pub mod LineCuts
+pub mod Pieces
+pub mod Reading
+pub mod Decimals

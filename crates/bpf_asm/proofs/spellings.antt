@@ -1,0 +1,9 @@
+pub mod FormTokens
+pub mod FormSpellings
+pub mod NameSpellings
+pub mod ReadsTrue
+pub mod ReadBack
+pub mod NoLabel
+pub mod NoFaulty
+pub mod LineBack
+pub mod LineRead

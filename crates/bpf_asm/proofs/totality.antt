@@ -1,0 +1,6 @@
+pub mod LineOrFault
+pub mod LinesOrFault
+pub mod LabelOrUnknown
+pub mod DanglingOrNone
+pub mod OffsetOrFault
+pub mod CodeOrFault

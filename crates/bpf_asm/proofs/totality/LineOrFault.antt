@@ -1,0 +1,47 @@
+-- A line says something or has a fault of its own, whatever stands before it.
+use Rattle.std.proofs.Common.{◌≡◌, ◌⊎◌, ℕ, Bool, true, false, List, Option, Some, None, refl, sym, ◌∙◌, inl, inr}
+use Rattle.bpf_asm.specs.Faults.{IsLineFault}
+use Rattle.bpf_asm.specs.Grammar.{IsLine, Line}
+use Rattle.bpf_asm.specs.SourceLines.{without_comment}
+use Rattle.bpf_asm.specs.inner.Reading.{line_in}
+use Rattle.bpf_asm.specs.Tokens.{HasBadNumber, has_faulty, tokens_in, tokens_of}
+use Rattle.bpf_asm.specs.declared.fault.AsmKind.{AsmKind}
+use Rattle.bpf_asm.specs.declared.fault.AsmKind.TheVariants.{BadLine, BadNumber}
+use Rattle.bpf_asm.proofs.spellings.LineBack.{line_back, line_true}
+
+-- A line that says this or has a fault.
+abbrev pub SaysOrFaulty : List ℕ → Type 0
+SaysOrFaulty octets = ((line : Line) × IsLine octets line) ⊎ ((kind : AsmKind) × ((before : List Line) → IsLineFault before octets kind))
+
+-- Some number is none.
+bad_by : (octets : List ℕ) → has_faulty (tokens_of (without_comment octets)) ≡ true → HasBadNumber octets
+unfolding HasBadNumber
+bad_by octets h = h
+
+-- Each number is one.
+not_bad : (octets : List ℕ) → has_faulty (tokens_of (without_comment octets)) ≡ false → ¬ HasBadNumber octets
+unfolding HasBadNumber
+not_bad octets h bad = let both : true ≡ false = sym bad ∙ h in cc
+
+-- What is read says this.
+read_is : (octets : List ℕ) (line : Line) → line_in (tokens_in octets) ≡ Some line → IsLine octets line
+unfolding IsLine
+read_is octets line e = line_true (tokens_in octets) line e
+
+-- What isn't read says nothing.
+unread : (octets : List ℕ) (line : Line) → line_in (tokens_in octets) ≡ None → ¬ IsLine octets line
+unfolding IsLine
+unread octets line none is =
+    let read = line_back (tokens_in octets) line.label line.statement is in
+    let both : Some line ≡ None = sym read ∙ none in
+    cc
+
+-- By both answers.
+decided : (octets : List ℕ) (bad : Bool) (read : Option Line) → has_faulty (tokens_of (without_comment octets)) ≡ bad → line_in (tokens_in octets) ≡ read → SaysOrFaulty octets
+decided octets true read h e = inr (BadNumber, λ before. bad_by octets h)
+decided octets false None h e = inr (BadLine, λ before. (not_bad octets h, λ line is. unread octets line e is))
+decided octets false (Some line) h e = inl (line, read_is octets line e)
+
+-- A line says something or has a fault.
+pub line-or_fault : (octets : List ℕ) → SaysOrFaulty octets
+line-or_fault octets = decided octets (has_faulty (tokens_of (without_comment octets))) (line_in (tokens_in octets)) refl refl

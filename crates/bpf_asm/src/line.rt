@@ -1,0 +1,107 @@
+//! Lines, read one by one.
+
+ghost use Rattle.std.specs.Prelude.{◌≡◌, List, Some, IfErr, IfOk, MatchOption};
+ghost use Rattle.bpf_asm.specs.Faults.{IsLineFault};
+ghost use Rattle.bpf_asm.specs.Grammar.{IsLine, Line};
+ghost use Rattle.bpf_asm.specs.SourceLines.{without_comment};
+ghost use Rattle.bpf_asm.specs.inner.Reading.{body_in, line_in};
+ghost use Rattle.bpf_asm.specs.inner.Seen.{line_seen};
+ghost use Rattle.bpf_asm.specs.Tokens.{HasBadNumber, has_faulty, tokens_of, tokens_read};
+
+use crate::fault::AsmKind;
+use crate::mnemonic::{named, read_statement};
+use crate::operand::{after_mark, after_name, at_end};
+use crate::statement::LentStatement;
+use crate::token::{LentToken, next_token};
+use memchr::memchr;
+
+/// What a line says, with its label in the source.
+#[derive(Clone, Copy)]
+pub(crate) struct LentLine<'a> {
+    /// The label that it defines.
+    pub label: Option<&'a [u8]>,
+    /// Its instruction.
+    pub statement: Option<LentStatement<'a>>,
+}
+
+/// What stands before the first `;`.
+fn before_comment(line: &[u8]) -> &[u8]
+    ensures { result.now ≡ without_comment line.now }
+{
+    match memchr(b';', line) {
+        Some(at) => &line[..at],
+        None => line,
+    }
+}
+
+/// Whether some word of a text begins with a digit and is no number.
+fn bad_number(text: &[u8]) -> bool
+    ensures { result ≡ has_faulty (tokens_of text.now) }
+{
+    let mut left = text;
+    while let Some((token, rest)) = next_token(left) {
+        if let LentToken::Faulty = token {
+            return true;
+        }
+        left = rest;
+    }
+    false
+}
+
+/// What is behind the label of a line.
+fn behind_label<'a>(label: &'a [u8], text: &'a [u8]) -> Option<LentLine<'a>>
+    ensures { MatchOption result (body_in (Some label.entry.now) (tokens_read text.entry.now) ≡ None)
+        (λ said. body_in (Some label.entry.now) (tokens_read text.entry.now) ≡ Some (line_seen said)) }
+{
+    if at_end(text) {
+        return Some(LentLine {
+            label: Some(label),
+            statement: None,
+        });
+    }
+    let statement = read_statement(text)?;
+    Some(LentLine {
+        label: Some(label),
+        statement: Some(statement),
+    })
+}
+
+/// The line of a text without comments. Its first name is a label or a mnemonic.
+#[tactic(auto, unfolding(crate::specs::inner::Reading::line_in, crate::specs::inner::Reading::statement_in))]
+fn line_of(text: &[u8]) -> Option<LentLine<'_>>
+    ensures { MatchOption result (line_in (tokens_read text.now) ≡ None)
+        (λ said. line_in (tokens_read text.now) ≡ Some (line_seen said)) }
+{
+    let Some((name, rest)) = after_name(text) else {
+        return if at_end(text) {
+            Some(LentLine {
+                label: None,
+                statement: None,
+            })
+        } else {
+            None
+        };
+    };
+    if let Some(rest) = after_mark(rest, b':') {
+        return behind_label(name, rest);
+    }
+    let statement = named(name, rest)?;
+    Some(LentLine {
+        label: None,
+        statement: Some(statement),
+    })
+}
+
+/// What a line says, or its own fault.
+pub(crate) fn read_line(line: &[u8]) -> Result<LentLine<'_>, AsmKind>
+    ensures said { IfOk result (λ said. IsLine line.now (line_seen said)) }
+    ensures fault { IfErr result (λ kind. (before : List Line) → IsLineFault before line.now kind) }
+{
+    let text = before_comment(line);
+    match line_of(text) {
+        Some(said) => Ok(said),
+        // A line of the grammar has no such number, so only other lines are looked through for one.
+        None if bad_number(text) => Err(AsmKind::BadNumber),
+        None => Err(AsmKind::BadLine),
+    }
+}

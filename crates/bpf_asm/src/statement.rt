@@ -1,0 +1,235 @@
+//! Statements, read from the tokens of a line.
+
+ghost use Rattle.std.specs.Prelude.{◌≡◌, true, MatchBool, MatchOption};
+ghost use Rattle.bpf_asm.specs.inner.Reading.{absolute_in, arithmetic_in, bracket_in, branch_in, constant_in, header_in, indexed_in, inverse_in, jump_in, length_in, load_index, load_word, packet, return_in, scratch_in};
+ghost use Rattle.bpf_asm.specs.inner.Seen.{statement_seen};
+ghost use Rattle.bpf_asm.specs.StatementSpelling.{plain};
+ghost use Rattle.bpf_asm.specs.Tokens.{tokens_read};
+
+use crate::operand::{
+    after_constant, after_length, after_mark, after_name, after_number, after_operand,
+    after_target, after_value, after_word, at_end,
+};
+use bpf_code::{By, Instr, Op, Size, Test};
+
+/// What an instruction line says, with its labels in the source.
+#[derive(Clone, Copy)]
+pub(crate) enum LentStatement<'a> {
+    /// An instruction without labels.
+    Plain(Instr),
+    /// A jump to a label.
+    Jump(&'a [u8]),
+    /// A branch with the label of each side; a side without one goes on behind the branch.
+    Branch {
+        test: Test,
+        by: By,
+        met: Option<&'a [u8]>,
+        unmet: Option<&'a [u8]>,
+    },
+}
+
+/// `k]` and no more.
+fn bracket(text: &[u8]) -> Option<u32>
+    ensures { result ≡ bracket_in (tokens_read text.now) }
+{
+    let (k, rest) = after_number(text)?;
+    let rest = after_mark(rest, b']')?;
+    if at_end(rest) { Some(k) } else { None }
+}
+
+/// `[k]` and no more.
+fn absolute(text: &[u8]) -> Option<u32>
+    ensures { result ≡ absolute_in (tokens_read text.now) }
+{
+    bracket(after_mark(text, b'[')?)
+}
+
+/// `[x+k]` and no more.
+fn indexed(text: &[u8]) -> Option<u32>
+    ensures { result ≡ indexed_in (tokens_read text.now) }
+{
+    let rest = after_mark(text, b'[')?;
+    let rest = after_word(rest, b"x")?;
+    bracket(after_mark(rest, b'+')?)
+}
+
+/// `#k` and no more.
+fn constant(text: &[u8]) -> Option<u32>
+    ensures { result ≡ constant_in (tokens_read text.now) }
+{
+    let (k, rest) = after_constant(text)?;
+    if at_end(rest) { Some(k) } else { None }
+}
+
+/// `M[k]` and no more.
+pub(crate) fn scratch(text: &[u8]) -> Option<u32>
+    ensures { result ≡ scratch_in (tokens_read text.now) }
+{
+    absolute(after_word(text, b"M")?)
+}
+
+/// `4*([k]&0xf)` and no more.
+pub(crate) fn header(text: &[u8]) -> Option<u32>
+    ensures { result ≡ header_in (tokens_read text.now) }
+{
+    let rest = after_value(text, 4)?;
+    let rest = after_mark(rest, b'*')?;
+    let rest = after_mark(rest, b'(')?;
+    let rest = after_mark(rest, b'[')?;
+    let (k, rest) = after_number(rest)?;
+    let rest = after_mark(rest, b']')?;
+    let rest = after_mark(rest, b'&')?;
+    let rest = after_value(rest, 15)?;
+    let rest = after_mark(rest, b')')?;
+    if at_end(rest) { Some(k) } else { None }
+}
+
+/// Whether there is `#len` and no more.
+fn packet_length(text: &[u8]) -> bool
+    ensures { MatchBool result (length_in (tokens_read text.now) ≡ Some true) (length_in (tokens_read text.now) ≡ None) }
+{
+    match after_length(text) {
+        Some(rest) => at_end(rest),
+        None => false,
+    }
+}
+
+/// The loads of a part of the packet.
+pub(crate) fn packet_load(size: Size, text: &[u8]) -> Option<Instr>
+    ensures { MatchOption result (packet size (tokens_read text.now) ≡ None)
+        (λ i. packet size (tokens_read text.now) ≡ Some (plain i)) }
+{
+    if let Some(k) = absolute(text) {
+        return Some(Instr::LoadAbs { size, k });
+    }
+    let k = indexed(text)?;
+    Some(Instr::LoadInd { size, k })
+}
+
+/// The forms of `ld`.
+pub(crate) fn word_load(text: &[u8]) -> Option<Instr>
+    ensures { MatchOption result (load_word (tokens_read text.now) ≡ None)
+        (λ i. load_word (tokens_read text.now) ≡ Some (plain i)) }
+{
+    if let Some(instr) = packet_load(Size::Word, text) {
+        return Some(instr);
+    }
+    if let Some(k) = constant(text) {
+        return Some(Instr::LoadImm(k));
+    }
+    if let Some(k) = scratch(text) {
+        return Some(Instr::LoadMem(k));
+    }
+    if packet_length(text) {
+        Some(Instr::LoadLen)
+    } else {
+        None
+    }
+}
+
+/// The forms of `ldx`.
+pub(crate) fn index_load(text: &[u8]) -> Option<Instr>
+    ensures { MatchOption result (load_index (tokens_read text.now) ≡ None)
+        (λ i. load_index (tokens_read text.now) ≡ Some (plain i)) }
+{
+    if let Some(k) = constant(text) {
+        return Some(Instr::LdxImm(k));
+    }
+    if let Some(k) = scratch(text) {
+        return Some(Instr::LdxMem(k));
+    }
+    if packet_length(text) {
+        return Some(Instr::LdxLen);
+    }
+    let k = header(text)?;
+    Some(Instr::LdxMsh(k))
+}
+
+/// The forms of `ret`.
+pub(crate) fn end(text: &[u8]) -> Option<Instr>
+    ensures { MatchOption result (return_in (tokens_read text.now) ≡ None)
+        (λ i. return_in (tokens_read text.now) ≡ Some (plain i)) }
+{
+    if let Some(k) = constant(text) {
+        return Some(Instr::RetK(k));
+    }
+    let rest = after_word(text, b"a")?;
+    if at_end(rest) {
+        Some(Instr::RetA)
+    } else {
+        None
+    }
+}
+
+/// The forms of arithmetic.
+pub(crate) fn arithmetic(op: Op, text: &[u8]) -> Option<Instr>
+    ensures { MatchOption result (arithmetic_in op (tokens_read text.now) ≡ None)
+        (λ i. arithmetic_in op (tokens_read text.now) ≡ Some (plain i)) }
+{
+    let (by, rest) = after_operand(text)?;
+    if at_end(rest) {
+        Some(Instr::Alu { op, by })
+    } else {
+        None
+    }
+}
+
+/// The forms of branches.
+pub(crate) fn branch(test: Test, text: &[u8]) -> Option<LentStatement<'_>>
+    ensures { MatchOption result (branch_in test (tokens_read text.now) ≡ None)
+        (λ c. branch_in test (tokens_read text.now) ≡ Some (statement_seen c)) }
+{
+    let (by, rest) = after_operand(text)?;
+    let (met, rest) = after_target(rest)?;
+    if at_end(rest) {
+        return Some(LentStatement::Branch {
+            test,
+            by,
+            met: Some(met),
+            unmet: None,
+        });
+    }
+    let (unmet, rest) = after_target(rest)?;
+    if at_end(rest) {
+        Some(LentStatement::Branch {
+            test,
+            by,
+            met: Some(met),
+            unmet: Some(unmet),
+        })
+    } else {
+        None
+    }
+}
+
+/// The forms of branches that go on behind themselves where the test holds.
+pub(crate) fn inverse(test: Test, text: &[u8]) -> Option<LentStatement<'_>>
+    ensures { MatchOption result (inverse_in test (tokens_read text.now) ≡ None)
+        (λ c. inverse_in test (tokens_read text.now) ≡ Some (statement_seen c)) }
+{
+    let (by, rest) = after_operand(text)?;
+    let (unmet, rest) = after_target(rest)?;
+    if at_end(rest) {
+        Some(LentStatement::Branch {
+            test,
+            by,
+            met: None,
+            unmet: Some(unmet),
+        })
+    } else {
+        None
+    }
+}
+
+/// The forms of `ja`.
+pub(crate) fn jump(text: &[u8]) -> Option<LentStatement<'_>>
+    ensures { MatchOption result (jump_in (tokens_read text.now) ≡ None)
+        (λ c. jump_in (tokens_read text.now) ≡ Some (statement_seen c)) }
+{
+    let (target, rest) = after_name(text)?;
+    if at_end(rest) {
+        Some(LentStatement::Jump(target))
+    } else {
+        None
+    }
+}

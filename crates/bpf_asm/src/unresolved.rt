@@ -1,0 +1,165 @@
+//! A code whose labels are not resolved yet: the draft of its instructions, and the labels that wait for their places.
+
+ghost use Rattle.std.specs.Prelude.{◌≡◌, ◌++◌, List, [], ◌∷◌, length};
+ghost use Rattle.bpf_asm.specs.Grammar.{Line};
+ghost use Rattle.bpf_asm.specs.inner.Pending.{IsPending};
+ghost use Rattle.bpf_asm.specs.inner.Seen.{line_seen};
+ghost use Rattle.bpf_asm.specs.inner.Drafts.{drafted};
+
+use crate::fault::AsmKind;
+use crate::labels::Labels;
+use crate::line::{LentLine, read_line};
+use crate::statement::LentStatement;
+use bpf_code::Instr;
+use std::alloc::{AllocError, Global};
+
+/// An instruction with labels, and where it stands.
+#[derive(Clone, Copy)]
+pub(crate) struct Unresolved<'a> {
+    /// Its line, counted from 1.
+    pub line: usize,
+    /// Its place, counted from 0.
+    pub place: usize,
+    /// The instruction.
+    pub statement: LentStatement<'a>,
+}
+
+/// What the lines of a source say that were read so far. Of a line without a label and without an
+/// instruction nothing is kept, and of an instruction without labels its code alone.
+#[derive(Drop)]
+pub(crate) struct Draft<'a> {
+    /// The instructions, with offsets of 0 where they have labels.
+    pub code: Vec<Instr>,
+    /// The instructions with labels, in order.
+    pub unresolved: Vec<Unresolved<'a>>,
+    /// The places that labels stand for.
+    pub labels: Labels<'a>,
+    /// The first line, counted from 0, with a label that no instruction follows yet.
+    pub dangling: Option<usize>,
+}
+
+/// The instruction of a statement, with offsets of 0 where it has labels.
+fn first_form(statement: LentStatement<'_>) -> Instr
+    ensures { result ≡ drafted statement.entry }
+{
+    match statement {
+        LentStatement::Plain(instr) => instr,
+        LentStatement::Jump(_) => Instr::Jump(0),
+        LentStatement::Branch { test, by, .. } => Instr::Branch {
+            test,
+            by,
+            jt: 0,
+            jf: 0,
+        },
+    }
+}
+
+/// The first line whose label no instruction follows yet, behind one line more.
+fn pending_after(pending: Option<usize>, at: usize, said: &LentLine<'_>) -> Option<usize>
+    ensures { (before : List Line) → length before ≡ at → IsPending before pending →
+        IsPending (before ++ line_seen said.now ∷ []) result }
+{
+    match said.statement {
+        Some(_) => None,
+        None => match pending {
+            Some(first) => Some(first),
+            None => match said.label {
+                Some(_) => Some(at),
+                None => None,
+            },
+        },
+    }
+}
+
+impl<'a> Draft<'a> {
+    ghost use Rattle.std.specs.Prelude.{◌≡◌, ◌++◌, ◌+◌, ◌-◌, ◌^◌, ◌<◌, ℕ, List, [], ◌∷◌, false, length, IfErr, IfOk, IsTrue, OnOk};
+    ghost use Rattle.bpf_asm.specs.Grammar.{Line};
+    ghost use Rattle.bpf_asm.specs.inner.Counts.{statement_count};
+    ghost use Rattle.bpf_asm.specs.inner.LabelPlaces.{place_of};
+    ghost use Rattle.bpf_asm.specs.inner.Seen.{line_seen};
+    ghost use Rattle.bpf_asm.specs.inner.Drafts.{AgreesWith, Drafts, IsAddFault, IsTakeFault, IsTwice, Takes, drafted, unresolved_of};
+
+    /// The draft of no lines.
+    pub(crate) fn new(alloc: Global) -> Draft<'a>
+        ensures { Drafts [] result }
+    {
+        Draft {
+            code: Vec::new(alloc),
+            unresolved: Vec::new(alloc),
+            labels: Labels::new(alloc),
+            dangling: None,
+        }
+    }
+
+    /// Gives the label of a line, if it has one, the next place. Whether it is new.
+    fn define(&mut self, said: LentLine<'a>) -> Result<bool, AllocError>
+        ensures code { self.new.code ≡ self.old.code }
+        ensures unresolved { self.new.unresolved ≡ self.old.unresolved }
+        ensures dangling { self.new.dangling ≡ self.old.dangling }
+        ensures twice { IfOk result (λ fresh. fresh ≡ false → (lines : List Line) (count : ℕ) →
+            AgreesWith lines (place_of self.old.labels) count → IsTwice lines (line_seen said.entry)) }
+        ensures agree { IfOk result (λ fresh. IsTrue fresh → (lines : List Line) →
+            AgreesWith lines (place_of self.old.labels) (length self.old.code.items) →
+            AgreesWith (lines ++ line_seen said.entry ∷ []) (place_of self.new.labels)
+            (length self.old.code.items + statement_count (line_seen said.entry).statement)) }
+    {
+        match said.label {
+            Some(label) => self.labels.define(label, self.code.len()),
+            None => Ok(true),
+        }
+    }
+
+    /// Adds an instruction of a line, which counts from 1.
+    fn put(&mut self, line: usize, statement: LentStatement<'a>) -> Result<(), AllocError>
+        ensures labels { self.new.labels ≡ self.old.labels }
+        ensures dangling { self.new.dangling ≡ self.old.dangling }
+        ensures code { OnOk result (self.new.code.items ≡ self.old.code.items ++ drafted statement.entry ∷ []) }
+        ensures unresolved { OnOk result (self.new.unresolved.items ≡ self.old.unresolved.items
+            ++ unresolved_of line (length self.old.code.items) statement.entry) }
+    {
+        match statement {
+            LentStatement::Plain(_) => {}
+            _ => self.unresolved.push(Unresolved {
+                line,
+                place: self.code.len(),
+                statement,
+            })?,
+        }
+        self.code.push(first_form(statement))?;
+        Ok(())
+    }
+
+    /// Adds what a line says, which counts from 0.
+    fn add(&mut self, at: usize, said: LentLine<'a>) -> Result<(), AsmKind>
+        requires { at < 2 ^ 64 - 1 }
+        ensures drafts { OnOk result ((lines : List Line) → length lines ≡ at → Drafts lines self.old →
+            Drafts (lines ++ line_seen said.entry ∷ []) self.new) }
+        ensures fault { (lines : List Line) → Drafts lines self.old →
+            IfErr result (IsAddFault lines (line_seen said.entry)) }
+    {
+        match self.define(said) {
+            Ok(true) => {}
+            Ok(false) => return Err(AsmKind::LabelTwice),
+            Err(_) => return Err(AsmKind::NoMemory),
+        }
+        self.dangling = pending_after(self.dangling, at, &said);
+        match said.statement {
+            None => Ok(()),
+            Some(statement) => self.put(at + 1, statement).map_err(|_| AsmKind::NoMemory),
+        }
+    }
+
+    /// Reads a line, which counts from 0, and adds what it says.
+    pub(crate) fn take_line(&mut self, at: usize, line: &'a [u8]) -> Result<(), AsmKind>
+        requires { at < 2 ^ 64 - 1 }
+        ensures taken { OnOk result ((lines : List Line) → length lines ≡ at → Drafts lines self.old →
+            Takes lines self.new line.entry.now) }
+        ensures fault { (lines : List Line) → Drafts lines self.old →
+            IfErr result (IsTakeFault lines line.entry.now) }
+    {
+        match read_line(line) {
+            Ok(said) => self.add(at, said),
+            Err(kind) => Err(kind),
+        }
+    }
+}
