@@ -1,4 +1,4 @@
--- What octets spelled by the earlier table they spell by the present one.
+-- What the earlier table decodes, the present one decodes in the same way.
 use Rattle.std.proofs.Common.{◌≡◌, ℕ, List, [], ◌∷◌, drop, take, Some, None, sym}
 use Rattle.std.proofs.lemmas.Option.{same_Some}
 use Rattle.bpf_code.proofs.Spelled.{SpellsCode-unique}
@@ -13,7 +13,7 @@ use Rattle.bpf_code.specs.declared.instr.Op.TheVariants.{Add, Sub, Mul, Div, Or,
 use Rattle.bpf_code.specs.declared.instr.Size.TheVariants.{Word, Half, Octet}
 use Rattle.bpf_code.specs.declared.instr.Test.TheVariants.{Eq, Gt, Ge, Set}
 
--- An instruction that had a code has it still.
+-- An instruction of the earlier table has kept its number.
 same_code : (i : Instr) (code : ℕ) → earlier_code_of i ≡ Some code → code ≡ code_of i
 same_code (LoadAbs Word k) code e = sym (same_Some 0x0020 code e)
 same_code (LoadAbs Half k) code e = sym (same_Some 0x0028 code e)

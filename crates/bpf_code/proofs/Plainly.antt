@@ -1,4 +1,4 @@
--- Octets that spell a code plainly, instruction by instruction.
+-- Octets with 0 in unused fields, instruction by instruction.
 use Rattle.std.proofs.Common.{◌≡◌, ℕ, ◌+◌, ◌<◌, List, [], ◌∷◌, ◌++◌, length, take, drop, get_or, ap, sym, ◌∙◌, subst}
 use Rattle.std.proofs.lemmas.List.{take-append-le, drop-append-le, take_more}
 use Rattle.std.proofs.Math.Seq.{take-length, drop-length}
@@ -16,7 +16,7 @@ plainly-spells octets (i ∷ code) s = (s.0, plainly-spells (drop 8 octets) code
 pub plainly-no_other : (octets : List ℕ) (code other : List Instr) → SpellsPlainly octets code → SpellsCode octets other → other ≡ code
 plainly-no_other octets code other s t = SpellsCode-unique octets other code t (plainly-spells octets code s)
 
--- One instruction more behind a code.
+-- Appends one instruction.
 pub plainly-more : (octets eight : List ℕ) (code : List Instr) (i : Instr) → SpellsPlainly octets code → Spells eight i → UnusedAreZero eight i
     → SpellsPlainly (octets ++ eight) (code ++ i ∷ [])
 plainly-more octets eight [] i s spells unused =
@@ -36,7 +36,7 @@ plainly-more octets eight (j ∷ code) i s spells unused =
     let R : List ℕ → Type 0 = λ xs. SpellsPlainly xs (code ++ i ∷ []) in
     (subst P (sym front) s.0, subst Q (sym front) s.1, subst R (sym behind) (plainly-more (drop 8 octets) eight code i s.2 spells unused))
 
--- The octets of the next instruction of a code.
+-- The same in terms of the loop's place.
 pub plainly-step : (octets octets' eight : List ℕ) (code : List Instr) (k : ℕ) (d : Instr) → k < length code → SpellsPlainly octets (take k code)
     → octets' ≡ octets ++ eight → Spells eight (get_or code k d) → UnusedAreZero eight (get_or code k d) → SpellsPlainly octets' (take (k + 1) code)
 plainly-step octets octets' eight code k d within s is spells unused =
@@ -44,7 +44,7 @@ plainly-step octets octets' eight code k d within s is spells unused =
     let Q : List ℕ → Type 0 = λ xs. SpellsPlainly xs (take k code ++ get_or code k d ∷ []) in
     subst P (sym (take_more code k d within)) (subst Q (sym is) (plainly-more octets eight (take k code) (get_or code k d) s spells unused))
 
--- The octets written for the next instruction of a code.
+-- The octets so far, for the loop's place.
 pub octets-step : (octets octets' eight : List ℕ) (code : List Instr) (k : ℕ) (d : Instr) → k < length code → octets ≡ code_octets (take k code)
     → octets' ≡ octets ++ eight → eight ≡ octets_of (get_or code k d) → octets' ≡ code_octets (take (k + 1) code)
 octets-step octets octets' eight code k d within so_far is here =

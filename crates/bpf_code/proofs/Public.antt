@@ -1,4 +1,4 @@
--- Lemmas for proofs of other crates. Each is the statement of a public law, or what goes with one.
+-- Lemmas for proofs of other crates: the public laws, and what goes with them.
 use Rattle.std.proofs.Common.{◌≡◌, ◌≢◌, ℕ, ◌+◌, ◌*◌, ◌≤◌, ◌⊎◌, List, length}
 use Rattle.bpf_code.proofs.OneFault as faults
 use Rattle.bpf_code.proofs.Spelled as spelled
@@ -17,7 +17,7 @@ use Rattle.bpf_code.specs.declared.instr.Instr.{Instr}
 pub SpellsCode-unique : (octets : List ℕ) (one other : List Instr) → SpellsCode octets one → SpellsCode octets other → one ≡ other
 SpellsCode-unique = spelled.SpellsCode-unique
 
--- Octets that spell a code have eight for each instruction.
+-- A code of n instructions is spelled by 8 * n octets.
 pub SpellsCode-length : (octets : List ℕ) (code : List Instr) → SpellsCode octets code → length octets ≡ 8 * length code
 SpellsCode-length = spelled.SpellsCode-length
 
@@ -25,18 +25,18 @@ SpellsCode-length = spelled.SpellsCode-length
 pub SpellsCode-at : (octets : List ℕ) (code : List Instr) (place : ℕ) → SpellsCode octets code → 8 * place + 8 ≤ length octets → (i : Instr) × Spells (eight_at octets place) i
 SpellsCode-at = spelled.SpellsCode-at
 
--- Octets spell a code, or they have a fault that isn't want of memory.
+-- Octets spell a code or have an error other than NoMemory.
 pub code-or_fault : (octets : List ℕ) → ((code : List Instr) × SpellsCode octets code) ⊎ ((fault : DecodeFault) × (fault ≢ NoMemory) × IsFaultOf octets fault)
 code-or_fault = total.code-or_fault
 
--- Octets that spell a code have no fault but want of memory.
+-- Octets that spell a code have no error other than NoMemory.
 pub code-no_fault : (octets : List ℕ) (code : List Instr) (fault : DecodeFault) → SpellsCode octets code → fault ≢ NoMemory → IsFaultOf octets fault → ⊥
 code-no_fault = faults.code-no_fault
 
--- Octets have one fault but want of memory at most.
+-- Octets have at most one error other than NoMemory.
 pub one-decode_fault : (octets : List ℕ) (one other : DecodeFault) → one ≢ NoMemory → other ≢ NoMemory → IsFaultOf octets one → IsFaultOf octets other → one ≡ other
 one-decode_fault = faults.one-decode_fault
 
--- The octets that are written for a code whose instructions fit their fields spell it plainly.
+-- The octets of a code whose instructions fit their fields spell it, with 0 in unused fields.
 pub code_octets-plainly : (code : List Instr) → ((place : ℕ) (i : Instr) → StandsAt code place i → FitsFields i) → SpellsPlainly (code_octets code) code
 code_octets-plainly = written.code_octets-plainly

@@ -1,4 +1,4 @@
--- The instruction table read from its fields, which shows that no two rows share a code.
+-- The inverse of the instruction table. It shows that no two rows share a number.
 use Rattle.std.proofs.Common.{◌≡◌, ◌≢◌, ◌↔◌, ℕ, ◌==◌, if◌then◌else◌, refl, sym, ap, subst, ◌∙◌, List, Option, Some, None, Ok}
 use Rattle.std.specs.Option.{IfNone, IfSome, ok_or}
 use Rattle.bpf_code.specs.Fields.{code_in, jt_in, jf_in, k_in}
@@ -11,7 +11,7 @@ use Rattle.bpf_code.specs.declared.instr.Op.TheVariants.{Add, Sub, Mul, Div, Or,
 use Rattle.bpf_code.specs.declared.instr.Size.TheVariants.{Word, Half, Octet}
 use Rattle.bpf_code.specs.declared.instr.Test.TheVariants.{Eq, Gt, Ge, Set}
 
--- The instruction of these fields, where there is one.
+-- The instruction with these fields, if the table has one.
 unfoldable pub row_at : ℕ → ℕ → ℕ → ℕ → Instr
 row_at code jt jf k =
     if code == 0x0020 then LoadAbs Word k else (
@@ -64,7 +64,7 @@ row_at code jt jf k =
     if code == 0x0007 then Tax else (
     Txa))))))))))))))))))))))))))))))))))))))))))))))))
 
--- The fields of an instruction lead back to it.
+-- The fields of an instruction give that instruction.
 pub row_at-fields : (code jt jf k : ℕ) (i : Instr) → code ≡ code_of i → IfSome (jt_of i) (λ offset. jt ≡ offset) → IfSome (jf_of i) (λ offset. jf ≡ offset) → IfSome (k_of i) (λ operand. k ≡ operand) → row_at code jt jf k ≡ i
 unfolding row_at
 row_at-fields code jt jf k (LoadAbs Word n) c t f o = rw (c, o) refl
@@ -123,7 +123,7 @@ Spells-unique octets i j s r =
     sym (row_at-fields (code_in octets) (jt_in octets) (jf_in octets) (k_in octets) i s.code s.jt s.jf s.k)
     ∙ row_at-fields (code_in octets) (jt_in octets) (jf_in octets) (k_in octets) j r.code r.jt r.jf r.k
 
--- Of a row that was found, or that isn't there, this is what the octets spell.
+-- The octets spell the row that was found and no other, or nothing if none was found.
 pub row_spells : (octets : List ℕ) (found : Option Instr) (code : ℕ) → IfSome found (λ i. Spells octets i) → IfNone found ((i : Instr) → code_of i ≢ code_in octets) → (i : Instr) → (Spells octets i ↔ (ok_or found code ≡ Ok i))
 row_spells octets (Some j) code spelled no_row i = (
   λ s. ap Ok (Spells-unique octets j i spelled s),

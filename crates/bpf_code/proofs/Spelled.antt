@@ -1,14 +1,14 @@
--- What octets that spell a code look like.
+-- The shape of octets that spell a code.
 use Rattle.std.proofs.Common.{◌≡◌, ℕ, zero, suc, ◌+◌, ◌*◌, ◌≤◌, List, [], ◌∷◌, length, take, drop, refl, ap, subst, arith, length-take, length-drop, drop-drop}
 use Rattle.bpf_code.proofs.Rows.{Spells-unique}
 use Rattle.bpf_code.specs.OctetSpelling.{Spells, SpellsCode, eight_at}
 use Rattle.bpf_code.specs.declared.instr.Instr.{Instr}
 
--- Eight octets that spell an instruction are there.
+-- Octets that spell an instruction are at least eight.
 pub Spells-length : (octets : List ℕ) (i : Instr) → Spells (take 8 octets) i → 8 ≤ length octets
 Spells-length octets i s = let e = s.eight in let f = length-take 8 octets in omega arith
 
--- Octets that spell a code have eight for each instruction.
+-- A code of n instructions is spelled by 8 * n octets.
 pub SpellsCode-length : (octets : List ℕ) (code : List Instr) → SpellsCode octets code → length octets ≡ 8 * length code
 SpellsCode-length octets [] s = ap length s
 SpellsCode-length octets (i ∷ code) s =

@@ -1,4 +1,4 @@
--- Octets either spell a code or have a fault.
+-- Octets spell a code or have an error.
 use Rattle.std.proofs.Common.{◌≡◌, ◌≢◌, ℕ, zero, suc, ◌+◌, ◌*◌, ◌/◌, ◌%◌, ◌<◌, ◌⊎◌, inl, inr, ◌==◌, Bool, true, false, if◌then◌else◌, List, [], ◌∷◌, length, take, drop, refl, sym, ◌∙◌, ap, subst, arith, length-take, length-drop, drop-drop}
 use Rattle.std.specs.Prelude.{IfSome}
 use Rattle.std.proofs.lemmas.Bool.{cases_lt}
@@ -17,7 +17,7 @@ use Rattle.bpf_code.specs.declared.instr.Size.TheVariants.{Word, Half, Octet}
 use Rattle.bpf_code.specs.declared.instr.Test.TheVariants.{Eq, Gt, Ge, Set}
 use Rattle.bpf_code.proofs.Rows.{row_at, row_at-fields}
 
--- The fields of the instruction that these fields lead to are these.
+-- These are the fields that the instruction uses.
 record Owns (jt jf k : ℕ) (i : Instr) : Type 0 where
   jt_own : IfSome (jt_of i) (λ offset. jt ≡ offset)
   jf_own : IfSome (jf_of i) (λ offset. jf ≡ offset)
@@ -27,7 +27,7 @@ module _ (jt jf k : ℕ) where
   own : (i : Instr) → IfSome (jt_of i) (λ offset. jt ≡ offset) → IfSome (jf_of i) (λ offset. jf ≡ offset) → IfSome (k_of i) (λ operand. k ≡ operand) → Owns jt jf k i
   own i t f o = record { jt_own = t; jf_own = f; k_own = o }
 
-  -- One row of the table above the rows below it.
+  -- One row of the table, before the rows below it.
   row : (b : Bool) (i j : Instr) → IfSome (jt_of i) (λ offset. jt ≡ offset) → IfSome (jf_of i) (λ offset. jf ≡ offset) → IfSome (k_of i) (λ operand. k ≡ operand) → Owns jt jf k j → Owns jt jf k (if b then i else j)
   row true i j t f o below = own i t f o
   row false i j t f o below = below
@@ -85,7 +85,7 @@ module _ (jt jf k : ℕ) where
       row (code == 0x0007) Tax _ tt tt tt (
       own Txa tt tt tt))))))))))))))))))))))))))))))))))))))))))))))))
 
--- Eight octets spell an instruction, or none.
+-- Eight octets spell an instruction or none.
 spelled_or_not : (octets : List ℕ) → length octets ≡ 8 → ((i : Instr) × Spells octets i) ⊎ ((i : Instr) → Spells octets i → ⊥)
 spelled_or_not octets eight =
     let code = code_in octets in
@@ -99,7 +99,7 @@ spelled_or_not octets eight =
       | inr other ↦ inr (λ i spells. other.1 (spells.code ∙ ap code_of (sym (row_at-fields code jt jf k i spells.code spells.jt spells.jf spells.k))))
     ]
 
--- The eights of a list whose first eight are gone.
+-- The place of an instruction after the first is dropped.
 later : (octets : List ℕ) (place : ℕ) → eight_at (drop 8 octets) place ≡ eight_at octets (suc place)
 later octets place =
     let moved : 8 + 8 * place ≡ 8 * suc place = omega arith in

@@ -1,4 +1,4 @@
--- The octets that are written for a code spell it.
+-- The octets that `encode` writes spell the code.
 use Rattle.std.proofs.Common.{◌≡◌, ℕ, zero, suc, ◌<◌, ◌^◌, List, [], ◌∷◌, Option, Some, None, unwrap_or, refl, lit<}
 use Rattle.std.specs.Option.{IfSome, IfNone}
 use Rattle.byteorder.specs.Endian.{big_bytes, big_number}
@@ -16,7 +16,7 @@ use Rattle.bpf_code.specs.declared.instr.Op.TheVariants.{Add, Sub, Mul, Div, Or,
 use Rattle.bpf_code.specs.declared.instr.Size.TheVariants.{Word, Half, Octet}
 use Rattle.bpf_code.specs.declared.instr.Test.TheVariants.{Eq, Gt, Ge, Set}
 
--- A code has two octets.
+-- The number of an instruction fits into two octets.
 code_small : (i : Instr) → code_of i < 256 ^ 2
 code_small (LoadAbs Word k) = lit< tt
 code_small (LoadAbs Half k) = lit< tt
@@ -68,7 +68,7 @@ code_small RetA = lit< tt
 code_small Tax = lit< tt
 code_small Txa = lit< tt
 
--- A field that is written by what it holds, or 0.
+-- A used field is written with its value.
 used : (field : Option ℕ) → IfSome field (λ n. unwrap_or field 0 ≡ n)
 used None = tt
 used (Some n) = refl
@@ -77,7 +77,7 @@ unused : (field : Option ℕ) → IfNone field (unwrap_or field 0 ≡ 0)
 unused None = refl
 unused (Some n) = tt
 
--- A number that fits is read back.
+-- An operand that fits is read back.
 operand_used : (field : Option ℕ) → IfSome field (λ n. n < 2 ^ 32) → IfSome field (λ n. big_number 4 (big_bytes 4 (unwrap_or field 0)) ≡ n)
 operand_used None small = tt
 operand_used (Some n) small = big_number-reads_back 4 n [] small

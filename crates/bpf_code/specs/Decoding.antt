@@ -1,10 +1,10 @@
--- When octets are no code.
+-- Which error `decode` may return for which octets.
 use Rattle.std.specs.Prelude.{◌≡◌, ◌<◌, ◌%◌, ℕ, List, length}
 use Rattle.bpf_code.specs.OctetSpelling.{IsFirstUnknown}
 use Rattle.bpf_code.specs.declared.decoder.DecodeFault.{DecodeFault}
 use Rattle.bpf_code.specs.declared.decoder.DecodeFault.TheVariants.{Ragged, UnknownCode, NoMemory}
 
--- The octets have the fault.
+-- This error is allowed for these octets. NoMemory is allowed for any.
 abbrev pub IsFaultOf : List ℕ → DecodeFault → Type 0
 IsFaultOf octets Ragged = 0 < length octets % 8
 IsFaultOf octets (UnknownCode at code) = (length octets % 8 ≡ 0) × IsFirstUnknown octets at code

@@ -1,5 +1,5 @@
--- The instruction table as it was before the operations mod and xor joined it, and what octets spelled
--- by it. It is here for the law that every code of that time is still spelled by the same octets.
+-- The instruction table before `mod` and `xor` were added, and its encoding. The law
+-- `earlier_codes_are_spelled_as_before` needs it: octets of that time still encode the same code.
 use Rattle.std.specs.Prelude.{◌≡◌, ℕ, List, [], ◌∷◌, length, take, drop, Option, Some, None, IfSome}
 use Rattle.bpf_code.specs.Fields.{code_in, jt_in, jf_in, k_in}
 use Rattle.bpf_code.specs.Table.{jt_of, jf_of, k_of}
@@ -10,7 +10,7 @@ use Rattle.bpf_code.specs.declared.instr.Op.TheVariants.{Add, Sub, Mul, Div, Or,
 use Rattle.bpf_code.specs.declared.instr.Size.TheVariants.{Word, Half, Octet}
 use Rattle.bpf_code.specs.declared.instr.Test.TheVariants.{Eq, Gt, Ge, Set}
 
--- The code that each instruction had, if it was one.
+-- The number of each instruction, if the earlier table has one.
 abbrev pub earlier_code_of : Instr → Option ℕ
 earlier_code_of (LoadAbs Word k) = Some 0x0020
 earlier_code_of (LoadAbs Half k) = Some 0x0028
@@ -60,7 +60,7 @@ earlier_code_of RetA = Some 0x0016
 earlier_code_of Tax = Some 0x0007
 earlier_code_of Txa = Some 0x0087
 
--- Eight octets spelled an instruction where they have the code that it had and the fields that it uses.
+-- Eight octets spelled an instruction if they hold its earlier number and the fields that it uses.
 pub record SpelledEarlier (octets : List ℕ) (i : Instr) : Type 0 where
   pub eight : length octets ≡ 8
   pub code : earlier_code_of i ≡ Some (code_in octets)
@@ -68,7 +68,7 @@ pub record SpelledEarlier (octets : List ℕ) (i : Instr) : Type 0 where
   pub jf : IfSome (jf_of i) (λ offset. jf_in octets ≡ offset)
   pub k : IfSome (k_of i) (λ operand. k_in octets ≡ operand)
 
--- Octets spelled a code where, cut into eights, they spelled its instructions in order.
+-- Octets spelled a code if its instructions, in order, were spelled by eight octets each.
 abbrev pub SpelledCodeEarlier : List ℕ → List Instr → Type 0
 SpelledCodeEarlier octets [] = octets ≡ []
 SpelledCodeEarlier octets (i ∷ code) = SpelledEarlier (take 8 octets) i × SpelledCodeEarlier (drop 8 octets) code

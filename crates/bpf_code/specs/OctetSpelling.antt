@@ -1,11 +1,11 @@
--- Which octets spell which instructions (net/bpf.h).
+-- The encoding of instructions (net/bpf.h).
 use Rattle.std.specs.Prelude.{◌≡◌, ◌+◌, ◌*◌, ◌≤◌, ◌<◌, ℕ, List, [], ◌∷◌, length, take, drop, IfSome, IfNone}
 use Rattle.bpf_code.specs.Fields.{code_in, jt_in, jf_in, k_in}
 use Rattle.bpf_code.specs.Table.{code_of, jt_of, jf_of, k_of}
 use Rattle.bpf_code.specs.declared.instr.Instr.{Instr}
 
--- Eight octets spell an instruction where they have its code and the fields that it uses; the octets
--- of all other fields are free.
+-- Eight octets spell an instruction if they hold its number and each field that it uses. The other fields may hold
+-- anything.
 pub record Spells (octets : List ℕ) (i : Instr) : Type 0 where
   pub eight : length octets ≡ 8
   pub code : code_in octets ≡ code_of i
@@ -13,27 +13,27 @@ pub record Spells (octets : List ℕ) (i : Instr) : Type 0 where
   pub jf : IfSome (jf_of i) (λ offset. jf_in octets ≡ offset)
   pub k : IfSome (k_of i) (λ operand. k_in octets ≡ operand)
 
--- The octets of the fields that an instruction doesn't use are 0.
+-- Each field that the instruction doesn't use is 0.
 pub record UnusedAreZero (octets : List ℕ) (i : Instr) : Type 0 where
   pub jt : IfNone (jt_of i) (jt_in octets ≡ 0)
   pub jf : IfNone (jf_of i) (jf_in octets ≡ 0)
   pub k : IfNone (k_of i) (k_in octets ≡ 0)
 
--- Octets spell a code where, cut into eights, they spell its instructions in order.
+-- Octets spell a code if its instructions, in order, are spelled by eight octets each.
 abbrev pub SpellsCode : List ℕ → List Instr → Type 0
 SpellsCode octets [] = octets ≡ []
 SpellsCode octets (i ∷ code) = Spells (take 8 octets) i × SpellsCode (drop 8 octets) code
 
--- Octets spell a code plainly where, besides, each field that an instruction doesn't use is 0.
+-- The same, and each field that an instruction doesn't use is 0.
 abbrev pub SpellsPlainly : List ℕ → List Instr → Type 0
 SpellsPlainly octets [] = octets ≡ []
 SpellsPlainly octets (i ∷ code) = Spells (take 8 octets) i × UnusedAreZero (take 8 octets) i × SpellsPlainly (drop 8 octets) code
 
--- The eight octets at a place, which counts instructions from 0.
+-- The eight octets of the instruction at this place.
 abbrev pub eight_at : List ℕ → ℕ → List ℕ
 eight_at octets place = take 8 (drop (8 * place) octets)
 
--- At the place are the first eight octets that spell nothing, and they have this code.
+-- The eight octets at this place spell no instruction, all before do, and the number in them is this code.
 pub record IsFirstUnknown (octets : List ℕ) (place code : ℕ) : Type 0 where
   pub within : 8 * place + 8 ≤ length octets
   pub there : code_in (eight_at octets place) ≡ code

@@ -1,10 +1,9 @@
--- The widths of an instruction's fields (net/bpf.h, struct sock_filter).
+-- The widths of the fields (net/bpf.h, struct sock_filter).
 use Rattle.std.specs.Prelude.{◌<◌, ◌^◌, IfSome}
 use Rattle.bpf_code.specs.Table.{jt_of, jf_of, k_of}
 use Rattle.bpf_code.specs.declared.instr.Instr.{Instr}
 
--- The fields that an instruction uses have room for what it holds: 32 bits for the operand, 8 for each
--- offset of a branch.
+-- The operand fits into 32 bits, and each offset of a branch into 8 bits.
 pub record FitsFields (i : Instr) : Type 0 where
   pub k : IfSome (k_of i) (λ k. k < 2 ^ 32)
   pub jt : IfSome (jt_of i) (λ offset. offset < 2 ^ 8)

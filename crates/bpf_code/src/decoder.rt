@@ -1,4 +1,4 @@
-//! Octets, read as instructions.
+//! Decoding.
 
 ghost use Rattle.std.specs.Prelude.{◌≡◌, ◌≢◌, ◌↔◌, ◌<◌, ◌%◌, ◌⊎◌, ℕ, List, length, IfErr, IfNone, IfOk, IfSome, OnErr};
 ghost use Rattle.std.specs.Result.{IsOkUnless};
@@ -20,22 +20,22 @@ use byteorder::{BigEndian, ByteOrder};
 use std::alloc::Global;
 use thiserror::Error;
 
-/// Why octets are no code.
+/// Why octets are not a code.
 #[derive(Clone, Copy, Debug, PartialEq, Eq, Error)]
 pub enum DecodeFault {
-    /// The number of octets is no multiple of 8.
+    /// The number of octets is not a multiple of 8.
     #[error("1 Ragged")]
     Ragged,
-    /// The first eight octets that spell no instruction: their place, counted in instructions
-    /// from 0, and the number in the first two of them.
+    /// The first eight octets that spell no instruction: their place, in instructions from 0, and the number in the
+    /// first two.
     #[error("2 UnknownCode {at} {code:04x}")]
     UnknownCode { at: usize, code: u16 },
-    /// Memory ran out.
+    /// An allocation failed.
     #[error("3 NoMemory")]
     NoMemory,
 }
 
-/// The arithmetic or the branch whose code is in the octets, by the instruction table.
+/// Decodes arithmetic and branches, by the instruction table.
 fn operation(octets: &[u8; 8]) -> Option<Instr>
     ensures spelled { IfSome result (λ i. Spells octets.now i) }
     ensures no_arithmetic { IfNone result ((op : Op) (by : By) → code_of (Instr.Alu op by) ≢ code_in octets.now) }
@@ -79,7 +79,7 @@ fn operation(octets: &[u8; 8]) -> Option<Instr>
     })
 }
 
-/// The instruction whose code is in the octets, by the instruction table.
+/// Decodes any instruction, by the instruction table.
 fn instruction(octets: &[u8; 8]) -> Option<Instr>
     ensures spelled { IfSome result (λ i. Spells octets.now i) }
     ensures no_row { IfNone result ((i : Instr) → code_of i ≢ code_in octets.now) }
@@ -111,11 +111,11 @@ fn instruction(octets: &[u8; 8]) -> Option<Instr>
     })
 }
 
-/// The instruction that eight octets spell. Octets of fields that it doesn't use are free.
+/// Decodes one instruction. Fields that it doesn't use may hold anything.
 ///
 /// # Errors
 ///
-/// The number in the first two octets, where they spell no instruction.
+/// The number in the first two octets, if the octets spell no instruction.
 pub fn decode_one(octets: &[u8; 8]) -> Result<Instr, u16>
     ensures spelled { (i : Instr) → (Spells octets.now i ↔ (result ≡ Ok i)) }
     ensures nothing_spelled { OnErr result ((i : Instr) → ¬ Spells octets.now i) }
@@ -124,16 +124,17 @@ pub fn decode_one(octets: &[u8; 8]) -> Result<Instr, u16>
     instruction(octets).ok_or(BigEndian::read_u16(octets))
 }
 
-/// The code that octets spell, eight octets an instruction.
+/// Decodes a code, eight octets an instruction.
 ///
 /// # Errors
 ///
-/// `Ragged` before any other; `NoMemory` may stand in place of `UnknownCode`.
+/// `Ragged` if the number of octets is not a multiple of 8. Otherwise `UnknownCode` for the first eight octets that
+/// spell no instruction, or `NoMemory` in its place.
 pub fn decode(alloc: Global, octets: &[u8]) -> Result<Vec<Instr>, DecodeFault>
     ensures code { IfOk result (λ code. SpellsCode octets.now code.items) }
     ensures fault { IfErr result (IsFaultOf octets.now) }
 
-    // Which of these comes, but for want of memory.
+    // Each case fixes the result, except that NoMemory may replace the last two.
     ensures ragged { 0 < length octets.now % 8 → result ≡ Err DecodeFault.Ragged }
     ensures unknown { (at code : ℕ) → length octets.now % 8 ≡ 0 → IsFirstUnknown octets.now at code →
         (result ≡ Err (DecodeFault.UnknownCode at code)) ⊎ (result ≡ Err DecodeFault.NoMemory) }

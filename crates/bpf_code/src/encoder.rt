@@ -1,4 +1,4 @@
-//! Instructions, written as octets.
+//! Encoding.
 
 ghost use Rattle.std.specs.Prelude.{◌≡◌, ◌≤◌, ◌+◌, ℕ, unwrap_or, IfOk};
 ghost use Rattle.bpf_code.specs.Encoding.{octets_of, code_octets};
@@ -11,7 +11,7 @@ use byteorder::{BigEndian, ByteOrder};
 use std::alloc::Global;
 use thiserror::Error;
 
-/// The fields of an instruction, 0 where it doesn't use them.
+/// The fields of an instruction. Those that it doesn't use are 0.
 struct Fields {
     code: u16,
     jt: u8,
@@ -19,7 +19,7 @@ struct Fields {
     k: u32,
 }
 
-/// What the size adds to the code of a load.
+/// The bits that the size adds to the number of a load.
 fn size_bits(size: Size) -> u16
     ensures absolute { (k : ℕ) → code_of (Instr.LoadAbs size k) ≡ 0x0020 + result }
     ensures indirect { (k : ℕ) → code_of (Instr.LoadInd size k) ≡ 0x0040 + result }
@@ -32,7 +32,7 @@ fn size_bits(size: Size) -> u16
     }
 }
 
-/// What the operation adds to the code of arithmetic.
+/// The bits that the operation adds to the number of arithmetic.
 fn op_bits(op: Op) -> u16
     ensures by_constant { (k : ℕ) → code_of (Instr.Alu op (By.Imm k)) ≡ 0x0004 + result }
     ensures by_x { code_of (Instr.Alu op By.X) ≡ 0x000c + result }
@@ -52,7 +52,7 @@ fn op_bits(op: Op) -> u16
     }
 }
 
-/// What the test adds to the code of a branch.
+/// The bits that the test adds to the number of a branch.
 fn test_bits(test: Test) -> u16
     ensures by_constant { (k jt jf : ℕ) → code_of (Instr.Branch test (By.Imm k) jt jf) ≡ 0x0005 + result }
     ensures by_x { (jt jf : ℕ) → code_of (Instr.Branch test By.X jt jf) ≡ 0x000d + result }
@@ -67,14 +67,14 @@ fn test_bits(test: Test) -> u16
 }
 
 impl Fields {
-    /// A code alone.
+    /// The number alone.
     fn plain(code: u16) -> Fields
         ensures { result ≡ record { code = code; jt = 0; jf = 0; k = 0 } }
     {
         Fields::with_k(code, 0)
     }
 
-    /// A code with its operand.
+    /// The number and an operand.
     fn with_k(code: u16, k: u32) -> Fields
         ensures { result ≡ record { code = code; jt = 0; jf = 0; k = k } }
     {
@@ -144,7 +144,7 @@ impl Fields {
     }
 }
 
-/// The eight octets that spell an instruction, with 0 in the fields that it doesn't use.
+/// Encodes one instruction. Fields that it doesn't use are 0.
 pub fn encode_one(instr: Instr) -> [u8; 8]
     ensures spells { Spells result instr }
     ensures unused { UnusedAreZero result instr }
@@ -157,20 +157,19 @@ pub fn encode_one(instr: Instr) -> [u8; 8]
     octets
 }
 
-/// Why a code wasn't written.
+/// Why a code could not be encoded.
 #[derive(Clone, Copy, Debug, PartialEq, Eq, Error)]
 pub enum EncodeFault {
-    /// Memory ran out.
+    /// An allocation failed.
     #[error("1 NoMemory")]
     NoMemory,
 }
 
-/// The octets that spell a code, eight octets an instruction. Fields that an instruction doesn't use
-/// are 0.
+/// Encodes a code, eight octets an instruction. Fields that an instruction doesn't use are 0.
 ///
 /// # Errors
 ///
-/// `NoMemory` where memory was refused.
+/// `NoMemory` if an allocation fails.
 pub fn encode(alloc: Global, code: &[Instr]) -> Result<Vec<u8>, EncodeFault>
     ensures spells { IfOk result (λ octets. SpellsPlainly octets.items code.now) }
     ensures octets { IfOk result (λ octets. octets.items ≡ code_octets code.now) }

@@ -1,6 +1,6 @@
 //! The instructions of the classic BPF machine (McCanne and Jacobson 1993).
 
-/// How many octets a packet load reads.
+/// The number of octets that a packet load reads.
 #[derive(Clone, Copy, Debug, PartialEq, Eq)]
 pub enum Size {
     /// Four octets.
@@ -11,7 +11,7 @@ pub enum Size {
     Octet,
 }
 
-/// What arithmetic makes of A and an operand, modulo 2^32.
+/// An operation on A and an operand, modulo 2^32.
 #[derive(Clone, Copy, Debug, PartialEq, Eq)]
 pub enum Op {
     /// The sum.
@@ -20,90 +20,87 @@ pub enum Op {
     Sub,
     /// The product.
     Mul,
-    /// The quotient without its rest.
+    /// The quotient, rounded down.
     Div,
-    /// The bits that one of the two has.
+    /// Bitwise or.
     Or,
-    /// The bits that both have.
+    /// Bitwise and.
     And,
-    /// A with its bits moved up, and zeros behind them.
+    /// Left shift.
     Lsh,
-    /// A with its bits moved down, and zeros in front of them.
+    /// Right shift, which fills with zeros.
     Rsh,
-    /// The rest of the quotient.
+    /// The remainder of the division.
     Mod,
-    /// The bits that one of the two has, and not both.
+    /// Bitwise exclusive or.
     Xor,
 }
 
-/// How a branch compares A with its operand. Comparisons are unsigned.
+/// The comparison of A with the operand in a branch. Comparisons are unsigned.
 #[derive(Clone, Copy, Debug, PartialEq, Eq)]
 pub enum Test {
     /// A equals the operand.
     Eq,
-    /// A is greater.
+    /// A is greater than the operand.
     Gt,
-    /// A is greater or equal.
+    /// A is greater than the operand or equal to it.
     Ge,
-    /// A and the operand have a common bit.
+    /// A and the operand have a bit in common.
     Set,
 }
 
 /// The operand of arithmetic and of branches.
 #[derive(Clone, Copy, Debug, PartialEq, Eq)]
 pub enum By {
-    /// The number in the instruction.
+    /// The constant in the instruction.
     Imm(u32),
     /// The register X.
     X,
 }
 
-/// An instruction of the classic BPF machine, which has two registers A and X of 32 bits, and sixteen
-/// scratch words, M[0] to M[15].
+/// An instruction of the classic BPF machine. The machine has two registers of 32 bits, A and X, and sixteen scratch
+/// words, M[0] to M[15].
 ///
-/// Where nothing else is said, the instruction behind it comes next. Offsets into the packet and
-/// into the code count from 0; those of a jump count from the instruction behind it. Where an octet
-/// of a packet load lies outside the packet, the program ends with 0.
+/// After an instruction the next one follows, unless its comment says otherwise. Offsets into the packet count octets
+/// from 0. Offsets of a jump count instructions, 0 being the next one. If a packet load reads beyond the packet, the
+/// program ends with 0.
 #[derive(Clone, Copy, Debug, PartialEq, Eq)]
 pub enum Instr {
-    /// `ld [k]`, `ldh [k]`, `ldb [k]`: A becomes the octets of the packet from offset `k`, read as
-    /// a big-endian number.
+    /// `ld [k]`, `ldh [k]`, `ldb [k]`: loads the octets of the packet from offset `k` into A, big-endian.
     LoadAbs { size: Size, k: u32 },
-    /// `ld [x+k]`, `ldh [x+k]`, `ldb [x+k]`: the same from the offset X + `k`, which doesn't wrap.
+    /// `ld [x+k]`, `ldh [x+k]`, `ldb [x+k]`: the same from offset X + `k`; the sum doesn't wrap.
     LoadInd { size: Size, k: u32 },
-    /// `ld #k`: A becomes the number.
+    /// `ld #k`: A becomes `k`.
     LoadImm(u32),
-    /// `ld M[k]`: A becomes the scratch word.
+    /// `ld M[k]`: A becomes M[k].
     LoadMem(u32),
-    /// `ld #len`: A becomes the packet's number of octets.
+    /// `ld #len`: A becomes the length of the packet, in octets.
     LoadLen,
-    /// `ldx #k`: X becomes the number.
+    /// `ldx #k`: X becomes `k`.
     LdxImm(u32),
-    /// `ldx M[k]`: X becomes the scratch word.
+    /// `ldx M[k]`: X becomes M[k].
     LdxMem(u32),
-    /// `ldx #len`: X becomes the packet's number of octets.
+    /// `ldx #len`: X becomes the length of the packet, in octets.
     LdxLen,
-    /// `ldxb 4*([k]&0xf)`: X becomes four times the low four bits of the packet's octet at `k`, the
-    /// length of an IP header.
+    /// `ldxb 4*([k]&0xf)`: X becomes four times the low four bits of the octet at offset `k` (the length of an IP
+    /// header).
     LdxMsh(u32),
-    /// `st M[k]`: the scratch word becomes A.
+    /// `st M[k]`: M[k] becomes A.
     Store(u32),
-    /// `stx M[k]`: the scratch word becomes X.
+    /// `stx M[k]`: M[k] becomes X.
     StoreX(u32),
-    /// `add`, `sub`, `mul`, `div`, `or`, `and`, `lsh`, `rsh`, `mod`, `xor`: A becomes what arithmetic
-    /// makes of it and the operand. A division by an X of 0, for its quotient or its rest, ends the
-    /// program with 0; a shift by an X of 32 or more gives 0.
+    /// `add`, `sub`, `mul`, `div`, `or`, `and`, `lsh`, `rsh`, `mod`, `xor`: A becomes the result of the operation on
+    /// A and the operand. `div` and `mod` by X = 0 end the program with 0. A shift by X of 32 or more gives 0.
     Alu { op: Op, by: By },
-    /// `neg`: A becomes 2^32 less A, modulo 2^32.
+    /// `neg`: A becomes 2^32 - A, modulo 2^32.
     Neg,
-    /// `ja`: goes on so many instructions further.
+    /// `ja`: skips this number of instructions.
     Jump(u32),
-    /// `jeq`, `jgt`, `jge`, `jset`: goes on `jt` instructions further where the test holds, else
-    /// `jf`.
+    /// `jeq`, `jgt`, `jge`, `jset`: skips `jt` instructions if the test is true, otherwise `jf`.
     Branch { test: Test, by: By, jt: u8, jf: u8 },
-    /// `ret #k`: ends with the number.
+    /// `ret #k`: ends the program with `k`.
     RetK(u32),
-    /// `ret a`: ends with A.
+    /// `ret a`: ends the program with A.
     RetA,
     /// `tax`: X becomes A.
     Tax,

@@ -1,4 +1,4 @@
-//! Classic BPF instructions and the eight octets that spell each of them.
+//! The instructions of classic BPF and their encoding in eight octets.
 #![tactic(auto)]
 
 mod decoder;

@@ -1,4 +1,4 @@
--- Lemmas on the list of free places, and on what keeps an arena sound.
+-- Lemmas on the free list and on the invariant of an arena.
 use Rattle.std.proofs.Common.{◌≡◌, ◌≢◌, ℕ, zero, suc, ◌+◌, ◌-◌, ◌*◌, ◌<◌, ◌≤◌, Bool, true, false, List, map, length, set, Option, Some, None, IsSome, IfSome, refl, sym, ap, ◌∙◌, subst, inl, inr, arith, length-set}
 use Rattle.std.specs.Prelude.{slice_get}
 use Rattle.std.proofs.lemmas.Bool.{cases_eq}
@@ -22,14 +22,14 @@ module _ {T : Type 0} where
   abbrev free_at : List (Place T) → ℕ → Bool
   free_at places k = is_free (slot_of (place_at places k))
 
-  -- There is one way from a place to the end.
+  -- Only one chain leads from a place to the end.
   chain_once : (places : List (Place T)) (k m n : ℕ) → IsChain places k m → IsChain places k n → m ≡ n
   chain_once places k zero zero one other = refl
   chain_once places k zero (suc n) one other = absurd (omega (arith, one, other.0))
   chain_once places k (suc m) zero one other = absurd (omega (arith, one.0, other))
   chain_once places k (suc m) (suc n) one other = ap suc (chain_once places (place_at places k).next m n one.2 other.2)
 
-  -- A chain goes on as it went, where a place was written that is not one of its own.
+  -- A chain survives a write to a place that isn't in it.
   chain_passes : (places : List (Place T)) (j k m : ℕ) (new : Place T) → j ≢ k → IsChain places j (suc m) → IsChain (set places k new) (place_at places j).next m → IsChain (set places k new) j (suc m)
   chain_passes places j k m new differs chain later =
       let same = get_or-set_other places k j new no_place differs in
@@ -40,7 +40,7 @@ module _ {T : Type 0} where
         subst P (sym same) later,
       )
 
-  -- The rest of a chain does not come back to a place before it.
+  -- A chain doesn't return to an earlier place.
   chain-set_before : (places : List (Place T)) (j k m n : ℕ) (new : Place T) → m < n → IsChain places k n → IsChain places j m → IsChain (set places k new) j m
   chain-set_before places j k zero n new less before chain = chain ∙ sym (length-set places k new)
   chain-set_before places j k (suc m) n new less before chain =
@@ -52,7 +52,7 @@ module _ {T : Type 0} where
             chain_passes places j k m new differs chain (chain-set_before places (place_at places j).next k m n new (omega (arith, less)) before chain.2)
       ]
 
-  -- Nor has it a place that is not free.
+  -- Nor does it have a place that isn't free.
   chain-set_taken : (places : List (Place T)) (j k m : ℕ) (new : Place T) → free_at places k ≡ false → IsChain places j m → IsChain (set places k new) j m
   chain-set_taken places j k zero new taken chain = chain ∙ sym (length-set places k new)
   chain-set_taken places j k (suc m) new taken chain =
@@ -62,7 +62,7 @@ module _ {T : Type 0} where
             chain_passes places j k m new differs chain (chain-set_taken places (place_at places j).next k m new taken chain.2)
       ]
 
-  -- The first place of a chain, and the chain behind it.
+  -- The head of a chain, and the rest of it.
   pub record StartsAt (places : List (Place T)) (first count : ℕ) : Type 0 where
     pub there : first < length places
     pub free : free_at places first ≡ true
@@ -99,7 +99,7 @@ module _ {T : Type 0} where
         few = let same = length-set places first new in omega (arith, same, sound.few);
       }
 
-  -- What holds of a place that is emptied.
+  -- The properties of a place that is emptied.
   pub record WasFull (places : List (Place T)) (k generation : ℕ) (v : T) : Type 0 where
     pub there : k < length places
     pub full : slot_of (place_at places k) ≡ full_slot generation v
@@ -130,7 +130,7 @@ module _ {T : Type 0} where
       let now : free_slots (map slot_of (set places k new)) ≡ free_slots (set slots k (empty_slot generation)) = ap free_slots after in
       omega (arith, moved, now)
 
-  -- An emptied place comes first, if it has a generation left.
+  -- An emptied place becomes the head, if it has a generation left.
   pub IsSound-relisted : (places : List (Place T)) (first count k generation : ℕ) (v : T) (new : Place T) → IsSound places first count → WasFull places k generation v → slot_of new ≡ empty_slot generation → new.next ≡ first → generation < greatest_generation → IsSound (set places k new) k (suc count)
   IsSound-relisted places first count k generation v new sound was emptied names below =
       let now = is_free-empty_slot T generation below in
@@ -152,7 +152,7 @@ module _ {T : Type 0} where
         few = let long = length-set places k new in omega (arith, long, sound.few);
       }
 
-  -- And is left out otherwise.
+  -- Otherwise it is left out.
   pub IsSound-worn : (places : List (Place T)) (first count k generation : ℕ) (v : T) (new : Place T) → IsSound places first count → WasFull places k generation v → slot_of new ≡ empty_slot generation → greatest_generation ≤ generation → IsSound (set places k new) first count
   IsSound-worn places first count k generation v new sound was emptied above =
       record {
@@ -166,7 +166,7 @@ module _ {T : Type 0} where
         few = let long = length-set places k new in omega (arith, long, sound.few);
       }
 
-  -- Fresh places name one another, from any on.
+  -- Fresh places form a chain, from any place on.
   fresh_chain : (places : List (Place T)) (count used k n : ℕ) → used < greatest_generation → AreFresh places count used → k + n ≡ count → IsChain places k n
   fresh_chain places count used k zero below fresh long = omega (arith, long, fresh.0)
   fresh_chain places count used k (suc n) below fresh long =

@@ -1,4 +1,4 @@
--- Lemmas on any changes, one after another, and on the number of free slots.
+-- Lemmas on sequences of changes and on the number of free slots.
 use Rattle.std.proofs.Common.{◌≡◌, ◌≢◌, ◌⊎◌, ℕ, zero, suc, ◌<◌, ◌≤◌, false, cond, List, [], ◌∷◌, set, get_or, Option, Some, None, IsSome, is_none, nat_lt, ◌&&◌, refl, sym, ap, ◌∙◌, subst, inl, inr, arith}
 use Rattle.std.specs.Prelude.{slice_get}
 use Rattle.std.specs.List.{All, AllPairs}
@@ -25,7 +25,7 @@ module _ {T : Type 0} where
   Makes-past nothing old new made = λ id past.
       let P : List (Slot T) → Type 0 = λ slots. IsPast slots id in subst P (sym made) past
 
-  -- What is past stays past over any changes.
+  -- Past ids stay past after any changes.
   pub Leads-past : (changes : List (Change T)) (first last : List (Slot T)) → Leads changes first last → KeepsPast first last
   Leads-past [] first last leads id past =
       let P : List (Slot T) → Type 0 = λ slots. IsPast slots id in subst P (sym leads) past
@@ -36,7 +36,7 @@ module _ {T : Type 0} where
   live_value-set_other slots k new id differs =
       ap (value_under id.generation) (slice_get-set_other slots k id.slot new differs)
 
-  -- A live id keeps its value over an insert, since its slot was not free.
+  -- A live id keeps its value in an insert, since its slot wasn't free.
   Inserts-keeps : (old new : List (Slot T)) (other : Id) (w : T) → Inserts old new other w → (id : Id) (v : T) → live_value old id ≡ Some v → live_value new id ≡ Some v
   Inserts-keeps old new other w insert id v live =
       elim (cases_eq id.slot other.slot) [
@@ -51,7 +51,7 @@ module _ {T : Type 0} where
             ap (λ slots. live_value slots id) insert.after ∙ live_value-set_other old other.slot _ id differs ∙ live
       ]
 
-  -- Over a removal a live id keeps its value or, where it was the id of the removal, is past.
+  -- In a removal, a live id keeps its value, or is past if the removal was of it.
   Removes-keeps : (old new : List (Slot T)) (other : Id) (w : T) → Removes old new other w → (id : Id) (v : T) → 1 ≤ id.generation → live_value old id ≡ Some v → (live_value new id ≡ Some v) ⊎ IsPast new id
   Removes-keeps old new other w remove id v given live =
       elim (cases_eq id.slot other.slot) [
@@ -74,7 +74,7 @@ module _ {T : Type 0} where
   Makes-live (removed other w) old new made id v given live = Removes-keeps old new other w made id v given live
   Makes-live nothing old new made id v given live = inl (ap (λ slots. live_value slots id) made ∙ live)
 
-  -- Over any changes a live id keeps its value or is past.
+  -- After any changes a live id has its value or is past.
   pub Leads-live : (changes : List (Change T)) (first last : List (Slot T)) → Leads changes first last → (id : Id) (v : T) → 1 ≤ id.generation → live_value first id ≡ Some v → (live_value last id ≡ Some v) ⊎ IsPast last id
   Leads-live [] first last leads id v given live = inl (ap (λ slots. live_value slots id) leads ∙ live)
   Leads-live (change ∷ later) first last leads id v given live =
@@ -121,7 +121,7 @@ module _ {T : Type 0} where
   Inserts-generation old new id v insert =
       ap (λ slots. generation_at slots id.slot) insert.after ∙ generation_at-there _ id.slot _ (slice_get-set_same old id.slot (full_slot id.generation v) (Inserts-within old new id v insert))
 
-  -- Ids given over any changes have generations that their slots had not used.
+  -- Changes give only ids whose generations their slots had not used.
   pub Leads-fresh : (changes : List (Change T)) (first last : List (Slot T)) → Leads changes first last → All (λ id. generation_at first id.slot < id.generation) (given_ids changes)
   Leads-fresh [] first last leads k d within = absurd (omega arith)
   Leads-fresh (inserted id v ∷ later) first last leads zero d within = Inserts-fresh first leads.0 id v leads.1
@@ -141,7 +141,7 @@ module _ {T : Type 0} where
       let grows = Makes-grows nothing first leads.0 leads.1 given.slot in
       omega (arith, above, grows)
 
-  -- No id is given twice over any changes.
+  -- No id is given twice.
   pub Leads-once : (changes : List (Change T)) (first last : List (Slot T)) → Leads changes first last → AllPairs (λ earlier later. earlier ≢ later) (given_ids changes)
   Leads-once [] first last leads = λ i j d order within. absurd (omega arith)
   Leads-once (inserted id v ∷ later) first last leads =
@@ -156,7 +156,7 @@ module _ {T : Type 0} where
   Leads-once (removed id v ∷ later) first last leads = Leads-once later leads.0 last leads.2
   Leads-once (nothing ∷ later) first last leads = Leads-once later leads.0 last leads.2
 
-  -- An empty slot that isn't free has used the greatest generation.
+  -- An empty slot that isn't free has reached the greatest generation.
   taken_or_worn : (slot : Slot T) → slot.generation ≤ greatest_generation → is_free slot ≡ false → IsSome slot.value ⊎ (slot.generation ≡ greatest_generation)
   taken_or_worn slot most full = by_value slot.value full
     where
@@ -176,7 +176,7 @@ module _ {T : Type 0} where
         | inr full ↦ full
       ]
 
-  -- A count of zero says that none is free.
+  -- If the number of free slots is 0, no slot is free.
   pub none_from_zero : (slots : List (Slot T)) → IsArena slots → free_slots slots ≡ 0 → NoneIsFree slots
   none_from_zero slots lawful counted k slot stands =
       elim (cases_Bool (is_free slot)) [
@@ -210,7 +210,7 @@ module _ {T : Type 0} where
   Makes-lawful nothing old new made lawful =
       let P : List (Slot T) → Type 0 = λ slots. IsArena slots in subst P (sym made) lawful
 
-  -- An arena's slots stay those of an arena over any changes.
+  -- Changes preserve the invariant of an arena.
   pub Leads-lawful : (changes : List (Change T)) (first last : List (Slot T)) → Leads changes first last → IsArena first → IsArena last
   Leads-lawful [] first last leads lawful =
       let P : List (Slot T) → Type 0 = λ slots. IsArena slots in subst P (sym leads) lawful

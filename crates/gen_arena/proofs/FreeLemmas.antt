@@ -17,14 +17,14 @@ module _ {T : Type 0} where
   abbrev pub weight : Slot T → ℕ
   weight slot = one_if (is_free slot)
 
-  -- How a write of one slot changes the number of free ones.
+  -- How a write to one slot changes the number of free slots.
   pub free_slots-set : (slots : List (Slot T)) (k : ℕ) (old new : Slot T) → slice_get slots k ≡ Some old → free_slots (set slots k new) + weight old ≡ free_slots slots + weight new
   free_slots-set slots k old new stands =
       let moved = sum_by-set weight slots k new old (slice_get_within slots k old stands) in
       let read : weight (get_or slots k old) ≡ weight old = ap weight (get_or_from_slice_get slots k old old stands) in
       omega (arith, moved, read)
 
-  -- Where some slot has a value, fewer are free than there are.
+  -- If some slot has a value, not all slots are free.
   pub not_all_free : (slots : List (Slot T)) (k generation : ℕ) (v : T) → slice_get slots k ≡ Some (full_slot generation v) → free_slots slots < length slots
   not_all_free slots k generation v stands =
       let new = empty_slot {T = T} 0 in

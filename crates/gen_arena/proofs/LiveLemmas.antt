@@ -1,4 +1,4 @@
--- What an insert and a removal leave of the values of ids.
+-- Values of ids after an insert and after a removal.
 use Rattle.std.proofs.Common.{◌≡◌, ◌≢◌, List, length, set, Option, Some, None, refl, sym, ap, ◌∙◌, inl, inr}
 use Rattle.std.specs.Prelude.{slice_get}
 use Rattle.std.proofs.lemmas.Bool.{cases_eq}
@@ -11,7 +11,7 @@ use Rattle.gen_arena.specs.declared.id.Id.{Id}
 use Rattle.gen_arena.proofs.SlotLemmas.{is_free-parts, slice_get-set_same, slice_get-set_other, slot_of_live, value_under-other, value_under-empty_slot}
 use Rattle.gen_arena.proofs.PastLemmas.{Inserts-within, Removes-within}
 
--- Ids that are apart and have one slot have two generations.
+-- Different ids with the same slot have different generations.
 generations_differ : (one other : Id) → other ≢ one → other.slot ≡ one.slot → one.generation ≢ other.generation
 generations_differ one other apart same generations =
     apart (λ i. record { slot = same i; generation = sym generations i })

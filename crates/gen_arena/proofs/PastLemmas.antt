@@ -1,4 +1,4 @@
--- Lemmas on past ids, and what changes make of them.
+-- Lemmas on past ids and changes.
 use Rattle.std.proofs.Common.{◌≡◌, ◌≢◌, ℕ, ◌<◌, ◌≤◌, List, length, set, Some, None, sym, ap, ◌∙◌, subst, inl, inr, arith}
 use Rattle.std.specs.Prelude.{slice_get}
 use Rattle.std.proofs.lemmas.Bool.{cases_eq}
@@ -12,7 +12,7 @@ use Rattle.gen_arena.specs.declared.id.Id.{Id}
 use Rattle.gen_arena.proofs.SlotLemmas.{slice_get-set_same, slice_get-set_other, slot_of_live, live_of_slot, value_under-other, value_under-empty_slot, generation_at-there}
 
 module _ {T : Type 0} where
-  -- A write of one slot leaves an id past, if the slot's new state leaves the id past where it is the id's.
+  -- A write to one slot keeps an id past, if it does so when the slot is the id's.
   IsPast-set : (slots : List (Slot T)) (k : ℕ) (slot : Slot T) (id : Id) → k < length slots → (id.slot ≡ k → (value_under id.generation (Some slot) ≡ None) × (id.generation ≤ slot.generation)) → IsPast slots id → IsPast (set slots k slot) id
   IsPast-set slots k slot id within leaves past =
       elim (cases_eq id.slot k) [
@@ -33,7 +33,7 @@ module _ {T : Type 0} where
             }
       ]
 
-  -- An id past at the slot of this number has a generation that the slot used.
+  -- The generation of a past id is at most that of its slot.
   past_below : (slots : List (Slot T)) (k : ℕ) (slot : Slot T) (id : Id) → slice_get slots k ≡ Some slot → IsPast slots id → id.slot ≡ k → id.generation ≤ slot.generation
   past_below slots k slot id stands past same =
       let at = generation_at-there slots k slot stands in

@@ -1,4 +1,4 @@
--- Lemmas on the cells of a block, the places in them, and the slots that contracts see of those.
+-- Lemmas on the cells of a block, the places in them, and their slots.
 use Rattle.std.proofs.Common.{◌≡◌, ◌≢◌, ℕ, zero, suc, ◌+◌, ◌<◌, ◌≤◌, List, [], ◌∷◌, map, length, set, get_or, replicate, Option, Some, None, refl, sym, ap, ◌∙◌, inl, inr, arith, length-set}
 use Rattle.std.specs.Prelude.{slice_get}
 use Rattle.std.proofs.lemmas.Bool.{cases_eq}
@@ -23,7 +23,7 @@ module _ {X : Type 0} where
   get_or-set_other (y ∷ xs) (suc k) (suc j) x d apart = get_or-set_other xs k j x d (λ e. apart (ap suc e))
 
 module _ {X : Type 0} where
-  -- A cell that holds a value is written over by another.
+  -- Overwriting a cell that has a value.
   pub IsFull-set : (cells : List (Option X)) (count k : ℕ) (x : X) → k < count → IsFull cells count → IsFull (set cells k (Some x)) count
   IsFull-set cells count k x within full = (
     length-set cells k (Some x) ∙ full.0,
@@ -35,7 +35,7 @@ module _ {X : Type 0} where
     ],
   )
 
-  -- Cells of which each is blank.
+  -- Cells that are all blank.
   pub all_blank : (cells : List (Option X)) (count : ℕ) → length cells ≡ count → ((k : ℕ) → k < count → get_or cells k None ≡ None) → cells ≡ replicate count None
   all_blank [] zero long blank = refl
   all_blank [] (suc count) long blank = absurd (omega (arith, long))
@@ -155,13 +155,13 @@ module _ {T : Type 0} where
   LaidTo-fresh cells count used all =
       (length-map cells (place_in {T = T}) ∙ all.long, λ k below. place_at-held cells k (fresh_place used k) (all.laid k below))
 
-  -- A place that is written into a cell is written into the list of places.
+  -- A write to a cell is a write to the list of places.
   pub written : (cells : List (Option (Place T))) (j k : ℕ) (places : List (Place T)) (new place : Place T) → places_in cells ≡ places → j ≡ k → new ≡ place → places_in (set cells j (Some new)) ≡ set places k place
   written cells j k places new place is at same =
       let mapped : places_in (set cells j (Some new)) ≡ set (places_in cells) j new = rw map-set in
       mapped ∙ (λ i. set (is i) (at i) (same i))
 
-  -- The place that the cells hold is that of the list of places.
+  -- The place in a cell is that of the list of places.
   pub held_at : (cells : List (Option (Place T))) (j k : ℕ) (places : List (Place T)) (place : Place T) → places_in cells ≡ places → j ≡ k → get_or cells j None ≡ Some place → place_at places k ≡ place
   held_at cells j k places place is at held = (λ i. place_at (sym is i) (sym at i)) ∙ place_at-held cells j place held
 

@@ -1,9 +1,9 @@
--- The lemmas of this crate that other crates may cite. Of each but those on equal ids a law in `laws.rt` says the same.
---     id_same, id_itself, id_differs, id_cases      ids are equal exactly where `is_same_id` says so
---     slot_of_live, live_of_slot, live_within, live_generation      where a live id is
---     Inserts-live, Inserts-new, Inserts-others, Inserts-length      what an insert leaves of the values of ids
---     Removes-gone, Removes-others, Removes-length      the same of a removal
---     Leads-past, Leads-live      over any calls
+-- Lemmas for other crates. All but those on equal ids are laws in `laws.rt`.
+--     id_same, id_itself, id_differs, id_cases      ids are equal exactly if `is_same_id` is true
+--     slot_of_live, live_of_slot, live_within, live_generation      the slot of a live id
+--     Inserts-live, Inserts-new, Inserts-others, Inserts-length      values of ids after an insert
+--     Removes-gone, Removes-others, Removes-length      values of ids after a removal
+--     Leads-past, Leads-live      after any calls
 pub use Rattle.gen_arena.proofs.IdLemmas.{id_same, id_itself, id_differs, id_cases}
 pub use Rattle.gen_arena.proofs.SlotLemmas.{slot_of_live, live_of_slot, live_within, live_generation}
 pub use Rattle.gen_arena.proofs.PastLemmas.{Inserts-live}

@@ -1,4 +1,4 @@
--- Lemmas on one slot, on a list of slots after one was written, and on live ids.
+-- Lemmas on one slot, on a list of slots after a write, and on live ids.
 use Rattle.std.proofs.Common.{◌≡◌, ◌≢◌, ℕ, zero, suc, ◌<◌, ◌≤◌, ◌&&◌, Bool, true, false, cond, List, [], ◌∷◌, length, set, Option, Some, None, IsSome, is_none, nat_lt, refl, sym, ap, ◌∙◌, subst, inl, inr, arith}
 use Rattle.std.specs.Prelude.{slice_get, ◌==◌}
 use Rattle.std.proofs.lemmas.Bool.{cases_eq}
@@ -65,7 +65,7 @@ module _ {T : Type 0} where
   live_of_slot slots id v stands =
       ap (value_under id.generation) stands ∙ value_under-full_slot id.generation v
 
-  -- A slot has no value under another generation than its own.
+  -- A slot has no value under a generation other than its own.
   pub value_under-other : (generation : ℕ) (slot : Slot T) → slot.generation ≢ generation → value_under generation (Some slot) ≡ None
   value_under-other generation slot differs = grind (arith, nat_tests)
 
@@ -79,7 +79,7 @@ module _ {T : Type 0} where
   pub generation_at-there : (slots : List (Slot T)) (k : ℕ) (slot : Slot T) → slice_get slots k ≡ Some slot → generation_at slots k ≡ slot.generation
   generation_at-there slots k slot stands = ap generation_or_zero stands
 
-  -- A write of one slot leaves an arena's slots those of an arena.
+  -- A write to one slot preserves the invariant of an arena.
   pub IsArena-set : (slots : List (Slot T)) (k : ℕ) (new : Slot T) → k < length slots → IsArena slots → new.generation ≤ greatest_generation → (IsSome new.value → 1 ≤ new.generation) → IsArena (set slots k new)
   IsArena-set slots k new within lawful most least j slot stands =
       elim (cases_eq j k) [
@@ -98,7 +98,7 @@ module _ {T : Type 0} where
   pub value_of_live : (slots : List (Slot T)) (id : Id) → IsLive slots id → (v : T) × (live_value slots id ≡ Some v)
   value_of_live slots id live = some_value (live_value slots id) live
 
-  -- A live id is that of one of the slots, and has its generation.
+  -- The slot of a live id exists and has the id's generation.
   pub live_within : (slots : List (Slot T)) (id : Id) → IsLive slots id → id.slot < length slots
   live_within slots id live =
       let some = value_of_live slots id live in

@@ -1,4 +1,4 @@
--- What the proofs of the pointer functions share.
+-- Lemmas for the proofs of the pointer functions.
 pub mod Sharing
 pub mod Crossing
 pub mod Rows

@@ -1,7 +1,7 @@
--- When two ids are the same.
+-- Equality of ids.
 use Rattle.std.specs.Prelude.{Bool, ◌&&◌, ◌==◌}
 use Rattle.gen_arena.specs.declared.id.Id.{Id}
 
--- Both are the same slot and generation.
+-- Whether both have the same slot and the same generation.
 abbrev pub is_same_id : Id → Id → Bool
 is_same_id one other = (one.slot == other.slot) && (one.generation == other.generation)

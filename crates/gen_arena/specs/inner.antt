@@ -1,4 +1,4 @@
--- What only private functions and proofs speak of. No public clause cites a module below this one.
+-- Definitions that only private functions and proofs use. No public clause cites a module of this folder.
 pub mod Cells
 pub mod BlockMemory
 pub mod CellLends

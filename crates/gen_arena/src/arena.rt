@@ -1,4 +1,4 @@
-//! The arena: values behind ids, and the list of free slots.
+//! The arena: values under ids, and the free list.
 
 ghost use Rattle.std.specs.Prelude.{◌≡◌, ◌+◌, ◌∷◌, ◌<◌, ◌≤◌, ◌↔◌, IsTrue, IsErr, IsErrOf, IsSome, IfOk, IfErr, OnOk, OnErr, IfSome, IfNone, OnSome, Some, None, option_copied};
 ghost use Rattle.gen_arena.specs.Slot.{unused_slots, greatest_generation, IsArena};
@@ -13,19 +13,17 @@ use crate::{ArenaFault, Id};
 use std::alloc::Global;
 use std::marker::Model;
 
-/// A fixed number of slots, each with the generation that it last used and perhaps a value.
+/// A fixed number of slots. Each has the generation that it used last and may have a value.
 ///
-/// Contracts see the list of the slots. Of a `T` that is `Drop` the arena is `Drop` too: the values
-/// that are still in it are dropped with it.
+/// Contracts see the list of slots. If `T` is `Drop`, so is the arena: dropping it drops the values in it.
 ///
-/// The slots lie in one block of memory, which is taken when the arena is made. The free ones form a
-/// list through the slots, so that no call walks them.
+/// `new` allocates one block of memory for all slots. The free slots form a linked list, so no call searches for one.
 #[derive(Drop)]
 pub struct Arena<T> {
     places: PlaceRow<T>,
-    /// The number of the first free slot, or the number of slots.
+    /// The number of the first free slot, or the number of slots if none is free.
     first: u16,
-    /// How many slots are free.
+    /// The number of free slots.
     free: u16,
 }
 
@@ -47,7 +45,7 @@ impl<T> Arena<T> {
     ///
     /// # Errors
     ///
-    /// `NoSlots` exactly where `slots` is 0, and `NoMemory` where the memory is refused.
+    /// `NoSlots` exactly if `slots` is 0; `NoMemory` if the allocation fails.
     pub fn new(alloc: Global, slots: u16) -> Result<Self, ArenaFault>
         ensures no_slots { IsErrOf result ArenaFault.NoSlots ↔ (slots ≡ 0) }
         ensures made { IfOk result (λ arena. arena ≡ unused_slots slots 0) }
@@ -55,12 +53,12 @@ impl<T> Arena<T> {
         Arena::new_from(alloc, slots, 0)
     }
 
-    /// An arena of `slots` empty slots, each of which counts as having used generation `used`, so
-    /// that its ids up to that generation are past. At `used` 4294967295 no slot is ever free.
+    /// An arena of `slots` empty slots that count as having used generation `used`, so ids up to that generation are
+    /// past. With `used` = 4294967295 no slot is ever free.
     ///
     /// # Errors
     ///
-    /// As of `new`.
+    /// As for `new`.
     pub fn new_from(alloc: Global, slots: u16, used: u32) -> Result<Self, ArenaFault>
         ensures no_slots { IsErrOf result ArenaFault.NoSlots ↔ (slots ≡ 0) }
         ensures made { IfOk result (λ arena. arena ≡ unused_slots slots used) }
@@ -83,17 +81,16 @@ impl<T> Arena<T> {
         })
     }
 
-    /// Puts the value into a free slot under the slot's next generation. Which free slot is taken
-    /// is open. Takes no memory.
+    /// Puts the value into some free slot, under the slot's next generation. Doesn't allocate.
     ///
     /// # Errors
     ///
-    /// The value, exactly where no slot is free.
+    /// The value, exactly if no slot is free.
     pub fn insert(&mut self, value: T) -> Result<Id, T>
         ensures inserted { IfOk result (λ id. Inserts self.old self.new id value) }
         ensures live { IfOk result (λ id. live_value self.new id ≡ Some value) }
 
-        // It fails exactly where no slot is free, and then nothing changes.
+        // It fails exactly if no slot is free, and then nothing changes.
         ensures full { IsErr result ↔ (free_slots self.old ≡ 0) }
         ensures none_is_free { OnErr result (NoneIsFree self.old) }
         ensures value_returned { IfErr result (λ returned. returned ≡ value) }
@@ -111,7 +108,7 @@ impl<T> Arena<T> {
         Ok(Id { slot, generation })
     }
 
-    /// The value of the id, where the id is live.
+    /// The value of the id, if the id is live.
     pub fn get(&self, id: Id) -> Option<&T>
         ensures value { option_copied result ≡ live_value self.now id }
         ensures generation_zero { id.generation ≡ 0 → live_value self.now id ≡ None }
@@ -132,14 +129,14 @@ impl<T> Arena<T> {
         self.get(id).is_some()
     }
 
-    /// Takes the value of the id out, where the id is live. Its slot keeps the generation, so that
-    /// the id is past from then on. Takes no memory.
+    /// Removes the value of the id and returns it, if the id is live. The slot keeps its generation, so the id is
+    /// past from then on. Doesn't allocate.
     pub fn remove(&mut self, id: Id) -> Option<T>
         ensures value { result ≡ live_value self.old id }
         ensures removed { IfSome result (λ value. Removes self.old self.new id value) }
         ensures past { OnSome result (IsPast self.new id) }
 
-        // Where the id is not live, nothing changes.
+        // If the id isn't live, nothing changes.
         ensures unchanged { IfNone result (self.new ≡ self.old) }
 
         ensures stays_past { KeepsPast self.old self.new }
@@ -152,8 +149,8 @@ impl<T> Arena<T> {
         value
     }
 
-    /// How many slots are free: those without a value that have a generation left. A slot that used
-    /// generation 4294967295 is never free again.
+    /// The number of free slots: those without a value and with a generation below 4294967295. A slot that has used
+    /// that generation is never free again.
     pub fn free(&self) -> usize
         ensures count { result ≡ free_slots self.now }
         ensures lawful { IsArena self.now }
@@ -162,8 +159,8 @@ impl<T> Arena<T> {
     }
 }
 
-/// The first free slot and the number of free ones, once the slot of the id was emptied: it comes
-/// first, unless it has no generation left.
+/// The new head and length of the free list after the slot of the id is emptied. The slot becomes the head, unless it
+/// has no generation left.
 fn relisted(id: Id, first: u16, free: u16) -> (u16, u16)
     requires { id.generation < greatest_generation → free < 65535 }
     ensures first { id.generation < greatest_generation → (result.0 ≡ id.slot) × (result.1 ≡ free + 1) }

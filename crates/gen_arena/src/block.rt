@@ -1,9 +1,8 @@
 //! The block: a row of cells in raw memory, each with room for one `E`.
 //!
-//! A cell holds a value or is blank. What a cell holds is known to the proofs alone, so a function
-//! that reads a cell asks that it holds a value, and one that writes to it that it is blank: no value
-//! is read twice, none is overwritten, and none is read before it was written. The functions of this
-//! file are the only ones of the crate that have a pointer.
+//! A cell has a value or is blank. Only the proofs know which, so reading requires that the cell has a value, and
+//! writing that it is blank. No value is read twice or overwritten, and no cell is read before it is written. Only
+//! the functions of this file use a pointer.
 
 ghost use Rattle.std.specs.Prelude.{◌≡◌, ℕ, ◌<◌, List, Option, Some, None, length, replicate, get_or, slice_set, IfOk, ⊤};
 ghost use Rattle.std.specs.Borrow.{sem};
@@ -17,7 +16,7 @@ use std::alloc::{AllocError, Allocator};
 use std::marker::{Model, PhantomData, Send, Sync};
 use std::mem::{align_of, size_of};
 
-/// Where a block begins. It owns nothing.
+/// The address of a block. It owns nothing.
 pub struct Start<E> {
     to: *mut E,
 }
@@ -38,7 +37,7 @@ unsafe impl<E> Send for Start<E> {}
 
 unsafe impl<E> Sync for Start<E> {}
 
-/// The owner of a block's cells. It takes no space.
+/// The owner of a block's cells. It has size 0.
 pub struct Cells<E> {
     of: PhantomData<*const E>,
     ghost start: { Ptr },
@@ -55,8 +54,8 @@ unsafe impl<E: Send> Send for Cells<E> {}
 
 unsafe impl<E: Sync> Sync for Cells<E> {}
 
-/// The right to give a block of `count` cells back to the allocator that it came from. It takes no
-/// space, and a `&` to it is worth nothing.
+/// The permission to return a block of `count` cells to its allocator. It has size 0, and a `&` to it gives no
+/// access.
 pub struct Deed<E, A: Allocator> {
     of: PhantomData<*const (E, A)>,
     ghost start: { Ptr },
@@ -74,7 +73,7 @@ unsafe impl<E, A: Allocator + Send> Send for Deed<E, A> {}
 
 unsafe impl<E, A: Allocator> Sync for Deed<E, A> {}
 
-/// A block of `count` blank cells.
+/// Allocates a block of `count` blank cells.
 pub(crate) fn make<E, A: Allocator>(
     alloc: &A,
     count: usize,
@@ -93,7 +92,7 @@ pub(crate) fn make<E, A: Allocator>(
     }
 }
 
-/// Gives a block back, once every cell is blank.
+/// Deallocates a block whose cells are all blank.
 pub(crate) fn give_back<E, A: Allocator>(
     alloc: &A,
     start: Start<E>,
@@ -121,7 +120,7 @@ impl<E> Cells<E> {
         unsafe { start.to.add(k).write(value) }
     }
 
-    /// Reads the value out of a cell, which is blank from then on.
+    /// Moves the value out of a cell. The cell is blank afterwards.
     pub(crate) fn take(&mut self, start: Start<E>, k: usize) -> E
         requires { (start.to ≡ self.old.start) × Holds self.old.held k }
         ensures value { get_or self.old.held k None ≡ Some result }
@@ -130,7 +129,7 @@ impl<E> Cells<E> {
         unsafe { start.to.add(k).read() }
     }
 
-    /// Lends the value in a cell.
+    /// Borrows the value in a cell.
     pub(crate) fn lend(&self, start: Start<E>, k: usize) -> &E
         requires { (start.to ≡ self.now.start) × Holds self.now.held k }
         ensures { get_or self.now.held k None ≡ Some result.now }
@@ -138,7 +137,7 @@ impl<E> Cells<E> {
         unsafe { &*start.to.add(k) }
     }
 
-    /// Lends the value in a cell to be changed.
+    /// Borrows the value in a cell mutably.
     pub(crate) fn lend_mut(&mut self, start: Start<E>, k: usize) -> &mut E
         requires { (start.to ≡ self.old.start) × Holds self.old.held k }
         ensures* writes_back { sem 𝓛 (lends_cell E.row self.entry k result) }

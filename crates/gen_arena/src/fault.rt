@@ -1,4 +1,4 @@
-//! Why there is no arena.
+//! Why an arena could not be made.
 
 ghost use Rattle.std.specs.Prelude.{◌≡◌};
 ghost use Rattle.gen_arena.specs.declared.fault.ArenaFault.TheVariants.{NoMemory};
@@ -6,13 +6,13 @@ ghost use Rattle.gen_arena.specs.declared.fault.ArenaFault.TheVariants.{NoMemory
 use std::alloc::AllocError;
 use thiserror::Error;
 
-/// Why an arena was not made. `Display` gives the number and the name, as `1 NoSlots`.
+/// Why an arena could not be made. `Display` prints the number and the name, as `1 NoSlots`.
 #[derive(Clone, Copy, Debug, PartialEq, Eq, Hash, Error)]
 pub enum ArenaFault {
-    /// An arena of no slots was asked for.
+    /// The number of slots was 0.
     #[error("1 NoSlots")]
     NoSlots,
-    /// The memory for the slots was refused.
+    /// The allocation of the slots failed.
     #[error("2 NoMemory")]
     NoMemory,
 }

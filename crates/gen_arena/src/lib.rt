@@ -1,5 +1,4 @@
-//! An arena of generations: values in a fixed number of slots, each named by an id that never
-//! names another value once its own is gone.
+//! A generational arena: a fixed number of slots for values. Once a value is removed, its id never names another.
 #![tactic(auto)]
 
 mod arena;

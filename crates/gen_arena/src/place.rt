@@ -1,4 +1,4 @@
-//! The places of an arena, side by side in one block.
+//! The places of an arena, in one block.
 
 ghost use Rattle.std.specs.Prelude.{◌≡◌, ℕ, ◌+◌, ◌<◌, length, None, Some, IfOk, replicate, slice_get, slice_set, option_copied};
 ghost use Rattle.gen_arena.specs.Slot.{greatest_generation};
@@ -10,8 +10,8 @@ use std::alloc::{AllocError, Global};
 use std::marker::Model;
 use std_alloc::room::may_hold;
 
-/// What is kept of a slot: its generation, room for its value, and, while it is free, the number of
-/// the next free slot. The last free slot names the number of slots.
+/// The representation of a slot: its generation, its value, and, while it is free, the number of the next free slot.
+/// The last free slot has the number of slots here.
 #[derive(Drop)]
 pub struct Place<T> {
     pub(crate) generation: u32,
@@ -20,7 +20,7 @@ pub struct Place<T> {
 }
 
 impl<T> Place<T> {
-    /// Puts a value into an empty place under its next generation, and tells that generation.
+    /// Puts a value into an empty place under its next generation, and returns that generation.
     fn fill(&mut self, value: T) -> u32
         requires empty { self.old.value ≡ None }
         requires unworn { self.old.generation < greatest_generation }
@@ -58,8 +58,7 @@ impl<T> Model for PlaceRow<T> {
 }
 
 impl<T> PlaceRow<T> {
-    /// A row of `count` empty places that have used generation `used`, each with the number of the
-    /// one behind it.
+    /// Makes a row of `count` empty places that used generation `used` last, each linked to the next.
     pub(crate) fn new(alloc: Global, count: u16, used: u32) -> Result<Self, AllocError>
         ensures { IfOk result (λ places. AreFresh places count used) }
     {
@@ -88,8 +87,8 @@ impl<T> PlaceRow<T> {
         Some(self.cells.lend(self.start, usize::from(slot)))
     }
 
-    /// Puts a value into an empty place under its next generation. Tells that generation, and the
-    /// number of the place behind it in the list of free ones.
+    /// Puts a value into an empty place under its next generation. Returns that generation and the place's link, the
+    /// next free place.
     pub(crate) fn fill(&mut self, slot: u16, value: T) -> (u32, u16)
         requires there { slot < length self.old }
         requires empty { (place_at self.old slot).value ≡ None }
@@ -103,7 +102,7 @@ impl<T> PlaceRow<T> {
         (place.fill(value), next)
     }
 
-    /// Takes the value out of a place, and writes the number of the free place behind it.
+    /// Takes the value out of a place and sets its link.
     pub(crate) fn empty(&mut self, slot: u16, next: u16) -> Option<T>
         requires there { slot < length self.old }
         ensures value { result ≡ (place_at self.old slot).value }
@@ -147,7 +146,7 @@ fn lay_out<T>(cells: &mut Cells<Place<T>>, start: Start<Place<T>>, count: u16, u
     }
 }
 
-/// Takes the place out of each cell, and drops it.
+/// Takes the place out of each cell and drops it.
 fn clear<T: Drop>(cells: &mut Cells<Place<T>>, start: Start<Place<T>>, count: u16)
     requires start { start.to ≡ cells.old.start }
     requires full { IsFull cells.old.held count }

@@ -1,4 +1,4 @@
--- Levels keep up with the buckets that they stand for.
+-- Levels continue to represent the buckets.
 use Rattle.std.proofs.Common.{ℕ, ◌+◌, ◌^◌, ◌≤◌, Bool, true, false, List, [], ◌∷◌, All, refl, arith}
 use Rattle.std.proofs.lemmas.Bool.Decides.{nat_tests}
 use Rattle.std.proofs.lemmas.List.Elements.{All-head, All-tail}
@@ -8,12 +8,12 @@ use Rattle.leaky.specs.Contract.{Buckets, buckets_after}
 use Rattle.leaky.specs.Arrivals.{Arrival, buckets_left}
 use Rattle.leaky.specs.Laws.{LevelsStandForBuckets, LevelsFollowBuckets, ChargesKeepUp}
 
--- Both buckets are full no later than a theoretical arrival time can be.
+-- The full level of each bucket, as a moment, is at most the largest theoretical arrival time.
 record AreBounded (buckets : Buckets) : Type 0 where
   first : buckets.first.level + buckets.first.charged ≤ 2 ^ 62 + 2 ^ 49
   second : buckets.second.level + buckets.second.charged ≤ 2 ^ 62 + 2 ^ 49
 
--- One cell.
+-- After one cell.
 AreBounded-after : (contract : Contract) (buckets : Buckets) (clp : Bool) (moment : ℕ)
     → moment ≤ 2 ^ 62 → AreBounded buckets → AreBounded (buckets_after contract buckets clp moment)
 AreBounded-after (Cbr1 peak) buckets clp moment h bounded = record {
@@ -41,7 +41,7 @@ AreBounded-after (Vbr3 peak sustained) buckets false moment h bounded = record {
   second = grind (arith, nat_tests);
 }
 
--- Any number of cells.
+-- After any cells.
 AreBounded-left : (contract : Contract) (buckets : Buckets) (arrivals : List Arrival)
     → AreBounded buckets → All (λ a. a.moment ≤ 2 ^ 62) arrivals
     → AreBounded (buckets_left contract buckets arrivals)
@@ -65,7 +65,7 @@ levels-follow contract levels buckets arrivals agrees moments =
       record { first = refl; second = refl },
     )
 
--- The whole of a theoretical arrival time can be the level of a bucket that was charged at 0.
+-- A theoretical arrival time is the level of a bucket charged at 0.
 pub levels-stand : LevelsStandForBuckets
 levels-stand levels = (
   record {

@@ -1,5 +1,5 @@
--- The burst bound: the cells of a span that filled a bucket are still in it, but for what drained
--- since the span began.
+-- The burst bound: what the cells of a span put into the bucket is still in it, except for what drained since the
+-- span began.
 use Rattle.std.proofs.Common.{◌≡◌, ℕ, suc, ◌+◌, ◌*◌, ◌/◌, ◌≤◌, nat_le, Bool, true, false, cond, List, [], ◌∷◌, length, filter, subst, refl, arith}
 use Rattle.std.specs.Cmp.{first_so, second_so}
 use Rattle.std.proofs.lemmas.Bool.{leb-true}
@@ -13,17 +13,17 @@ use Rattle.leaky.proofs.SchedulingLemmas.{GoesOn-earlier}
 
 -- Cells that all fill the bucket.
 
--- No more increments than that fit into the span and the limit together.
+-- At most `most` increments fit into the span and the limit together.
 abbrev IsMost : Gcra → ℕ → ℕ → Type 0
 IsMost gcra span most = (k : ℕ) → k * gcra.increment ≤ span + gcra.limit → k ≤ most
 
 module _ (gcra : Gcra) (first span most : ℕ) (few : IsMost gcra span most) where
-  -- After `done` cells of the span the bucket is empty at `first + done * T` at the earliest.
+  -- After `done` cells of the span, the bucket is empty no earlier than `first + done * T`.
   record Holds (bucket : Bucket) (latest done : ℕ) : Type 0 where
     empties : first + done * gcra.increment ≤ bucket.level + bucket.charged
     charged : bucket.charged ≤ latest
 
-  -- A further cell leaves that as it is.
+  -- A further cell preserves this.
   Holds-filled : (bucket : Bucket) (latest done moment : ℕ) → latest ≤ moment
       → Holds bucket latest done → Holds (filled gcra bucket moment) moment done
   Holds-filled bucket latest done moment later holds = record {
@@ -49,7 +49,7 @@ module _ (gcra : Gcra) (first span most : ℕ) (few : IsMost gcra span most) whe
       → level_at bucket moment ≤ gcra.limit → Holds bucket latest done → done ≤ most
   Holds-few bucket latest done moment later within low holds = few done (omega arith)
 
-  -- Once a cell of the span has come.
+  -- After at least one cell of the span.
   more_within : (bucket : Bucket) (latest : ℕ) (moments : List ℕ) (done : ℕ)
       → Holds bucket latest done → done ≤ 1 + most → GoesOn latest moments
       → AllFill gcra bucket moments → done + count_within first span moments ≤ 1 + most
@@ -74,7 +74,7 @@ module _ (gcra : Gcra) (first span most : ℕ) (few : IsMost gcra span most) whe
       ] in
       choice (is_within first span moment) refl
 
-  -- From the beginning.
+  -- From the start.
   all_within : (bucket : Bucket) (latest : ℕ) (moments : List ℕ) → GoesOn latest moments
       → AllFill gcra bucket moments → count_within first span moments ≤ 1 + most
   all_within bucket latest [] goes fill = omega arith
@@ -100,15 +100,15 @@ fillings-bounded gcra bucket earliest moments goes fill first span =
     λ k h. le-div k (span + gcra.limit) gcra.increment gcra.increment_above_zero h in
     all_within gcra first span most few bucket earliest moments goes fill
 
--- Cells of which some fill the bucket.
+-- Cells of which only some fill the bucket.
 
--- The cells that fill it go on as all do.
+-- The moments of those that fill it don't go back either.
 pub GoesOn-some : (test : Bool) (earliest moment : ℕ) (later : List ℕ) → earliest ≤ moment
     → GoesOn moment later → GoesOn earliest (cond test (moment ∷ later) later)
 GoesOn-some true earliest moment later h goes = (h, goes)
 GoesOn-some false earliest moment later h goes = GoesOn-earlier earliest moment later h goes
 
--- And each of them finds what the one before left.
+-- Each of them finds the bucket as the one before left it.
 pub AllFill-some : (gcra : Gcra) (bucket after : Bucket) (moment : ℕ) (later : List ℕ) (test : Bool)
     → Fills gcra bucket after moment test → AllFill gcra after later
     → AllFill gcra bucket (cond test (moment ∷ later) later)
@@ -117,7 +117,7 @@ AllFill-some gcra bucket after moment later true here rest =
 AllFill-some gcra bucket after moment later false here rest =
     subst (λ b. AllFill gcra b later) (here.leaves refl) rest
 
--- A bucket alone is filled by the cells that conform.
+-- With one bucket, the conforming cells are those that fill it.
 bucket_after-Fills : (gcra : Gcra) (bucket : Bucket) (moment : ℕ)
     → Fills gcra bucket (bucket_after gcra bucket moment) moment (conforms gcra bucket moment)
 bucket_after-Fills gcra bucket moment = record {

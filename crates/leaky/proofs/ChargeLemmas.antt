@@ -1,4 +1,4 @@
--- Which cells charge the buckets of a contract, and that each of them found its bucket conforming.
+-- Which cells charge which bucket, and that each of them conformed.
 use Rattle.std.proofs.Common.{◌≡◌, ◌≢◌, ℕ, Bool, true, false, cond, Option, Some, None, List, [], ◌∷◌, map, refl, ap, ◌+◌, arith}
 use Rattle.leaky.specs.declared.gcra.Gcra.{Gcra}
 use Rattle.leaky.specs.declared.contract.Contract.{Contract}
@@ -30,7 +30,7 @@ first-filled Tag peak sustained buckets moment e = refl
 first-filled Discard peak sustained buckets moment e = cc
 first-filled Refuse peak sustained buckets moment e = cc
 
--- Any other leaves it.
+-- Any other leaves it unchanged.
 first-left : (verdict : Verdict) (peak : Gcra) (sustained : Option Gcra) (buckets : Buckets) (moment : ℕ)
     → charges_first verdict ≡ false
     → (charged_under verdict peak sustained buckets moment).first ≡ buckets.first
@@ -87,7 +87,7 @@ first-bounded contract buckets earliest arrivals goes first span =
 
 -- Bucket 2.
 
--- A cell that meets bucket 2 and passes conformed to it and fills it, any other leaves it.
+-- A cell that meets bucket 2 and passes conforms to it and fills it; any other leaves it unchanged.
 met : (b c : Bool) (excess : Verdict) → excess ≢ Pass → (peak sustained : Gcra) (buckets : Buckets) (moment : ℕ)
     → conforms sustained buckets.second moment ≡ c
     → let verdict = cond b (cond c Pass excess) Discard in
@@ -114,19 +114,19 @@ met false c excess other peak sustained buckets moment is = record {
   leaves = λ e. refl;
 }
 
--- A cell that does not meet it leaves it.
+-- A cell that doesn't meet bucket 2 leaves it unchanged.
 unmet : (b : Bool) (peak sustained : Gcra) (buckets : Buckets) (moment : ℕ)
     → Fills sustained buckets.second (charged_under (cond b Pass Discard) peak None buckets moment).second moment false
 unmet true peak sustained buckets moment = record { fills = λ e. cc; leaves = λ e. refl }
 unmet false peak sustained buckets moment = record { fills = λ e. cc; leaves = λ e. refl }
 
--- Nor does a cell of a contract without it.
+-- So does any cell of a contract without bucket 2.
 second-kept : (b : Bool) (peak : Gcra) (buckets : Buckets) (moment : ℕ)
     → (charged_under (cond b Pass Discard) peak None buckets moment).second ≡ buckets.second
 second-kept true peak buckets moment = refl
 second-kept false peak buckets moment = refl
 
--- What a contract does to bucket 2, whose rate this is.
+-- What a contract does to bucket 2 with this rate.
 abbrev FillsSecond : Contract → Gcra → Type 0
 FillsSecond contract sustained = (buckets : Buckets) (clp : Bool) (moment : ℕ)
     → Fills sustained buckets.second (buckets_after contract buckets clp moment).second moment
@@ -239,7 +239,7 @@ fillings-show gcra bucket moment same =
 
 -- Tagging.
 
--- Where the excess verdict is no tag, none is given.
+-- If the excess verdict isn't Tag, no cell is tagged.
 never-tagged : (b c : Bool) (excess : Verdict) → excess ≢ Tag → cond b (cond c Pass excess) Discard ≢ Tag
 never-tagged true true excess other = λ e. cc
 never-tagged true false excess other = other

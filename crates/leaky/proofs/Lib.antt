@@ -1,4 +1,4 @@
--- Lemmas under the laws. Other crates cite those of Public alone.
+-- Lemmas for the laws. Other crates use only Public.
 pub mod SchedulingLemmas
 pub mod BurstLemmas
 pub mod ChargeLemmas

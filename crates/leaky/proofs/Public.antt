@@ -1,5 +1,4 @@
--- Lemmas that other crates may use: the laws of this crate, each as a term under its name, and what
--- goes with them.
+-- Lemmas for other crates: the laws of this crate as terms of the same names, and what goes with them.
 use Rattle.std.proofs.Common.{◌≡◌, ℕ, ◌≤◌, List}
 use Rattle.leaky.specs.inner.EqualityLaws.{gcra_same}
 use Rattle.leaky.specs.declared.gcra.Gcra.{Gcra}
@@ -30,7 +29,7 @@ levels_follow_buckets = levels-follow
 pub charges_keep_up : ChargesKeepUp
 charges_keep_up = charges-keep_up
 
--- Moments that go on from one moment go on from an earlier one too.
+-- Moments that start at or after a moment also start at or after any earlier one.
 pub goes_on_from_earlier : (earlier earliest : ℕ) (moments : List ℕ) → earlier ≤ earliest
     → GoesOn earliest moments → GoesOn earlier moments
 goes_on_from_earlier = GoesOn-earlier

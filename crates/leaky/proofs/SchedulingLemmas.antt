@@ -1,4 +1,4 @@
--- Virtual scheduling and the leaky bucket, cell by cell.
+-- Virtual scheduling and the leaky bucket agree cell by cell.
 use Rattle.std.proofs.Common.{◌≡◌, ℕ, ◌+◌, ◌≤◌, List, [], ◌∷◌, refl, ap, arith}
 use Rattle.std.proofs.lemmas.Bool.Decides.{nat_tests}
 use Rattle.leaky.specs.declared.gcra.Gcra.{Gcra}
@@ -7,18 +7,18 @@ use Rattle.leaky.specs.Bucket.{Bucket, conforms, bucket_after}
 use Rattle.leaky.specs.Scheduling.{is_due, due_after}
 use Rattle.leaky.specs.Laws.{SchedulingGivesTheBucketsVerdicts}
 
--- Moments that go on from one moment go on from an earlier one too.
+-- Moments that start at or after a moment also start at or after any earlier one.
 pub GoesOn-earlier : (earlier earliest : ℕ) (moments : List ℕ) → earlier ≤ earliest
     → GoesOn earliest moments → GoesOn earlier moments
 GoesOn-earlier earlier earliest [] h goes = tt
 GoesOn-earlier earlier earliest (moment ∷ moments) h goes = (omega (arith, goes.0), goes.1)
 
--- Both forms agree on one cell.
+-- Both give the same verdict on one cell.
 pub is_due-conforms : (gcra : Gcra) (bucket : Bucket) (moment : ℕ) → bucket.charged ≤ moment
     → is_due gcra (bucket.level + bucket.charged) moment ≡ conforms gcra bucket moment
 is_due-conforms gcra bucket moment h = grind (arith, nat_tests)
 
--- And on the state that it leaves.
+-- And agree on the state after it.
 pub due_after-agrees : (gcra : Gcra) (bucket : Bucket) (moment : ℕ) → bucket.charged ≤ moment
     → due_after gcra (bucket.level + bucket.charged) moment
     ≡ (bucket_after gcra bucket moment).level + (bucket_after gcra bucket moment).charged

@@ -1,4 +1,4 @@
--- A burst at the peak rate in a bucket of the sustainable rate: each cell finds T_SCR - T_PCR more.
+-- A burst at the peak rate in a bucket of the sustainable rate: each cell raises the level by T_SCR - T_PCR.
 use Rattle.std.proofs.Common.{◌≡◌, ℕ, zero, suc, ◌+◌, ◌-◌, ◌*◌, ◌≤◌, ◌↔◌, ap, arith}
 use Rattle.std.proofs.lemmas.Bool.{leb-true, le-leb}
 use Rattle.leaky.specs.declared.gcra.Gcra.{Gcra}
@@ -7,7 +7,7 @@ use Rattle.leaky.specs.Bursts.{AllFill}
 use Rattle.leaky.specs.Tolerance.{spaced}
 use Rattle.leaky.specs.Laws.{TolerancesAreExact}
 
--- Where `done` cells have come and n + 1 are to come.
+-- After `done` cells, with n + 1 still to come.
 AllFill-spaced : (gcra : Gcra) (tp excess : ℕ) → gcra.increment ≡ tp + excess
     → (n done first : ℕ) (bucket : Bucket) → level_at bucket first ≡ done * excess
     → AllFill gcra bucket (spaced (suc n) tp first) ↔ ((done + n) * excess ≤ gcra.limit)

@@ -1,36 +1,36 @@
--- Cells that come one after another under one contract.
+-- Sequences of cells under one contract.
 use Rattle.std.specs.Prelude.{ℕ, Bool, true, false, ◌&&◌, if◌then◌else◌, List, [], ◌∷◌}
 use Rattle.leaky.specs.declared.contract.Contract.{Contract}
 use Rattle.leaky.specs.declared.verdict.Verdict.{Verdict}
 use Rattle.leaky.specs.declared.verdict.Verdict.TheVariants.{Pass, Tag, Discard, Refuse}
 use Rattle.leaky.specs.Contract.{Buckets, meets_second, verdict_of, buckets_after}
 
--- A cell as its contract sees it.
+-- What a contract sees of a cell: its moment of arrival in ticks, and its cell loss priority.
 pub record Arrival : Type 0 where
   pub moment : ℕ
   pub clp : Bool
 
--- The buckets that these cells leave.
+-- The buckets after these cells.
 abbrev pub buckets_left : Contract → Buckets → List Arrival → Buckets
 buckets_left contract buckets [] = buckets
 buckets_left contract buckets (arrival ∷ later) =
     buckets_left contract (buckets_after contract buckets arrival.clp arrival.moment) later
 
--- A cell charges bucket 1 where it is passed or tagged.
+-- Whether a cell with this verdict charges bucket 1: true for passed and tagged cells.
 abbrev pub charges_first : Verdict → Bool
 charges_first Pass = true
 charges_first Tag = true
 charges_first Discard = false
 charges_first Refuse = false
 
--- The verdict is that the cell passes.
+-- Whether the verdict is Pass.
 abbrev pub is_passed : Verdict → Bool
 is_passed Pass = true
 is_passed Tag = false
 is_passed Discard = false
 is_passed Refuse = false
 
--- A cell charges bucket 2 where it meets it and is passed.
+-- Whether a cell charges bucket 2: true if it meets bucket 2 and passes.
 abbrev pub charges_second : Verdict → Contract → Bool → Bool
 charges_second verdict contract clp = meets_second contract clp && is_passed verdict
 

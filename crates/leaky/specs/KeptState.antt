@@ -1,4 +1,4 @@
--- How the state that a policer keeps, theoretical arrival times, stands for the leaky buckets.
+-- How the policer's state, two theoretical arrival times, represents two leaky buckets.
 use Rattle.std.specs.Prelude.{◌≡◌, ℕ, ◌+◌, ◌≤◌}
 use Rattle.leaky.specs.declared.levels.Levels.{Levels}
 use Rattle.leaky.specs.Contract.{Buckets}
@@ -8,7 +8,7 @@ pub record Agrees (levels : Levels) (buckets : Buckets) : Type 0 where
   pub first : levels.first ≡ buckets.first.level + buckets.first.charged
   pub second : levels.second ≡ buckets.second.level + buckets.second.charged
 
--- Neither bucket was charged after the moment.
+-- Neither bucket was charged after this moment.
 pub record IsChargedBy (buckets : Buckets) (moment : ℕ) : Type 0 where
   pub first : buckets.first.charged ≤ moment
   pub second : buckets.second.charged ≤ moment

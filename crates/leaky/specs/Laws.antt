@@ -1,4 +1,4 @@
--- What ties the definitions to the standard and to one another.
+-- Laws that relate the definitions to the standard and to each other.
 use Rattle.std.specs.Prelude.{◌≡◌, ◌≢◌, ℕ, ◌+◌, ◌^◌, ◌≤◌, ◌↔◌, Bool, false, None, IfSome, List, map, All}
 use Rattle.leaky.specs.declared.gcra.Gcra.{Gcra}
 use Rattle.leaky.specs.declared.levels.Levels.{Levels}
@@ -13,23 +13,22 @@ use Rattle.leaky.specs.Contract.{Buckets, peak_of, second_of, verdict_of, bucket
 use Rattle.leaky.specs.Arrivals.{Arrival, buckets_left, charges_first, charges_second, first_charges, second_charges}
 use Rattle.leaky.specs.KeptState.{Agrees, IsChargedBy}
 
--- Virtual scheduling begun at TAT = X + LCT gives the leaky bucket's verdicts on every list of
--- moments that begin at or after LCT and don't go back.
+-- Virtual scheduling that starts at TAT = X + LCT gives the verdicts of the leaky bucket. This holds for every list
+-- of moments that starts at or after LCT and never goes back.
 abbrev pub SchedulingGivesTheBucketsVerdicts : Type 0
 SchedulingGivesTheBucketsVerdicts = (gcra : Gcra) (bucket : Bucket) (moments : List ℕ)
     → GoesOn bucket.charged moments
     → scheduled gcra (bucket.level + bucket.charged) moments ≡ conformances gcra bucket moments
 
--- Of the conforming cells at most 1 + (d + tau) div T have moments within any span d, from any
--- bucket and for moments that don't go back.
+-- At most 1 + (d + tau) div T conforming cells have moments within any span of d ticks. This holds for any initial
+-- bucket and any moments that never go back.
 abbrev pub BurstsAreBounded : Type 0
 BurstsAreBounded = (gcra : Gcra) (bucket : Bucket) (earliest : ℕ) (moments : List ℕ)
     → GoesOn earliest moments
     → (first span : ℕ)
     → count_within first span (conforming gcra bucket moments) ≤ burst_bound gcra span
 
--- The same bound for any cells that fill one bucket, whatever it was that kept other conforming
--- cells from filling it.
+-- The same bound for any cells that all fill one bucket, even if other conforming cells don't fill it.
 abbrev pub FillingsAreBounded : Type 0
 FillingsAreBounded = (gcra : Gcra) (bucket : Bucket) (earliest : ℕ) (moments : List ℕ)
     → GoesOn earliest moments
@@ -37,11 +36,11 @@ FillingsAreBounded = (gcra : Gcra) (bucket : Bucket) (earliest : ℕ) (moments :
     → (first span : ℕ)
     → count_within first span moments ≤ burst_bound gcra span
 
--- Of these charges no more lie in the span than the rate allows.
+-- The number of these charges within the span is at most the burst bound of the rate.
 abbrev pub IsBounded : ℕ → ℕ → List ℕ → Gcra → Type 0
 IsBounded first span charges gcra = count_within first span charges ≤ burst_bound gcra span
 
--- The same bound for the cells that charge either bucket of a contract.
+-- The same bound for the cells that charge bucket 1 and for those that charge bucket 2 of a contract.
 abbrev pub ContractsBoundBursts : Type 0
 ContractsBoundBursts = (contract : Contract) (buckets : Buckets)
     → (earliest : ℕ) (arrivals : List Arrival)
@@ -50,8 +49,7 @@ ContractsBoundBursts = (contract : Contract) (buckets : Buckets)
     → IsBounded first span (first_charges contract buckets arrivals) (peak_of contract)
     × IfSome (second_of contract) (IsBounded first span (second_charges contract buckets arrivals))
 
--- What a cell does to both buckets of a contract: the tables of which verdict charges which bucket
--- tell exactly which bucket the cell filled.
+-- A cell fills exactly the buckets that `charges_first` and `charges_second` name.
 pub record ChargesAsTold (contract : Contract) (buckets : Buckets) (clp : Bool) (moment : ℕ) (after : Buckets) : Type 0 where
   pub first : Fills (peak_of contract) buckets.first after.first moment
       (charges_first (verdict_of contract buckets clp moment))
@@ -59,26 +57,26 @@ pub record ChargesAsTold (contract : Contract) (buckets : Buckets) (clp : Bool) 
       (charges_second (verdict_of contract buckets clp moment) contract clp))
   pub without : second_of contract ≡ None → after.second ≡ buckets.second
 
--- So it is with every cell.
+-- This holds for every cell.
 abbrev pub ChargesAreFillings : Type 0
 ChargesAreFillings = (contract : Contract) (buckets : Buckets) (clp : Bool) (moment : ℕ)
     → ChargesAsTold contract buckets clp moment (buckets_after contract buckets clp moment)
 
--- And a filled bucket is never the bucket that it was.
+-- A filled bucket differs from the bucket before.
 abbrev pub FillingsShow : Type 0
 FillingsShow = (gcra : Gcra) (bucket : Bucket) (moment : ℕ) → filled gcra bucket moment ≢ bucket
 
--- A cell is tagged only if it came with cell loss priority 0.
+-- A tagged cell had cell loss priority 0.
 abbrev pub TaggedCellsCameUntagged : Type 0
 TaggedCellsCameUntagged = (contract : Contract) (buckets : Buckets) (clp : Bool) (moment : ℕ)
     → verdict_of contract buckets clp moment ≡ Tag → clp ≡ false
 
--- Any levels stand for some buckets that were charged at 0 at the latest.
+-- Any levels represent some buckets that were charged no later than 0.
 abbrev pub LevelsStandForBuckets : Type 0
 LevelsStandForBuckets = (levels : Levels)
     → (buckets : Buckets) × Agrees levels buckets × IsChargedBy buckets 0
 
--- Cells up to the last moment leave buckets that some levels stand for as such buckets.
+-- After cells with moments up to 2^62, some levels represent the buckets, if some did before.
 abbrev pub LevelsFollowBuckets : Type 0
 LevelsFollowBuckets = (contract : Contract) (levels : Levels) (buckets : Buckets)
     → (arrivals : List Arrival)
@@ -86,14 +84,14 @@ LevelsFollowBuckets = (contract : Contract) (levels : Levels) (buckets : Buckets
     → All (λ a. a.moment ≤ 2 ^ 62) arrivals
     → (after : Levels) × Agrees after (buckets_left contract buckets arrivals)
 
--- No cell leaves a bucket charged after the cell's own moment.
+-- A cell leaves no bucket charged after the cell's own moment.
 abbrev pub ChargesKeepUp : Type 0
 ChargesKeepUp = (contract : Contract) (buckets : Buckets) (clp : Bool) (moment : ℕ)
     → IsChargedBy buckets moment
     → IsChargedBy (buckets_after contract buckets clp moment) moment
 
--- So many cells at the peak rate conform, from an empty bucket of the sustainable rate, exactly where
--- the burst tolerance for so many is at most the bucket's limit.
+-- A burst of `mbs` cells at the peak rate conforms, from an empty bucket of the sustainable rate, exactly if the
+-- burst tolerance for `mbs` is at most the bucket's limit.
 abbrev pub TolerancesAreExact : Type 0
 TolerancesAreExact = (gcra : Gcra) (mbs tp first : ℕ)
     → tp ≤ gcra.increment

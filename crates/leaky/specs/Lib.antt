@@ -1,4 +1,4 @@
--- The traffic control of a cell stream, in the words of ITU-T I.371, annex A.
+-- Traffic control for one stream of cells, in the words of ITU-T I.371, annex A.
 pub mod Moments
 pub mod Bucket
 pub mod Scheduling

@@ -2,25 +2,25 @@
 
 use crate::gcra::Gcra;
 
-/// A traffic contract, under the names of ATM Forum AF-TM-0121; the rules are this project's own.
+/// A traffic contract. The kinds have the names of ATM Forum AF-TM-0121; the rules are this project's own.
 ///
-/// Bucket 1 is the peak cell rate and meets every cell (CLP=0+1). Bucket 2, the second rate of a
-/// kind that has two, is the sustainable cell rate. Both limits are taken as they are: whoever sets
-/// up the contract adds burst tolerance and cell delay variation tolerance himself.
+/// Bucket 1 has the peak cell rate, and every cell (CLP=0+1) meets it. Bucket 2, which all kinds but `Cbr1` have, has
+/// the sustainable cell rate. The limits are used as given: the caller adds burst tolerance and cell delay variation
+/// tolerance.
 #[derive(Clone, Copy, Debug)]
 pub enum Contract {
-    /// A cell passes where bucket 1 conforms, and is discarded otherwise.
+    /// A cell passes if it conforms to bucket 1, and is discarded otherwise.
     Cbr1(Gcra),
-    /// Bucket 2 meets every cell too. A cell passes where both conform, and is discarded otherwise.
+    /// Every cell meets bucket 2. A cell passes if it conforms to both, and is discarded otherwise.
     Vbr1(Gcra, Gcra),
-    /// Bucket 2 meets cells of CLP 0. A cell passes where each bucket that it meets conforms, and
-    /// is discarded otherwise.
+    /// Cells of CLP 0 meet bucket 2. A cell passes if it conforms to each bucket that it meets, and is discarded
+    /// otherwise.
     Vbr2(Gcra, Gcra),
-    /// As `Vbr2`, but a cell that bucket 2 alone refuses is tagged.
+    /// As `Vbr2`, but a cell that conforms to bucket 1 and not to bucket 2 is tagged.
     Vbr3(Gcra, Gcra),
 }
 
-/// CBR.1 of one cell a tick, without tolerance.
+/// CBR.1 with increment 1 and limit 0.
 impl Default for Contract {
     ghost use Rattle.leaky.specs.Contract.{IsDefault};
 

@@ -1,14 +1,14 @@
-//! Rates: the increment and the limit of a bucket.
+//! Rates: increment and limit of a bucket.
 
 ghost use Rattle.std.specs.Prelude.{◌≡◌, ◌+◌, ◌^◌, ◌<◌, ◌≤◌, ◌⊎◌, ◌↔◌, max, IsTrue, IsOk, IfOk, IsErrOf};
 
 use std::error::Error;
 use std::fmt;
 
-/// The greatest increment and the greatest limit, in ticks: 2^48.
+/// The largest increment and the largest limit, in ticks: 2^48.
 pub const MOST_TICKS: u64 = 281474976710656;
 
-/// Why two numbers are no rate. It is printed as its number and its name.
+/// Why two numbers are not a rate. Printed as its number and its name.
 #[derive(Clone, Copy, Debug, PartialEq, Eq)]
 pub enum GcraFault {
     /// The increment is 0.
@@ -35,9 +35,8 @@ impl Error for GcraFault {}
 
 /// The parameters of GCRA(T, tau), the generic cell rate algorithm of ITU-T I.371, annex A.
 ///
-/// The increment T is the time from one cell to the next at the agreed rate, and the limit tau is
-/// how much too early a cell may come. Both are in ticks of one unit, which the moments of arrival
-/// share: T is from 1 to 2^48, tau from 0 to 2^48.
+/// The increment T is the time between cells at the agreed rate. The limit tau is how early a cell may come. Both are
+/// in ticks, the unit of the moments of arrival. T is from 1 to 2^48, tau from 0 to 2^48.
 #[derive(Clone, Copy, Debug)]
 pub struct Gcra {
     /// T, in ticks.
@@ -50,11 +49,11 @@ pub struct Gcra {
 }
 
 impl Gcra {
-    /// The rate of one cell in `increment` ticks with the tolerance `limit`.
+    /// A rate of one cell every `increment` ticks, with the tolerance `limit`.
     ///
     /// # Errors
     ///
-    /// `ZeroIncrement`, and then `TooLarge` where either number is above 2^48.
+    /// `ZeroIncrement` if the increment is 0; otherwise `TooLarge` if either number is above 2^48.
     pub fn new(increment: u64, limit: u64) -> Result<Self, GcraFault>
         ensures ok { IsOk result ↔ ((0 < increment) × (increment ≤ 2 ^ 48) × (limit ≤ 2 ^ 48)) }
         ensures increment { IfOk result (λ gcra. gcra.increment ≡ increment) }
@@ -73,7 +72,7 @@ impl Gcra {
         Ok(Gcra { increment, limit })
     }
 
-    /// Whether a cell at `moment` conforms, where the theoretical arrival time is `due`.
+    /// Whether a cell at `moment` conforms, when `due` is the theoretical arrival time.
     #[inline]
     pub(crate) fn admits(&self, due: u64, moment: u64) -> bool
         requires { moment ≤ 2 ^ 62 }
@@ -82,7 +81,7 @@ impl Gcra {
         due <= moment + self.limit
     }
 
-    /// The theoretical arrival time after a cell at `moment` that conforms.
+    /// The theoretical arrival time after a conforming cell at `moment`.
     #[inline]
     pub(crate) fn due_after(&self, due: u64, moment: u64) -> u64
         requires moment { moment ≤ 2 ^ 62 }
@@ -94,7 +93,7 @@ impl Gcra {
     }
 }
 
-/// One cell a tick, without tolerance.
+/// Increment 1 and limit 0.
 impl Default for Gcra {
     ghost is_default = { λ gcra. (gcra.increment ≡ 1) × (gcra.limit ≡ 0) };
 

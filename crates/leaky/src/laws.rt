@@ -1,9 +1,8 @@
-//! Laws over the definitions that the contracts of this crate cite. These functions do nothing:
-//! each stands for the law that is its contract.
+//! Laws of the definitions that this crate's contracts cite. Each function does nothing; its contract is the law.
 
 ghost use Rattle.leaky.specs.Laws.{SchedulingGivesTheBucketsVerdicts, BurstsAreBounded, FillingsAreBounded, ContractsBoundBursts, ChargesAreFillings, FillingsShow, TaggedCellsCameUntagged, LevelsStandForBuckets, LevelsFollowBuckets, ChargesKeepUp, TolerancesAreExact};
 
-/// Both forms of the generic cell rate algorithm give the same verdicts.
+/// Virtual scheduling and the leaky bucket give the same verdicts.
 pub fn scheduling_gives_the_buckets_verdicts()
     ensures { SchedulingGivesTheBucketsVerdicts }
 {}
@@ -13,50 +12,49 @@ pub fn bursts_are_bounded()
     ensures { BurstsAreBounded }
 {}
 
-/// The same bound holds for any cells each of which finds one bucket conforming and fills it.
+/// The same bound holds for any cells that all conform to one bucket and fill it.
 pub fn fillings_are_bounded()
     ensures { FillingsAreBounded }
 {}
 
-/// The same bound holds for the cells that charge either bucket of a contract.
+/// The same bound holds for the cells that charge bucket 1, and for those that charge bucket 2.
 pub fn contracts_bound_bursts()
     ensures { ContractsBoundBursts }
 {}
 
-/// Which verdict charges which bucket is told by the bucket after the cell: it is the filled one
-/// exactly where the tables say so, and else the bucket before.
+/// A cell fills exactly the buckets that its verdict charges; it leaves the others unchanged.
 pub fn charges_are_fillings()
     ensures { ChargesAreFillings }
 {}
 
-/// A filled bucket is another than it was.
+/// A filled bucket differs from the bucket before.
 pub fn fillings_show()
     ensures { FillingsShow }
 {}
 
-/// A cell is tagged only if it came with cell loss priority 0.
+/// A tagged cell had cell loss priority 0.
 pub fn tagged_cells_came_untagged()
     ensures { TaggedCellsCameUntagged }
 {}
 
-/// There are buckets that agree with any levels, so what `judge` says of all such buckets isn't
-/// empty.
+/// Some buckets agree with any levels, so the contract of `judge`, which is about all such buckets, is not vacuous.
 pub fn levels_stand_for_buckets()
     ensures { LevelsStandForBuckets }
 {}
 
-/// There are levels that agree with the buckets after any cells.
+/// After any cells with moments up to 2^62, some levels agree with the buckets.
 pub fn levels_follow_buckets()
     ensures { LevelsFollowBuckets }
 {}
 
-/// After a cell the buckets are ready for the next, at the same moment or later.
+/// After a cell, no bucket was charged later than the cell's moment. So the next cell may come at that moment or
+/// later.
 pub fn charges_keep_up()
     ensures { ChargesKeepUp }
 {}
 
-/// A bucket of the sustainable rate lets a burst of so many cells through at the peak rate exactly
-/// where its limit is at least the burst tolerance.
+/// A bucket of the sustainable rate admits a burst of `mbs` cells at the peak rate exactly if its limit is at least
+/// the burst tolerance.
 pub fn tolerances_are_exact()
     ensures { TolerancesAreExact }
 {}

@@ -1,15 +1,14 @@
-//! What is kept of the two buckets of a contract.
+//! The state of a contract's two buckets.
 
 ghost use Rattle.std.specs.Prelude.{◌≡◌, ◌+◌, ◌^◌, ◌≤◌};
 
-/// The state of one contract: for each of its two buckets the theoretical arrival time, the moment
-/// in ticks at which the next cell is due at the agreed rate. With moments up to 2^62 it is at most
-/// 2^62 + 2^49.
+/// The state of one contract: the theoretical arrival time of each bucket, in ticks. It is at most 2^62 + 2^49, since
+/// moments are at most 2^62.
 #[derive(Clone, Copy, Debug)]
 pub struct Levels {
     /// The theoretical arrival time of bucket 1.
     pub first: u64,
-    /// The theoretical arrival time of bucket 2, which stays where the contract has no such bucket.
+    /// The theoretical arrival time of bucket 2. It never changes if the contract has no bucket 2.
     pub second: u64,
     pub ghost first_bounded: { first ≤ 2 ^ 62 + 2 ^ 49 },
     pub ghost second_bounded: { second ≤ 2 ^ 62 + 2 ^ 49 },

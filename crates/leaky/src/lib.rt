@@ -1,5 +1,5 @@
-//! Leaky buckets: the generic cell rate algorithm of ITU-T I.371, annex A, and four traffic
-//! contracts over it.
+//! Leaky buckets: the generic cell rate algorithm of ITU-T I.371, annex A, and four kinds of traffic contract that
+//! use it.
 #![tactic(auto)]
 
 mod contract;

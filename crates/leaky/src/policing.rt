@@ -12,14 +12,13 @@ use crate::verdict::Verdict;
 /// The last moment at which a cell can be judged, in ticks: 2^62.
 pub const LAST_MOMENT: u64 = 4611686018427387904;
 
-/// The verdict on a cell of this cell loss priority at `moment`, in ticks. The levels become those
-/// that the cell leaves. The cells of one `Levels` come in the order of their moments. Takes no
-/// memory.
+/// Judges a cell of this cell loss priority at `moment`, in ticks, and updates the levels. The contract covers cells
+/// that come in the order of their moments. Doesn't allocate.
 #[inline(always)]
 pub fn judge(contract: &Contract, levels: &mut Levels, clp: bool, moment: u64) -> Verdict
     requires { moment ≤ 2 ^ 62 }
 
-    // The buckets that the levels stand for decide, and the new levels stand for what they become.
+    // For any buckets that the levels represent: their verdict, and the new levels represent the buckets after it.
     ensures verdict { (buckets : Buckets) → Agrees levels.old buckets → IsChargedBy buckets moment
         → result ≡ verdict_of contract.now buckets clp moment }
     ensures levels { (buckets : Buckets) → Agrees levels.old buckets → IsChargedBy buckets moment
@@ -36,7 +35,7 @@ pub fn judge(contract: &Contract, levels: &mut Levels, clp: bool, moment: u64) -
     }
 }
 
-/// Bucket 1 alone decides.
+/// Bucket 1 decides alone.
 #[inline]
 fn judge_by_peak(peak: &Gcra, levels: &mut Levels, moment: u64) -> Verdict
     requires { moment ≤ 2 ^ 62 }
@@ -72,7 +71,7 @@ fn judge_by_both(peak: &Gcra, sustained: &Gcra, levels: &mut Levels, moment: u64
     Verdict::Pass
 }
 
-/// Bucket 1 decides whether the cell goes on, bucket 2 whether it goes on untagged.
+/// Bucket 1 decides whether the cell is discarded, bucket 2 whether it is tagged.
 #[inline]
 fn judge_or_tag(peak: &Gcra, sustained: &Gcra, levels: &mut Levels, moment: u64) -> Verdict
     requires { moment ≤ 2 ^ 62 }

@@ -7,12 +7,12 @@ use crate::gcra::MOST_TICKS;
 use std::error::Error;
 use std::fmt;
 
-/// Why there is no burst tolerance. It is printed as its number and its name.
+/// Why there is no burst tolerance. Printed as its number and its name.
 #[derive(Clone, Copy, Debug, PartialEq, Eq)]
 pub enum BtFault {
     /// The maximum burst size is 0.
     ZeroMbs,
-    /// The peak cell rate is below the sustainable cell rate.
+    /// The peak cell rate is lower than the sustainable cell rate.
     PeakSlower,
     /// The tolerance is above 2^48.
     TooLarge,
@@ -35,14 +35,13 @@ impl fmt::Display for BtFault {
 
 impl Error for BtFault {}
 
-/// The burst tolerance `(mbs - 1)(ts - tp)`, in ticks (ITU-T I.371), for a maximum burst size of
-/// `mbs` cells, where `ts` is the increment of the sustainable cell rate and `tp` that of the peak
-/// cell rate. It is the least limit with which a bucket of the increment `ts` lets `mbs` cells
-/// through at the peak rate, as [`crate::laws::tolerances_are_exact`] says.
+/// The burst tolerance `(mbs - 1)(ts - tp)` in ticks (ITU-T I.371). `mbs` is the maximum burst size in cells, `ts`
+/// the increment of the sustainable cell rate, `tp` that of the peak cell rate. It is the least limit with which a
+/// bucket of increment `ts` admits `mbs` cells at the peak rate ([`crate::laws::tolerances_are_exact`]).
 ///
 /// # Errors
 ///
-/// `ZeroMbs`, then `PeakSlower` where `ts` is below `tp`, then `TooLarge` where the tolerance is
+/// `ZeroMbs` if `mbs` is 0; otherwise `PeakSlower` if `ts` is below `tp`; otherwise `TooLarge` if the tolerance is
 /// above 2^48.
 pub fn burst_tolerance(mbs: u64, ts: u64, tp: u64) -> Result<u64, BtFault>
     ensures value { IfOk result (λ ticks. ticks ≡ tolerance_of mbs ts tp) }

@@ -1,15 +1,14 @@
 //! Verdicts.
 
-/// What becomes of a cell.
+/// What happens to a cell.
 #[derive(Clone, Copy, Debug, PartialEq, Eq)]
 pub enum Verdict {
-    /// It goes on as it came.
+    /// The cell passes unchanged.
     Pass,
-    /// It goes on with cell loss priority 1.
+    /// The cell passes with cell loss priority 1.
     Tag,
-    /// It does not conform, and goes no further.
+    /// The cell doesn't conform and is dropped.
     Discard,
-    /// No contract was named for it, and it goes no further. `judge` never gives this verdict: it
-    /// is for whoever names the contract.
+    /// No contract was named for the cell, and it is dropped. `judge` never returns this; its caller may.
     Refuse,
 }

@@ -1,4 +1,4 @@
--- One text from worlds that are alike.
+-- Texts from worlds that are alike are equal.
 use Rattle.std.proofs.Common.{◌≡◌, ℕ, ◌+◌, ◌<◌, Bool, true, false, List, [], ◌∷◌, ◌++◌, Option, Some, None, length, nat_le, nat_lt, refl, ap, sym, ◌∙◌, subst}
 use Rattle.std.proofs.lemmas.Bool.{or_parts, leb-false}
 use Rattle.std.specs.Bool.{MatchBool}
@@ -10,7 +10,7 @@ use Rattle.text_io.specs.inner.Alike.{LeadAlike, KeepsAlike}
 use Rattle.text_io.specs.declared.ending.Done.{Done}
 use Rattle.text_io.specs.declared.ending.Done.TheVariants.{Ended}
 
--- Fewer lines came before a line within the limits than an input may have.
+-- A line within the limits has fewer than the maximum number of lines before it.
 within : (met : ℕ) (line : Line) → is_over met line ≡ false → met < most_input_lines
 within met line e = leb-false most_input_lines met (or_parts (nat_le most_input_lines met) (nat_lt most_line_octets (length line.octets)) e).0
 
@@ -45,7 +45,7 @@ one-text_alike {World = World} rules AreAlike keeps (first ∷ lines) met one ot
         let rest = behind later a.2 b.2 a.1 b.1 same.1 a.5 b.5 in
         (a.3 ∙ ap (λ xs. xs ++ a.1) same.0 ∙ ap (λ xs. b.0 ++ xs) rest.0 ∙ sym b.3, rest.1)
 
--- By functional rules each world is like itself.
+-- With functional rules, each world is alike to itself only.
 pub functional-alike : {World : Type 0} (rules : Rules World) → IsFunctional rules → KeepsAlike rules (λ met one other. one ≡ other)
 functional-alike {World = World} rules functional = record {
   step = λ met one other line here here' next next' few same p q.

@@ -1,4 +1,4 @@
--- One turn of the run over lines: what was said still leads to an answer to the whole input.
+-- One iteration of the driver's loop preserves its invariant.
 use Rattle.std.proofs.Common.{◌≡◌, ◌≢◌, ℕ, ◌+◌, ◌<◌, ◌≤◌, ◌||◌, nat_le, nat_lt, Bool, true, false, List, [], ◌∷◌, ◌++◌, Result, Ok, Err, IfOk, length, get_or, take, drop, refl, ap, sym, ◌∙◌, subst, arith, append_assoc, append-nil}
 use Rattle.std.specs.Result.{is_err, OnErr, OnOk}
 use Rattle.std.proofs.lemmas.List.{take-append-drop, drop_more, length-take, get_or-take}
@@ -17,14 +17,14 @@ use Rattle.text_io.specs.declared.ending.RunFault.{RunFault}
 use Rattle.text_io.proofs.LinesLemmas.{NoFeed, lines-at_feed, lines-first}
 use Rattle.text_io.proofs.PrintingLemmas.{some-text, prints-over}
 
--- Octets with a line feed at a place: the line before it, and what stands behind.
+-- Octets with a line feed at some place: the line before it and the rest.
 pub split-at_feed : (octets rest : List ℕ) (count : ℕ) → count < length octets → get_or octets count 0 ≡ 10
     → octets ++ rest ≡ take count octets ++ 10 ∷ (drop (count + 1) octets ++ rest)
 split-at_feed octets rest count below feed =
     ap (λ xs. xs ++ rest) (sym (take-append-drop count octets) ∙ ap (λ xs. take count octets ++ xs) (drop_more octets count 0 below ∙ ap (λ c. c ∷ drop (count + 1) octets) feed))
     ∙ append_assoc (take count octets) (10 ∷ drop (count + 1) octets) rest
 
--- A window whose octets O are, cut at the first line feed.
+-- A window, split at its first line feed.
 pub split-window : (window O rest : List ℕ) (count : ℕ) → O ≡ window → count < length window → get_or window count 0 ≡ 10
     → window ++ rest ≡ take count O ++ 10 ∷ (drop (count + 1) O ++ rest)
 split-window window O rest count e below feed =
@@ -38,7 +38,7 @@ no-feed-front window O count e before k below =
     let Q : ℕ → Type 0 = λ n. n ≢ 10 in
     subst Q (ap (λ xs. get_or xs k 0) (sym e) ∙ sym (get_or-take count O k 0 within)) (before k within)
 
--- What a result's test tells.
+-- Case analysis on `is_err`.
 pub at-err : {T E : Type 0} (r : Result T E) (P : Type 0) → is_err r ≡ true → OnErr r P → P
 at-err (Ok x) P e h = cc
 at-err (Err y) P e h = h
@@ -47,12 +47,12 @@ pub at-ok : {T E : Type 0} (r : Result T E) (P : Type 0) → is_err r ≡ false 
 at-ok (Ok x) P e h = h
 at-ok (Err y) P e h = cc
 
--- No line feed in octets that are told in another way.
+-- Transport of `no line feed` along an equality of octets.
 pub none-at : {O window : List ℕ} → O ≡ window → ((k : ℕ) → k < length window → get_or window k 0 ≢ 10) → (k : ℕ) → k < length O → get_or O k 0 ≢ 10
 none-at {O = O} {window = window} e none =
     let P : List ℕ → Type 0 = λ xs. (k : ℕ) → k < length xs → get_or xs k 0 ≢ 10 in subst P (sym e) none
 
--- The same text of the same octets, told in another way.
+-- Transport of a text along equalities.
 pub retold : {World : Type 0} (rules : Rules World) (start : World) (octets octets' text text' : List ℕ) (done : Done)
     → octets ≡ octets' → text ≡ text' → Prints rules 0 start (lines_of octets) text done → Prints rules 0 start (lines_of octets') text' done
 retold {World = World} rules start octets octets' text text' done same alike prints =
@@ -60,7 +60,7 @@ retold {World = World} rules start octets octets' text text' done same alike pri
     let Q : List ℕ → Type 0 = λ xs. Prints {World = World} rules 0 start (lines_of octets') xs done in
     subst Q alike (subst P same prints)
 
--- Nothing is answered yet.
+-- The invariant holds at the start.
 pub begin : {World : Type 0} (rules : Rules World) (shown : World → Type 0) (Known Held : Type 0) (whole before : List ℕ)
     → Progress rules shown shown Known Held whole whole before before [] 0
 begin rules shown Known Held whole before = record {
@@ -71,12 +71,12 @@ begin rules shown Known Held whole before = record {
   reaches = λ start sound is_shown. record { present = start; sound = sound; is_shown = is_shown; leads = λ behind more done prints. prints };
 }
 
--- A line and what comes behind it, as a front and the rest.
+-- A line and the octets after it, associated to the left.
 line-front : (answered line behind : List ℕ) → answered ++ (line ++ 10 ∷ behind) ≡ (answered ++ (line ++ 10 ∷ [])) ++ behind
 line-front answered line behind =
     ap (λ xs. answered ++ xs) (sym (append_assoc line (10 ∷ []) behind)) ∙ sym (append_assoc answered (line ++ 10 ∷ []) behind)
 
--- A line that a machine answered, and the run goes on.
+-- The invariant after a line that doesn't end the run.
 pub progress-line : {World : Type 0} (rules : Rules World) (shown now now' : World → Type 0) (Known Held : Type 0)
     (whole left line behind before held old new : List ℕ) (met : ℕ)
     → NoFeed line → left ≡ line ++ 10 ∷ behind → Passes rules met now (record { octets = line; ended = true }) GoesOn now' old new
@@ -105,7 +105,7 @@ progress-line {World = World} rules shown now now' Known Held whole left line be
       };
 }
 
--- Some of what waited was given.
+-- The invariant after some answers are written.
 pub progress-given : {World : Type 0} (rules : Rules World) (shown now : World → Type 0) (Known Held : Type 0)
     (whole left before held held' waiting waiting' : List ℕ) (met : ℕ)
     → (Held → Moves held held' waiting waiting')
@@ -124,11 +124,11 @@ progress-given rules shown now Known Held whole left before held held' waiting w
   reaches = p.reaches;
 }
 
--- All of what waited was given.
+-- All waiting octets were written.
 pub all-moved : (before after waiting left : List ℕ) → after ≡ before ++ waiting → left ≡ [] → Moves before after waiting left
 all-moved before after waiting left given none = (waiting, sym (append-nil waiting) ∙ ap (λ xs. waiting ++ xs) (sym none), given)
 
--- What is left is told in another way.
+-- Transport of the invariant along an equality of the octets left.
 pub progress-left : {World : Type 0} (rules : Rules World) (shown now : World → Type 0) (Known Held : Type 0)
     (whole left left' before held waiting : List ℕ) (met : ℕ) → (Known → left ≡ left')
     → Progress rules shown now Known Held whole left before held waiting met → Progress rules shown now Known Held whole left' before held waiting met
@@ -140,7 +140,7 @@ progress-left rules shown now Known Held whole left left' before held waiting me
   reaches = p.reaches;
 }
 
--- The last answers and what was given before them are the text of the whole input.
+-- The octets written before and the last answers are the text of the whole input.
 pub text-of : {World : Type 0} (rules : Rules World) (shown now : World → Type 0) (Known Held : Type 0)
     (whole left before held held' old here : List ℕ) (met : ℕ) (done : Done) → Known → Held
     → OfEach rules now (λ present. Prints rules met present (lines_of left) here done) → held' ≡ held ++ (old ++ here)
@@ -156,7 +156,7 @@ text-of rules shown now Known Held whole left before held held' old here met don
           (r.leads left here done (closes r.present r.sound r.is_shown)),
     )
 
--- A part of the last answers makes the beginning of such a text.
+-- A prefix of the last answers gives a prefix of the text.
 pub front-of-last : {World : Type 0} (rules : Rules World) (shown now : World → Type 0) (Known Held : Type 0)
     (whole left before held held' old : List ℕ) (met : ℕ) → Known → Held
     → OfEach rules now (λ present. (here : List ℕ) × (done : Done) × IsPart held held' (old ++ here) × Prints rules met present (lines_of left) here done)
@@ -180,7 +180,7 @@ front-of-last rules shown now Known Held whole left before held held' old met kn
       ),
     )
 
--- And so does a part of what waits, since whatever is left has some answer.
+-- So does a prefix of the waiting octets, since the rest of the input has some answer.
 pub front-of : {World : Type 0} (rules : Rules World) → IsTotal rules → (shown now : World → Type 0) (Known Held : Type 0)
     (whole left before held held' old : List ℕ) (met : ℕ) → Known → Held → IsPart held held' old
     → Progress rules shown now Known Held whole left before held old met
@@ -196,7 +196,7 @@ front-of rules total shown now Known Held whole left before held held' old met k
     ))
     p
 
--- No more was taken than what had to be answered, and so many octets.
+-- No more was read than the octets answered and at most a window.
 pub enough : {World : Type 0} (rules : Rules World) (shown now : World → Type 0) (Known Held : Type 0)
     (whole left near ahead rest before held old here : List ℕ) (met most : ℕ) (done : Done) → Known
     → left ≡ near ++ (ahead ++ rest) → length ahead ≤ most
@@ -212,7 +212,7 @@ enough rules shown now Known Held whole left near ahead rest before held old her
       (p.said ++ here, r.leads near here done (closes r.present r.sound r.is_shown)),
     )
 
--- A line that ends the run, whatever comes behind it.
+-- A line that ends the run, whatever follows.
 pub line-ends : {World : Type 0} (rules : Rules World) (now now' : World → Type 0) (line behind old new : List ℕ) (met : ℕ)
     → NoFeed line → (passes : Passes rules met now (record { octets = line; ended = true }) Ends now' old new)
     → OfEach rules now (λ present. Prints rules met present (lines_of (line ++ 10 ∷ behind)) passes.0 Ended)
@@ -220,7 +220,7 @@ line-ends {World = World} rules now now' line behind old new met none passes = �
     let Q : List Line → Type 0 = λ lines. Prints {World = World} rules met present lines passes.0 Ended in
     subst Q (sym (lines-at_feed line behind none)) (passes.2 present sound is_shown (lines_of behind))
 
--- Octets without a line feed that are over the limits already.
+-- Octets without a line feed that are already over the limits.
 long-text : {World : Type 0} (rules : Rules World) (met : ℕ) (before : World) (octets rest : List ℕ)
     → 0 < length octets → NoFeed octets → ((line : Line) → length octets ≤ length line.octets → is_over met line ≡ true)
     → Prints rules met before (lines_of (octets ++ rest)) rules.too_long Ended
@@ -230,11 +230,11 @@ long-text {World = World} rules met before (c ∷ cs) rest some none over =
     let Q : List Line → Type 0 = λ lines. Prints {World = World} rules met before lines rules.too_long Ended in
     subst Q (sym first.cut) (prints-over rules met before first.line first.lines (over first.line first.long))
 
--- What is longer than a line over the limits is over them.
+-- A longer line than one over the limits is over them too.
 over-longer : (met n m : ℕ) → n ≤ m → (nat_le most_input_lines met || nat_lt most_line_octets n) ≡ true → (nat_le most_input_lines met || nat_lt most_line_octets m) ≡ true
 over-longer met n m longer over = grind (arith, nat_tests)
 
--- A window without a line feed that is over the limits already, whatever comes behind it.
+-- A window without a line feed that is already over the limits, whatever follows.
 pub window-over : {World : Type 0} (rules : Rules World) (now : World → Type 0) (met waiting : ℕ) (window window' rest : List ℕ) (result : Bool)
     → window' ≡ window → waiting ≡ length window' → 0 < waiting → ((k : ℕ) → k < length window' → get_or window' k 0 ≢ 10)
     → result ≡ (nat_le most_input_lines met || nat_lt most_line_octets waiting) → result ≡ true
@@ -245,18 +245,18 @@ window-over {World = World} rules now met waiting window window' rest result sam
     (long-text rules met present window' rest (omega arith) none
     (λ line longer. over-longer met waiting (length line.octets) (omega arith) (sym is ∙ over)))
 
--- What holds of the one end of a run, of whatever was answered.
+-- A property of the result that doesn't depend on the output.
 pub at-done : (result : Result Done RunFault) (done : Done) (P : Done → Type 0) → IfOk result (λ value. value ≡ done) → P done → IfOk result P
 at-done (Ok value) done P same holds = subst P (sym same) holds
 at-done (Err fault) done P same holds = tt
 
--- Where all was given, it holds of the one end of a run.
+-- A property of the result if all was written.
 pub at-given : (result : Result Done RunFault) (done : Done) (All : Type 0) (P : Done → Type 0)
     → IfOk result (λ value. value ≡ done) → OnOk result All → (All → P done) → IfOk result P
 at-given (Ok value) done All P same all holds = subst P (sym same) (holds all)
 at-given (Err fault) done All P same all holds = tt
 
--- Where the call failed.
+-- A property of the result if the call failed.
 pub at-fault : (result : Result Done RunFault) (Part Front : Type 0) → OnErr result Part → (Part → Front) → OnErr result Front
 at-fault (Ok value) Part Front part holds = tt
 at-fault (Err fault) Part Front part holds = holds part

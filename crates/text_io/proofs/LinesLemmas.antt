@@ -1,4 +1,4 @@
--- How lines are cut at a line feed, and where there is none.
+-- How octets split into lines.
 use Rattle.std.proofs.Common.{◌≡◌, ◌≢◌, ℕ, suc, ◌<◌, ◌≤◌, true, false, nat_eq, List, [], ◌∷◌, ◌++◌, length, get_or, refl, ap, ◌∙◌, arith, if◌then◌else◌}
 use Rattle.std.proofs.lemmas.Bool.{ne_eqb}
 use Rattle.text_io.specs.Lines.{Line, lines_of, begun_with}
@@ -7,7 +7,7 @@ use Rattle.text_io.specs.Lines.{Line, lines_of, begun_with}
 abbrev pub NoFeed : List ℕ → Type 0
 NoFeed octets = (k : ℕ) → k < length octets → get_or octets k 0 ≢ 10
 
--- Nor is one behind the first.
+-- The octets after the first have none either.
 pub no-feed-behind : (octet : ℕ) (octets : List ℕ) → NoFeed (octet ∷ octets) → NoFeed octets
 no-feed-behind octet octets none k below = none (suc k) (omega arith)
 
@@ -29,7 +29,7 @@ lines-of_last c (d ∷ ds) none =
     ap (λ b. if b then (record { octets = []; ended = true }) ∷ lines_of (d ∷ ds) else begun_with c (lines_of (d ∷ ds))) (first-no-feed c (d ∷ ds) none)
     ∙ ap (λ lines. begun_with c lines) (lines-of_last d ds (no-feed-behind c (d ∷ ds) none))
 
--- A first line is at least as long as the octets without a line feed at the front.
+-- The first line is at least as long as the prefix without a line feed.
 pub record FirstLine (octets : List ℕ) (all : List ℕ) : Type 0 where
   pub line : Line
   pub lines : List Line

@@ -1,4 +1,4 @@
--- Texts of lines: that there is one, and how one grows line by line.
+-- Texts of lines: existence, and how a text grows line by line.
 use Rattle.std.proofs.Common.{◌≡◌, ℕ, ◌+◌, ◌<◌, Bool, true, false, List, [], ◌∷◌, ◌++◌, Option, Some, None, length, refl, ap, sym, ◌∙◌, append_assoc, append-nil}
 use Rattle.std.specs.Option.{MatchOption}
 use Rattle.text_io.specs.Lines.{Line, lines_of, said}
@@ -12,7 +12,7 @@ use Rattle.text_io.specs.declared.ending.Done.TheVariants.{Ended}
 use Rattle.text_io.specs.declared.machine.Turn.{Turn}
 use Rattle.text_io.specs.declared.machine.Turn.TheVariants.{GoesOn, Ends}
 
--- A line that isn't over the limits, answered so.
+-- An answered line within the limits.
 prints-here : {World : Type 0} (rules : Rules World) (met : ℕ) (world : World) (line : Line) (lines : List Line) (text : List ℕ) (done : Done)
     → is_over met line ≡ false
     → ((here : List ℕ) × (more : List ℕ) × (next : Option World) × (text ≡ here ++ more) × rules.steps world (said line) here next
@@ -59,7 +59,7 @@ passes-from rules total met before line here GoesOn shown' sound over turns = (
   λ lines more done prints. prints-here rules met before line lines (here ++ more) done over (here, more, Some turns.0, refl, turns.2, prints),
 )
 
--- A line that a machine answered, not over the limits.
+-- A line within the limits, as the machine answers it.
 pub passes-answered : {World : Type 0} (rules : Rules World) → IsTotal rules → (met : ℕ) (shown : World → Type 0) (line : Line) (turn : Turn) (shown' : World → Type 0) (old new : List ℕ)
     → is_over met line ≡ false → Answers rules shown (said line) turn shown' old new → Passes rules met shown line turn shown' old new
 passes-answered rules total met shown line turn shown' old new over answers = (
@@ -73,7 +73,7 @@ pub passes-over : {World : Type 0} (rules : Rules World) (met : ℕ) (shown show
     → is_over met line ≡ true → Passes rules met shown line Ends shown' old (old ++ rules.too_long)
 passes-over rules met shown shown' line old over = (rules.too_long, refl, λ before sound is_shown lines. prints-over rules met before line lines over)
 
--- Answers to the end of the input, behind octets that no line feed ends.
+-- The answer to octets without a line feed and to the end of the input.
 abbrev pub EndsBehind : {World : Type 0} → Rules World → ℕ → (World → Type 0) → List ℕ → Done → List ℕ → List ℕ → Type 0
 EndsBehind rules met shown octets done old new =
     (here : List ℕ) × (new ≡ old ++ here) × OfEach rules shown (λ before. Prints rules met before (lines_of octets) here done)

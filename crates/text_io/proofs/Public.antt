@@ -1,4 +1,4 @@
--- What the crates above may use in their proofs.
+-- Lemmas for other crates.
 use Rattle.std.proofs.Common.{◌≡◌, ℕ, ◌<◌, length, get_or, true, false, [], ◌∷◌, ◌++◌, List, refl, sym, append-nil}
 use Rattle.text_io.specs.Devices.{Adds}
 use Rattle.text_io.specs.Lines.{Line}
@@ -14,27 +14,27 @@ use Rattle.text_io.specs.declared.ending.Done.{Done}
 pub one-word : (line : List ℕ) → 0 < length line → ((k : ℕ) → k < length line → is_blank (get_or line k 0) ≡ false) → words_of line ≡ line ∷ []
 one-word line some none = words.words-of_word line some none
 
--- Octets without a blank, with a blank behind them, are the first word.
+-- Octets without a blank, followed by a blank, are the first word.
 pub first-word : (word rest : List ℕ) (blank : ℕ) → 0 < length word → ((k : ℕ) → k < length word → is_blank (get_or word k 0) ≡ false)
     → is_blank blank ≡ true → words_of (word ++ blank ∷ rest) ≡ word ∷ words_of rest
 first-word word rest blank some none parts = words.words-at_blank word rest blank some none parts
 
--- By total rules every list of lines has a text, from every world that a run reaches.
+-- With total rules, any list of lines has a text from every sound world.
 pub some-text : {World : Type 0} (rules : Rules World) → IsTotal rules
     → (lines : List Line) (met : ℕ) (world : World) → rules.is_sound world → (text : List ℕ) × (done : Done) × Prints rules met world lines text done
 some-text rules total lines met world sound = texts.some-text rules total lines met world sound
 
--- Nothing is the beginning of a text, where there is one.
+-- The empty text is a prefix of a text, if there is one.
 pub nothing-begins : (IsWhole : List ℕ → Done → Type 0) (held : List ℕ) → ((text : List ℕ) × (done : Done) × IsWhole text done) → Adds (IsFront IsWhole) held held
 nothing-begins IsWhole held whole = ([], sym (append-nil held), whole)
 
--- From worlds that are alike behind so many lines, two texts of one list of lines are the same.
+-- From worlds that are alike after `met` lines, a list of lines has one text.
 pub one-text_alike : {World : Type 0} (rules : Rules World) (AreAlike : ℕ → World → World → Type 0) → KeepsAlike rules AreAlike
     → (lines : List Line) (met : ℕ) (one other : World) (text text' : List ℕ) (done done' : Done) → AreAlike met one other
     → Prints rules met one lines text done → Prints rules met other lines text' done' → (text ≡ text') × (done ≡ done')
 one-text_alike = alike.one-text_alike
 
--- By functional rules two texts of one list of lines are the same: each world is like itself alone.
+-- With functional rules, a list of lines has one text.
 pub one-text : {World : Type 0} (rules : Rules World) → IsFunctional rules → (lines : List Line) (met : ℕ) (world : World) (text text' : List ℕ) (done done' : Done)
     → Prints rules met world lines text done → Prints rules met world lines text' done' → (text ≡ text') × (done ≡ done')
 one-text rules one lines met world text text' done done' p q =

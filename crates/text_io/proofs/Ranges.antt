@@ -1,10 +1,10 @@
--- Parts of lists, as a window takes them.
+-- Ranges of lists, as the window uses them.
 use Rattle.std.proofs.Common.{◌≡◌, ℕ, ◌+◌, ◌-◌, ◌<◌, ◌≤◌, List, ◌++◌, length, take, drop, get_or, ◌≢◌, subst, length-take, ap, sym, ◌∙◌, arith, append_assoc}
 use Rattle.std.proofs.lemmas.List.{drop-take, drop-drop, take_rest, get_or-drop, take-append-le}
 use Rattle.std.proofs.Math.Seq.{take-append-add, take-add}
 use Rattle.std.specs.List.{slice_range}
 
--- A range without its first count elements is a range that begins as much later.
+-- Dropping `count` elements of a range starts it `count` places later.
 pub range-skip : (xs : List ℕ) (s count e : ℕ) → s + count ≤ e → slice_range xs (s + count) e ≡ drop count (slice_range xs s e)
 range-skip xs s count e within =
     let parts : e - s ≡ count + (e - (s + count)) = omega arith in
@@ -13,18 +13,18 @@ range-skip xs s count e within =
     ∙ sym (drop-take count (e - (s + count)) (drop s xs))
     ∙ ap (λ n. drop count (take n (drop s xs))) (sym parts)
 
--- Octets that came into a room behind the first n, of which there are so many.
+-- Octets read into a room after the first n.
 pub taken-behind : (front room post before after : List ℕ) (n count : ℕ) → length front ≡ n → count ≤ length room
     → before ≡ take count room ++ after → front ++ before ≡ take (n + count) (front ++ (room ++ post)) ++ after
 taken-behind front room post before after n count sized fits came =
     let so_many : n ≡ length front = sym sized in
     rw so_many (rw (take-append-add front (room ++ post) count, take-append-le count room post fits, came) (sym (append_assoc front (take count room) after)))
 
--- A range has no more elements than its ends are apart.
+-- The length of a range is at most the distance of its ends.
 pub length-range : (xs : List ℕ) (s e : ℕ) → length (slice_range xs s e) ≤ e - s
 length-range xs s e = omega (arith, length-take (e - s) (drop s xs))
 
--- What no element of a range's beginning is, none of a later range's beginning is.
+-- A value that isn't in the start of a range isn't in the start of a later one.
 pub range-none : (xs : List ℕ) (s looked count e value : ℕ) → s + count ≤ e
     → ((k : ℕ) → k < looked → get_or (slice_range xs s e) k 0 ≢ value)
     → (k : ℕ) → k < looked - count → get_or (slice_range xs (s + count) e) k 0 ≢ value
@@ -35,7 +35,7 @@ range-none xs s looked count e value within none k below =
     subst P (sym (range-skip xs s count e within))
     (subst Q (sym (get_or-drop count (slice_range xs s e) k 0)) (none (count + k) further))
 
--- What a device holds after count octets more of those behind the first ones.
+-- The output after `count` more octets are written.
 pub given-more : (xs start before after : List ℕ) (given count : ℕ) → before ≡ start ++ take given xs
     → after ≡ before ++ take count (take (length xs - given) (drop given xs)) → after ≡ start ++ take (given + count) xs
 given-more xs start before after given count was is =

@@ -1,4 +1,4 @@
--- A window keeps its shape where its octets move to the front and where more come behind them.
+-- A window keeps its invariant when its octets move to the front and when more are read.
 use Rattle.std.proofs.Common.{◌≡◌, ◌≢◌, ℕ, ◌+◌, ◌-◌, ◌<◌, ◌≤◌, List, ◌++◌, length, take, drop, get_or, ap, sym, ◌∙◌, subst, arith}
 use Rattle.std.proofs.lemmas.List.{get_or-take}
 use Rattle.std.proofs.Math.Seq.{take-append_seam}
@@ -18,7 +18,7 @@ moved-to-front buffer spare buffer' spare' start looked end w sized spare_sized 
       subst P (sym moved) (w.no_feed k below);
 }
 
--- An element below n of a list that has the same first n elements.
+-- Lists with equal first n elements agree below n.
 pub same-below : (xs ys : List ℕ) (n m k : ℕ) → take n xs ≡ take n ys → k < n → k < m → get_or (slice_range xs 0 m) k 0 ≡ get_or (slice_range ys 0 n) k 0
 same-below xs ys n m k same below within =
     let whole : m - 0 ≡ m = omega arith in
@@ -40,7 +40,7 @@ refilled buffer spare buffer' looked end count w sized same fits = record {
       subst Q (sym (same-below buffer' buffer end (end + count) k same (omega arith) (omega arith))) (w.no_feed k below);
 }
 
--- A list written over another of its length.
+-- Overwriting a list with one of the same length.
 pub written-over : (new old : List ℕ) (len : ℕ) → length new ≡ length old → len ≡ length old → take len (new ++ drop (length new) old) ≡ new
 written-over new old len sized whole =
     ap (λ n. take n (new ++ drop (length new) old)) (whole ∙ sym sized) ∙ take-append_seam new (drop (length new) old)

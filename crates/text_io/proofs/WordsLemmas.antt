@@ -1,10 +1,10 @@
--- How a line is cut at its first blank.
+-- How a line is split at its first blank.
 use Rattle.std.proofs.Common.{◌≡◌, ℕ, suc, ◌+◌, ◌-◌, ◌<◌, Bool, true, false, List, [], ◌∷◌, ◌++◌, length, get_or, take, drop, refl, ap, sym, ◌∙◌, subst, arith, if◌then◌else◌, filter, inl, inr}
 use Rattle.std.proofs.lemmas.Bool.{cases_lt}
 use Rattle.std.proofs.lemmas.List.{take-append-drop, drop_more, length-take, get_or-take, take_rest}
 use Rattle.text_io.specs.Words.{is_blank, part_begun_with, parts_of, is_filled, words_of}
 
--- No octet parts words.
+-- No octet is a blank.
 abbrev pub NoBlank : List ℕ → Type 0
 NoBlank octets = (k : ℕ) → k < length octets → is_blank (get_or octets k 0) ≡ false
 
@@ -37,7 +37,7 @@ words-at_blank word rest b some none blank = ap (λ parts. filter is_filled part
 pub words-of_word : (word : List ℕ) → 0 < length word → NoBlank word → words_of word ≡ word ∷ []
 words-of_word word some none = ap (λ parts. filter is_filled parts) (parts-of_word word none) ∙ filled-first word [] some
 
--- An octet that is a blank isn't the first, where that is none.
+-- If the first octet is no blank, a blank has a place above 0.
 later-first : (line : List ℕ) (end : ℕ) → is_blank (get_or line 0 0) ≡ false → is_blank (get_or line end 0) ≡ true → 0 < end
 later-first line end first blank =
     elim (cases_lt 0 end) [
@@ -48,7 +48,7 @@ later-first line end first blank =
           let both : true ≡ false = sym (subst P zero blank) ∙ first in cc
     ]
 
--- The first blank of a line that begins with none ends its first word.
+-- If the line doesn't begin with a blank, the first blank ends its first word.
 pub words-cut : (line : List ℕ) (end : ℕ) → end < length line → is_blank (get_or line 0 0) ≡ false → is_blank (get_or line end 0) ≡ true
     → ((k : ℕ) → k < end → is_blank (get_or line k 0) ≡ false)
     → words_of line ≡ take end line ∷ words_of (take (length line - (end + 1)) (drop (end + 1) line))

@@ -1,4 +1,4 @@
--- Answers to lines, proved from octet to octet. In the order of reading:
+-- A proved driver for programs that answer lines. Read the modules in this order:
 pub mod Devices
 pub mod Failures
 pub mod Lines

@@ -1,10 +1,10 @@
--- What a line asks, as far as its words are counted.
+-- Lines with no word, one word, or more.
 use Rattle.std.specs.Prelude.{◌≡◌, ℕ, true, false, List, [], ◌∷◌}
 use Rattle.text_io.specs.Words.{is_silent}
 use Rattle.text_io.specs.declared.words.LineWords.{LineWords}
 use Rattle.text_io.specs.declared.words.LineWords.TheVariants.{Silent, One, Several}
 
--- The words ask for nothing; or they are one word; or more than one.
+-- Silent: the line has no words or is a comment. One: exactly one word. Several: two words or more.
 abbrev pub IsLineWords : List (List ℕ) → LineWords → Type 0
 IsLineWords words Silent = is_silent words ≡ true
 IsLineWords words (One word) = (is_silent words ≡ false) × (words ≡ word.now ∷ [])

@@ -1,4 +1,4 @@
-//! Gathered answers on their way to an output.
+//! Writing collected answers to an output.
 
 ghost use Rattle.std.specs.Prelude.{◌≡◌, ◌++◌, List, ℕ, [], take, Err, IfOk, OnOk, OnErr};
 ghost use Rattle.text_io.specs.Devices.{one_more, IsPart};
@@ -7,11 +7,11 @@ ghost use Rattle.text_io.specs.Failures.{write_failures};
 use crate::device::{Failed, Output};
 use crate::ending::{Done, RunFault};
 
-/// Gives all of the octets, in as many calls as the output wants.
+/// Writes all octets, in as many calls as the output needs.
 ///
 /// # Errors
 ///
-/// `Failed` at the first call that failed; octets from the front were given before it.
+/// `Failed` at the first call that fails; a prefix of the octets may have been written.
 pub fn give_all<O: Output>(output: &mut O, octets: &[u8]) -> Result<(), Failed>
     ensures ok { O.is_known → OnOk result (O.held output.new ≡ O.held output.old ++ octets.now) }
     ensures front { O.is_known → IsPart (O.held output.old) (O.held output.new) octets.now }
@@ -25,11 +25,11 @@ pub fn give_all<O: Output>(output: &mut O, octets: &[u8]) -> Result<(), Failed>
     Ok(())
 }
 
-/// Gives the gathered answers, and has none afterwards.
+/// Writes the collected answers and clears them.
 ///
 /// # Errors
 ///
-/// `Failed` at the first call that failed; octets from the front were given before it.
+/// `Failed` at the first call that fails; a prefix of the octets may have been written.
 pub fn give_answers<O: Output>(output: &mut O, answers: &mut Vec<u8>) -> Result<(), Failed>
     ensures ok { O.is_known → OnOk result (O.held output.new ≡ O.held output.old ++ answers.old.items) }
     ensures none { OnOk result (answers.new.items ≡ []) }
@@ -42,11 +42,11 @@ pub fn give_answers<O: Output>(output: &mut O, answers: &mut Vec<u8>) -> Result<
     Ok(())
 }
 
-/// Gives the last answers of a run that ends so.
+/// Writes the last answers of a run, and returns `done`.
 ///
 /// # Errors
 ///
-/// `WriteFailed` at the first call that failed; octets from the front were given before it.
+/// `WriteFailed` at the first call that fails; a prefix of the octets may have been written.
 pub fn give_last<O: Output>(
     output: &mut O,
     answers: &mut Vec<u8>,

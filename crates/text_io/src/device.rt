@@ -1,16 +1,16 @@
-//! Where octets come from and where they go.
+//! Sources and sinks of octets.
 
 ghost use Rattle.std.specs.Prelude.{◌≡◌, ℕ, ◌<◌, ◌≤◌, ◌++◌, List, [], length, take, IfOk, OnOk, OnErr, Ok};
 ghost use Rattle.text_io.specs.Devices.{one_more};
 
-/// A device failed. Which fault it was stays with the device.
+/// A device failed. The device may know the reason.
 #[derive(Clone, Copy, PartialEq, Eq, Debug)]
 pub struct Failed;
 
-/// A source of octets, as a file, a pipe or memory.
+/// A source of octets: a file, a pipe or memory.
 ///
-/// Contracts see what is left to give, and how many calls have failed. Of a device outside memory
-/// no contract says what is left: then `is_known` doesn't hold.
+/// Contracts see the octets that are left, and the number of failed calls. For a device outside memory no contract
+/// knows the octets that are left; `is_known` is then false.
 pub trait Input {
     ghost is_known: { Type 0 };
 
@@ -18,12 +18,12 @@ pub trait Input {
 
     ghost failures: { Self → ℕ };
 
-    /// Takes octets into the front of `room`, and says how many: none only at the end, or where there
-    /// is no room. May take fewer than there are.
+    /// Reads octets into the start of `room` and returns their number. It is 0 only at the end of the input or if
+    /// `room` is empty. It may be less than there is room for.
     ///
     /// # Errors
     ///
-    /// `Failed` where the device gave nothing; it counts that.
+    /// `Failed` if the device gave nothing. The device counts the failure.
     fn take(&mut self, room: &mut [u8]) -> Result<usize, Failed>
         ensures within { IfOk result (λ count. count ≤ length room.new) }
         ensures octets { is_known → IfOk result (λ count. rest self.old ≡ take count room.new ++ rest self.new) }
@@ -33,10 +33,10 @@ pub trait Input {
         ensures failed { OnErr result (failures self.new ≡ one_more (failures self.old)) };
 }
 
-/// A sink of octets, as a file, a pipe or memory.
+/// A sink of octets: a file, a pipe or memory.
 ///
-/// Contracts see what was written to it, and how many calls have failed. Of a device outside memory
-/// no contract says what it holds: then `is_known` doesn't hold.
+/// Contracts see the octets written, and the number of failed calls. For a device outside memory no contract knows
+/// the octets that it holds; `is_known` is then false.
 pub trait Output {
     ghost is_known: { Type 0 };
 
@@ -44,12 +44,12 @@ pub trait Output {
 
     ghost failures: { Self → ℕ };
 
-    /// Gives octets from the front of `octets`, and says how many: at least one of a text that isn't
-    /// empty. May give fewer than there are.
+    /// Writes octets from the start of `octets` and returns their number: at least one, unless `octets` is empty. It
+    /// may be less than all.
     ///
     /// # Errors
     ///
-    /// `Failed` where the device took nothing; it counts that.
+    /// `Failed` if the device took nothing. The device counts the failure.
     fn give(&mut self, octets: &[u8]) -> Result<usize, Failed>
         ensures within { IfOk result (λ count. count ≤ length octets.now) }
         ensures some { IfOk result (λ count. 0 < length octets.now → 0 < count) }

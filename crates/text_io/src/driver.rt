@@ -1,4 +1,4 @@
-//! The run of a machine over the lines of an input.
+//! The driver: runs a machine over the lines of an input.
 
 ghost use Rattle.std.specs.Prelude.{◌≡◌, ◌≢◌, ℕ, ◌+◌, ◌<◌, ◌≤◌, ◌++◌, ◌||◌, List, [], true, Ok, Err, length, slice_index, nat_le, nat_lt, IfOk, OnOk, OnErr};
 ghost use Rattle.text_io.specs.Answering.{OfEach};
@@ -19,23 +19,23 @@ use crate::machine::{Machine, Turn};
 use crate::window::Window;
 use std::alloc::{AllocError, Global};
 
-/// The most lines of an input.
+/// The maximum number of lines of an input.
 const MOST_INPUT_LINES: u32 = 1000000;
 
-/// The most octets of a line, its carriage return counted and its line feed not.
+/// The maximum number of octets of a line, with its carriage return and without its line feed.
 const MOST_LINE_OCTETS: usize = 70000;
 
-/// So many octets of answers are given at once, without waiting for more.
+/// Collected answers are written as soon as they have this many octets.
 const ENOUGH: usize = 65536;
 
-/// Whether a line of this length, with so many lines before it, is over the limits.
+/// Whether a line of this length, after `met` lines, is over the limits.
 fn is_over_limits(met: u32, octets: usize) -> bool
     ensures { result ≡ (nat_le most_input_lines met || nat_lt most_line_octets octets) }
 {
     met >= MOST_INPUT_LINES || octets > MOST_LINE_OCTETS
 }
 
-/// Answers a line that a line feed ended.
+/// Answers a line that ended with a line feed.
 fn answer_line<M: Machine>(
     machine: &mut M,
     met: u32,
@@ -46,7 +46,7 @@ fn answer_line<M: Machine>(
         (record { octets = octets.now; ended = true }) turn (M.shows machine.new) answers.old.items answers.new.items) }
     ensures within { IfOk result (λ turn. turn ≡ Turn.GoesOn → (met < most_input_lines) × (length octets.now ≤ most_line_octets)) }
 {
-    // A carriage return counts to the length, although the line doesn't say it.
+    // A carriage return counts for the length, although it isn't part of the content.
     let counted = octets.len();
     if is_over_limits(met, counted) {
         machine.refuse(answers)?;
@@ -55,7 +55,7 @@ fn answer_line<M: Machine>(
     machine.answer(before_return(octets), answers)
 }
 
-/// Answers the octets behind the last line feed, if there are any, and the end of the input.
+/// Answers the octets after the last line feed, if there are any, and the end of the input.
 fn answer_end<M: Machine>(
     machine: &mut M,
     met: u32,
@@ -79,7 +79,7 @@ fn answer_end<M: Machine>(
     }
 }
 
-/// Gives what is answered, and then takes more from the input into the window.
+/// Writes the collected answers, and then reads more input into the window.
 fn refill<I: Input, O: Output>(
     window: &mut Window,
     input: &mut I,
@@ -109,7 +109,7 @@ fn refill<I: Input, O: Output>(
     }
 }
 
-/// Gives what is answered, where that is enough for a call of the output.
+/// Writes the collected answers if there are enough of them.
 fn give_if_enough<O: Output>(output: &mut O, answers: &mut Vec<u8>) -> Result<(), Failed>
     ensures moved { O.is_known → OnOk result
         (Moves (O.held output.old) (O.held output.new) answers.old.items answers.new.items) }
@@ -124,7 +124,7 @@ fn give_if_enough<O: Output>(output: &mut O, answers: &mut Vec<u8>) -> Result<()
     give_answers(output, answers)
 }
 
-/// Ends a run by a line over the limits.
+/// Ends a run at a line over the limits.
 fn end_too_long<O: Output, M: Machine>(
     output: &mut O,
     machine: &M,
@@ -144,7 +144,7 @@ fn end_too_long<O: Output, M: Machine>(
     }
 }
 
-/// Answers what waits at the end of the input, and gives the last answers.
+/// Answers the octets that wait at the end of the input, and writes the last answers.
 fn finish<O: Output, M: Machine>(
     output: &mut O,
     machine: &mut M,
@@ -169,20 +169,20 @@ fn finish<O: Output, M: Machine>(
     }
 }
 
-/// Runs a machine over the lines of an input. Answers are gathered and given in large pieces, and
-/// whatever is answered is given before the input is asked for more.
+/// Runs a machine over the lines of an input. Answers are collected and written in large pieces. All of them are
+/// written before more input is read.
 ///
 /// # Errors
 ///
-/// `ReadFailed` and `WriteFailed` where that device failed, once; `NoMemory` where memory was refused.
-/// What was written is then a beginning of a text.
+/// `ReadFailed` or `WriteFailed` if that device failed; the run ends at the first failure. `NoMemory` if an
+/// allocation fails. The output is then a prefix of an answer.
 pub fn answer_lines<I: Input, O: Output, M: Machine>(
     alloc: Global,
     input: &mut I,
     output: &mut O,
     machine: &mut M,
 ) -> Result<Done, RunFault>
-    // What was written is an answer to the lines of the whole input, or a beginning of one.
+    // The output is an answer to the lines of the whole input, or a prefix of one.
     ensures text { I.is_known → O.is_known → IfOk result (λ done.
         OfEach M.rules (M.shows machine.old) (λ start.
         Adds (λ text. Prints M.rules 0 start (lines_of (I.rest input.old)) text done) (O.held output.old) (O.held output.new))) }
@@ -190,7 +190,7 @@ pub fn answer_lines<I: Input, O: Output, M: Machine>(
         (OfEach M.rules (M.shows machine.old) (λ start.
         Adds (IsFront (Prints M.rules 0 start (lines_of (I.rest input.old)))) (O.held output.old) (O.held output.new))) }
 
-    // No more of the input was taken than what had to be answered, and what a window holds.
+    // The run reads what it answers and at most a window more.
     ensures left { I.is_known → IfOk result (λ done. OfEach M.rules (M.shows machine.old) (λ start.
         TakesEnough (λ octets. (text : List ℕ) × Prints M.rules 0 start (lines_of octets) text done) most_ahead
         (I.rest input.old) (I.rest input.new))) }

@@ -1,17 +1,17 @@
-//! How a run over an input and an output ends.
+//! How a run ends.
 
 use thiserror::Error;
 
-/// How far the input was answered.
+/// Whether all input was answered.
 #[derive(Clone, Copy, PartialEq, Eq, Debug)]
 pub enum Done {
     /// The whole input was answered.
     Whole,
-    /// A fault line ended the run early.
+    /// A line ended the run early.
     Ended,
 }
 
-/// Why a run stopped before its answer was whole.
+/// Why a run could not finish its answer.
 #[derive(Clone, Copy, PartialEq, Eq, Debug, Error)]
 pub enum RunFault {
     /// The input failed.
@@ -20,7 +20,7 @@ pub enum RunFault {
     /// The output failed.
     #[error("writing failed")]
     WriteFailed,
-    /// Memory was refused.
+    /// An allocation failed.
     #[error("out of memory")]
     NoMemory,
 }

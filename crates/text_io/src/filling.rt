@@ -1,16 +1,15 @@
-//! Octets on their way from an input into a room.
+//! Reading from an input into a buffer.
 
 ghost use Rattle.std.specs.Prelude.{◌≡◌, ◌+◌, ◌<◌, ◌≤◌, ◌++◌, [], length, take, IfOk, OnOk, OnErr, Ok};
 ghost use Rattle.text_io.specs.Devices.{one_more};
 
 use crate::device::{Failed, Input};
 
-/// Takes octets from the input into the room behind its first ones, and says how many: none only at the
-/// input's end.
+/// Reads octets into the room from place `end` on, and returns their number. It is 0 only at the end of the input.
 ///
 /// # Errors
 ///
-/// `Failed` where the input failed; the first octets are kept.
+/// `Failed` if the input failed; the octets before `end` are kept.
 pub fn take_behind<I: Input>(input: &mut I, room: &mut [u8], end: usize) -> Result<usize, Failed>
     requires { end < length room.old }
     ensures within { IfOk result (λ count. end + count ≤ length room.new) }

@@ -1,4 +1,4 @@
-//! The whole of an input, under a limit.
+//! Reading a whole input, up to a limit.
 
 ghost use Rattle.std.specs.Prelude.{◌≡◌, ◌≢◌, ◌+◌, ◌<◌, ◌≤◌, ◌^◌, ◌++◌, [], length, take, Ok, Err, IfOk, OnOk, option_map};
 ghost use Rattle.text_io.specs.Gathered.{gathered, LeavesBehind};
@@ -9,11 +9,11 @@ use crate::ending::RunFault;
 use crate::filling::take_behind;
 use std::alloc::{AllocError, Global};
 
-/// The room to begin with, which is doubled where it is full.
+/// The initial size of the buffer. It doubles whenever it is full.
 const FIRST_ROOM: usize = 65536;
 
-/// Makes room for some octets behind the first ones, which fill it, and keeps these. The room grows to
-/// one octet more than the limit, by which an input is known to be over it.
+/// Makes a full room larger and keeps its octets. It grows to at most the limit and one octet; reading that octet
+/// shows that the input is over the limit.
 fn make_room(room: &mut Vec<u8>, end: usize, most: usize) -> Result<(), AllocError>
     requires full { end ≡ length room.old.items }
     requires within { end ≤ most }
@@ -26,7 +26,7 @@ fn make_room(room: &mut Vec<u8>, end: usize, most: usize) -> Result<(), AllocErr
     room.resize(wanted, 0)
 }
 
-/// Takes more octets of the input behind the first ones, and says how many: none only at its end.
+/// Reads more octets after the first `end`, and returns their number. It is 0 only at the end of the input.
 fn take_more<I: Input>(
     input: &mut I,
     room: &mut Vec<u8>,
@@ -51,12 +51,11 @@ fn take_more<I: Input>(
     take_behind(input, room, end).map_err(|_| RunFault::ReadFailed)
 }
 
-/// All octets of an input; none where there are more than `most`, and then one octet more than that was
-/// taken, and no further.
+/// Reads all octets of an input. Returns none if there are more than `most`; then `most` + 1 octets were read.
 ///
 /// # Errors
 ///
-/// `ReadFailed` where the input failed, `NoMemory` where memory was refused.
+/// `ReadFailed` if the input failed, `NoMemory` if an allocation fails.
 pub fn gather<I: Input>(
     alloc: Global,
     input: &mut I,

@@ -1,12 +1,11 @@
-//! Answers to lines, proved from octet to octet.
+//! A proved driver for programs that answer lines.
 //!
-//! A program that reads lines and answers each is a `Machine`: it is shown line after line and adds its
-//! answers at the end of a buffer. `answer_lines` runs any machine between an `Input` and an `Output`,
-//! however their octets are cut into calls, and its contract says that what was written is the text that
-//! the machine's rules give for the whole input, or a beginning of it where a call failed.
+//! Such a program is a `Machine`: it gets one line after another and appends its answers to a buffer. `answer_lines`
+//! runs any machine between an `Input` and an `Output`, however their octets are split into calls. Its contract says
+//! that the output is the text that the machine's rules give for the whole input, or a prefix of it if a call failed.
 //!
-//! A line ends by a line feed; a carriage return just before it is dropped; the last line may lack its
-//! line feed. An input has at most 1,000,000 lines, each of at most 70,000 octets.
+//! A line ends with a line feed. A carriage return just before it is dropped. The last line may lack its line feed.
+//! An input has at most 1,000,000 lines, each of at most 70,000 octets.
 #![tactic(auto)]
 
 mod delivery;

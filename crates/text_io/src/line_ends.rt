@@ -1,4 +1,4 @@
-//! A line of the input, and where it ends.
+//! Where a line ends.
 
 ghost use Rattle.std.specs.Prelude.{◌≡◌, ◌≢◌, ℕ, ◌+◌, ◌<◌, ◌≤◌, ◌==◌, false, not, length, slice_index, IfSome, IfNone};
 ghost use Rattle.std.specs.List.{prefix_len};
@@ -8,8 +8,8 @@ ghost use Rattle.text_io.specs.Lines.{without_return};
 use memchr::memchr;
 use std::simd::prelude::*;
 
-/// Whether a line feed stands among the first eight octets. All of them are looked at, so that the compiler
-/// does it in one step.
+/// Whether one of the first eight octets is a line feed. It looks at all eight, so that the compiler can do it in one
+/// step.
 #[inline(always)]
 fn has_early_feed(octets: &[u8]) -> bool
     requires { 8 ≤ length octets.now }
@@ -22,10 +22,10 @@ fn has_early_feed(octets: &[u8]) -> bool
     found
 }
 
-/// So many octets are looked at in one step: more than the line of a cell that comes at a moment has.
+/// The number of octets searched in one step: more than a cell line with a moment has.
 const LANES: usize = 32;
 
-/// How many of the next octets stand before a line feed: all of them where none is one.
+/// The number of octets before the first line feed among the next `LANES`, or `LANES` if there is none.
 #[inline(always)]
 fn feedless(octets: &[u8], from: usize) -> usize
     requires { from + LANES ≤ length octets.now }
@@ -41,7 +41,7 @@ fn feedless(octets: &[u8], from: usize) -> usize
     }
 }
 
-/// The place of the first line feed, where there is one and the first octets are known to hold none.
+/// The place of the first line feed, if there is one. The first `looked` octets are known to have none.
 #[inline(never)]
 fn far_feed(octets: &[u8], looked: usize) -> Option<usize>
     requires within { looked ≤ length octets.now }
@@ -58,9 +58,8 @@ fn far_feed(octets: &[u8], looked: usize) -> Option<usize>
     }
 }
 
-/// The place of the first line feed, where there is one and the first octets are known to hold none. A line
-/// of eight octets, as the header of a cell is written, is found by the least work, and any other short line
-/// without a call.
+/// The place of the first line feed, if there is one. The first `looked` octets are known to have none. A line of
+/// eight octets (the header of a cell) is found with the least work, any other short line without a call.
 #[inline(always)]
 pub fn first_feed(octets: &[u8], looked: usize) -> Option<usize>
     requires within { looked ≤ length octets.now }
@@ -84,7 +83,7 @@ pub fn first_feed(octets: &[u8], looked: usize) -> Option<usize>
     far_feed(octets, looked + LANES)
 }
 
-/// The octets of a line that a line feed ended, without the carriage return before it.
+/// The content of a line that ended with a line feed: its octets without a carriage return at the end.
 pub fn before_return(octets: &[u8]) -> &[u8]
     ensures { result.now ≡ without_return octets.now }
 {

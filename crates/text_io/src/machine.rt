@@ -1,4 +1,4 @@
-//! Machines that answer lines.
+//! Programs that answer lines.
 
 ghost use Rattle.std.specs.Prelude.{◌≡◌, ◌++◌, IfOk, OnOk};
 ghost use Rattle.text_io.specs.Printing.{Rules, IsTotal};
@@ -7,7 +7,7 @@ ghost use Rattle.text_io.specs.Answering.{Answers, AnswersEnd};
 use crate::ending::Done;
 use std::alloc::AllocError;
 
-/// Whether the run goes on after a line.
+/// Whether the run continues after a line.
 #[derive(Clone, Copy, PartialEq, Eq, Debug)]
 pub enum Turn {
     /// The next line is answered too.
@@ -16,10 +16,10 @@ pub enum Turn {
     Ends,
 }
 
-/// A machine that is shown line after line and answers each.
+/// A program that gets one line after another and answers each.
 ///
-/// Its rules say what the answers may be, as steps from world to world. A machine need not hold its world:
-/// it shows worlds, and answers as the rules allow from each of them.
+/// Its rules say which answers are allowed, as steps from world to world. A machine doesn't have to store its world:
+/// it shows worlds, and its answer must be allowed from each of them.
 pub trait Machine {
     ghost World: { Type 0 };
 
@@ -27,17 +27,17 @@ pub trait Machine {
 
     ghost rules: { Rules World };
 
-    /// Answers what a line says, at the end of the answers.
+    /// Appends the answer to a line to the answers.
     fn answer(&mut self, line: &[u8], answers: &mut Vec<u8>) -> Result<Turn, AllocError>
         ensures { IfOk result (λ turn.
             Answers rules (shows self.old) line.now turn (shows self.new) answers.old.items answers.new.items) };
 
-    /// Answers the end of the input, at the end of the answers.
+    /// Appends the answer to the end of the input to the answers.
     fn close(&mut self, answers: &mut Vec<u8>) -> Result<Done, AllocError>
         ensures { IfOk result (λ done.
             AnswersEnd rules (shows self.old) done answers.old.items answers.new.items) };
 
-    /// Answers a line over the limits, at the end of the answers.
+    /// Appends the answer to a line over the limits to the answers.
     fn refuse(&self, answers: &mut Vec<u8>) -> Result<(), AllocError>
         ensures { OnOk result (answers.new.items ≡ answers.old.items ++ rules.too_long) };
 

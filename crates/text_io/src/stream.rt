@@ -1,4 +1,4 @@
-//! std's readers and writers as devices.
+//! Readers and writers of std as devices.
 
 ghost use Rattle.std.specs.Prelude.{◌≡◌, unwrap_or, IsSome, []};
 ghost use Rattle.text_io.specs.Devices.{one_more};
@@ -6,17 +6,17 @@ ghost use Rattle.text_io.specs.Devices.{one_more};
 use crate::device::{Failed, Input, Output};
 use std::io::{Read, Write};
 
-/// A reader of std as a source of octets. Every error, an interrupted call included, is a failure.
+/// A reader of std as an input. Every error counts as a failure, an interrupted call included.
 #[derive(Drop)]
 pub struct Taking<R> {
-    /// The reader, which may be taken back.
+    /// The reader.
     pub reader: R,
-    /// How many calls have failed.
+    /// The number of failed calls.
     pub failures: u64,
 }
 
 impl<R> Taking<R> {
-    /// The source that reads from this reader.
+    /// Makes an input of this reader.
     pub fn new(reader: R) -> Taking<R>
         ensures reader { result.reader ≡ reader }
         ensures calm { result.failures ≡ 0 }
@@ -49,18 +49,18 @@ fn one_failure(failures: &mut u64) -> Failed
     Failed
 }
 
-/// A writer of std as a sink of octets. Every error, an interrupted call included, is a failure, and
-/// so is a write of no octets of a text that isn't empty.
+/// A writer of std as an output. Every error counts as a failure, an interrupted call included. So does a call that
+/// writes nothing, unless there is nothing to write.
 #[derive(Drop)]
 pub struct Giving<W> {
-    /// The writer, which may be taken back.
+    /// The writer.
     pub writer: W,
-    /// How many calls have failed.
+    /// The number of failed calls.
     pub failures: u64,
 }
 
 impl<W> Giving<W> {
-    /// The sink that writes to this writer.
+    /// Makes an output of this writer.
     pub fn new(writer: W) -> Giving<W>
         ensures writer { result.writer ≡ writer }
         ensures calm { result.failures ≡ 0 }

@@ -1,4 +1,4 @@
-//! The octets that were taken from an input and not yet answered.
+//! The octets that were read and not yet answered.
 
 ghost use Rattle.std.specs.Prelude.{◌≡◌, ◌≢◌, ℕ, ◌+◌, ◌<◌, ◌≤◌, ◌++◌, ◌-◌, [], length, take, drop, slice_index, slice_range, vec_len, IfOk, OnOk, OnErr, Ok, IfSome, IfNone};
 ghost use Rattle.text_io.specs.Devices.{one_more};
@@ -11,21 +11,21 @@ use std::alloc::{AllocError, Global};
 use std::marker::Model;
 use std::mem;
 
-/// How many octets a window has room for: more than a line may be long.
+/// The capacity of a window, in octets. It is larger than the longest line.
 const WINDOW_ROOM: usize = 131072;
 
-/// The octets that were taken from an input and not yet answered, each of them looked at once for
-/// its line feed. Contracts see the list of them.
+/// The octets that were read and not yet answered. Each is searched for a line feed once. Contracts see the list of
+/// them.
 #[derive(Drop)]
 pub struct Window {
     buffer: Vec<u8>,
-    /// As long as the buffer: what waits moves here before more is taken.
+    /// As long as the buffer. Waiting octets move here before more are read.
     spare: Vec<u8>,
-    /// The first octet that waits.
+    /// The place of the first waiting octet.
     start: usize,
-    /// How many of them were looked at and are no line feed.
+    /// How many of the waiting octets were searched; none of them is a line feed.
     looked: usize,
-    /// Behind the last octet that waits.
+    /// The place after the last waiting octet.
     end: usize,
 }
 
@@ -41,7 +41,7 @@ impl Model for Window {
 }
 
 impl Window {
-    /// A window in which nothing waits.
+    /// An empty window.
     pub fn new(alloc: Global) -> Result<Window, AllocError>
         ensures { IfOk result (λ window. window ≡ []) }
     {
@@ -56,14 +56,14 @@ impl Window {
         })
     }
 
-    /// The octets that wait.
+    /// The waiting octets.
     pub fn octets(&self) -> &[u8]
         ensures { result.now ≡ self.now }
     {
         &self.buffer[self.start..self.end]
     }
 
-    /// How many octets stand before the first line feed, where there is one.
+    /// The number of octets before the first line feed, if there is one.
     #[inline(always)]
     pub fn find_line(&mut self) -> Option<usize>
         ensures same { self.new ≡ self.old }
@@ -84,7 +84,7 @@ impl Window {
         }
     }
 
-    /// Lets the first octets go.
+    /// Drops the first `count` octets.
     pub fn skip(&mut self, count: usize)
         requires { count ≤ length self.old }
         ensures { self.new ≡ drop count self.old }
@@ -93,8 +93,7 @@ impl Window {
         self.looked = self.looked.saturating_sub(count);
     }
 
-    /// Takes more octets from the input behind those that wait, and says how many: none only at the
-    /// input's end.
+    /// Reads more octets after those that wait, and returns their number. It is 0 only at the end of the input.
     pub fn fill<I: Input>(&mut self, input: &mut I) -> Result<usize, Failed>
         requires { length self.old ≤ most_line_octets }
         ensures octets { I.is_known → IfOk result
@@ -119,8 +118,7 @@ impl Window {
     }
 }
 
-/// Moves the octets from one place up to another to the front of the buffer, by way of the spare one,
-/// which takes the buffer's place.
+/// Copies the range from `start` to `end` to the front of the spare buffer, and swaps the two buffers.
 fn bring_forward(buffer: &mut Vec<u8>, spare: &mut Vec<u8>, start: usize, end: usize)
     requires ordered { start ≤ end }
     requires within { end ≤ vec_len buffer.old }

@@ -6,7 +6,7 @@ ghost use Rattle.text_io.specs.Words.{words_of, is_blank};
 
 use memchr::memchr2;
 
-/// The line from its first octet on that is neither a space nor a tab.
+/// The line without the spaces and tabs at its start.
 fn after_blanks(line: &[u8]) -> &[u8]
     ensures same { words_of result.now ≡ words_of line.now }
     ensures begins { 0 < length result.now → is_blank (slice_index result.now 0) ≡ false }
@@ -18,7 +18,7 @@ fn after_blanks(line: &[u8]) -> &[u8]
     rest
 }
 
-/// The first word of a line and what stands behind it; none where the line has no words.
+/// The first word of a line and the rest after it, or none if the line has no words.
 pub fn first_word(line: &[u8]) -> Option<(&[u8], &[u8])>
     ensures { MatchOption result
         (words_of line.now ≡ [])
@@ -34,9 +34,9 @@ pub fn first_word(line: &[u8]) -> Option<(&[u8], &[u8])>
     }
 }
 
-/// What a line asks, as far as its words are counted.
+/// The words of a line, as far as they matter to a command of one word.
 pub enum LineWords<'a> {
-    /// The line has no words, or is a remark: it asks for nothing.
+    /// The line has no words or is a comment.
     Silent,
     /// One word.
     One(&'a [u8]),
@@ -44,7 +44,7 @@ pub enum LineWords<'a> {
     Several,
 }
 
-/// What a line asks, as far as its words are counted.
+/// Sorts a line by the number of its words.
 pub fn line_words(line: &[u8]) -> LineWords<'_>
     ensures { IsLineWords (words_of line.now) result }
 {

@@ -1,4 +1,4 @@
--- What clap's definitions come to at the command `upc`.
+-- clap's definitions, computed for the command `upc`.
 use Rattle.std.proofs.Common.{◌≡◌, ◌∙◌, ◌&&◌, ⊎_elim, Bool, ap, ap₂, codes, find, refl, subst, sym, true, false, inl, inr, List, [], ◌∷◌, Option, Some, None, IfErr, IfOk, IfSome, IsErrAnd, IsOkAnd, IsSome, Ok, Err, is_some, option_map, Result}
 use Rattle.std.specs.List.{list_all}
 use Rattle.std.specs.Borrow.{Bor}
@@ -52,7 +52,7 @@ name_at a words given m name is all met matches =
     met ∙ name_of_rows (out-ArgMatches m).subcommand
     ∙ ap (option_map (λ p. p.0)) ((matches (ap is_simple is ∙ upc_is_simple)).1 ∙ ap₂ subcommand_of is all)
 
--- ---- which words have no fault
+-- ---- words without an error
 
 abbrev is_named : Text → Bool
 is_named name = is_some (choice_named name)
@@ -102,7 +102,7 @@ stops_at given error (Words text) (inl memory) is = absurd (is.1 memory)
 stops_at given error (Words text) (inr among) is = (kind_of error, among, is.0)
 stops_at given error NoMemory h is = tt
 
--- Words without a fault are a name and no more.
+-- Words without an error are a name and nothing more.
 asks_at : (given : List Text) (choice : Choice) (found : Option Text) → IsChoiceOf found choice → Finds is_named given found → Asks given choice
 asks_at given choice found chosen (inl h) = inl (h.0, subst (λ o. IsChoiceOf o choice) h.1 chosen)
 asks_at given choice found chosen (inr h) = inr (h.0, h.1, h.2, subst (λ o. IsChoiceOf o choice) h.3 chosen, h.5)
@@ -130,7 +130,7 @@ row_taken name choice named =
     go None e h = cc
     go (Some row) e h = subst (λ n. is_taken n ≡ true) ((bytes_eq-Decides row.0 name).0 h.1) h.0
 
--- A name and no more has no fault.
+-- A name and nothing more has no error.
 taken_at : (given : List Text) (choice : Choice) → Asks given choice → faults_in given ≡ []
 taken_at given choice (inl h) = ⊎_elim (λ e. ap faults_in e ∙ nothing_taken) (λ e. ap faults_in e ∙ mark_taken) h.0
 taken_at given choice (inr h) =
@@ -139,7 +139,7 @@ taken_at given choice (inr h) =
     ap faults_in h.2
     ∙ ⊎_elim (λ e. ap (λ rest. faults_in (name ∷ rest)) e ∙ is_nil _ parts.0) (λ e. ap (λ rest. faults_in (name ∷ rest)) e ∙ is_nil _ parts.1) h.4
 
--- Words without a fault are refused for want of memory alone.
+-- Words without an error are refused only with NoMemory.
 memory_alone : (kinds : Kinds) (error : Error) (stop : Stop) → HasKind kinds error → IsStopFor (kind_of error) stop → kinds ≡ [] → stop ≡ NoMemory
 memory_alone kinds error (Help text) (inl memory) is none = cc
 memory_alone kinds error (Words text) (inl memory) is none = absurd (is.1 memory)

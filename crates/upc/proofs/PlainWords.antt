@@ -1,5 +1,5 @@
--- Which words clap takes at a command whose subcommands take no words, where no level has an option
--- but the help that clap adds.
+-- The words that clap accepts for a command whose subcommands take no arguments, if no level has an option except the
+-- help that clap adds.
 use Rattle.std.proofs.Common.{◌≡◌, ◌∙◌, ◌&&◌, ◌||◌, ◌⊎◌, ◌==◌, ℕ, Bool, cond, codes, true, false, not, zero, suc, refl, sym, ap, subst, inl, inr, List, [], ◌∷◌, ◌++◌, append_assoc, append-nil, fold, find, length, Option, Some, None, IfSome, is_some, option_map, true≢false}
 use Rattle.std.specs.Prelude.{slice_get}
 use Rattle.std.specs.List.{list_all}
@@ -44,7 +44,7 @@ find_both q p (x ∷ xs) each =
     let parts = both (q x) (list_all q xs) each in
     find_first _ (p x) x _ (λ hit. (parts.0, hit)) (find_both q p xs parts.1)
 
--- ---- an option that only asks for something, as help does
+-- ---- an option that only requests something, as help does
 
 abbrev pub is_request_rule : Rule → Bool
 is_request_rule a = not (is_some a.index) && (not (takes_values a) && is_request (action_of a))
@@ -97,7 +97,7 @@ short_fails c again None rest h more is e = cc
 short_fails c again (Some a) rest h more is e =
     react_fails c again a h is (neither _ _ (otherwise (takes_values a) _ _ is.values e)).0
 
--- A bundle of letters without a fault has no letter.
+-- A bundle of letters without an error has no letter.
 bundle_plain : (c : List Rule) (again : Bool) (k : ℕ) (flags : Text) (h : Held) → list_all is_request_rule c ≡ true → flags_fault c again k flags 0 h ≡ []
     → (bundle_met c k flags 0 plain h).1 ≡ plain
 unfolding bundle_met flags_fault
@@ -144,7 +144,7 @@ mark = codes "--"
 abbrev start : Walk
 start = walk_from nothing_held
 
--- A word that is no subcommand and no mark has a fault.
+-- A word that is neither a subcommand nor `--` has an error.
 other_fails : (s : Shape) (word : Text) → has_requests_alone s ≡ true
     → or_else (flag_word_fault s.rules s.args_override_self (long_of word) word nothing_held)
     (step_fault s 1 (long_or_other s.rules idle word (long_of word) nothing_held).0 (long_or_other s.rules idle word (long_of word) nothing_held).1) ≡ [] → ⊥
@@ -165,7 +165,7 @@ other_fails s word alone e = go (long_of word) e
     go (Some p) bad = long_fails s.rules s.args_override_self _ p.1 nothing_held (found s.rules _ alone) (neither _ _ bad).0
     go None bad = short (short_of word) bad
 
--- The first word is a subcommand, which is not refused, or the mark.
+-- The first word is a subcommand, which is accepted, or `--`.
 abbrev FirstIs : Shape → Option Text → Text → Type 0
 FirstIs s met word = ((name : Text) × (met ≡ Some name) × (other_fault s (Some name) word nothing_held ≡ [])) ⊎ ((met ≡ None) × (word ≡ mark))
 
@@ -183,7 +183,7 @@ first_word s names word alone e = go (subcommand_met names idle word) e
     go (Some name) bad = inl (name, refl, (neither _ _ bad).0)
     go None bad = inr (refl, marked (bytes_eq word mark) refl bad)
 
--- Behind the mark no word is taken.
+-- After `--` no word is accepted.
 mark_ends : (s : Shape) (names : Names) (w : Walk) (words : List Text) → has_requests_alone s ≡ true → w.stopped ≡ None → w.is_trailing ≡ true
     → walk_fault s names w words ≡ [] → words ≡ []
 unfolding walk_fault
@@ -198,7 +198,7 @@ mark_ends s names w (word ∷ rest) alone going behind e = absurd (go w.stopped 
     go None false on here bad = true≢false (sym here)
     go None true on here bad = value_fails s w.position w.held value alone refl bad
 
--- The walk after the mark.
+-- The state after `--`.
 mark_is : (s : Shape) (names : Names) → subcommand_met names idle mark ≡ None
     → ((walked s.rules names start mark).stopped ≡ None) × ((walked s.rules names start mark).is_trailing ≡ true)
 unfolding walked
@@ -285,12 +285,12 @@ no_alias s word [] none e = (bytes_eq-Decides s.name word).0 (go (bytes_eq s.nam
 no_alias s word (x ∷ xs) none e =
     let bad : x ∷ xs ≡ [] = is_nil (x ∷ xs) none in cc
 
--- A subcommand with one name: one that is known and takes no words, or `help`.
+-- A subcommand with one name: a known one that takes no arguments, or `help`.
 abbrev pub is_plain_subcommand : (Text → Bool) → Shape → Bool
 is_plain_subcommand known s =
     is_empty s.aliases && ((known s.name && has_requests_alone s) || bytes_eq s.name (codes "help"))
 
--- What clap finds in words without a fault: no subcommand and no words, or a known one and no more.
+-- What clap finds in words without an error: no subcommand and no words, or a known one and nothing more.
 abbrev pub Finds : (Text → Bool) → List Text → Option Text → Type 0
 Finds known words found = (IsEnd words × (found ≡ None))
     ⊎ ((name : Text) × (rest : List Text) × (words ≡ name ∷ rest) × (found ≡ Some name) × (known name ≡ true) × IsEnd rest)

@@ -1,4 +1,4 @@
--- The texts of the subcommands: each input has one of each, and one alone where it is told whole.
+-- Each input has a text of each subcommand, and at most one of each but `ports`.
 use Rattle.std.proofs.Common.{◌≡◌, ℕ, List}
 use Rattle.text_io.specs.declared.ending.Done.{Done}
 use Rattle.upc.specs.Subcommand.{IsTextOf, IsToldWhole}

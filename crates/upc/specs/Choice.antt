@@ -1,5 +1,4 @@
--- Which subcommand the words after the program's own name ask for, and what is wrong with them,
--- by clap's definitions of a simple command.
+-- Which subcommand the command line asks for, and what is wrong with it, by clap's definitions of a simple command.
 use Rattle.std.specs.Prelude.{◌≡◌, ◌≢◌, ◌⊎◌, List, [], ◌∷◌, Option, Some, MatchOption, fold, find, codes, option_map, ⊤}
 use Rattle.std.specs.Str.{bytes_eq}
 use Rattle.clap.specs.Walk.{Text}
@@ -13,48 +12,47 @@ use Rattle.upc.specs.declared.choice.Choice.TheVariants.{Check, Eval, Run, Ports
 use Rattle.upc.specs.declared.choice.Stop.{Stop}
 use Rattle.upc.specs.declared.choice.Stop.TheVariants.{Help, Words, NoMemory}
 
--- The subcommands: each one's name, and the choice that it stands for.
+-- The name of each subcommand and the choice that it means.
 abbrev pub subcommands : List (Text × Choice)
 subcommands = (codes "check", Check) ∷ (codes "eval", Eval) ∷ (codes "run", Run) ∷ (codes "ports", Ports) ∷ []
 
--- The command with one more subcommand of this name, which takes no words of its own.
+-- The command with one more subcommand of this name, which takes no arguments.
 unfoldable pub with_name : App → Text → App
 with_name app name = with_subcommand app (new_shape name)
 
--- The command `upc`: these subcommands, and no option but the help that every command has.
+-- The command `upc`: these subcommands, and no option except help, which every command has.
 unfoldable pub upc_app : App
 upc_app = fold (λ app row. with_name app row.0) (new_app (codes "upc")) subcommands
 
--- The words as clap reads them, behind the program's own name.
+-- The command line as clap reads it: the program's name, then the words.
 abbrev pub behind_name : List Text → List Text
 behind_name words = codes "upc" ∷ words
 
--- The name of the subcommand that is found in the words.
+-- The name of the subcommand in the words, if there is one.
 unfoldable pub subcommand_in : List Text → Option Text
 subcommand_in words = option_map (λ found. found.0) (subcommand_of upc_app (behind_name words))
 
--- What is wrong with the words, a request for help among it: nothing, or the kinds of which a
--- refusal has one.
+-- The kinds of error in the words; a request for help is one of them. The list is empty if clap accepts the words.
 unfoldable pub faults_in : List Text → Kinds
 faults_in words = fault_of upc_app (behind_name words)
 
--- The choice that a subcommand's name stands for.
+-- The choice that a name means.
 abbrev pub choice_named : Text → Option Choice
 choice_named name = option_map (λ row. row.1) (find (λ row. bytes_eq row.0 name) subcommands)
 
--- The choice is that of the subcommand of this name, and Eval where there is none.
+-- The choice that the name means, or Eval if there is no name.
 abbrev pub IsChoiceOf : Option Text → Choice → Type 0
 IsChoiceOf name choice = MatchOption name (choice ≡ Eval) (λ text. choice_named text ≡ Some choice)
 
--- The choice is that of the subcommand in the words.
+-- The choice of the subcommand in the words.
 abbrev pub IsChosen : List Text → Choice → Type 0
 IsChosen words = IsChoiceOf (subcommand_in words)
 
--- No word is left, but perhaps the mark `--` that ends a command's options.
+-- No word is left, except possibly `--`, which ends the options.
 abbrev pub IsEnd : List Text → Type 0
 IsEnd words = (words ≡ []) ⊎ (words ≡ codes "--" ∷ [])
 
--- The words are a subcommand's name, or nothing for `eval`, and no more.
+-- The words are the name of a subcommand, or none for `eval`, and nothing more.
 abbrev pub Asks : List Text → Choice → Type 0
 Asks words choice = (IsEnd words × (choice ≡ Eval))
     ⊎ ((name : Text) × (rest : List Text) × (words ≡ name ∷ rest) × (choice_named name ≡ Some choice)
@@ -64,11 +62,11 @@ Asks words choice = (IsEnd words × (choice ≡ Eval))
 abbrev pub AsksHelp : List Text → Type 0
 AsksHelp words = IsAmong DisplayHelp (faults_in words)
 
--- The words have a fault that is no request for help.
+-- The words have an error other than a request for help.
 abbrev pub IsFaulty : List Text → Type 0
 IsFaulty words = (kind : ErrorKind) × IsAmong kind (faults_in words) × (kind ≢ DisplayHelp)
 
--- Why the words lead to no choice.
+-- When `choose` may return this Stop. NoMemory is always allowed.
 abbrev pub StopsAt : List Text → Stop → Type 0
 StopsAt words (Help text) = AsksHelp words
 StopsAt words (Words text) = IsFaulty words

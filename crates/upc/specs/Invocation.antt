@@ -1,4 +1,4 @@
--- What the program does with the choice that its words came to, and with which exit status it ends.
+-- What the program does with its words, and with which exit status it ends.
 use Rattle.std.specs.Prelude.{◌≡◌, ◌⊎◌, ℕ, List, ◌++◌, codes, Result, Ok, Err}
 use Rattle.std.specs.String.{string_bytes}
 use Rattle.text_io.specs.Devices.{Adds, IsPart, TakesEnough, one_more}
@@ -13,8 +13,8 @@ use Rattle.upc.specs.declared.choice.Choice.{Choice}
 use Rattle.upc.specs.declared.choice.Stop.{Stop}
 use Rattle.upc.specs.declared.choice.Stop.TheVariants.{Help, Words, NoMemory as LacksMemory}
 
--- What an input, an output and a place for errors were before, and are after: the octets of the input, and
--- what the other two hold.
+-- The devices before and after a run: the octets of the input and those left, what the output and the error output
+-- held and hold (`silence` and `said` are the error output), and the failure count of the error output.
 pub record Devices : Type 0 where
   pub input : List ℕ
   pub left : List ℕ
@@ -25,20 +25,20 @@ pub record Devices : Type 0 where
   pub failures : ℕ
   pub failures' : ℕ
 
--- Why a run failed, as it is told.
+-- The message for each failure.
 abbrev pub failure_line : RunFault → List ℕ
 failure_line ReadFailed = codes "upc: reading failed\n"
 failure_line WriteFailed = codes "upc: writing failed\n"
 failure_line NoMemory = codes "upc: out of memory\n"
 
--- This was told, or the place for errors failed in it.
+-- The message was written to the error output, or that failed and only a prefix was written.
 abbrev pub Tells : Devices → List ℕ → Type 0
 Tells devices text =
     (devices.said ≡ devices.silence ++ text)
     ⊎ (IsPart devices.silence devices.said text × (devices.failures' ≡ one_more devices.failures))
 
--- A subcommand ended so: its text was written, no more of the input was taken than it needed and a window,
--- and nothing was told; or a call failed, and then a beginning of a text was written and the failure told.
+-- How a subcommand ends. Ok: it wrote its text, read no more than it needed and at most a window, and printed no
+-- error. Err: it wrote a prefix of a text and printed the failure.
 abbrev pub EndsBy : Choice → Result Done RunFault → Devices → Type 0
 EndsBy choice (Ok done) devices =
     Adds (λ text. IsTextOf choice devices.input text done) devices.before devices.after
@@ -47,12 +47,12 @@ EndsBy choice (Ok done) devices =
 EndsBy choice (Err fault) devices =
     Adds (IsFront (IsTextOf choice devices.input)) devices.before devices.after × Tells devices (failure_line fault)
 
--- Nothing was written, and nothing taken.
+-- Nothing was written and nothing was read.
 abbrev pub IsIdle : Devices → Type 0
 IsIdle devices = (devices.after ≡ devices.before) × (devices.left ≡ devices.input)
 
--- The choice was carried out, and this is the exit status. Help is written, and what was wrong with the
--- words told; the status of a text that couldn't be written is that of a failed run.
+-- What the program does, and its exit status. A choice is run. Help is written to the output. A message about the
+-- words goes to the error output. If the help can't be written, the status is that of a failed run.
 abbrev pub CarriesOut : Result Choice Stop → Devices → ℕ → Type 0
 CarriesOut (Ok choice) devices status = (ended : Result Done RunFault) × (status ≡ status_of ended) × EndsBy choice ended devices
 CarriesOut (Err (Help text)) devices status =
@@ -61,7 +61,7 @@ CarriesOut (Err (Help text)) devices status =
 CarriesOut (Err (Words text)) devices status = (status ≡ 2) × IsIdle devices × Tells devices (string_bytes text)
 CarriesOut (Err LacksMemory) devices status = (status ≡ 3) × IsIdle devices × Tells devices (failure_line NoMemory)
 
--- Of devices that no contract knows the status alone is told.
+-- The exit status, which is all that is promised for devices whose octets no contract knows.
 abbrev pub IsStatusFor : Result Choice Stop → ℕ → Type 0
 IsStatusFor (Ok choice) status = (ended : Result Done RunFault) × (status ≡ status_of ended)
 IsStatusFor (Err (Help text)) status = (status ≡ 0) ⊎ (status ≡ 3)

@@ -1,4 +1,4 @@
--- The program `upc`. In the order of reading:
+-- The program `upc`. Read the modules in this order:
 pub mod Choice
 pub mod Subcommand
 pub mod ExitStatus

@@ -1,4 +1,4 @@
--- What each subcommand prints.
+-- The output of each subcommand.
 use Rattle.std.specs.Prelude.{ℕ, List, ⊤}
 use Rattle.upc_programs.specs.Check.{IsCheckText}
 use Rattle.upc_programs.specs.Eval.{IsEvalText}
@@ -8,14 +8,14 @@ use Rattle.upc.specs.declared.choice.Choice.{Choice}
 use Rattle.upc.specs.declared.choice.Choice.TheVariants.{Check, Eval, Run, Ports}
 use Rattle.text_io.specs.declared.ending.Done.{Done}
 
--- The text of the octets of a whole input, and how it ends; of a script that ports run, as far as it is told.
+-- The output for a whole input, and how the run ends. For `ports`, IsPortsText doesn't fix every answer.
 abbrev pub IsTextOf : Choice → List ℕ → List ℕ → Done → Type 0
 IsTextOf Check octets text done = IsCheckText octets text done
 IsTextOf Eval octets text done = IsEvalText octets text done
 IsTextOf Run octets text done = IsRunText octets text done
 IsTextOf Ports octets text done = IsPortsText octets text done
 
--- The subcommands whose text is told whole. Which answers cells get at ports that run at the same time is open.
+-- The subcommands whose output the definition fixes. For `ports` it leaves open the answers to cells.
 abbrev pub IsToldWhole : Choice → Type 0
 IsToldWhole Ports = ⊥
 IsToldWhole _ = ⊤

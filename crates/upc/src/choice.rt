@@ -1,4 +1,4 @@
-//! What the words after the program's name ask for, as the crate `clap` reads them.
+//! The words of the command line, read by the crate `clap`.
 
 ghost use Rattle.std.specs.Prelude.{◌≡◌, List, ℕ, [], IfOk, IfErr, IfSome, IsErrAnd, IsOkAnd, IsSome, codes, map, option_map};
 ghost use Rattle.std.specs.String.{string_bytes};
@@ -13,36 +13,33 @@ use clap::error::ErrorKind;
 use clap::{Command, Error};
 use std::alloc::{AllocError, Global};
 
-/// What the program is to do: one choice for each subcommand.
+/// What the program should do: one choice for each subcommand.
 #[derive(Clone, Copy, Debug, PartialEq, Eq)]
 pub enum Choice {
     /// Assemble the source of one BPF program, check it, and print its octets.
     Check,
-    /// Run one BPF program on each cell that is read, and print its value and steps.
+    /// Run one BPF program on each cell of the input, and print its value and steps.
     Eval,
-    /// Obey a script that sets up a card and its connections and brings cells, and print what becomes of
-    /// each.
+    /// Run a script that sets up a card and its connections and brings cells, and print what happens to each cell.
     Run,
-    /// Obey such a script with a thread for each port of its card, and print what becomes of each line, and the
-    /// totals.
+    /// Run such a script with a thread for each port of its card, and print the answers and the totals.
     Ports,
 }
 
-/// Why the words lead to no choice. A text is `clap`'s own, whole, with its last line feed.
+/// Why the words give no choice. A text is the whole text of `clap`, with its last line feed.
 #[derive(Debug, Drop)]
 pub enum Stop {
-    /// Help was asked for: its text is for the standard output, and the exit status is 0.
+    /// Help was requested. The text goes to the standard output, and the exit status is 0.
     Help(String),
-    /// A word is wrong, or one too many: the text is for the standard error, the status is 2.
+    /// A word is wrong, or there is one too many. The text goes to standard error, and the exit status is 2.
     Words(String),
-    /// A request for memory was refused: the status is 3.
+    /// An allocation failed; the exit status is 3.
     NoMemory,
 }
 
-/// What the words after the program's own name ask for. The one word is a subcommand's name, and
-/// no word asks for what `eval` does; `clap`'s own forms of help are help, and each other word and
-/// each further word is refused. As everywhere in `clap`, the mark `--` ends the options and is no
-/// word of its own, so it may stand last.
+/// Reads the words after the program's name. The one word is the name of a subcommand; no word means `eval`. The
+/// forms of help that `clap` has ask for help. Any other word and any further word is an error. As everywhere in
+/// `clap`, `--` ends the options and isn't a word itself, so it may be last.
 pub fn choose(alloc: Global, words: Vec<String>) -> Result<Choice, Stop>
     ensures chosen { IfOk result (IsChosen (map string_bytes words.items)) }
     ensures faultless { IfOk result (λ _. faults_in (map string_bytes words.items) ≡ []) }
@@ -63,7 +60,7 @@ pub fn choose(alloc: Global, words: Vec<String>) -> Result<Choice, Stop>
     answer_to(alloc, found)
 }
 
-/// `clap` takes the first word for the program's name.
+/// `clap` takes the first word as the program's name.
 fn behind_own_name(alloc: Global, mut words: Vec<String>) -> Result<Vec<String>, AllocError>
     ensures { IfOk result (λ all. map string_bytes all.items ≡ behind_name (map string_bytes words.items)) }
 {
@@ -125,7 +122,7 @@ fn with_subcommand<'a>(
     command.subcommand(Command::new(alloc, name).about(about))
 }
 
-/// The name of the subcommand in the words, where `clap` takes them.
+/// The name of the subcommand in the words, if `clap` accepts them.
 fn found_in<'a>(command: Command<'a>, words: &'a [String]) -> Result<Option<&'a str>, Error>
     requires { app_of command ≡ upc_app }
     ensures kinds { (given : List (List ℕ)) → map string_bytes words.entry.now ≡ behind_name given

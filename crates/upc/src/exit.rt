@@ -5,8 +5,8 @@ ghost use Rattle.upc.specs.ExitStatus.{status_of};
 
 use text_io::{Done, RunFault};
 
-/// The exit status for how a call ended: 0 for a whole answer, 1 where a fault line ended it early,
-/// 3 where it failed.
+/// The exit status for the result of a run: 0 if the whole input was answered, 1 if a fault line ended the run early,
+/// 3 if it failed.
 pub fn status(ended: &Result<Done, RunFault>) -> u8
     ensures { result ≡ status_of ended.now }
 {

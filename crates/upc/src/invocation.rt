@@ -1,4 +1,4 @@
-//! The choice that the words came to, carried out between three devices, with the exit status.
+//! Runs the program over three devices and returns its exit status.
 
 ghost use Rattle.std.specs.Prelude.{◌≡◌, ◌≢◌, ◌⊎◌, ◌++◌, Ok as TheOk, OnOk, OnErr, IfOk};
 ghost use Rattle.text_io.specs.Devices.{IsPart, one_more};
@@ -13,7 +13,7 @@ use std::sync::Wait;
 use std::thread::Threads;
 use text_io::{Input, Output, RunFault, give_all};
 
-/// The line that tells why a run failed.
+/// The message for a failure.
 fn line_of(fault: RunFault) -> &'static [u8]
     ensures { result.now ≡ failure_line fault }
 {
@@ -24,7 +24,7 @@ fn line_of(fault: RunFault) -> &'static [u8]
     }
 }
 
-/// Tells a text. That this failed too can be told nowhere.
+/// Writes a message to the error output. If that fails too, the failure is ignored.
 fn tell<E: Output>(errors: &mut E, text: &[u8])
     ensures { E.is_known → (E.held errors.new ≡ E.held errors.old ++ text.now)
         ⊎ (IsPart (E.held errors.old) (E.held errors.new) text.now
@@ -33,7 +33,7 @@ fn tell<E: Output>(errors: &mut E, text: &[u8])
     let _ = give_all(errors, text);
 }
 
-/// Tells why a run failed, and gives its exit status.
+/// Writes the message for a failure, and returns the exit status.
 fn tell_failure<E: Output>(errors: &mut E, fault: RunFault) -> u8
     ensures status { result ≡ 3 }
     ensures told { E.is_known → (E.held errors.new ≡ E.held errors.old ++ failure_line fault)
@@ -44,8 +44,8 @@ fn tell_failure<E: Output>(errors: &mut E, fault: RunFault) -> u8
     status(&Err(fault))
 }
 
-/// Carries out what the words came to, and gives the exit status: the subcommand is run; help is written;
-/// what was wrong with the words is told, and so is a failure. It always ends, whatever subcommand it is but `ports`.
+/// Runs what the words ask for, and returns the exit status. It runs the subcommand, writes the help, or writes a
+/// message about the words; a failure also gets a message. It always terminates. `ports` is excluded.
 pub fn carry_out_alone<I: Input, O: Output, E: Output>(
     alloc: Global,
     chosen: Result<Choice, Stop>,
@@ -87,8 +87,7 @@ pub fn carry_out_alone<I: Input, O: Output, E: Output>(
     }
 }
 
-/// Carries out what the words came to, whatever it is, and gives the exit status. Only `ports` starts threads, and waits
-/// for them.
+/// Runs what the words ask for, and returns the exit status. Only `ports` starts threads and waits for them.
 pub fn carry_out<R: Threads + Wait + Sync, I: Input, O: Output, E: Output>(
     rt: &R,
     alloc: Global,

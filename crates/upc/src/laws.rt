@@ -1,17 +1,17 @@
-//! Laws of the definitions: functions that do nothing, each for the sake of its contract.
+//! Laws of the definitions. Each function does nothing; its contract is the law.
 
 ghost use Rattle.std.specs.Prelude.{◌≡◌, ℕ, List};
 ghost use Rattle.text_io.specs.declared.ending.Done.{Done as TheDone};
 ghost use Rattle.upc.specs.Subcommand.{IsTextOf, IsToldWhole};
 ghost use Rattle.upc.specs.declared.choice.Choice.{Choice as TheChoice};
 
-/// An input has a text of each subcommand.
+/// Each subcommand has a text for every input.
 pub fn an_input_has_a_text()
     ensures { (choice : TheChoice) (octets : List ℕ) → (text : List ℕ) × (done : TheDone) × IsTextOf choice octets text done }
 {}
 
-/// It has one, with one end, but for scripts that ports run: `run_alone` says which octets are written, and not
-/// only that they are some answer.
+/// Each subcommand but `ports` has at most one text for an input, with one end. So `run_alone` fixes the octets that
+/// are written.
 pub fn an_input_has_one_text()
     ensures { (choice : TheChoice) (octets : List ℕ) (one other : List ℕ) (ends other_ends : TheDone)
         → IsToldWhole choice → IsTextOf choice octets one ends → IsTextOf choice octets other other_ends

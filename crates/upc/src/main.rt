@@ -1,5 +1,4 @@
-//! `upc`: the usage parameter control of an ATM line card, as a program over standard input and
-//! standard output.
+//! `upc`: usage parameter control for an ATM line card, as a program over standard input and standard output.
 #![tactic(auto)]
 
 pub mod choice;
@@ -45,7 +44,7 @@ fn main(rt: HostRuntime) -> ExitCode {
     ))
 }
 
-/// What is awaited from a terminal, which says so nowhere else.
+/// The message when the input is a terminal, because nothing else shows that the program waits for input.
 fn awaited(choice: Choice) -> &'static str {
     match choice {
         Choice::Check => "upc check: reading the source of a program from the terminal, to its end",

@@ -1,4 +1,4 @@
-//! The subcommand that was chosen, between two devices.
+//! Runs a subcommand over two devices.
 
 ghost use Rattle.std.specs.Prelude.{◌≡◌, ◌≢◌, IfOk, OnErr, ℕ, List, [], Ok};
 ghost use Rattle.text_io.specs.Devices.{Adds, TakesEnough};
@@ -17,12 +17,12 @@ use upc_ports::run_ports;
 use upc_programs::{check_source, eval_bytes};
 use upc_run::run_script;
 
-/// Runs a subcommand over the whole input: any that is done by one thread, and so always ends.
+/// Runs a subcommand other than `ports` over the whole input. It uses one thread and always terminates.
 ///
 /// # Errors
 ///
-/// `ReadFailed` and `WriteFailed` where that device failed, once; `NoMemory` where memory was refused.
-/// What was written is then a beginning of the text.
+/// `ReadFailed` or `WriteFailed` if that device failed; the run ends at the first failure. `NoMemory` if an
+/// allocation fails. The output is then a prefix of the text.
 pub fn run_alone<I: Input, O: Output>(
     alloc: Global,
     choice: Choice,
@@ -31,13 +31,13 @@ pub fn run_alone<I: Input, O: Output>(
 ) -> Result<Done, RunFault>
     requires alone { choice ≢ Ports }
 
-    // What was written is the subcommand's text of the whole input, or a beginning of it.
+    // The output is the subcommand's text of the whole input, or a prefix of it.
     ensures text { I.is_known → O.is_known → IfOk result (λ done.
         Adds (λ text. IsTextOf choice (I.rest input.old) text done) (O.held output.old) (O.held output.new)) }
     ensures front { I.is_known → O.is_known → OnErr result
         (Adds (IsFront (IsTextOf choice (I.rest input.old))) (O.held output.old) (O.held output.new)) }
 
-    // No more of the input was taken than what had to be answered, and what a window holds.
+    // The run reads what it answers and at most a window more.
     ensures left { I.is_known → IfOk result (λ done. TakesEnough
         (λ octets. (text : List ℕ) × IsTextOf choice octets text done) most_ahead (I.rest input.old) (I.rest input.new)) }
     ensures whole { I.is_known → result ≡ Ok Done.Whole → I.rest input.new ≡ [] }
@@ -53,11 +53,11 @@ pub fn run_alone<I: Input, O: Output>(
     }
 }
 
-/// Runs any subcommand over the whole input. Only `ports` starts threads, and waits for them.
+/// Runs any subcommand over the whole input. Only `ports` starts threads and waits for them.
 ///
 /// # Errors
 ///
-/// As [`run_alone`].
+/// As for [`run_alone`].
 pub fn run_subcommand<R: Threads + Wait + Sync, I: Input, O: Output>(
     rt: &R,
     alloc: Global,
@@ -65,13 +65,13 @@ pub fn run_subcommand<R: Threads + Wait + Sync, I: Input, O: Output>(
     input: &mut I,
     output: &mut O,
 ) -> Result<Done, RunFault>
-    // What was written is the subcommand's text of the whole input, or a beginning of it.
+    // The output is the subcommand's text of the whole input, or a prefix of it.
     ensures text { I.is_known → O.is_known → IfOk result (λ done.
         Adds (λ text. IsTextOf choice (I.rest input.old) text done) (O.held output.old) (O.held output.new)) }
     ensures front { I.is_known → O.is_known → OnErr result
         (Adds (IsFront (IsTextOf choice (I.rest input.old))) (O.held output.old) (O.held output.new)) }
 
-    // No more of the input was taken than what had to be answered, and what a window holds.
+    // The run reads what it answers and at most a window more.
     ensures left { I.is_known → IfOk result (λ done. TakesEnough
         (λ octets. (text : List ℕ) × IsTextOf choice octets text done) most_ahead (I.rest input.old) (I.rest input.new)) }
     ensures whole { I.is_known → result ≡ Ok Done.Whole → I.rest input.new ≡ [] }

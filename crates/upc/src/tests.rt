@@ -1,6 +1,6 @@
-//! What words come to, and what subcommands do over inputs in memory and over devices that give little or fail.
+//! Tests of the command line, and of subcommands over inputs in memory and over devices that move little or fail.
 //!
-//! Which text answers which input is data: tests/worked/ at the top of the repository.
+//! Whole inputs and outputs are data: tests/worked/ at the top of the repository.
 
 mod devices;
 mod statuses;
@@ -12,7 +12,7 @@ use std::test::Fail;
 use std::thread::Threads;
 use text_io::{Done, Giving, RunFault, Taking};
 
-/// What a subcommand's own call prints for an input, and how it ends.
+/// The output of a subcommand for an input, and how the run ends.
 fn printed<R: Threads + Wait + Sync>(
     rt: &R,
     alloc: Global,

@@ -1,16 +1,16 @@
-//! The words after the program's own name, in a form that a terminal can show.
+//! The words after the program's name, in a form that a terminal can show.
 
 use std::alloc::{AllocError, Global};
 use std::env::{Env, FillError};
 
-/// More octets than any word has that the program knows. A longer word is wrong, and is not read.
+/// Longer than any word that the program knows. A longer word is wrong and isn't read.
 const ROOM: usize = 1024;
 
-/// What is shown in place of a character that can't be.
+/// Shown instead of a character that can't be shown.
 const REPLACEMENT: char = '\u{fffd}';
 
-/// The word of these octets, where U+FFFD replaces each control character and what isn't UTF-8. No word that the
-/// program knows has one of these, so that a wrong word stays wrong; and a message that quotes it can't steer the terminal.
+/// The word with U+FFFD in place of each control character and of octets that aren't UTF-8. No word that the program
+/// knows has one of these, so a wrong word stays wrong, and a message that quotes it can't steer the terminal.
 fn shown(alloc: Global, octets: &[u8]) -> Result<String, AllocError> {
     let text = String::from_utf8_lossy(alloc, octets)?;
     let mut word = String::new(alloc);
@@ -24,7 +24,7 @@ fn shown(alloc: Global, octets: &[u8]) -> Result<String, AllocError> {
     Ok(word)
 }
 
-/// The words after the program's own name, each as it is shown. A word that is too long is shown as U+FFFD.
+/// The words after the program's name, as they are shown. A word that is too long is shown as U+FFFD.
 pub fn words_after_name<E: Env>(alloc: Global, rt: &E) -> Result<Vec<String>, AllocError> {
     let mut words = Vec::new(alloc);
     let mut room = [0; ROOM];

@@ -1,4 +1,4 @@
--- Lemmas on virtual connections that other crates may use.
+-- Lemmas on virtual connections for other crates.
 use Rattle.std.proofs.Common.{◌≡◌, ◌≢◌, ◌⊎◌, ℕ, ◌≤◌, Bool, true, false, refl, sym, subst, inl, inr, arith}
 use Rattle.std.specs.Bool.{Decides}
 use Rattle.std.specs.Cmp.{IsEquivalence, decided}
@@ -8,7 +8,7 @@ use Rattle.upc_cell.specs.declared.vc.Vc.{Vc}
 use Rattle.upc_cell.specs.contracts.vc.VcPartialEq.TheImpl.{eq-value}
 use Rattle.upc_cell.specs.Connection.{is_same_vc}
 
--- Path and channel are all of a connection: it does not matter how the bound on the path was shown.
+-- Connections with equal path and equal channel are equal: the proof of the bound on the path does not matter.
 pub vc_is : (one other : Vc) → one.vpi ≡ other.vpi → one.vci ≡ other.vci → one ≡ other
 vc_is one other paths channels =
     let Of : ℕ → Type 0 = λ path. (x : path ≤ 4095)
@@ -41,7 +41,7 @@ vc_cases one other =
     ] in
     choice (is_same_vc one other) refl
 
--- Maps over connections: what `==` computes of them decides whether they are equal.
+-- For maps keyed by connections: `==` decides equality of connections.
 
 pub vc_decides : (one other : Vc) → Decides (is_same_vc one other) (one ≡ other)
 vc_decides one other = (

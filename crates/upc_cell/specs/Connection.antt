@@ -6,8 +6,8 @@ use Rattle.upc_cell.specs.declared.vc.Vc.{Vc}
 use Rattle.upc_cell.specs.Header.{vci_of}
 use Rattle.upc_cell.specs.Side.{vpi_at}
 
--- The path at this side, and the channel. The path of octets has twelve bits at most, so the
--- remainder is the path itself; it is written for lists that hold more than octets.
+-- The path and the channel of the header, read at this side. A path read from octets is at most 4095, so the
+-- remainder changes nothing; it is there because the definition takes any list of numbers.
 abbrev pub vc_of : Side → List ℕ → Vc
 vc_of side octets = record {
   vpi = vpi_at side octets % 4096;
@@ -15,6 +15,6 @@ vc_of side octets = record {
   of_an_interface = le_of_suc-le-suc (mod-lt (vpi_at side octets) (zero-lt-suc 4095));
 }
 
--- Both are the same path and channel.
+-- Whether both have the same path and the same channel.
 abbrev pub is_same_vc : Vc → Vc → Bool
 is_same_vc one other = (one.vpi == other.vpi) && (one.vci == other.vci)

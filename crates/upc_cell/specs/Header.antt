@@ -2,7 +2,7 @@
 -- A cell is the list of its octets. The fields are arithmetic on the number that its first four octets spell.
 use Rattle.std.specs.Prelude.{ℕ, Bool, ◌+◌, ◌*◌, ◌/◌, ◌%◌, ◌^◌, ◌==◌, List, slice_index}
 
--- The number that octets 0 to 3 spell, the first octet highest.
+-- The number of octets 0 to 3, octet 0 highest.
 abbrev pub header_number : List ℕ → ℕ
 header_number octets =
     slice_index octets 0 * 2 ^ 24 + slice_index octets 1 * 2 ^ 16 + slice_index octets 2 * 2 ^ 8 + slice_index octets 3
@@ -27,6 +27,6 @@ pti_of octets = (header_number octets / 2) % 8
 abbrev pub clp_of : List ℕ → ℕ
 clp_of octets = header_number octets % 2
 
--- The same as a test: true for a cell of low priority, which has the bit 1.
+-- The same bit as a truth value: true for a cell of low priority (bit 1).
 abbrev pub has_low_priority : List ℕ → Bool
 has_low_priority octets = clp_of octets == 1

@@ -12,20 +12,20 @@ use byteorder::{BigEndian, ByteOrder};
 use std::marker::Model;
 use thiserror::Error;
 
-/// How many octets a cell has without its header error check: four of header, 48 of payload.
+/// The number of octets of a cell without its header error check: 4 of header, 48 of payload.
 pub const CELL_OCTETS: usize = 52;
 
-/// Why octets are no cell.
+/// Why octets are not a cell.
 #[derive(Clone, Copy, PartialEq, Eq, Debug, Error)]
 pub enum CellFault {
-    /// There are this many octets, and not 52.
+    /// The number of octets, which is not 52.
     #[error("1 WrongLength {0}")]
     WrongLength(usize),
 }
 
-/// A cell: 52 octets, the header error check taken off before (ITU-T I.361). Octets 0 to 3 are the
-/// header, octets 4 to 51 the payload. Nothing in a cell says at which side it came: the readers
-/// without a side read it at the user network interface.
+/// A cell: 52 octets, without the header error check (ITU-T I.361). Octets 0 to 3 are the header, octets 4 to 51 the
+/// payload. A cell does not record the side at which it arrived: methods without a `Side` read the header as at the
+/// user network interface.
 ///
 /// Contracts see a cell as the list of its octets.
 #[derive(Clone, Copy, PartialEq, Eq, Debug)]
@@ -46,18 +46,18 @@ impl Model for Cell {
 impl From<[u8; CELL_OCTETS]> for Cell {
     ghost from_gives = { λ octets cell. cell ≡ octets };
 
-    /// The cell of these octets, which are as many as a cell has.
+    /// Makes a cell of 52 octets.
     fn from(octets: [u8; CELL_OCTETS]) -> Cell {
         Cell { octets }
     }
 }
 
 impl Cell {
-    /// The cell of these octets.
+    /// Makes a cell of these octets.
     ///
     /// # Errors
     ///
-    /// `WrongLength` with the number of octets, exactly where it isn't 52.
+    /// `WrongLength` with the number of octets, exactly if it is not 52.
     pub fn from_bytes(octets: &[u8]) -> Result<Cell, CellFault>
         ensures accepted { IsOk result ↔ (length octets.now ≡ 52) }
         ensures cell { IfOk result (λ cell. cell ≡ octets.now) }
@@ -85,7 +85,7 @@ impl Cell {
         BigEndian::read_u32(self.bytes())
     }
 
-    /// Generic flow control, 0 to 15; the user network interface alone has it.
+    /// Generic flow control, 0 to 15. Only the user network interface has this field.
     pub fn gfc(&self) -> u8
         ensures { result ≡ gfc_of self.now }
     {
@@ -117,14 +117,14 @@ impl Cell {
         (self.header() >> 4 & 0xffff) as u16
     }
 
-    /// Payload type, 0 to 7: 0 to 3 are user data, 4 and 5 are OAM F5 of a segment and from end to end.
+    /// Payload type, 0 to 7. 0 to 3 are user data; 4 is OAM F5 of a segment, and 5 OAM F5 end to end.
     pub fn pti(&self) -> u8
         ensures { result ≡ pti_of self.now }
     {
         (self.header() >> 1 & 7) as u8
     }
 
-    /// Cell loss priority: true for a cell of low priority, which has the bit 1.
+    /// Cell loss priority: true for a cell of low priority (bit 1).
     pub fn clp(&self) -> bool
         ensures priority { IsTrue result ↔ (clp_of self.now ≡ 1) }
         ensures test { result ≡ has_low_priority self.now }
@@ -132,7 +132,7 @@ impl Cell {
         self.header() & 1 == 1
     }
 
-    /// The virtual connection that the header names at the user network interface.
+    /// The virtual connection in the header, read at the user network interface.
     pub fn vc(&self) -> Vc
         ensures connection { result ≡ vc_of Side.Uni self.now }
         ensures vpi { result.vpi ≡ vpi_of self.now }
@@ -141,7 +141,7 @@ impl Cell {
         self.vc_at(Side::Uni)
     }
 
-    /// The virtual connection that the header names at this side.
+    /// The virtual connection in the header, read at this side.
     pub fn vc_at(&self, side: Side) -> Vc
         ensures connection { result ≡ vc_of side self.now }
         ensures vpi { result.vpi ≡ vpi_at side self.now }
@@ -162,7 +162,7 @@ impl Cell {
         ensures others { (place : ℕ) → place ≢ 3 → slice_index result place ≡ slice_index self.now place }
     {
         let mut octets = self.octets;
-        // The seven high bits stay; as numbers, so that the contract reads as the code does.
+        // Keeps the seven high bits. Written with `/` and `*`, as `tagged_form` is.
         octets[3] = octets[3] / 2 * 2 + 1;
         Cell { octets }
     }

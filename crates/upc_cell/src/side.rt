@@ -1,4 +1,4 @@
-//! The two sides at which a header is read.
+//! The two interfaces at which a header is read.
 
 /// The highest virtual path identifier at the user network interface.
 const LAST_VPI_OF_USERS: u16 = 255;
@@ -6,9 +6,9 @@ const LAST_VPI_OF_USERS: u16 = 255;
 /// The highest virtual path identifier between nodes of the network.
 const LAST_VPI_OF_NODES: u16 = 4095;
 
-/// The interface at which a cell's header is read (ITU-T I.361): where a user meets the network,
-/// or between two nodes of the network. The four highest bits of the header are generic flow
-/// control at the first, and the upper end of the path at the second.
+/// The interface at which a header is read (ITU-T I.361): between a user and the network, or between two nodes of the
+/// network. The four highest bits of the header are generic flow control at the first, and the high bits of the path
+/// at the second.
 #[derive(Clone, Copy, PartialEq, Eq, Debug)]
 pub enum Side {
     /// The user network interface: a path has 8 bits.

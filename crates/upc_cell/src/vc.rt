@@ -9,17 +9,16 @@ use crate::side::Side;
 use std::hash::{Hash, Hasher};
 use thiserror::Error;
 
-/// Why two numbers name no virtual connection.
+/// Why two numbers are not a virtual connection.
 #[derive(Clone, Copy, PartialEq, Eq, Debug, Error)]
 pub enum VcFault {
-    /// The virtual path identifier is above the highest at that side.
+    /// The virtual path identifier is above the highest at this side.
     #[error("1 VpiTooLarge")]
     VpiTooLarge,
 }
 
-/// A virtual connection: a virtual path (0 to 255 at the user network interface, 0 to 4095 between
-/// nodes of the network) and a virtual channel (0 to 65535) in it (ITU-T I.361). Ordered by path,
-/// then channel.
+/// A virtual connection (ITU-T I.361): a virtual path (0 to 255 at the user network interface, 0 to 4095 between
+/// nodes of the network) and a virtual channel in it (0 to 65535). Ordered by path, then by channel.
 #[derive(Clone, Copy, PartialEq, Eq, PartialOrd, Ord, Debug)]
 pub struct Vc {
     /// The virtual path identifier.
@@ -30,11 +29,11 @@ pub struct Vc {
 }
 
 impl Vc {
-    /// The virtual connection of this path and channel at the user network interface.
+    /// Makes the virtual connection of this path and channel at the user network interface.
     ///
     /// # Errors
     ///
-    /// `VpiTooLarge` exactly where the path is above 255.
+    /// `VpiTooLarge` exactly if the path is above 255.
     pub fn new(vpi: u16, vci: u16) -> Result<Vc, VcFault>
         ensures accepted { IsOk result ↔ (vpi ≤ 255) }
         ensures path { IfOk result (λ vc. vc.vpi ≡ vpi) }
@@ -43,12 +42,12 @@ impl Vc {
         Vc::new_at(Side::Uni, vpi, vci)
     }
 
-    /// The virtual connection of this path and channel at this side.
+    /// Makes the virtual connection of this path and channel at this side.
     ///
     /// # Errors
     ///
-    /// `VpiTooLarge` exactly where the path is above 255 at the user network interface, or above
-    /// 4095 between nodes of the network.
+    /// `VpiTooLarge` exactly if the path is above 255 at the user network interface, or above 4095 between nodes of
+    /// the network.
     pub fn new_at(side: Side, vpi: u16, vci: u16) -> Result<Vc, VcFault>
         ensures accepted { IsOk result ↔ (vpi ≤ last_vpi side) }
         ensures path { IfOk result (λ vc. vc.vpi ≡ vpi) }
@@ -61,7 +60,7 @@ impl Vc {
     }
 }
 
-/// Hashed as one number, so that a table of connections takes one round for each.
+/// Hashes path and channel as one number of 32 bits, in one call.
 impl Hash for Vc {
     ghost hash_input = { λ vc. fed.u32 (65536 * vc.vpi + vc.vci) };
 

@@ -1,4 +1,4 @@
--- How a line of digits alone is answered.
+-- The answer to a line of digits alone.
 use Rattle.std.proofs.Common.{◌≡◌, ℕ, ◌<◌, ◌==◌, Bool, false, List, [], ◌∷◌, Option, Some, Result, Ok, Err, length, get_or, sym, subst, arith, refl, eq-eqb}
 use Rattle.std.specs.Bool.{MatchBool}
 use Rattle.std.specs.Option.{MatchOption}
@@ -18,7 +18,7 @@ loud : (word : List ℕ) → 0 < length word → (get_or word 0 0 == 35) ≡ fal
 loud [] some other = absurd (omega arith)
 loud (octet ∷ octets) some other = other
 
--- A word that spells a cell is answered by the program's value on it.
+-- The answer to a word that spells a cell is the program's value on it.
 runs-on_cell : (code : List Instr) (octets cell text : List ℕ) → cell_of octets ≡ cell → length cell ≡ 52 → TellsValue code cell text
     → RunsOn code (cell_of octets) text
 runs-on_cell code octets cell text same sized told =
@@ -26,7 +26,7 @@ runs-on_cell code octets cell text same sized told =
     let Q : Bool → Type 0 = λ b. MatchBool b (TellsValue code cell text) (text ≡ wrong_length (length cell)) in
     subst P (sym same) (subst Q (sym (eq-eqb (length cell) 52 sized)) told)
 
--- And so is a line of it alone.
+-- So is the answer to a line of that word alone.
 pub digits-answered : (code : List Instr) (line cell text : List ℕ) → IsCellWord line (OfCell cell) → TellsValue code cell text
     → EvalSteps (Some code) line text (Some (Some code))
 digits-answered code line cell text word told =
@@ -41,7 +41,7 @@ digits-answered code line cell text word told =
     let Words : List (List ℕ) → Type 0 = λ words. MatchBool (is_silent words) ((text ≡ []) × (Some (Some code) ≡ Some (Some code))) (Asks (Some code) words text (Some (Some code))) in
     subst Words (sym alone) (subst Silent (sym asks) (here, refl))
 
--- What was added is a text of another kind as well.
+-- If the text added is of one kind, it is of another.
 pub adds-onward : {E : Type 0} (r : Result (Unit {0}) E) (IsText IsOther : List ℕ → Type 0) (before after : List ℕ)
     → ((text : List ℕ) → IsText text → IsOther text) → OnOk r (Adds IsText before after) → OnOk r (Adds IsOther before after)
 adds-onward (Ok x) IsText IsOther before after onward added = (added.0, added.1, onward added.0 added.2)

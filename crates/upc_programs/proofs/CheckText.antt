@@ -1,4 +1,4 @@
--- Every input has a text of `check`, and one.
+-- Every input has exactly one text of `check`.
 use Rattle.std.proofs.Common.{◌≡◌, ℕ, ◌+◌, ◌≤◌, inl, inr, List, [], ◌++◌, Option, Some, None, length, refl, ap, sym, ◌∙◌, subst, arith, append-nil, nat_lt, if◌then◌else◌}
 use Rattle.bpf_asm.proofs.Public.{meaning-or_fault, never_both, fault_once, meaning_once}
 use Rattle.bpf_code.specs.declared.instr.Instr.{Instr}
@@ -23,7 +23,7 @@ code-told code =
     let told = told-some read.0 in
     (told.0, told.1, (read.0, read.1, told.2))
 
--- Every source has one.
+-- Every source has an answer.
 source-told : (source : List ℕ) → (text : List ℕ) × (done : Done) × TellsSource source text done
 source-told source =
     elim (meaning-or_fault source) [
@@ -39,7 +39,7 @@ found-told (Some source) = source-told source
 pub some-check_text : (octets : List ℕ) → (text : List ℕ) × (done : Done) × IsCheckText octets text done
 some-check_text octets = found-told (gathered most_source_octets octets)
 
--- One answer, and one end.
+-- Equal texts and equal ends.
 abbrev Same : List ℕ → List ℕ → Done → Done → Type 0
 Same one other ends ends' = (one ≡ other) × (ends ≡ ends')
 
@@ -68,12 +68,12 @@ found-same (Some source) text text' done done' p q = source-same source text tex
 pub one-check_text : (octets one other : List ℕ) (ends other_ends : Done) → IsCheckText octets one ends → IsCheckText octets other other_ends → (one ≡ other) × (ends ≡ other_ends)
 one-check_text octets one other ends other_ends p q = found-same (gathered most_source_octets octets) one other ends other_ends p q
 
--- An input over the limit is told by its beginning that is over it.
+-- One octet more than the limit is over the limit.
 gathered-none : (octets : List ℕ) → length octets ≡ most_source_octets + 1 → gathered most_source_octets octets ≡ None
 gathered-none octets sized =
     ap (λ n. if nat_lt most_source_octets n then None else Some octets) sized
 
--- What was taken is enough for the answer.
+-- The octets read are enough for the answer.
 pub enough : (octets left : List ℕ) (found : Option (List ℕ)) (text : List ℕ) (done : Done) → found ≡ gathered most_source_octets octets
     → LeavesBehind most_source_octets found octets left → Tells found text done
     → TakesEnough (λ needed. (told : List ℕ) × IsCheckText needed told done) most_ahead octets left

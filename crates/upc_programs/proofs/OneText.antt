@@ -16,7 +16,7 @@ use Rattle.upc_words.specs.Hexadecimal.{octets_of, cell_of}
 use Rattle.text_io.specs.Words.{words_of, is_silent}
 use Rattle.text_io.specs.declared.ending.Done.{Done}
 
--- One text, and one world after it.
+-- Equal texts and equal worlds.
 abbrev Same : List ℕ → List ℕ → Option World → Option World → Type 0
 Same one other next next' = (one ≡ other) × (next ≡ next')
 
@@ -81,7 +81,7 @@ closes-same : (world : World) (text text' : List ℕ) (done done' : Done) → Ev
 closes-same None text text' done done' p q = (p.0 ∙ sym q.0, p.1 ∙ sym q.1)
 closes-same (Some code) text text' done done' p q = (p.0 ∙ sym q.0, p.1 ∙ sym q.1)
 
--- The rules of `eval` leave one answer.
+-- The rules of `eval` are functional.
 eval-functional : IsFunctional eval_rules
 eval-functional = record { step = steps-same; close = closes-same }
 

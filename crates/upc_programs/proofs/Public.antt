@@ -1,4 +1,4 @@
--- What the crates above may use in their proofs.
+-- Lemmas for other crates.
 use Rattle.std.proofs.Common.{◌≡◌, ℕ, List}
 use Rattle.text_io.specs.declared.ending.Done.{Done}
 use Rattle.upc_programs.specs.Check.{IsCheckText}
@@ -6,18 +6,18 @@ use Rattle.upc_programs.specs.Eval.{IsEvalText}
 use Rattle.upc_programs.proofs.CheckText as check
 use Rattle.upc_programs.proofs.OneText as eval
 
--- An input has a text of `check`,
+-- An input has a text of `check`.
 pub some-check_text : (octets : List ℕ) → (text : List ℕ) × (done : Done) × IsCheckText octets text done
 some-check_text = check.some-check_text
 
--- And one alone.
+-- And only one.
 pub one-check_text : (octets one other : List ℕ) (ends other_ends : Done) → IsCheckText octets one ends → IsCheckText octets other other_ends → (one ≡ other) × (ends ≡ other_ends)
 one-check_text = check.one-check_text
 
--- An input has a text of `eval`,
+-- An input has a text of `eval`.
 pub some-eval_text : (octets : List ℕ) → (text : List ℕ) × (done : Done) × IsEvalText octets text done
 some-eval_text = eval.some-eval_text
 
--- And one alone.
+-- And only one.
 pub one-eval_text : (octets one other : List ℕ) (ends other_ends : Done) → IsEvalText octets one ends → IsEvalText octets other other_ends → (one ≡ other) × (ends ≡ other_ends)
 one-eval_text = eval.one-eval_text

@@ -1,5 +1,5 @@
--- The text of `upc check`. The whole input is a source of assembly; its code is answered by its octets,
--- or by the one fault of the source or of the code.
+-- The output of `upc check`. The whole input is a source of assembly. The answer is the octets of its program, or the
+-- first error of the source or of its code.
 use Rattle.std.specs.Prelude.{◌≡◌, ◌⊎◌, ℕ, List, ◌++◌, length, codes, decimal, Option, MatchOption}
 use Rattle.bpf_asm.specs.Faults.{IsFault}
 use Rattle.bpf_asm.specs.Meaning.{IsMeaning}
@@ -13,33 +13,34 @@ use Rattle.text_io.specs.Gathered.{gathered}
 use Rattle.text_io.specs.declared.ending.Done.{Done}
 use Rattle.text_io.specs.declared.ending.Done.TheVariants.{Whole, Ended}
 
--- The most octets of a source.
+-- The maximum number of octets of a source.
 abbrev pub most_source_octets : ℕ
 most_source_octets = 1048576
 
--- The number of a code's instructions, and on a line of their own the octets that spell them.
+-- A line with the number of instructions, and a line with the octets of the code.
 abbrev pub accepted_text : List Instr → List ℕ
 accepted_text code = line (codes "accepted " ++ decimal (length code)) ++ line (encode_lower (code_octets code))
 
--- A program is told by its octets, and a refusal by its fault.
+-- The answer to a program is its octets and the run is Whole; the answer to a refusal is its line and the run is
+-- Ended.
 abbrev pub TellsReading : Reading → List ℕ → Done → Type 0
 TellsReading (is_program code) text done = (text ≡ accepted_text code) × (done ≡ Whole)
 TellsReading (is_refused fault) text done = (text ≡ fault) × (done ≡ Ended)
 
--- A code is a program, or has a fault.
+-- The answer to a code, which is a program or is refused.
 abbrev pub TellsCode : List Instr → List ℕ → Done → Type 0
 TellsCode code text done = (reading : Reading) × ChecksAs code reading × TellsReading reading text done
 
--- A source means a code, or it has a fault.
+-- The answer to a source: that of the code that it means, or the line of its error.
 abbrev pub TellsSource : List ℕ → List ℕ → Done → Type 0
 TellsSource source text done =
     ((code : List Instr) × IsMeaning source code × TellsCode code text done)
     ⊎ ((fault : AsmFault) × IsFault source fault × (text ≡ asm_fault fault) × (done ≡ Ended))
 
--- Nothing is said of a source that is over the limit, but that it is.
+-- The answer to the source, or `too_long` if the input is over the limit.
 abbrev pub Tells : Option (List ℕ) → List ℕ → Done → Type 0
 Tells found text done = MatchOption found ((text ≡ too_long) × (done ≡ Ended)) (λ source. TellsSource source text done)
 
--- The text of the octets of a whole input, and how it ends.
+-- The output for a whole input, and how the run ends.
 abbrev pub IsCheckText : List ℕ → List ℕ → Done → Type 0
 IsCheckText octets text done = Tells (gathered most_source_octets octets) text done

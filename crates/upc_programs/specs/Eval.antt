@@ -1,6 +1,5 @@
--- The text of `upc eval`. The first line with words is a program; each later one is a cell, which is
--- answered by the program's value. A world is what the lines so far have given: no program yet, or an
--- accepted code.
+-- The output of `upc eval`. The first line with words is a program. Each later line is a cell, and its answer is the
+-- program's value. The world is the accepted code, or None before the program line.
 use Rattle.std.specs.Prelude.{◌≡◌, ℕ, ◌==◌, List, [], ◌∷◌, ◌++◌, length, codes, decimal, Option, Some, None, MatchOption, MatchBool}
 use Rattle.bpf_code.specs.declared.instr.Instr.{Instr}
 use Rattle.bpf_verify.specs.Accepted.{IsAccepted}
@@ -14,61 +13,62 @@ use Rattle.text_io.specs.Printing.{Rules, Prints}
 use Rattle.text_io.specs.declared.ending.Done.{Done}
 use Rattle.text_io.specs.declared.ending.Done.TheVariants.{Whole, Ended}
 
--- No program yet, or the code of the program.
+-- None before the program line, then the code of the program.
 abbrev pub World : Type 0
 World = Option (List Instr)
 
--- A fault of the program line ends the run.
+-- An error in the program line: this text, and the run ends.
 abbrev pub EndsBy : List ℕ → List ℕ → Option World → Type 0
 EndsBy fault text next = (text ≡ fault) × (next ≡ None)
 
--- A program is told by the number of its instructions, and answers the cells from there on.
+-- The answer to a program is the number of its instructions, and the program is the next world. A refusal ends the
+-- run with its line.
 abbrev pub TellsReading : Reading → List ℕ → Option World → Type 0
 TellsReading (is_program code) text next = (text ≡ line (codes "accepted " ++ decimal (length code))) × (next ≡ Some (Some code))
 TellsReading (is_refused fault) text next = EndsBy fault text next
 
--- The octets of the program line are a program, or have a fault.
+-- The answer to the octets of a program line.
 abbrev pub ReadsProgram : List ℕ → List ℕ → Option World → Type 0
 ReadsProgram octets text next = (reading : Reading) × ReadsAs octets reading × TellsReading reading text next
 
--- The program line is one word.
+-- The answer to a program line, which has one hexadecimal word.
 abbrev pub ProgramLine : List (List ℕ) → List ℕ → Option World → Type 0
 ProgramLine [] text next = EndsBy bad_line text next
 ProgramLine (word ∷ []) text next = MatchOption (octets_of word) (EndsBy bad_hex text next) (λ octets. ReadsProgram octets text next)
 ProgramLine (word ∷ other ∷ words) text next = EndsBy bad_line text next
 
--- The program's value on a cell, and the number of instructions that were begun.
+-- The answer to a cell: the program's value, and the number of instructions executed.
 abbrev pub TellsValue : List Instr → List ℕ → List ℕ → Type 0
 TellsValue code octets text =
     (value : ℕ) × (steps : ℕ) × Value code octets value steps × (text ≡ line (codes "value " ++ decimal value ++ codes " steps " ++ decimal steps))
 
--- Octets that are a cell are answered by the value on it, and others by their number.
+-- The answer to octets on a cell line: the value if they are a cell, otherwise an error with their number.
 abbrev pub RunsOn : List Instr → List ℕ → List ℕ → Type 0
 RunsOn code octets text = MatchBool (length octets == 52) (TellsValue code octets text) (text ≡ wrong_length (length octets))
 
--- A cell line is one word.
+-- The answer to a cell line, which has one hexadecimal word.
 abbrev pub CellLine : List Instr → List (List ℕ) → List ℕ → Type 0
 CellLine code [] text = text ≡ bad_line
 CellLine code (word ∷ []) text = MatchOption (octets_of word) (text ≡ bad_hex) (λ octets. RunsOn code (cell_of octets) text)
 CellLine code (word ∷ other ∷ words) text = text ≡ bad_line
 
--- A line with words is the program line or a cell line.
+-- A line with words is the program line, or a cell line after it.
 abbrev pub Asks : World → List (List ℕ) → List ℕ → Option World → Type 0
 Asks None words text next = ProgramLine words text next
 Asks (Some code) words text next = CellLine code words text × (next ≡ Some (Some code))
 
--- What a line says is answered by the text, and leads to the next world; none where it ends the run.
--- A line without words and a remark ask for nothing.
+-- The answer to a line, and the next world (none if the line ends the run). A line without words and a comment have
+-- an empty answer.
 abbrev pub EvalSteps : World → List ℕ → List ℕ → Option World → Type 0
 EvalSteps world said text next =
     MatchBool (is_silent (words_of said)) ((text ≡ []) × (next ≡ Some world)) (Asks world (words_of said) text next)
 
--- The end of the input. Without a program line it is a fault.
+-- The end of the input. It is an error if there was no program line.
 abbrev pub EvalCloses : World → List ℕ → Done → Type 0
 EvalCloses None text done = (text ≡ no_program) × (done ≡ Ended)
 EvalCloses (Some code) text done = (text ≡ []) × (done ≡ Whole)
 
--- The codes that stand in a world are accepted.
+-- The code of a world is accepted.
 abbrev pub IsSoundWorld : World → Type 0
 IsSoundWorld None = Unit {0}
 IsSoundWorld (Some code) = IsAccepted code
@@ -77,6 +77,6 @@ IsSoundWorld (Some code) = IsAccepted code
 abbrev pub eval_rules : Rules World
 eval_rules = record { steps = EvalSteps; closes = EvalCloses; too_long = too_long; is_sound = IsSoundWorld }
 
--- The text of the octets of a whole input, and how it ends.
+-- The output for a whole input, and how the run ends.
 abbrev pub IsEvalText : List ℕ → List ℕ → Done → Type 0
 IsEvalText octets text done = Prints eval_rules 0 None (lines_of octets) text done

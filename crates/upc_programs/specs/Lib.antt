@@ -1,4 +1,4 @@
--- The subcommands about one program. In the order of reading:
+-- The subcommands for one program. Read the modules in this order:
 pub mod Eval
 pub mod Check
 pub mod inner

@@ -1,4 +1,4 @@
-//! The lines that only `eval` and `check` answer with, each added at the end of the answers.
+//! Answer lines that only `eval` and `check` use. Each function appends to the answers.
 
 ghost use Rattle.std.specs.Prelude.{◌≡◌, ◌++◌, codes, decimal, OnOk};
 ghost use Rattle.hex.specs.Hex.{encode_lower};
@@ -7,7 +7,7 @@ ghost use Rattle.upc_words.specs.FaultLines.{line, no_program};
 use std::alloc::{AllocError, Global};
 use upc_words::{TextFromEnd, add_number, add_text};
 
-/// Adds the answer to an accepted program of this many instructions.
+/// Appends the answer to an accepted program with this number of instructions.
 #[tactic(auto, using(std::proofs::lemmas::List::append_assoc))]
 pub fn add_accepted(answers: &mut Vec<u8>, instructions: usize) -> Result<(), AllocError>
     ensures { OnOk result
@@ -19,7 +19,7 @@ pub fn add_accepted(answers: &mut Vec<u8>, instructions: usize) -> Result<(), Al
     Ok(())
 }
 
-/// Adds a line of octets, in lower case hexadecimal digits.
+/// Appends a line of octets, in lower case hexadecimal digits.
 #[tactic(auto, using(std::proofs::lemmas::List::append_assoc))]
 pub fn add_octets(alloc: Global, answers: &mut Vec<u8>, octets: &[u8]) -> Result<(), AllocError>
     ensures { OnOk result (answers.new.items ≡ answers.old.items ++ line (encode_lower octets.now)) }
@@ -30,17 +30,17 @@ pub fn add_octets(alloc: Global, answers: &mut Vec<u8>, octets: &[u8]) -> Result
     Ok(())
 }
 
-/// Adds the answer to an input without a program.
+/// Appends the answer to an input without a program.
 pub fn add_no_program(answers: &mut Vec<u8>) -> Result<(), AllocError>
     ensures { OnOk result (answers.new.items ≡ answers.old.items ++ no_program) }
 {
     add_text(answers, b"fault script 4 NoProgram\n")
 }
 
-/// Room for the answer to a cell: 13 octets of words, two numbers of at most ten digits, the line's end.
+/// The longest answer to a cell: 13 octets of words, two numbers of at most ten digits, a line feed.
 const VALUE_ROOM: usize = 34;
 
-/// Adds the value that a program gave, and the number of instructions that it began.
+/// Appends the value of a program and the number of instructions executed.
 #[inline(always)]
 #[tactic(auto, using(std::proofs::lemmas::List::append_assoc))]
 pub fn add_value(answers: &mut Vec<u8>, value: u32, steps: u32) -> Result<(), AllocError>

@@ -1,4 +1,4 @@
-//! `upc check`: a source of assembly, and the octets of its program.
+//! `upc check`: assembles and checks a source.
 
 ghost use Rattle.std.specs.Prelude.{IfOk, OnOk, OnErr, option_map, ◌≡◌, ◌++◌, ℕ, List, [], Ok};
 ghost use Rattle.upc_programs.specs.Check.{IsCheckText, Tells, TellsCode, TellsSource, accepted_text};
@@ -15,10 +15,10 @@ use std::alloc::{AllocError, Global};
 use text_io::{Done, Input, Output, RunFault, gather, give_last};
 use upc_words::{add_asm_fault, add_too_long, check_code};
 
-/// The most octets of a source.
+/// The maximum number of octets of a source.
 const MOST_SOURCE_OCTETS: u32 = 1048576;
 
-/// Answers a program by the number of its instructions and their octets.
+/// Appends the number of instructions of a program, and their octets.
 #[tactic(auto, using(std::proofs::lemmas::List::append_assoc))]
 fn add_program(alloc: Global, program: &Program, answers: &mut Vec<u8>) -> Result<(), AllocError>
     ensures { OnOk result (answers.new.items ≡ answers.old.items ++ accepted_text program.now) }
@@ -28,7 +28,7 @@ fn add_program(alloc: Global, program: &Program, answers: &mut Vec<u8>) -> Resul
     add_octets(alloc, answers, &octets)
 }
 
-/// Answers a code by its octets, or by the fault for which it is no program.
+/// Answers a code: its octets, or its first error.
 fn answer_code(alloc: Global, code: Vec<Instr>, answers: &mut Vec<u8>) -> Result<Done, AllocError>
     ensures { IfOk result (λ done.
         Adds (λ text. TellsCode code.items text done) answers.old.items answers.new.items) }
@@ -42,7 +42,7 @@ fn answer_code(alloc: Global, code: Vec<Instr>, answers: &mut Vec<u8>) -> Result
     }
 }
 
-/// Answers a source by its code, or by the fault for which it means none.
+/// Answers a source: its code, or its error.
 fn answer_source(alloc: Global, source: &[u8], answers: &mut Vec<u8>) -> Result<Done, AllocError>
     ensures { IfOk result (λ done.
         Adds (λ text. TellsSource source.now text done) answers.old.items answers.new.items) }
@@ -62,7 +62,7 @@ fn answer_source(alloc: Global, source: &[u8], answers: &mut Vec<u8>) -> Result<
     }
 }
 
-/// Answers what was gathered of an input.
+/// Answers the whole input, or an input over the limit.
 fn answer_gathered(
     alloc: Global,
     found: Option<Vec<u8>>,
@@ -80,25 +80,25 @@ fn answer_gathered(
     }
 }
 
-/// Answers an input that is a source of assembly: by the number of its program's instructions and
-/// their octets in lower case hexadecimal digits, or by its one fault.
+/// Answers a source of assembly: the number of instructions of its program and their octets in lower case hexadecimal
+/// digits, or its first error.
 ///
 /// # Errors
 ///
-/// `ReadFailed` and `WriteFailed` where that device failed, once; `NoMemory` where memory was refused.
-/// What was written is then a beginning of the text.
+/// `ReadFailed` or `WriteFailed` if that device failed; the run ends at the first failure. `NoMemory` if an
+/// allocation fails. The output is then a prefix of the text.
 pub fn check_source<I: Input, O: Output>(
     alloc: Global,
     input: &mut I,
     output: &mut O,
 ) -> Result<Done, RunFault>
-    // What was written is the text of the whole input, or a beginning of it.
+    // The output is the text of the whole input, or a prefix of it.
     ensures text { I.is_known → O.is_known → IfOk result (λ done.
         Adds (λ text. IsCheckText (I.rest input.old) text done) (O.held output.old) (O.held output.new)) }
     ensures front { I.is_known → O.is_known → OnErr result
         (Adds (IsFront (IsCheckText (I.rest input.old))) (O.held output.old) (O.held output.new)) }
 
-    // No more of the input was taken than what had to be answered, and what a window holds.
+    // The run reads what it answers and at most a window more.
     ensures left { I.is_known → IfOk result (λ done. TakesEnough
         (λ octets. (text : List ℕ) × IsCheckText octets text done) most_ahead (I.rest input.old) (I.rest input.new)) }
     ensures whole { I.is_known → result ≡ Ok Done.Whole → I.rest input.new ≡ [] }

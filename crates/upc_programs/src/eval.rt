@@ -1,4 +1,4 @@
-//! `upc eval`: one program, and its value on each cell.
+//! `upc eval`: the value of a program on each cell.
 
 ghost use Rattle.std.specs.Prelude.{◌≡◌, ◌∷◌, ◌++◌, [], Some, None, IfOk, OnOk, OnErr, option_map, ℕ, List, Ok};
 ghost use Rattle.text_io.specs.Devices.{Adds, TakesEnough};
@@ -19,7 +19,7 @@ use upc_words::{
     cell_of_word, octets_of_word, read_program,
 };
 
-/// Answers a cell by the value of the program.
+/// Answers a cell with the value of the program.
 #[inline(always)]
 fn answer_cell(program: &Program, cell: &Cell, answers: &mut Vec<u8>) -> Result<(), AllocError>
     ensures { OnOk result (Adds (TellsValue program.now cell.now) answers.old.items answers.new.items) }
@@ -44,7 +44,7 @@ fn answer_word(
     }
 }
 
-/// Answers a line behind the program line by its words.
+/// Answers a line after the program line, word by word.
 #[inline(never)]
 fn answer_words(
     alloc: Global,
@@ -62,7 +62,7 @@ fn answer_words(
     }
 }
 
-/// Answers a line behind the program line. A line of digits alone is one word, which need not be looked for.
+/// Answers a line after the program line. A line of digits alone is one word, so words aren't searched for.
 #[inline(always)]
 fn answer_line(
     alloc: Global,
@@ -79,7 +79,7 @@ fn answer_line(
     }
 }
 
-/// Reads a program line of one word, and answers it; none where it has a fault.
+/// Reads a program line of one word and answers it. Returns none if there is an error.
 fn read_program_line(
     alloc: Global,
     word: &[u8],
@@ -99,7 +99,7 @@ fn read_program_line(
     Ok(Some(program))
 }
 
-/// The subcommand as a machine: no program yet, or the program that answers the cells.
+/// The subcommand as a machine, before and after the program line.
 #[derive(Drop)]
 struct Evaluation {
     alloc: Global,
@@ -107,8 +107,8 @@ struct Evaluation {
 }
 
 impl Evaluation {
-    /// Answers a line before there is a program. It stands apart from the lines behind it, since what
-    /// a program takes while it is made would be made room for at each of them.
+    /// Answers a line before there is a program. It isn't inlined, so that cell lines don't pay for the stack that
+    /// making a program needs.
     #[inline(never)]
     fn take_program(&mut self, line: &[u8], answers: &mut Vec<u8>) -> Result<Turn, AllocError>
         requires { self.old.program ≡ None }
@@ -168,25 +168,25 @@ impl Machine for Evaluation {
     ghost is_total = { eval-total };
 }
 
-/// Answers the lines of an input: the first line with words is a program in hexadecimal digits, each
-/// later one is a cell, and is answered by the program's value and the number of its steps.
+/// Answers the lines of an input. The first line with words is a program in hexadecimal digits. Each later line is a
+/// cell, and its answer is the program's value and the number of its steps.
 ///
 /// # Errors
 ///
-/// `ReadFailed` and `WriteFailed` where that device failed, once; `NoMemory` where memory was refused.
-/// What was written is then a beginning of the text.
+/// `ReadFailed` or `WriteFailed` if that device failed; the run ends at the first failure. `NoMemory` if an
+/// allocation fails. The output is then a prefix of the text.
 pub fn eval_bytes<I: Input, O: Output>(
     alloc: Global,
     input: &mut I,
     output: &mut O,
 ) -> Result<Done, RunFault>
-    // What was written is the text of the whole input, or a beginning of it.
+    // The output is the text of the whole input, or a prefix of it.
     ensures text { I.is_known → O.is_known → IfOk result (λ done.
         Adds (λ text. IsEvalText (I.rest input.old) text done) (O.held output.old) (O.held output.new)) }
     ensures front { I.is_known → O.is_known → OnErr result
         (Adds (IsFront (IsEvalText (I.rest input.old))) (O.held output.old) (O.held output.new)) }
 
-    // No more of the input was taken than what had to be answered, and what a window holds.
+    // The run reads what it answers and at most a window more.
     ensures left { I.is_known → IfOk result (λ done. TakesEnough
         (λ octets. (text : List ℕ) × IsEvalText octets text done) most_ahead (I.rest input.old) (I.rest input.new)) }
     ensures whole { I.is_known → result ≡ Ok Done.Whole → I.rest input.new ≡ [] }

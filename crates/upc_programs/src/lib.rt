@@ -1,4 +1,4 @@
-//! The subcommands about one program: `eval` runs it on each cell, and `check` assembles and checks its source.
+//! The subcommands for one program: `eval` runs it on each cell, and `check` assembles and checks its source.
 #![tactic(auto)]
 
 mod answer_texts;

@@ -1,4 +1,4 @@
--- Which words spell a cell.
+-- Words that spell a cell.
 use Rattle.std.proofs.Common.{◌≡◌, ◌≢◌, ◌⊎◌, ℕ, ◌==◌, inl, inr, Bool, true, false, if◌then◌else◌, List, ◌++◌, Option, Some, None, length, length-append, replicate, eqb→eq, refl, ap, ◌∙◌, sym, arith}
 use Rattle.std.proofs.lemmas.List.Elements.{All-get_or}
 use Rattle.hex.specs.Hex.{is_hex_digit}
@@ -8,7 +8,7 @@ use Rattle.upc_words.specs.inner.DigitNumbers.{AreDigits}
 use Rattle.upc_words.specs.declared.hexadecimal.CellWord.TheVariants.{OfCell}
 use Rattle.upc_words.proofs.HexadecimalLemmas.{cell-of_header, cell-of_other, spelled-length, spelled-digits}
 
--- Octets that are a cell, with a payload of zeros or with their own.
+-- Octets of a header with a payload of zeros, or of a whole cell.
 sized-by : (octets : List ℕ) (is_header : Bool) → (length octets == 4) ≡ is_header
     → length (if is_header then octets ++ replicate 48 0 else octets) ≡ 52 → (length octets ≡ 52) ⊎ (length octets ≡ 4)
 sized-by octets true header sized = inr (omega (arith, length-append octets (replicate 48 0)))
@@ -23,11 +23,11 @@ whole-sized octets sized = let other : length octets ≢ 4 = omega arith in ap l
 header-sized : (octets : List ℕ) → length octets ≡ 4 → length (cell_of octets) ≡ 52
 header-sized octets sized = ap length (cell-of_header octets sized) ∙ omega (arith, length-append octets (replicate 48 0))
 
--- A word that spells a cell is digits alone.
+-- A word that spells a cell has only digits.
 pub cell-digits : (word cell : List ℕ) → IsCellWord word (OfCell cell) → AreDigits word
 cell-digits word cell is = λ k below. All-get_or (λ c. is_hex_digit c ≡ true) word k 0 below (spelled-digits word is.0 is.1)
 
--- And it has as many as spell a cell or a header.
+-- And it has 104 or eight of them.
 pub cell-lengths : (word cell : List ℕ) → IsCellWord word (OfCell cell) → (length word ≡ 104) ⊎ (length word ≡ 8)
 cell-lengths word cell is =
     let twice = spelled-length word is.0 is.1 in
@@ -36,7 +36,7 @@ cell-lengths word cell is =
       | inr header ↦ inr (omega arith)
     ]
 
--- Of these lengths, a word that spells no cell isn't hexadecimal.
+-- A word of 104 or eight characters that spells no cell isn't hexadecimal.
 spelled-cell : (word octets : List ℕ) → octets_of word ≡ Some octets → (length word ≡ 104) ⊎ (length word ≡ 8) → length (cell_of octets) ≡ 52
 spelled-cell word octets e lengths =
     let twice = spelled-length word octets e in

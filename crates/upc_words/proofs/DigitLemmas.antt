@@ -13,7 +13,7 @@ use Rattle.upc_words.specs.declared.digits.TheConstants.{NUMBERS}
 use Rattle.upc_words.specs.declared.hexadecimal.CellWord.TheVariants.{OfCell}
 use Rattle.upc_words.proofs.HexadecimalLemmas.{spelled-length, spelled-digits}
 
--- One more digit was read.
+-- One more digit is read.
 pub read-more : (word numbers : List ℕ) (at number seen : ℕ) → at < length numbers
     → (number < 16 → hex_digit_value (get_or word at 0) ≡ Some number)
     → (seen < 16 → (k : ℕ) → k < at → (hex_digit_value (get_or word k 0) ≡ Some (get_or numbers k 0)) × (get_or numbers k 0 < 16))
@@ -28,7 +28,7 @@ read-more word numbers at number seen within one before small =
     (λ k below. let other : k ≢ at = omega arith in rw (get_or-set_other numbers at k number 0 other) (before earlier k below))
     (rw (get_or-set_same numbers at number 0 within) (one digit, digit))
 
--- Where it and all before are digits, their numbers together are below 16.
+-- If it and all before are digits, the bitwise or of the values is below 16.
 pub digits-more : (word : List ℕ) (at number seen : ℕ)
     → (IsSome (hex_digit_value (get_or word at 0)) → number < 16)
     → (((k : ℕ) → k < at → IsSome (hex_digit_value (get_or word k 0))) → seen < 16)
@@ -38,7 +38,7 @@ digits-more word at number seen one before digits = or_lt 4 seen number (before 
 hex-value-small : (c v : ℕ) → hex_digit_value c ≡ Some v → v < 16
 hex-value-small c v h = grind (arith)
 
--- What stands in the table: the number of a digit, and 256 of any other octet.
+-- The table's entry: the value of a digit, and 256 for any other octet.
 abbrev number_or_none : Option ℕ → ℕ
 number_or_none (Some number) = number
 number_or_none None = 256
@@ -83,7 +83,7 @@ pub digits-small : (first second : ℕ) → first < 256 → second < 256 → IsS
     → 16 * get_or NUMBERS first 0 + get_or NUMBERS second 0 < 256
 digits-small first second below low one other = omega (arith, digit-number first below one, digit-number second low other)
 
--- Four octets together, bit by bit.
+-- The bitwise or of four numbers is an octet exactly if each is.
 pub all-octets : (a b c d : ℕ) → bit_or (bit_or (bit_or a b) c) d < 256 → (a < 256) × (b < 256) × (c < 256) × (d < 256)
 all-octets a b c d small =
     let one = le_or_l a b in
@@ -104,7 +104,7 @@ number-small None c e = omega arith
 pub number-at_most : (c : ℕ) → c < 256 → get_or NUMBERS c 0 ≤ 256
 number-at_most c below = let h = number-small (hex_digit_value c) c refl in omega (arith, number-at c below)
 
--- A figure by its place among the figures.
+-- A decimal digit, by its distance from `0`.
 pub figure-read : (c : ℕ) → c < 256 → (c + 208) % 256 < 10 → hex_digit_value c ≡ Some ((c + 208) % 256)
 figure-read c below small =
     let low : 48 ≤ c = omega arith in
@@ -112,7 +112,7 @@ figure-read c below small =
     let number : (c + 208) % 256 ≡ c - 48 = omega arith in
     rw number (grind arith)
 
--- A letter by its place among the small letters, for each octet that there is.
+-- A letter, by its distance from `a`, for each octet.
 abbrev letter_at : ℕ → ℕ
 letter_at c = (bit_or c 32 + 159) % 256
 
@@ -136,7 +136,7 @@ letter-below (suc n) c t below small =
 pub letter-read : (c : ℕ) → c < 256 → (bit_or c 32 + 159) % 256 < 6 → hex_digit_value c ≡ Some ((bit_or c 32 + 159) % 256 + 10)
 letter-read c below small = number-of c ((bit_or c 32 + 159) % 256 + 10) (hex_digit_value c) (sym (letter-below 256 c tt below small)) (omega arith)
 
--- What is neither a figure nor a letter by its place is no digit, for each octet that there is.
+-- An octet that is neither is no digit, for each octet.
 abbrev is_other : ℕ → Bool
 is_other c = if nat_lt ((c + 208) % 256) 10 then true else if nat_lt (letter_at c) 6 then true else not (is_hex_digit c)
 
@@ -159,7 +159,7 @@ other-read c below figure letter digit =
     let Digit : Bool → Type 0 = λ b. T (not b) in
     subst Digit digit (subst Letter (le-ltb (letter_at c) 6 letter) (subst Figure (le-ltb ((c + 208) % 256) 10 figure) (other-below 256 c tt below)))
 
--- A digit is neither a blank nor the sign of a remark.
+-- A digit is neither a blank nor `#`.
 digit-visible : (c : ℕ) → is_hex_digit c ≡ true → (is_blank c ≡ false) × ((c == 35) ≡ false)
 digit-visible c digit = (grind arith, grind arith)
 
@@ -172,7 +172,7 @@ pub filled : (octets cell : List ℕ) → cell_of octets ≡ cell → length cel
 filled [] cell same sized = let none : 0 ≡ length cell = ap length same in absurd (omega arith)
 filled (octet ∷ octets) cell same sized = omega arith
 
--- A word that spells a cell is no blank word, and has no blank in it.
+-- A word that spells a cell isn't empty and has no blank.
 pub cell-visible : (word cell : List ℕ) → IsCellWord word (OfCell cell)
     → (0 < length word) × ((k : ℕ) → k < length word → is_blank (get_or word k 0) ≡ false)
 cell-visible word cell is =

@@ -1,4 +1,4 @@
--- What a word of digits spells.
+-- The octets of a word of digits.
 use Rattle.std.proofs.Common.{◌≡◌, ◌≢◌, ℕ, suc, ◌+◌, ◌*◌, ◌<◌, if◌then◌else◌, List, [], ◌∷◌, ◌++◌, Some, Result, Ok, Err, length, get_or, replicate, refl, ap, ◌∙◌, arith}
 use Rattle.std.specs.List.{AllPass}
 use Rattle.std.specs.Result.{result_ok}
@@ -9,7 +9,7 @@ use Rattle.hex.specs.declared.error.FromHexError.{FromHexError}
 use Rattle.upc_words.specs.Hexadecimal.{octets_of, cell_of}
 use Rattle.upc_words.specs.inner.DigitNumbers.{AreDigitsOf, AreJoined, AreNumbers}
 
--- A result that has a value.
+-- A result that is Ok.
 ok-part : (d : Result (List ℕ) FromHexError) (xs : List ℕ) → result_ok d ≡ Some xs → d ≡ Ok xs
 ok-part (Ok ys) xs e = let same : ys ≡ xs = cc in ap Ok same
 ok-part (Err e') xs e = cc
@@ -18,18 +18,18 @@ ok-part (Err e') xs e = cc
 pub spelled-length : (word octets : List ℕ) → octets_of word ≡ Some octets → length word ≡ 2 * length octets
 spelled-length word octets e = (decode_of-ok word octets (ok-part (decode_of word) octets e)).2
 
--- Each of them is one.
+-- Each character is a digit.
 pub spelled-digits : (word octets : List ℕ) → octets_of word ≡ Some octets → AllPass is_hex_digit word
 spelled-digits word octets e = (decode_of-ok word octets (ok-part (decode_of word) octets e)).1
 
--- A header stands for a cell with a payload of zeros.
+-- A header is a cell with a payload of zeros.
 pub cell-of_header : (octets : List ℕ) → length octets ≡ 4 → cell_of octets ≡ octets ++ replicate 48 0
 cell-of_header octets sized = ap (λ b. if b then octets ++ replicate 48 0 else octets) (eq-eqb (length octets) 4 sized)
 
 pub cell-of_other : (octets : List ℕ) → length octets ≢ 4 → cell_of octets ≡ octets
 cell-of_other octets sized = ap (λ b. if b then octets ++ replicate 48 0 else octets) (ne_eqb (length octets) 4 sized)
 
--- Two digits in front of what decodes.
+-- Two digits before a word that decodes.
 decode-more : (i high low octet : ℕ) (rest octets : List ℕ) → AreDigitsOf high low octet → decode_pairs (i + 2) rest ≡ Ok octets
     → decode_pairs i (high ∷ low ∷ rest) ≡ Ok (octet ∷ octets)
 unfolding decode_pairs
@@ -46,7 +46,7 @@ decode-none : (i : ℕ) → decode_pairs i [] ≡ Ok []
 unfolding decode_pairs
 decode-none i = refl
 
--- The number of each digit, and the octet of each two numbers, make what the word spells.
+-- The values of the digits, joined in pairs, are the octets of the word.
 pairs-joined : (i : ℕ) (word : List ℕ) (number : ℕ → ℕ) (octets : List ℕ) → length word ≡ 2 * length octets
     → ((k : ℕ) → k < length word → hex_digit_value (get_or word k 0) ≡ Some (number k))
     → ((k : ℕ) → k < length octets → get_or octets k 0 ≡ 16 * number (2 * k) + number (2 * k + 1))
@@ -66,7 +66,7 @@ pairs-joined i (a ∷ b ∷ rest) number (octet ∷ octets) sized reads joined =
     let told = joined (suc k) (omega arith) in
     told ∙ cc))
 
--- Eight digits make four octets.
+-- Eight digits are four octets.
 pub four-spelled : (word : List ℕ) (a b c d : ℕ) → length word ≡ 8
     → AreDigitsOf (get_or word 0 0) (get_or word 1 0) a → AreDigitsOf (get_or word 2 0) (get_or word 3 0) b
     → AreDigitsOf (get_or word 4 0) (get_or word 5 0) c → AreDigitsOf (get_or word 6 0) (get_or word 7 0) d

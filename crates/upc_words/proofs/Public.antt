@@ -1,4 +1,4 @@
--- What the crates above may use in their proofs.
+-- Lemmas for other crates.
 use Rattle.std.proofs.Common.{◌≡◌, ℕ, ◌*◌, ◌<◌, ◌==◌, ◌⊎◌, List, Some, length, get_or, false}
 use Rattle.bpf_code.specs.declared.instr.Instr.{Instr}
 use Rattle.text_io.specs.Words.{is_blank}
@@ -11,39 +11,39 @@ use Rattle.upc_words.proofs.DigitLemmas as digits
 use Rattle.upc_words.proofs.HexadecimalLemmas as hexadecimal
 use Rattle.upc_words.proofs.ReadingLemmas as reading
 
--- A word that spells a cell isn't empty, and has no blank in it.
+-- A word that spells a cell isn't empty and has no blank.
 pub cell-visible : (word cell : List ℕ) → IsCellWord word (OfCell cell)
     → (0 < length word) × ((k : ℕ) → k < length word → is_blank (get_or word k 0) ≡ false)
 cell-visible = digits.cell-visible
 
--- It has 104 octets or eight.
+-- It has 104 or eight octets.
 pub cell-lengths : (word cell : List ℕ) → IsCellWord word (OfCell cell) → (length word ≡ 104) ⊎ (length word ≡ 8)
 cell-lengths = words.cell-lengths
 
--- Any octets are a program or refused,
+-- Any octets are a program or refused.
 pub reads-as : (octets : List ℕ) → (reading : Reading) × ReadsAs octets reading
 reads-as = reading.reads-as
 
--- And are read in one way.
+-- And in one way only.
 pub reads-once : (octets : List ℕ) (one other : Reading) → ReadsAs octets one → ReadsAs octets other → one ≡ other
 reads-once = reading.reads-once
 
--- The same of a code.
+-- The same for a code.
 pub checks-as : (code : List Instr) → (reading : Reading) × ChecksAs code reading
 checks-as = reading.checks-as
 
 pub checks-once : (code : List Instr) (one other : Reading) → ChecksAs code one → ChecksAs code other → one ≡ other
 checks-once = reading.checks-once
 
--- No octet of a hexadecimal word is a blank or begins a remark.
+-- No octet of a hexadecimal word is a blank or `#`.
 pub digits-visible : (word octets : List ℕ) → octets_of word ≡ Some octets → (k : ℕ) → k < length word
     → (is_blank (get_or word k 0) ≡ false) × ((get_or word k 0 == 35) ≡ false)
 digits-visible = digits.digits-visible
 
--- Two digits spell an octet.
+-- Two digits an octet.
 pub spelled-length : (word octets : List ℕ) → octets_of word ≡ Some octets → length word ≡ 2 * length octets
 spelled-length = hexadecimal.spelled-length
 
--- What spells a cell has an octet.
+-- The octets of a cell aren't empty.
 pub filled : (octets cell : List ℕ) → cell_of octets ≡ cell → length cell ≡ 52 → 0 < length octets
 filled = digits.filled

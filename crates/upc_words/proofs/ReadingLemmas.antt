@@ -1,4 +1,4 @@
--- Every code and all octets are read as a program or refused, and in one way.
+-- Every code and all octets are a program or refused, and in one way only.
 use Rattle.std.proofs.Common.{◌≡◌, ℕ, inl, inr, List, refl, ap, sym, ◌∙◌, subst}
 use Rattle.bpf_code.specs.declared.instr.Instr.{Instr}
 use Rattle.bpf_code.proofs.Public.{code-or_fault, SpellsCode-unique, code-no_fault, one-decode_fault}
@@ -22,7 +22,7 @@ reads-as octets =
       | inr faulty ↦ (is_refused (decode_fault faulty.0), inr (faulty.0, faulty.1, faulty.2, refl))
     ]
 
--- A code is read in one way.
+-- A code is read in one way only.
 pub checks-once : (code : List Instr) (one other : Reading) → ChecksAs code one → ChecksAs code other → one ≡ other
 checks-once code (is_program one) (is_program other) p q = ap (λ c. is_program c) (p.1 ∙ sym q.1)
 checks-once code (is_program one) (is_refused other) p q = absurd (refused-from_fault code q.0 q.1 p.0)

@@ -1,10 +1,11 @@
--- What a word stands for on a cell line.
+-- The words of cell lines.
 use Rattle.std.specs.Prelude.{◌≡◌, ◌≢◌, ℕ, List, length, Some, None}
 use Rattle.upc_words.specs.Hexadecimal.{octets_of, cell_of}
 use Rattle.upc_words.specs.declared.hexadecimal.CellWord.{CellWord}
 use Rattle.upc_words.specs.declared.hexadecimal.CellWord.TheVariants.{OfCell, OfOthers, NoDigits}
 
--- The word spells a cell; or octets of another number, which are none; or it isn't hexadecimal.
+-- OfCell: the word spells this cell. OfOthers: it spells octets, but `count` of them and not 52. NoDigits: it isn't
+-- hexadecimal.
 abbrev pub IsCellWord : List ℕ → CellWord → Type 0
 IsCellWord word (OfCell cell) = (octets : List ℕ) × (octets_of word ≡ Some octets) × (cell_of octets ≡ cell) × (length cell ≡ 52)
 IsCellWord word (OfOthers count) = (octets : List ℕ) × (octets_of word ≡ Some octets) × (length (cell_of octets) ≡ count) × (count ≢ 52)

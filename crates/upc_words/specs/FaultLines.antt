@@ -1,4 +1,4 @@
--- The fault lines: where the fault was found, its number and its name, and what it says of the place.
+-- The fault lines. Each has the part that found the error, its number and its name, and where it is.
 use Rattle.std.specs.Prelude.{ℕ, List, [], ◌++◌, codes, decimal}
 use Rattle.bpf_asm.specs.declared.fault.AsmFault.{AsmFault}
 use Rattle.bpf_asm.specs.declared.fault.AsmKind.{AsmKind}
@@ -9,15 +9,15 @@ use Rattle.bpf_verify.specs.declared.fault.Fault.{Fault}
 use Rattle.bpf_verify.specs.declared.fault.Fault.TheVariants as fault
 use Rattle.upc_words.specs.Hexadecimal.{four_digits}
 
--- A line ends by a line feed.
+-- The text, ended with a line feed.
 abbrev pub line : List ℕ → List ℕ
 line text = text ++ codes "\n"
 
--- The answer to a line of no lawful form.
+-- The answer to a line with the wrong form.
 abbrev pub bad_line : List ℕ
 bad_line = codes "fault script 1 BadLine\n"
 
--- The answer to a word that is to be hexadecimal and isn't.
+-- The answer to a word that should be hexadecimal and isn't.
 abbrev pub bad_hex : List ℕ
 bad_hex = codes "fault script 3 BadHex\n"
 
@@ -29,17 +29,17 @@ no_program = codes "fault script 4 NoProgram\n"
 abbrev pub too_long : List ℕ
 too_long = codes "fault script 5 TooLong\n"
 
--- Octets of another number than 52 are no cell.
+-- The answer to octets that aren't a cell, with their number.
 abbrev pub wrong_length : ℕ → List ℕ
 wrong_length octets = line (codes "fault cell 1 WrongLength " ++ decimal octets)
 
--- Why octets are no code; want of memory has no line.
+-- The answer to octets that aren't a code. NoMemory has none.
 abbrev pub decode_fault : DecodeFault → List ℕ
 decode_fault Ragged = codes "fault decode 1 Ragged\n"
 decode_fault (UnknownCode at code) = line (codes "fault decode 2 UnknownCode " ++ decimal at ++ codes " " ++ four_digits code)
 decode_fault NoMemory = []
 
--- Why a code is no program.
+-- The answer to a code that isn't a program.
 abbrev pub verify_fault : Fault → List ℕ
 verify_fault fault.Empty = codes "fault verify 1 Empty\n"
 verify_fault fault.TooLong = codes "fault verify 2 TooLong\n"
@@ -50,8 +50,7 @@ verify_fault (fault.JumpOutside at) = line (codes "fault verify 6 JumpOutside " 
 verify_fault fault.NoReturn = codes "fault verify 7 NoReturn\n"
 verify_fault (fault.Unwritten at word) = line (codes "fault verify 8 Unwritten " ++ decimal at ++ codes " " ++ decimal word)
 
--- The number and the name of what is wrong with a line of a source. Want of memory is no fault of a
--- source, and is never printed.
+-- The number and the name of an error in a source. NoMemory is never printed.
 abbrev pub asm_name : AsmKind → List ℕ
 asm_name asm.BadLine = codes "1 BadLine"
 asm_name asm.BadNumber = codes "2 BadNumber"
@@ -62,6 +61,6 @@ asm_name asm.TooFar = codes "6 TooFar"
 asm_name asm.DanglingLabel = codes "7 DanglingLabel"
 asm_name asm.NoMemory = codes "8 NoMemory"
 
--- Why a source means no code, and at which of its lines, which count from 1.
+-- The answer to a source with an error, with the number of the line, from 1.
 abbrev pub asm_fault : AsmFault → List ℕ
 asm_fault fault = line (codes "fault asm " ++ asm_name fault.kind ++ codes " " ++ decimal fault.line)

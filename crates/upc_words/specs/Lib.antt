@@ -1,4 +1,4 @@
--- The words of lines, and the fault lines. In the order of reading:
+-- The words of lines, and the fault lines. Read the modules in this order:
 pub mod Hexadecimal
 pub mod CellWord
 pub mod FaultLines

@@ -1,2 +1,2 @@
--- What only private functions and proofs need.
+-- Definitions that only private functions and proofs use.
 pub mod DigitNumbers

@@ -1,4 +1,4 @@
-//! The lines that several subcommands answer with, each added at the end of the answers.
+//! Answer lines that several subcommands use. Each function appends to the answers.
 
 ghost use Rattle.std.specs.Prelude.{◌≡◌, ◌≢◌, ◌++◌, decimal, OnOk};
 ghost use Rattle.upc_words.specs.FaultLines.{asm_fault, asm_name, bad_hex, bad_line, decode_fault, line, too_long, verify_fault, wrong_length};
@@ -9,7 +9,7 @@ use bpf_code::DecodeFault;
 use bpf_verify::Fault;
 use std::alloc::{AllocError, Global};
 
-/// Adds a number in decimal digits.
+/// Appends a number in decimal digits.
 pub fn add_number(answers: &mut Vec<u8>, number: u64) -> Result<(), AllocError>
     ensures { OnOk result (answers.new.items ≡ answers.old.items ++ decimal number) }
 {
@@ -17,7 +17,7 @@ pub fn add_number(answers: &mut Vec<u8>, number: u64) -> Result<(), AllocError>
     Ok(())
 }
 
-/// Adds a text.
+/// Appends a text.
 pub fn add_text(answers: &mut Vec<u8>, text: &[u8]) -> Result<(), AllocError>
     ensures { OnOk result (answers.new.items ≡ answers.old.items ++ text.now) }
 {
@@ -25,7 +25,7 @@ pub fn add_text(answers: &mut Vec<u8>, text: &[u8]) -> Result<(), AllocError>
     Ok(())
 }
 
-/// Adds a text, a number and the line's end.
+/// Appends a text, a number and a line feed.
 #[tactic(auto, using(std::proofs::lemmas::List::append_assoc))]
 fn add_numbered(answers: &mut Vec<u8>, text: &[u8], number: usize) -> Result<(), AllocError>
     ensures { OnOk result (answers.new.items ≡ answers.old.items ++ line (text.now ++ decimal number)) }
@@ -36,35 +36,36 @@ fn add_numbered(answers: &mut Vec<u8>, text: &[u8], number: usize) -> Result<(),
     Ok(())
 }
 
-/// Adds the answer to a line of no lawful form.
+/// Appends the answer to a line with the wrong form.
 pub fn add_bad_line(answers: &mut Vec<u8>) -> Result<(), AllocError>
     ensures { OnOk result (answers.new.items ≡ answers.old.items ++ bad_line) }
 {
     add_text(answers, b"fault script 1 BadLine\n")
 }
 
-/// Adds the answer to a word that isn't hexadecimal.
+/// Appends the answer to a word that isn't hexadecimal.
 pub fn add_bad_hex(answers: &mut Vec<u8>) -> Result<(), AllocError>
     ensures { OnOk result (answers.new.items ≡ answers.old.items ++ bad_hex) }
 {
     add_text(answers, b"fault script 3 BadHex\n")
 }
 
-/// Adds the answer to an input or a line over the limits.
+/// Appends the answer to an input or a line over the limits.
 pub fn add_too_long(answers: &mut Vec<u8>) -> Result<(), AllocError>
     ensures { OnOk result (answers.new.items ≡ answers.old.items ++ too_long) }
 {
     add_text(answers, b"fault script 5 TooLong\n")
 }
 
-/// Adds the answer to octets that are no cell.
+/// Appends the answer to octets that aren't a cell.
 pub fn add_wrong_length(answers: &mut Vec<u8>, octets: usize) -> Result<(), AllocError>
     ensures { OnOk result (answers.new.items ≡ answers.old.items ++ wrong_length octets) }
 {
     add_numbered(answers, b"fault cell 1 WrongLength ", octets)
 }
 
-/// Adds the answer to a code of eight octets that spell no instruction, which stand at this place.
+/// Appends the answer to eight octets that spell no instruction: their place, counted in instructions from 0, and the
+/// number in the first two.
 #[tactic(auto, using(std::proofs::lemmas::List::append_assoc))]
 fn add_unknown_code(answers: &mut Vec<u8>, at: usize, code: u16) -> Result<(), AllocError>
     ensures { OnOk result
@@ -83,7 +84,7 @@ fn add_unknown_code(answers: &mut Vec<u8>, at: usize, code: u16) -> Result<(), A
     Ok(())
 }
 
-/// Adds the answer to octets that are no code.
+/// Appends the answer to octets that aren't a code. The contract excludes NoMemory.
 pub fn add_decode_fault(answers: &mut Vec<u8>, fault: DecodeFault) -> Result<(), AllocError>
     ensures { fault ≢ DecodeFault.NoMemory →
         OnOk result (answers.new.items ≡ answers.old.items ++ decode_fault fault) }
@@ -95,7 +96,7 @@ pub fn add_decode_fault(answers: &mut Vec<u8>, fault: DecodeFault) -> Result<(),
     }
 }
 
-/// Adds the answer to a read of a scratch word that some path to its place doesn't store.
+/// Appends the answer to a read of a scratch word that some path doesn't write before.
 #[tactic(auto, using(std::proofs::lemmas::List::append_assoc))]
 fn add_unwritten(answers: &mut Vec<u8>, at: usize, word: u32) -> Result<(), AllocError>
     ensures { OnOk result
@@ -109,7 +110,7 @@ fn add_unwritten(answers: &mut Vec<u8>, at: usize, word: u32) -> Result<(), Allo
     Ok(())
 }
 
-/// Adds the answer to a code that is no program.
+/// Appends the answer to a code that isn't a program.
 pub fn add_verify_fault(answers: &mut Vec<u8>, fault: Fault) -> Result<(), AllocError>
     ensures { OnOk result (answers.new.items ≡ answers.old.items ++ verify_fault fault) }
 {
@@ -125,7 +126,7 @@ pub fn add_verify_fault(answers: &mut Vec<u8>, fault: Fault) -> Result<(), Alloc
     }
 }
 
-/// The number and the name of what is wrong with a line of a source.
+/// The number and the name of an error in a source.
 fn name_of(kind: AsmKind) -> &'static [u8]
     ensures { result.now ≡ asm_name kind }
 {
@@ -141,7 +142,7 @@ fn name_of(kind: AsmKind) -> &'static [u8]
     }
 }
 
-/// Adds the answer to a source that means no code.
+/// Appends the answer to a source with an error.
 #[tactic(auto, using(std::proofs::lemmas::List::append_assoc))]
 pub fn add_asm_fault(answers: &mut Vec<u8>, fault: AsmFault) -> Result<(), AllocError>
     ensures { OnOk result (answers.new.items ≡ answers.old.items ++ asm_fault fault) }

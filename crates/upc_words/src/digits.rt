@@ -1,4 +1,4 @@
-//! Cells read from the digits of a line, as many at a time as the processor takes.
+//! Cells of hexadecimal digits, without allocation.
 
 ghost use Rattle.std.specs.Prelude.{◌≡◌, ◌*◌, ◌<◌, ◌++◌, ◌↔◌, ℕ, List, Some, IsSome, IfSome, IfNone, IsTrue, length, replicate, slice_index};
 ghost use Rattle.hex.specs.Hex.{hex_digit_value};
@@ -8,13 +8,13 @@ ghost use Rattle.upc_words.specs.declared.hexadecimal.CellWord.TheVariants.{OfCe
 
 use upc_cell::{CELL_OCTETS, Cell};
 
-/// How many digits spell a whole cell.
+/// The number of digits of a whole cell.
 pub const CELL_DIGITS: usize = 2 * CELL_OCTETS;
 
-/// How many digits spell the header of a cell.
+/// The number of digits of a header.
 pub const HEADER_DIGITS: usize = 8;
 
-/// The number of a digit; 255 of an octet that is none.
+/// The value of a digit, or 255 if the octet isn't a digit.
 #[inline(always)]
 fn number_of(octet: u8) -> u8
     ensures number { result < 16 → hex_digit_value octet ≡ Some result }
@@ -24,13 +24,13 @@ fn number_of(octet: u8) -> u8
     if figure < 10 {
         return figure;
     }
-    // Small letters and capitals differ in one bit alone.
+    // Lower and upper case letters differ in one bit.
     let letter = (octet | 32).wrapping_sub(b'a');
     if letter < 6 { letter + 10 } else { 255 }
 }
 
-/// Writes the number of each digit, and answers all numbers together, bit by bit: below 16 exactly where all
-/// are digits. Nothing here depends on an earlier octet, so the compiler takes sixteen of them in one step.
+/// Writes the value of each digit, and returns the bitwise or of all values: it is below 16 exactly if all are
+/// digits. No step depends on an earlier octet, so the compiler can process sixteen at once.
 #[inline(always)]
 fn read_digits(word: &[u8], numbers: &mut [u8]) -> u8
     requires { length numbers.old ≡ length word.now }
@@ -46,7 +46,7 @@ fn read_digits(word: &[u8], numbers: &mut [u8]) -> u8
     seen
 }
 
-/// Writes the octet of each two numbers.
+/// Writes the octet of each pair of values.
 #[inline(always)]
 fn join(numbers: &[u8], octets: &mut [u8])
     requires twice { length numbers.now ≡ 2 * length octets.old }
@@ -58,7 +58,7 @@ fn join(numbers: &[u8], octets: &mut [u8])
     }
 }
 
-/// Writes the cell that 104 octets spell, if all are digits, and answers whether they are.
+/// Writes the cell of 104 digits. Returns false if one isn't a digit.
 #[inline(always)]
 fn read_whole(word: &[u8], octets: &mut [u8; CELL_OCTETS]) -> bool
     requires { length word.now ≡ CELL_DIGITS }
@@ -73,8 +73,8 @@ fn read_whole(word: &[u8], octets: &mut [u8; CELL_OCTETS]) -> bool
     true
 }
 
-/// The number of each digit; 256 of each octet that is none. Of eight octets each is looked up here,
-/// which takes less than to read sixteen at once.
+/// The value of each digit, and 256 for every other octet. For eight octets a table is faster than reading sixteen at
+/// once.
 static NUMBERS: [u16; 256] = [
     256, 256, 256, 256, 256, 256, 256, 256, 256, 256, 256, 256, 256, 256, 256, 256, 256, 256, 256,
     256, 256, 256, 256, 256, 256, 256, 256, 256, 256, 256, 256, 256, 256, 256, 256, 256, 256, 256,
@@ -92,7 +92,7 @@ static NUMBERS: [u16; 256] = [
     256, 256, 256,
 ];
 
-/// The octet of two digits; 256 and more where one is none.
+/// The octet of two digits, or 256 or more if one isn't a digit.
 #[inline(always)]
 fn octet_of(high: u8, low: u8) -> u16
     ensures octet { result < 256 → AreDigitsOf high low result }
@@ -101,7 +101,7 @@ fn octet_of(high: u8, low: u8) -> u16
     16 * NUMBERS[high as usize] + NUMBERS[low as usize]
 }
 
-/// Whether all four are octets.
+/// Whether all four numbers are octets.
 #[inline(always)]
 fn are_octets(first: u16, second: u16, third: u16, fourth: u16) -> bool
     ensures { IsTrue result ↔ ((first < 256) × (second < 256) × (third < 256) × (fourth < 256)) }
@@ -109,7 +109,7 @@ fn are_octets(first: u16, second: u16, third: u16, fourth: u16) -> bool
     first | second | third | fourth < 256
 }
 
-/// Writes the header that eight octets spell, if all are digits, and answers whether they are.
+/// Writes the header of eight digits. Returns false if one isn't a digit.
 #[inline(always)]
 fn read_header(word: &[u8], octets: &mut [u8; CELL_OCTETS]) -> bool
     requires digits { length word.now ≡ HEADER_DIGITS }
@@ -124,7 +124,7 @@ fn read_header(word: &[u8], octets: &mut [u8; CELL_OCTETS]) -> bool
     if !are_octets(first, second, third, fourth) {
         return false;
     }
-    // As one number, so that whoever reads the header next has it at hand.
+    // Built as one number, because the caller reads the header as one number next.
     let header = 16777216 * u32::from(first)
         + 65536 * u32::from(second)
         + 256 * u32::from(third)
@@ -137,8 +137,7 @@ fn read_header(word: &[u8], octets: &mut [u8; CELL_OCTETS]) -> bool
     true
 }
 
-/// The cell that a word stands for, if it stands for one: if it is all digits, and has as many as a cell or a
-/// header.
+/// The cell of a word of hexadecimal digits, 104 for a whole cell or eight for a header; none for any other word.
 #[inline(always)]
 pub fn cell_of_digits(word: &[u8]) -> Option<Cell>
     ensures cell { IfSome result (λ cell. IsCellWord word.now (OfCell cell)) }

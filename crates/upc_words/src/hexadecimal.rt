@@ -1,4 +1,4 @@
-//! Words of hexadecimal digits, as octets and as cells.
+//! Hexadecimal words as octets and as cells.
 
 ghost use Rattle.std.specs.Prelude.{◌≡◌, ◌⊎◌, length, IfOk};
 ghost use Rattle.std.specs.Option.{option_map};
@@ -10,17 +10,17 @@ use hex::FromHexError;
 use std::alloc::{AllocError, Global};
 use upc_cell::Cell;
 
-/// What a word stands for on a cell line.
+/// A word of a cell line.
 pub enum CellWord {
     /// A cell.
     OfCell(Cell),
-    /// So many octets, which are no cell.
+    /// This number of octets, which isn't 52.
     OfOthers(usize),
-    /// Nothing: an odd number of characters, or one that is no digit.
+    /// Not hexadecimal: an odd number of characters, or one that isn't a digit.
     NoDigits,
 }
 
-/// The octets that a word's digits spell; none where the word isn't hexadecimal.
+/// The octets of a hexadecimal word, or none if the word isn't hexadecimal.
 pub fn octets_of_word(alloc: Global, word: &[u8]) -> Result<Option<Vec<u8>>, AllocError>
     ensures { IfOk result (λ found. octets_of word.now ≡ option_map (λ octets. octets.items) found) }
 {
@@ -31,8 +31,7 @@ pub fn octets_of_word(alloc: Global, word: &[u8]) -> Result<Option<Vec<u8>>, All
     }
 }
 
-/// What a word stands for on a cell line. Memory is taken for a word of a length that no cell has, and for
-/// no other.
+/// Reads a word of a cell line. Allocates only if the word has neither 104 nor eight characters.
 pub fn cell_of_word(alloc: Global, word: &[u8]) -> Result<CellWord, AllocError>
     ensures { IfOk result (IsCellWord word.now) }
 {
@@ -45,7 +44,7 @@ pub fn cell_of_word(alloc: Global, word: &[u8]) -> Result<CellWord, AllocError>
     }
 }
 
-/// What a word of as many octets as spell a cell or a header stands for.
+/// Reads a word of 104 or eight characters.
 fn word_of_digits(word: &[u8]) -> CellWord
     requires { (length word.now ≡ CELL_DIGITS) ⊎ (length word.now ≡ HEADER_DIGITS) }
     ensures { IsCellWord word.now result }

@@ -1,5 +1,5 @@
-//! The words that all subcommands share: hexadecimal digits as octets, cells and programs, numbers, and the fault lines
-//! of what is none of these.
+//! The words that all subcommands share: hexadecimal digits as octets, cells and programs, decimal numbers, and the
+//! fault lines.
 #![tactic(auto)]
 
 mod answer_texts;

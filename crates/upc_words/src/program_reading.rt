@@ -9,7 +9,8 @@ use bpf_code::{DecodeFault, Instr, decode};
 use bpf_verify::{Program, verify};
 use std::alloc::{AllocError, Global};
 
-/// The program of this code; none where it is refused, and then its fault is added to the answers.
+/// Checks a code and returns the program. If the code is refused, returns none and appends the line of its first
+/// error.
 pub fn check_code(code: Vec<Instr>, answers: &mut Vec<u8>) -> Result<Option<Program>, AllocError>
     ensures { IfOk result (λ program. Finds (ChecksAs code.items) program answers.old.items answers.new.items) }
 {
@@ -22,8 +23,7 @@ pub fn check_code(code: Vec<Instr>, answers: &mut Vec<u8>) -> Result<Option<Prog
     }
 }
 
-/// The program of the code that these octets spell; none where they have a fault, which is then added to
-/// the answers.
+/// Decodes and checks these octets and returns the program. If there is an error, returns none and appends its line.
 pub fn read_program(
     alloc: Global,
     octets: &[u8],

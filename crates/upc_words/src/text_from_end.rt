@@ -1,12 +1,12 @@
-//! A short text that is written from its end.
+//! A short text, written from its end.
 
 use std::marker::Model;
 
-/// A text of at most `ROOM` octets that is written from its end: what is put to it stands before what it
-/// has. So the digits of a number are written where they stay, and a line is added to the answers in one
-/// go. The room is zeroed for each text, so it is as large as the longest line needs.
+/// A text of at most `ROOM` octets, written from its end: `put` adds octets before those already there. So the digits
+/// of a number are written in their final place, and a whole line is appended to the answers at once. Each new text
+/// is zeroed, so `ROOM` should be no more than the longest line needs.
 ///
-/// Contracts see it as the list of its octets.
+/// Contracts see the list of its octets.
 #[derive(Drop)]
 pub struct TextFromEnd<const ROOM: usize> {
     octets: [u8; ROOM],
@@ -26,7 +26,7 @@ impl<const ROOM: usize> Model for TextFromEnd<ROOM> {
 impl<const ROOM: usize> TextFromEnd<ROOM> {
     ghost use Rattle.std.specs.Prelude.{◌≡◌, ◌+◌, ◌≤◌, [], ◌++◌, length, decimal};
 
-    /// The text of no octet.
+    /// The empty text.
     #[inline(always)]
     pub fn new() -> Self
         ensures { result ≡ [] }
@@ -51,7 +51,7 @@ impl<const ROOM: usize> TextFromEnd<ROOM> {
         self.start = start;
     }
 
-    /// Puts a number in decimal digits before the others, of which there are at most twenty.
+    /// Puts a number before the others, in at most twenty decimal digits.
     #[inline(always)]
     pub fn put_number(&mut self, number: u64)
         requires { 20 + length self.old ≤ ROOM }
@@ -61,7 +61,7 @@ impl<const ROOM: usize> TextFromEnd<ROOM> {
         self.start = itoa::write_digits(number, &mut self.octets, self.start);
     }
 
-    /// Puts a number of 32 bits in decimal digits before the others, of which there are at most ten.
+    /// Puts a number of 32 bits before the others, in at most ten decimal digits.
     #[inline(always)]
     pub fn put_short_number(&mut self, number: u32)
         requires { 10 + length self.old ≤ ROOM }
@@ -71,7 +71,7 @@ impl<const ROOM: usize> TextFromEnd<ROOM> {
         self.start = itoa::write_digits(u64::from(number), &mut self.octets, self.start);
     }
 
-    /// The octets.
+    /// The octets of the text.
     #[inline(always)]
     pub fn as_slice(&self) -> &[u8]
         ensures { result.now ≡ self.now }

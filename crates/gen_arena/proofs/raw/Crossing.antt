@@ -1,4 +1,4 @@
--- The cells and the deed may cross threads, and be shared by them, as the values and the allocator may.
+-- Cells and deeds are `Send` and `Sync` when the values and the allocator are.
 use Rattle.std.specs.Prelude.{ℕ, ◌+◌, List, [], ◌∷◌, Option, Some, None}
 use Rattle.std.specs.Mem.{type_size}
 use base.Fraction.{full_share}

@@ -1,4 +1,4 @@
--- One cell of a row is taken out, put back, or seen, and room for an array is a row of blank cells. Assumes `Logic`.
+-- Taking out, putting back and reading one cell of a row; room for an array is a row of blank cells. Assumes `Logic`.
 use mathlib.Core.Path.{◌≡◌, subst}
 use Prim.Native.Nat.{ℕ, zero, suc, ◌+◌, ◌*◌, ◌<◌}
 use native.Mathlib.Omega.{arith}
@@ -16,14 +16,14 @@ use Rattle.std.specs.Mem.{type_size}
 use Rattle.core.proofs.mem.Param.{El, R, el_x, elτ}
 use Rattle.gen_arena.specs.inner.BlockMemory.{cell_owned, cells_owned, cell_lent, cells_lent}
 
--- A cell that holds a value is one of the cells.
+-- The number of a cell with a value is below the number of cells.
 pub held_within : {X : Type 0} (cells : List (Option X)) (k : ℕ) (x : X) → get_or cells k None ≡ Some x → k < length cells
 held_within [] k x e = cc
 held_within (cell ∷ later) zero x e = omega arith
 held_within (cell ∷ later) (suc k) x e = omega (arith, held_within later k x e)
 
 module _ (E : El) where
-  -- The octets of a cell.
+  -- The size of a cell, in octets.
   abbrev pub width : ℕ
   width = type_size (R E)
 
@@ -42,7 +42,7 @@ module _ (E : El) {M : Type 1} {𝓤 : Ura M} (𝓛 : Logic 𝓤) (b : ℕ) wher
   abbrev row : ℕ → List (Cell E) → Fml
   row = cells_owned (R E) b
 
-  -- The cells but for that of this number.
+  -- The cells without the one of this number.
   abbrev pub gap : ℕ → List (Cell E) → ℕ → Fml
   gap o [] k = ftrue
   gap o (c ∷ later) zero = row (o + s) later
@@ -79,7 +79,7 @@ module _ (E : El) {M : Type 1} {𝓤 : Ura M} (𝓛 : Logic 𝓤) (b : ℕ) wher
       by ! (cell_in later k (o + s) (omega arith) new)
       )
 
-  -- Room for an array of that many is as many blank cells.
+  -- Room for an array of n is a row of n blank cells.
   pub of_room : (n o : ℕ) → ent 𝓤 (H.room (ty_array (elτ E) n) b o) (sem 𝓛 (row o (replicate n None)))
   of_room zero o = qed 𝓛 (‵ (froom (ty_array (elτ E) 0) b o) ∷ []) ∵ keep ! [] $ done !
   of_room (suc n) o =

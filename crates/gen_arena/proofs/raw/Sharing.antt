@@ -1,4 +1,4 @@
--- A `&` to the cells is made of a borrow of them, and reaches each value. Assumes `Logic`.
+-- A `&` to the cells comes from a borrow of them, and reaches each value. Assumes `Logic`.
 use Prim.Native.Nat.{ℕ, ◌+◌}
 use Rattle.std.specs.Prelude.{List, [], ◌∷◌, Option, Some, None}
 use Rattle.std.specs.Mem.{type_size}
@@ -14,7 +14,7 @@ use denote.Shares.{Shares-less}
 use denote.Struct.Lending.{Lends, Lends-both, Lends-nothing, Lends-said, Lends-false}
 use Rattle.gen_arena.specs.inner.BlockMemory.{cell_owned, cells_owned, cell_lent, cells_lent, in_bounds, row_owned, row_lent}
 
--- What is lent can be copied, and used at a shorter lifetime.
+-- A borrow can be copied and shortened.
 module _ (R : RattleType) (L : RowLaws R) where
   cell_copies : (b o : ℕ) (cell : Option R.Denot) → ShrLaws (cell_lent R b o cell)
   cell_copies b o None = nothing_shr_laws
@@ -28,7 +28,7 @@ module _ (R : RattleType) (L : RowLaws R) where
   row_copies null_ptr cells = said_shr_laws ffalse tt
   row_copies (block_ptr b o) cells = beside_shr_laws _ _ (said_shr_laws (in_bounds R cells) tt) (cells_copy cells b o)
 
--- What is owned can be lent.
+-- Owned cells can be borrowed.
 module _ {M : Type 1} {𝓤 : Ura M} (𝓛 : Logic 𝓤) (l : Lft) (R : RattleType) (L : Laws R) (within : Incl l R.lives) where
   cell_lends : (b o : ℕ) (cell : Option R.Denot) → Lends 𝓛 (cell_owned R b o cell) (cell_lent R b o cell) l
   cell_lends b o None = Lends-nothing 𝓛 (cell_owned R b o None) l

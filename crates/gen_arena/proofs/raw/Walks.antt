@@ -1,4 +1,5 @@
--- The rows of the types that the pointer functions take, how their values are stored, and the steps that the walks share. Assumes `Logic`.
+-- The types of the pointer functions, how their values are stored, and steps that their proofs share. Assumes
+-- `Logic`.
 use mathlib.Core.Path.{◌≡◌, refl, subst}
 use Prim.Native.Nat.{ℕ}
 use mathlib.Core.List.{List, [], ◌∷◌, ◌++◌}
@@ -32,7 +33,7 @@ module _ (E : El) where
   abbrev pub Begin : RattleType
   Begin = start.the_row (R E)
 
-  -- The one field of `Cells`, which takes no octets.
+  -- The one field of `Cells`, which has size 0.
   abbrev pub Mark : RattleType
   Mark = Struct (shape (cells.the_type (R E)))
 
@@ -51,7 +52,7 @@ mark_made E 𝓛 =
     makes_shadow 𝓛 ((Mark E).own_val (tt, tt) (mark ∷ [])) (λ vss. (tt, ((λ uss. (tt, tt)), tt)))
     ((vstruct vnil ∷ [], tt), (refl, ((tt, (refl, tt)), tt)))
 
--- How three values are stored that go out together.
+-- How a returned triple is stored.
 abbrev pub trio : Val → Val → Val → Val
 trio u v w = vstruct (vcons u (vcons v (vcons w vnil)))
 
@@ -65,7 +66,7 @@ trio_made 𝓛 R S T x y z u v w =
     fpack ! parts (within (Declared.shape (tuple_type (R ∷ S ∷ T ∷ []))) (x, (y, (z, tt))) (trio u v w ∷ [])) (u ∷ [], (v ∷ [], (w ∷ [], tt))) $ done !
 
 module _ {M : Type 1} {𝓤 : Ura M} {𝓛 : Logic 𝓤} {K : Type 0} {Γ : List (Item 𝓤)} {G : Goal 𝓤 𝓛.H} where
-  -- How a struct of one pointer is stored, and that such a one is owned.
+  -- How a struct of one pointer is stored and owned.
   pub pointer_had : K → (p : Ptr) (vs : List Val) → (vs ≡ word p ∷ [] → Seq K 𝓛 Γ G) → Seq K 𝓛 (‵ (Pointer.own_val (p, tt) vs) ∷ Γ) G
   pointer_had t p vs k =
       fpick t (λ parts. fsplit t $ feq_l t (λ whole. fsplit t $ feq_l t (λ part. drop t $
@@ -83,7 +84,7 @@ module _ {M : Type 1} {𝓤 : Ura M} {𝓛 : Logic 𝓤} {K : Type 0} {Γ : List
       fpick t (λ parts. fsplit t $ feq_l t (λ whole. fsplit t $ fpick t (λ none. fsplit t $ feq_l t (λ part. drop t $ drop t $
       k (subst (λ (ws : List Val). vs ≡ vstruct (of_list (ws ++ [])) ∷ []) part whole)))))
 
-  -- A value in memory is a machine value of its type, and what the value owns.
+  -- A value in memory is a machine value of its type and what the value owns.
   pub value_out : K → (E : El) (x : el_x E) (b o : ℕ)
       → ((v : Val) → Good (elτ E) v → Seq K 𝓛 (‵ (fat full_share (elτ E) b o v) ∷ ‵ (E.row.own_val x (v ∷ [])) ∷ Γ) G)
       → Seq K 𝓛 (‵ (part_at (R E) full_share x b o) ∷ Γ) G
@@ -92,7 +93,7 @@ module _ {M : Type 1} {𝓤 : Ura M} {𝓛 : Logic 𝓤} {K : Type 0} {Γ : List
       pick t (λ v. split t $ move t (1 ∷ []) $ peeks t (R E) (Is (R E)) (shows 𝓛 (R E)) x (v ∷ []) (λ is. move t (1 ∷ []) $
       k v ((lawful E 𝓛).typed x (v ∷ []) is).0))
 
-  -- What a value owns, by value, goes with one machine value of its type.
+  -- An owned value is one machine value of its type and what the value owns.
   pub value_had : K → (E : El) (x : el_x E) (vs : List Val)
       → ((v : Val) → vs ≡ v ∷ [] → Good (elτ E) v → Seq K 𝓛 (‵ (E.row.own_val x (v ∷ [])) ∷ Γ) G)
       → Seq K 𝓛 (‵ (E.row.own_val x vs) ∷ Γ) G

@@ -1,4 +1,4 @@
--- What the cells are once a `&mut` into one of them has ended.
+-- The cells after a `&mut` into one of them has ended.
 use Rattle.std.specs.Prelude.{ℕ, List, Option, Some, slice_set}
 use Rattle.std.specs.Borrow.{Fml, RattleType, MutBor, Lends}
 use Rattle.gen_arena.specs.declared.block.Cells.{Cells}
@@ -8,6 +8,6 @@ use Rattle.gen_arena.specs.contracts.block.Cells.{the_row}
 abbrev pub with_held : {X : Type 0} → Cells X → List (Option X) → Cells X
 with_held owner cells = record { of = owner.of; start = owner.start; held = cells }
 
--- The cell of this number holds what was written last.
+-- Cell k has the value that was last written through the `&mut`.
 abbrev pub lends_cell : (R : RattleType) → MutBor (Cells R.Denot) → ℕ → MutBor R.Denot → Fml
 lends_cell R owner k lent = Lends (the_row R) R owner lent (λ w. with_held owner.now (slice_set owner.now.held k (Some w)))

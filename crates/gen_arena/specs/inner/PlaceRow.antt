@@ -1,9 +1,9 @@
--- The places of an arena, as the cells of its block hold them.
+-- The places of an arena, in the cells of its block.
 use Rattle.std.specs.Prelude.{◌≡◌, ℕ, ◌+◌, ◌<◌, List, map, length, Option, Some, None, get_or}
 use Rattle.gen_arena.specs.declared.place.Place.{Place}
 
 module _ {T : Type 0} where
-  -- What stands for a place where there is none.
+  -- The default for a place that doesn't exist.
   abbrev pub no_place : Place T
   no_place = record { generation = 0; next = 0; value = None }
 
@@ -11,7 +11,7 @@ module _ {T : Type 0} where
   place_in None = no_place
   place_in (Some place) = place
 
-  -- The places that the cells hold.
+  -- The places in these cells.
   abbrev pub places_in : List (Option (Place T)) → List (Place T)
   places_in cells = map place_in cells
 
@@ -19,11 +19,11 @@ module _ {T : Type 0} where
   abbrev pub place_at : List (Place T) → ℕ → Place T
   place_at places k = get_or places k no_place
 
-  -- An empty place that has used this generation, and names the one behind it as the next.
+  -- An empty place that used this generation last and links to the place after it.
   abbrev pub fresh_place : ℕ → ℕ → Place T
   fresh_place used k = record { generation = used; next = k + 1; value = None }
 
-  -- So many such places.
+  -- `count` such places.
   abbrev pub AreFresh : List (Place T) → ℕ → ℕ → Type 0
   AreFresh places count used =
       (length places ≡ count) × ((k : ℕ) → k < count → place_at places k ≡ fresh_place used k)

@@ -1,5 +1,4 @@
--- `==` of rates, levels and contracts says that they are equal. The laws of their comparisons stand
--- on this.
+-- `==` on rates, levels and contracts decides equality.
 use Rattle.std.specs.Prelude.{◌≡◌, ℕ, ◌+◌, ◌<◌, ◌≤◌, ◌^◌, true, ◌&&◌, ◌==◌, refl}
 use Rattle.std.proofs.Common.{◌∙◌, subst, ap}
 use Rattle.std.specs.Bool.{Decides}
@@ -13,7 +12,7 @@ use Rattle.leaky.specs.declared.contract.Contract.{Contract}
 use Rattle.leaky.specs.declared.contract.Contract.TheVariants.{Cbr1, Vbr1, Vbr2, Vbr3}
 use Rattle.leaky.specs.Equality.{gcra_eq, levels_eq, contract_eq}
 
--- The rate of these numbers.
+-- The rate with these numbers.
 abbrev gcra_of : (increment limit : ℕ) → 0 < increment → increment ≤ 2 ^ 48 → limit ≤ 2 ^ 48 → Gcra
 gcra_of increment limit x y z = record {
   increment = increment;
@@ -23,7 +22,7 @@ gcra_of increment limit x y z = record {
   limit_bounded = z;
 }
 
--- It does not matter how the facts about the numbers were shown.
+-- The proofs of the bounds don't matter.
 gcra_of-alike : (a : Gcra) (x : 0 < a.increment) (y : a.increment ≤ 2 ^ 48) (z : a.limit ≤ 2 ^ 48)
     → a ≡ gcra_of a.increment a.limit x y z
 gcra_of-alike a x y z = λ i. record {
@@ -34,7 +33,7 @@ gcra_of-alike a x y z = λ i. record {
   limit_bounded = le_prop a.limit_bounded z i;
 }
 
--- So rates with equal numbers are equal.
+-- Rates with equal numbers are equal.
 pub gcra_same : (a b : Gcra) → a.increment ≡ b.increment → a.limit ≡ b.limit → a ≡ b
 gcra_same a b increments limits =
     let OfIncrement : ℕ → Type 0 = λ i.
@@ -45,7 +44,7 @@ gcra_same a b increments limits =
     let alike = subst OfLimit limits (subst OfIncrement increments (gcra_of-alike a)) in
     alike b.increment_above_zero b.increment_bounded b.limit_bounded
 
--- `==` of rates says that they are equal.
+-- `==` decides equality of rates.
 pub gcra_eq_decides : (a b : Gcra) → Decides (gcra_eq a b) (a ≡ b)
 gcra_eq_decides a b =
     let both =
@@ -56,7 +55,7 @@ gcra_eq_decides a b =
       λ e. both.1 (ap (λ x. x.increment) e, ap (λ x. x.limit) e),
     )
 
--- The levels of these theoretical arrival times.
+-- The levels with these theoretical arrival times.
 abbrev levels_of : (first second : ℕ) → first ≤ 2 ^ 62 + 2 ^ 49 → second ≤ 2 ^ 62 + 2 ^ 49 → Levels
 levels_of first second x y = record {
   first = first;
@@ -65,7 +64,7 @@ levels_of first second x y = record {
   second_bounded = y;
 }
 
--- Nor does it here.
+-- The proofs of the bounds don't matter.
 levels_of-alike : (a : Levels) (x : a.first ≤ 2 ^ 62 + 2 ^ 49) (y : a.second ≤ 2 ^ 62 + 2 ^ 49)
     → a ≡ levels_of a.first a.second x y
 levels_of-alike a x y = λ i. record {
@@ -75,7 +74,7 @@ levels_of-alike a x y = λ i. record {
   second_bounded = le_prop a.second_bounded y i;
 }
 
--- So levels with equal theoretical arrival times are equal.
+-- Levels with equal theoretical arrival times are equal.
 pub levels_same : (a b : Levels) → a.first ≡ b.first → a.second ≡ b.second → a ≡ b
 levels_same a b firsts seconds =
     let OfFirst : ℕ → Type 0 = λ i.
@@ -85,7 +84,7 @@ levels_same a b firsts seconds =
     let alike = subst OfSecond seconds (subst OfFirst firsts (levels_of-alike a)) in
     alike b.first_bounded b.second_bounded
 
--- `==` of levels says that they are equal.
+-- `==` decides equality of levels.
 pub levels_eq_decides : (a b : Levels) → Decides (levels_eq a b) (a ≡ b)
 levels_eq_decides a b =
     let both =
@@ -101,7 +100,7 @@ pairs-decide : (a b c d : Gcra) → Decides (gcra_eq a c && gcra_eq b d) ((a ≡
 pairs-decide a b c d =
     Decides-and (gcra_eq a c) (gcra_eq b d) (gcra_eq_decides a c) (gcra_eq_decides b d)
 
--- Contracts that `==` finds equal are equal.
+-- Contracts for which `==` is true are equal.
 contract_eq_true : (a b : Contract) → contract_eq a b ≡ true → a ≡ b
 contract_eq_true (Cbr1 a) (Cbr1 b) e = ap Cbr1 ((gcra_eq_decides a b).0 e)
 contract_eq_true (Vbr1 a b) (Vbr1 c d) e =
@@ -112,14 +111,14 @@ contract_eq_true (Vbr3 a b) (Vbr3 c d) e =
     let same = (pairs-decide a b c d).0 e in ap (λ peak. Vbr3 peak b) same.0 ∙ ap (Vbr3 c) same.1
 contract_eq_true _ _ e = absurd (false≢true e)
 
--- `==` finds a contract equal to itself.
+-- `==` is true for a contract and itself.
 contract_eq_same : (a : Contract) → contract_eq a a ≡ true
 contract_eq_same (Cbr1 a) = (gcra_eq_decides a a).1 refl
 contract_eq_same (Vbr1 a b) = (pairs-decide a b a b).1 (refl, refl)
 contract_eq_same (Vbr2 a b) = (pairs-decide a b a b).1 (refl, refl)
 contract_eq_same (Vbr3 a b) = (pairs-decide a b a b).1 (refl, refl)
 
--- `==` of contracts says that they are equal.
+-- `==` decides equality of contracts.
 pub contract_eq_decides : (a b : Contract) → Decides (contract_eq a b) (a ≡ b)
 contract_eq_decides a b =
     (contract_eq_true a b, λ e. subst (λ other. contract_eq a other ≡ true) e (contract_eq_same a))

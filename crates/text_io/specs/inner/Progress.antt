@@ -1,4 +1,4 @@
--- How far an input is answered.
+-- Progress through an input.
 use Rattle.std.specs.Prelude.{◌≡◌, ℕ, ◌+◌, List, ◌∷◌, ◌++◌}
 use Rattle.text_io.specs.Lines.{Line, lines_of}
 use Rattle.text_io.specs.Printing.{Rules, Prints}
@@ -8,22 +8,22 @@ use Rattle.text_io.specs.declared.ending.Done.TheVariants.{Ended}
 use Rattle.text_io.specs.declared.machine.Turn.{Turn}
 use Rattle.text_io.specs.declared.machine.Turn.TheVariants.{GoesOn, Ends}
 
--- The octets so far are answered: what was said, and then any answer to whatever comes behind, from
--- this world on and behind so many lines, is an answer to all of it.
+-- Loop invariant: the output so far, followed by any valid answer to the rest from the present world, is a valid
+-- answer to the whole input.
 abbrev pub Leads : {World : Type 0} → Rules World → World → List ℕ → List ℕ → ℕ → World → Type 0
 Leads rules start answered said met present =
     (behind more : List ℕ) (done : Done) → Prints rules met present (lines_of behind) more done
     → Prints rules 0 start (lines_of (answered ++ behind)) (said ++ more) done
 
--- And that world is shown, and one that a run reaches.
+-- And the present world is sound and shown.
 pub record Reaches {World : Type 0} (rules : Rules World) (start : World) (answered said : List ℕ) (met : ℕ) (shown : World → Type 0) : Type 0 where
   pub present : World
   pub sound : rules.is_sound present
   pub is_shown : shown present
   pub leads : Leads rules start answered said met present
 
--- Of a whole input so much is left to answer, and of what was said so much waits to be given to an
--- output that held this at the beginning and holds that now.
+-- The state of a run. `left` is what remains to be answered of the whole input, and `waiting` what remains to be
+-- written of the output so far. The output held `before` at the start and holds `now`.
 pub record Progress {World : Type 0} (rules : Rules World) (shown shown' : World → Type 0) (Known Held : Type 0)
     (whole left : List ℕ) (before now waiting : List ℕ) (met : ℕ) : Type 0 where
   pub answered : List ℕ
@@ -32,8 +32,8 @@ pub record Progress {World : Type 0} (rules : Rules World) (shown shown' : World
   pub gave : Held → (given : List ℕ) × (now ≡ before ++ given) × (said ≡ given ++ waiting)
   pub reaches : OfEach rules shown (λ start. Reaches rules start answered said met shown')
 
--- The text answers the line: either it ends the run, whatever lines come behind, or it leads to a world
--- that is shown, and an answer to those lines completes it.
+-- The text answers the line. It ends the run, whatever lines follow; or it leads to a sound world that is shown, and
+-- any answer to the lines after it completes the text.
 abbrev pub PassesBy : {World : Type 0} → Rules World → ℕ → World → Line → List ℕ → Turn → (World → Type 0) → Type 0
 PassesBy rules met before line here Ends shown = (lines : List Line) → Prints rules met before (line ∷ lines) here Ended
 PassesBy {World = World} rules met before line here GoesOn shown =
@@ -41,7 +41,7 @@ PassesBy {World = World} rules met before line here GoesOn shown =
     × ((lines : List Line) (more : List ℕ) (done : Done) → Prints rules (met + 1) after lines more done
     → Prints rules met before (line ∷ lines) (here ++ more) done)
 
--- Answers grew by such a text, from each world that was shown.
+-- The answers grew by such a text, from each world that was shown.
 abbrev pub Passes : {World : Type 0} → Rules World → ℕ → (World → Type 0) → Line → Turn → (World → Type 0) → List ℕ → List ℕ → Type 0
 Passes rules met shown line turn shown' old new =
     (here : List ℕ) × (new ≡ old ++ here) × OfEach rules shown (λ before. PassesBy rules met before line here turn shown')

@@ -1,4 +1,4 @@
-//! Devices that move one octet a call, and fail at a call of one's choice.
+//! Devices that move one octet a call and fail at a given call.
 
 ghost use Rattle.std.specs.Prelude.{◌≡◌, drop};
 
@@ -11,13 +11,13 @@ use std::test::Fail;
 use std::thread::Threads;
 use text_io::{Done, Failed, Input, Output, RunFault};
 
-/// A subcommand, what it reads, and what it answers.
+/// A subcommand, its input, and its output.
 #[derive(Clone, Copy)]
 pub struct Talk {
     pub choice: Choice,
     pub input: &'static [u8],
     pub text: &'static [u8],
-    /// The input is read to its end before anything is answered.
+    /// Whether the whole input is read before anything is answered.
     is_gathered: bool,
 }
 
@@ -37,7 +37,7 @@ const SOURCE: Talk = Talk {
     is_gathered: true,
 };
 
-/// Two programs, one connection, and a refusal of the desk of each kind that such a card has.
+/// Two programs, one connection, and each kind of desk refusal that this card can give.
 const SCRIPT: Talk = Talk {
     choice: Choice::Run,
     input: b"card 2 1 1 16\nload 0006000000000001\nload 0006000000000001\nload 0006000000000001\n\
@@ -51,7 +51,7 @@ const SCRIPT: Talk = Talk {
     is_gathered: false,
 };
 
-/// Two ports with a connection each.
+/// Two ports with one connection each.
 const PORTS: Talk = Talk {
     choice: Choice::Ports,
     input: b"card 2 2 2 16\nload 0006000000000001\nsetup 1 100 p1 cbr1:10/0\n\
@@ -63,12 +63,12 @@ const PORTS: Talk = Talk {
     is_gathered: true,
 };
 
-/// One of each subcommand.
+/// One for each subcommand.
 pub fn talks() -> [Talk; 4] {
     [PROGRAM, SOURCE, SCRIPT, PORTS]
 }
 
-/// Gives one octet a call, and fails once so many calls have gone well.
+/// Gives one octet a call, and fails after `calls` successful calls.
 #[derive(Drop)]
 pub struct Dropper<'a> {
     octets: &'a [u8],
@@ -107,7 +107,7 @@ impl Input for Dropper<'_> {
     }
 }
 
-/// Takes one octet a call, and fails once so many calls have gone well.
+/// Takes one octet a call, and fails after `calls` successful calls.
 #[derive(Drop)]
 pub struct Catcher {
     pub held: Vec<u8>,
@@ -145,7 +145,7 @@ impl Output for Catcher {
     }
 }
 
-/// Runs a subcommand over such devices: how it ends, and what was written.
+/// Runs a subcommand over such devices. Returns the result and the output.
 pub fn run_over<R: Threads + Wait + Sync>(
     rt: &R,
     alloc: Global,
@@ -160,7 +160,7 @@ pub fn run_over<R: Threads + Wait + Sync>(
     (ended, output.held)
 }
 
-/// Asks that a subcommand over such devices ends so, and has then written this.
+/// Expects this result and this output of a subcommand over such devices.
 fn expect<R: Threads + Wait + Sync + Abort>(
     rt: &R,
     alloc: Global,
@@ -177,7 +177,8 @@ fn expect<R: Threads + Wait + Sync + Abort>(
     );
 }
 
-/// The text once this number of octets was read: an answer for each whole line, or none where all is read first.
+/// The output after this number of octets is read: an answer for each whole line, or none if the whole input is read
+/// first.
 fn answered(alloc: Global, talk: Talk, takes: usize) -> Result<Vec<u8>, AllocError> {
     let mut front = Vec::new(alloc);
     if talk.is_gathered {
@@ -215,7 +216,7 @@ fn one_octet_a_call_gives_the_same_text(rt: HostRuntime) {
     }
 }
 
-/// Asks that an output which fails at any octet holds those before it.
+/// Expects an output that fails at any octet to hold the octets before it.
 fn expect_fronts<R: Threads + Wait + Sync + Abort>(rt: &R, alloc: Global, talk: Talk) {
     for gives in 0..talk.text.len() {
         let text = &talk.text[..gives];
@@ -254,8 +255,8 @@ fn a_write_that_fails_leaves_a_beginning_of_what_ports_answered(rt: HostRuntime)
     expect_fronts(&rt, rt.alloc(), PORTS);
 }
 
-/// Asks that an input which fails at any octet was answered as far as its lines came. Once all octets were read, the end
-/// is still to be asked for.
+/// Expects an input that fails at any octet to be answered up to its last whole line. After all octets, one more call
+/// asks for the end.
 fn expect_answers<R: Threads + Wait + Sync + Abort>(
     rt: &R,
     alloc: Global,

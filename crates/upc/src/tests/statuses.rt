@@ -1,4 +1,4 @@
-//! The exit status, with what is written and what is told.
+//! The exit status, the output and the messages.
 
 use super::devices::{Catcher, Dropper};
 use crate::invocation::carry_out;
@@ -10,7 +10,7 @@ use std::test::Fail;
 use std::thread::Threads;
 use text_io::{Done, RunFault};
 
-/// What a run of the program left behind.
+/// The exit status, the output and the messages of a run.
 #[derive(Drop)]
 struct Left {
     status: u8,
@@ -18,8 +18,7 @@ struct Left {
     told: Vec<u8>,
 }
 
-/// Runs the program with these words, over an input and an output that fail once so many calls have gone
-/// well.
+/// Runs the program with these words, over an input and an output that fail after a number of successful calls.
 fn run_words<R: Threads + Wait + Sync>(
     rt: &R,
     alloc: Global,
@@ -59,7 +58,7 @@ fn a_status_for_each_end(rt: HostRuntime) {
     }
 }
 
-/// Asks that these words end with status 3 over such devices, so much being written and this being told.
+/// Expects status 3, this number of octets written and this message.
 fn expect_failure<R: Threads + Wait + Sync + Abort>(
     rt: &R,
     alloc: Global,
@@ -117,7 +116,7 @@ fn help_is_written_and_nothing_is_read(rt: HostRuntime) -> Result<(), Fail> {
     Ok(())
 }
 
-/// Asks that an input which fails after this number of octets ends with this status.
+/// Expects this status from an input that fails after this number of octets.
 fn expect_status<R: Threads + Wait + Sync + Abort>(
     rt: &R,
     alloc: Global,
@@ -132,7 +131,7 @@ fn expect_status<R: Threads + Wait + Sync + Abort>(
 
 #[test]
 fn nothing_is_read_beyond_the_end_of_a_run(rt: HostRuntime) -> Result<(), Fail> {
-    // How many octets of each input the answer needs.
+    // The number of octets of each input that the answer needs.
     let rows: [(&[u8], usize); 3] = [
         (b"zz\n0006000000000007\n", 3),
         (b"0006000000000007 00\n\n", 20),

@@ -1,5 +1,5 @@
--- The laws of `eval`: every line has an answer in every world that a run reaches, and leads to such a
--- world. They stand beside the definitions because the machine of `eval` cites them as its laws.
+-- The rules of `eval` are total: in every sound world each line has an answer and leads to a sound world. These laws
+-- are in `specs/` because the `Machine` implementation of `eval` cites them.
 use Rattle.std.proofs.Common.{◌≡◌, ℕ, ◌==◌, inl, inr, Bool, true, false, List, [], ◌∷◌, ◌++◌, Option, Some, None, length, codes, decimal, refl, subst}
 use Rattle.std.specs.Bool.{MatchBool}
 use Rattle.std.specs.Option.{MatchOption}
@@ -69,7 +69,7 @@ eval-can_close : (world : World) → IsSoundWorld world → (text : List ℕ) ×
 eval-can_close None sound = (no_program, Ended, (refl, refl))
 eval-can_close (Some code) sound = ([], Whole, (refl, refl))
 
--- A world that a program line leads to.
+-- A program line leads to a sound world.
 checked-sound : (code : List Instr) (reading : Reading) (text : List ℕ) (after : World) → ChecksAs code reading → TellsReading reading text (Some after) → IsSoundWorld after
 checked-sound code (is_program accepted) text after checks told =
     let same : Some code ≡ after = let e = told.1 in let f = checks.1 in cc in subst IsSoundWorld same checks.0

@@ -15,11 +15,11 @@ loop-at-init c =
     let none : c.in_ok-code.code.items ≡ [] = search rules in
     record { front = rw none (IsFront-none c.args.octets.now); counted = search rules; room = search rules }
 
--- The eight octets at the place of the loop.
+-- The chunk at the loop's place is `eight_at` that place.
 chunk_here : (octets : List ℕ) (eights : List (List ℕ)) (at : ℕ) → eights ≡ first_chunks 8 (length octets / 8) octets → at < length octets / 8 → get_or eights at [] ≡ eight_at octets at
 chunk_here octets eights at e h = rw e (chunk_at (length octets / 8) at octets h)
 
--- The eight octets at the place of the loop, where they spell nothing.
+-- The octets at the loop's place are the first unknown ones.
 first_unknown : (c : After-drop-code) → IsFirstUnknown c.args.octets.now c.loop-at.at c.in-Err.unknown
 first_unknown c =
     let whole : length c.args.octets.now % 8 ≡ 0 = search rules in

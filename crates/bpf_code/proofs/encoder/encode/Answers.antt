@@ -1,4 +1,4 @@
--- One instruction more is spelled.
+-- The loop of `encode` appends one instruction.
 use Rattle.bpf_code.proofs.Plainly.{octets-step, plainly-step}
 use Rattle.bpf_code.proofs.encoder.encode.Goals as goal
 

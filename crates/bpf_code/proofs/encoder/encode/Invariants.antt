@@ -1,4 +1,4 @@
--- The octets so far are those of the instructions so far, and spell them.
+-- Loop invariant: the octets so far are those of the instructions so far, and spell them.
 use Rattle.std.proofs.Common.{◌≡◌, take}
 use Rattle.bpf_code.specs.Encoding.{code_octets}
 use Rattle.bpf_code.specs.OctetSpelling.{SpellsPlainly}

@@ -1,4 +1,4 @@
--- `give_back` makes room for an array of the blank cells, and hands it in with the deed. Assumes `Logic`.
+-- `give_back` joins the blank cells into room for an array, and deallocates it with the deed. Assumes `Logic`.
 use mathlib.Core.Path.{◌≡◌, refl, sym, ap, subst, ◌∙◌}
 use Prim.Native.Nat.{ℕ, ◌*◌, ◌<◌, ◌^◌}
 use native.Mathlib.Omega.{arith}

@@ -1,4 +1,4 @@
--- `make` cuts a new block into blank cells, and keeps the leave to give it back. Assumes `Logic`.
+-- `make` splits a new block into blank cells, and keeps the permission to deallocate it. Assumes `Logic`.
 use mathlib.Core.Path.{◌≡◌, refl, sym, ap, subst}
 use Prim.Native.Nat.{ℕ, ◌*◌, ◌<◌, ◌^◌}
 use native.Mathlib.Omega.{arith}

@@ -1,4 +1,4 @@
--- What was given so far is the front of the octets.
+-- The octets written so far are a prefix.
 use Rattle.std.proofs.Common.{ℕ, sym, ◌∙◌, take, drop, length-take, arith}
 use Rattle.std.proofs.lemmas.List.{take-append-drop}
 use Rattle.text_io.proofs.Ranges.{given-more}

@@ -1,4 +1,4 @@
--- The last octets are the last line.
+-- The octets after the last line feed are the last line.
 use Rattle.std.proofs.Common.{◌<◌, length, sym, ◌∙◌, arith}
 use Rattle.std.proofs.lemmas.Result.{IfOk-weaker}
 use Rattle.std.proofs.lemmas.Grind.{common_steps}

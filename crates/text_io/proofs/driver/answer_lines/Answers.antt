@@ -1,4 +1,4 @@
--- Each turn keeps what the invariant says, and each end is an answer or the front of one.
+-- Each iteration preserves the invariant, and each exit returns an answer or a prefix of one.
 use Rattle.std.proofs.Common.{◌≡◌, ◌≤◌, ◌+◌, ℕ, List, Ok, [], ◌∷◌, ◌++◌, length, take, drop, refl, ap, sym, ◌∙◌, arith, append_assoc, append-nil, length-drop}
 use Rattle.std.proofs.lemmas.Result.{IfOk-weaker}
 use Rattle.text_io.specs.Lines.{lines_of}

@@ -1,4 +1,5 @@
--- What was given and what waits to be given lead to an answer to the whole input.
+-- Loop invariant: the octets written, those waiting to be written, and any answer to the rest are an answer to the
+-- whole input.
 use Rattle.std.proofs.Common.{◌≡◌, ◌-◌, ◌*◌, ◌≤◌, ◌++◌, length}
 use Rattle.text_io.specs.Limits.{most_ahead, most_input_lines}
 use Rattle.text_io.specs.inner.Progress.{Progress}
@@ -17,6 +18,6 @@ invariant-loop-count g l =
           (g.O.Output.held l.fn.output) (g.O.Output.held l.output) l.answers.items l.met;
     }
 
--- Each line counts more than a window holds, and each refill makes the window longer.
+-- The loop terminates: each line counts for more than a window holds, and each refill makes the window longer.
 abbrev pub decreases-loop-count : goal.decreases-loop-count
 decreases-loop-count g l = (1000001 - l.met) * 200000 - length l.window

@@ -1,4 +1,4 @@
--- What was gathered grew by the answer to a line over the limits.
+-- The collected answers grew by the answer to a line over the limits.
 use Rattle.std.proofs.Common.{List, ℕ, subst}
 use Rattle.std.proofs.lemmas.Result.{IfErr-weaker}
 use Rattle.text_io.specs.Devices.{IsPart}

@@ -1,4 +1,4 @@
--- Where memory is refused nothing was given, and there is some text all the same.
+-- If an allocation fails, nothing was written, and the empty text is a prefix.
 use Rattle.std.proofs.Common.{[], refl, sym, ◌++◌}
 use Rattle.std.proofs.lemmas.List.{append-nil}
 use Rattle.text_io.specs.Lines.{lines_of}

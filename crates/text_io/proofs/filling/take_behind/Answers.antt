@@ -1,4 +1,4 @@
--- What came stands behind the first octets.
+-- The octets read are after the first ones.
 use Rattle.std.proofs.Common.{length-take, arith}
 use Rattle.text_io.proofs.Ranges.{taken-behind}
 use Rattle.text_io.proofs.filling.take_behind.Goals as goal

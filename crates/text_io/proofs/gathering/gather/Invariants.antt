@@ -1,4 +1,5 @@
--- What was taken so far stands in front of the room, and with what is left it is the whole input.
+-- Loop invariant: the octets read so far are at the start of the room; together with the rest they are the whole
+-- input.
 use Rattle.std.proofs.Common.{◌+◌, ◌-◌, ◌≡◌, ◌++◌, ◌≤◌, length, take}
 use Rattle.text_io.proofs.gathering.gather.Given as goal
 

@@ -1,4 +1,4 @@
--- The rules are total.
+-- By totality of the rules.
 use Rattle.text_io.proofs.Public.{some-text}
 use Rattle.text_io.proofs.laws.lines_have_a_text.Goals as goal
 

@@ -1,4 +1,4 @@
--- The lowest bit that is set stands for the first line feed.
+-- The lowest set bit is the place of the first line feed.
 use Rattle.std.proofs.Common.{eqb, sym, ap, ◌∙◌, arith, w8}
 use Rattle.std.proofs.lemmas.Simd.{length-chunk, bitmask_splat, leading_from_mask_l, trailing_mask_l}
 use lib.Count.{count_trailing_zeros}

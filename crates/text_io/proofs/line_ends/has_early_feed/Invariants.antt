@@ -1,4 +1,4 @@
--- As long as none was found, none of the octets so far is a line feed.
+-- Loop invariant: while `found` is false, no octet so far is a line feed.
 use Rattle.std.proofs.Common.{◌≡◌, ◌≢◌, ℕ, ◌<◌, false, get_or}
 use Rattle.text_io.proofs.line_ends.has_early_feed.Given as goal
 

@@ -1,4 +1,4 @@
--- The words of what is left are those of the line.
+-- Loop invariant: the rest has the words of the line.
 use Rattle.std.proofs.Common.{◌≡◌, length}
 use Rattle.text_io.specs.Words.{words_of}
 use Rattle.text_io.proofs.words.after_blanks.Given as goal

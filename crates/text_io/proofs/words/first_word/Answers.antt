@@ -1,4 +1,4 @@
--- The first blank ends the first word; without one the whole line is it.
+-- The first blank ends the first word; without one, the line is the word.
 use Rattle.std.proofs.Common.{◌<◌, length, arith, sym, ◌∙◌}
 use Rattle.std.proofs.lemmas.Grind.{common_steps}
 use Rattle.text_io.proofs.WordsLemmas.{false-of, words-cut, words-of_word}

@@ -1,4 +1,4 @@
--- The text of the subcommand that was chosen is that of its call.
+-- The text of the chosen subcommand is that of its call.
 use Rattle.upc.proofs.subcommand.run_alone.Goals as goal
 
 pub returns-in-Check-clause-left : goal.returns-in-Check-clause-left

@@ -1,4 +1,4 @@
--- A program is told by its octets, and a refusal by its fault.
+-- The answer to a program or to a refusal.
 use Rattle.std.proofs.Common.{refl, ap, ◌∙◌, ◌++◌}
 use Rattle.upc_programs.specs.Check.{accepted_text}
 use Rattle.upc_words.specs.Program.{is_program, is_refused}

@@ -1,4 +1,4 @@
--- Before anything was given there is some text all the same, and nothing is its beginning.
+-- Before the first write, the empty text is a prefix of some text.
 use Rattle.std.proofs.Common.{ℕ, List, option_map, subst, sym}
 use Rattle.std.proofs.lemmas.Result.{IfOk-weaker}
 use Rattle.text_io.specs.Devices.{TakesEnough}

@@ -1,4 +1,4 @@
--- A line of digits alone is answered by the value.
+-- The answer to a line of digits alone is the value.
 use Rattle.std.proofs.Common.{Some}
 use Rattle.upc_programs.specs.Eval.{EvalSteps, TellsValue}
 use Rattle.upc_programs.proofs.CellLineLemmas.{adds-onward, digits-answered}

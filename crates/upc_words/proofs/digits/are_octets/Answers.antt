@@ -1,4 +1,4 @@
--- Numbers are octets exactly where all of them together are.
+-- All numbers are octets exactly if their bitwise or is.
 use Rattle.std.proofs.lemmas.Bool.{ltb-true, lt-ltb}
 use Rattle.upc_words.proofs.DigitLemmas.{all-octets, octets-all}
 use Rattle.upc_words.proofs.digits.are_octets.Goals as goal

@@ -1,4 +1,4 @@
--- Each octet so far is that of its two numbers.
+-- Loop invariant: each octet so far is that of its two values.
 use Rattle.std.proofs.Common.{◌≡◌, ℕ, ◌+◌, ◌*◌, ◌<◌, get_or}
 use Rattle.upc_words.proofs.digits.join.Given as goal
 

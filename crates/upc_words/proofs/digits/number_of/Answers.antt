@@ -1,4 +1,4 @@
--- A digit by its place among the figures or the letters.
+-- A digit, by its distance from `0` or `a`.
 use Rattle.std.proofs.Common.{arith}
 use Rattle.upc_words.proofs.DigitLemmas.{figure-read, letter-read, other-read}
 use Rattle.upc_words.proofs.digits.number_of.Goals as goal

@@ -1,4 +1,4 @@
--- The table has the number of each digit.
+-- The table has the value of each digit.
 use Rattle.std.proofs.Common.{arith}
 use Rattle.upc_words.proofs.DigitLemmas.{digits-of, digits-small, number-at_most}
 use Rattle.upc_words.proofs.digits.octet_of.Goals as goal

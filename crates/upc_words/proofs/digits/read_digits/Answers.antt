@@ -1,4 +1,4 @@
--- One more digit was read.
+-- One more digit is read.
 use Rattle.std.proofs.Common.{◌<◌, length, arith}
 use Rattle.upc_words.proofs.DigitLemmas.{read-more, digits-more}
 use Rattle.upc_words.proofs.digits.read_digits.Goals as goal

@@ -1,4 +1,5 @@
--- What was read so far: as long as all were digits, each is its digit's, and all numbers together are below 16.
+-- Loop invariant: while all octets are digits, the list has their values, and the bitwise or of the values is below
+-- 16.
 use Rattle.std.proofs.Common.{◌≡◌, ℕ, ◌<◌, Some, IsSome, get_or}
 use Rattle.hex.specs.Hex.{hex_digit_value}
 use Rattle.upc_words.proofs.digits.read_digits.Given as goal

@@ -1,4 +1,4 @@
--- Four octets, of two digits each, are a header.
+-- Four octets of two digits each are a header.
 use Rattle.std.proofs.Common.{◌≡◌, ℕ, [], ◌∷◌, ◌+◌, ◌*◌, ◌/◌, ◌%◌, ◌∙◌, refl, arith}
 use Rattle.upc_words.proofs.HexadecimalLemmas.{four-spelled}
 use Rattle.upc_words.proofs.digits.read_header.Goals as goal

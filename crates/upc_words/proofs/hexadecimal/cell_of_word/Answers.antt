@@ -1,4 +1,4 @@
--- A word of another length spells octets that are no cell.
+-- A word of any other length spells octets that aren't a cell.
 use Rattle.std.proofs.Common.{◌≡◌, ◌≢◌, length, sym, ◌∙◌, ap, arith}
 use Rattle.upc_words.proofs.HexadecimalLemmas.{spelled-length, cell-of_other}
 use Rattle.upc_words.proofs.hexadecimal.cell_of_word.Goals as goal

@@ -17,7 +17,7 @@ returns-then-self-eq0-clause-none_is_free g c =
     let counted : free_slots (map slot_of c.self.inside.places) ≡ 0 = sym sound.count ∙ c.if-self-eq0.true in
     rw (← c.self.view_is) (none_from_zero (map slot_of c.self.inside.places) sound.lawful counted)
 
--- The place that was filled, as it is now.
+-- The filled place after the call.
 abbrev new_place : (g : given.Over) (c : goal.After-self-2-1 g) → Place g.row.T.Denot
 new_place g c =
     record { generation = c.fill-generation.result.0; next = c.fill-generation.result.1; value = Some c.args.value }

@@ -17,7 +17,7 @@ relisted-requires g c below =
 held : (g : given.Over) (c : goal.After-self-2-1 g) → IsHeld c.self.inside.places c.args.id
 held g c = held_by c.self.inside.places c.args.id (rw (← c.self.view_is) at (c.if-not-holds.ensures.live.0 refl))
 
--- The place that was emptied, as it is now.
+-- The emptied place after the call.
 abbrev new_place : (g : given.Over) (c : goal.After-self-2-1 g) → Place g.row.T.Denot
 new_place g c = emptied_place c.self.inside.places c.args.id.slot c.self.inside.first
 

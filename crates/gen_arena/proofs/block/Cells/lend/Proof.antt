@@ -1,4 +1,4 @@
--- `lend` shows the value of a cell that the cells lend. Assumes `Logic`.
+-- `lend` returns the value of a cell. Assumes `Logic`.
 use mathlib.Core.Path.{◌≡◌, refl, ◌∙◌}
 use Prim.Native.Nat.{◌+◌, ◌*◌, ◌<◌, ◌^◌}
 use native.Mathlib.Omega.{arith}

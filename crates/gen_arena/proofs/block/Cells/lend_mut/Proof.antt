@@ -1,4 +1,4 @@
--- `lend_mut` lends the value of a cell, and the cells follow what is written to it. Assumes `Logic`.
+-- `lend_mut` lends the value of a cell, and the cells get what is written to it. Assumes `Logic`.
 use seplogic.Ra.Ura.{Ura}
 use mathlib.Core.Path.{◌≡◌, refl, sym, subst, ◌∙◌}
 use Prim.Native.Nat.{ℕ, ◌+◌, ◌*◌, ◌<◌, ◌^◌}
@@ -47,12 +47,12 @@ use Rattle.gen_arena.proofs.block.Cells.lend_mut.Statement.{statement}
 use Rattle.gen_arena.proofs.block.Cells.lend_mut.Code as code
 
 module _ (E : El) {M : Type 1} {𝓤 : Ura M} (𝓛 : Logic 𝓤) (rb ro : ℕ) (d : (Owner E).Denot) (k : ℕ) where
-  -- The owner, once this was written last.
+  -- The owner after this value is written.
   abbrev written : el_x E → (Owner E).Denot
   written w = with_held d (set d.held k (Some w))
 
   module _ (vs : List Val) (b o : ℕ) where
-    -- The owner but for the value that is lent.
+    -- The owner without the value that is lent.
     abbrev Rest : Fml
     Rest = fsep (gap E 𝓛 b o d.held k) (fsep ((Mark E).own_val (tt, tt) vs) (cell_at full_share (Owner E).mir vs rb ro))
 

@@ -1,4 +1,4 @@
--- `put` writes a value into room for one. Assumes `Logic`.
+-- `put` writes a value into a blank cell. Assumes `Logic`.
 use mathlib.Core.Path.{◌≡◌, refl, sym, subst, ◌∙◌}
 use Prim.Native.Nat.{◌+◌, ◌*◌, ◌<◌, ◌^◌}
 use native.Mathlib.Omega.{arith}

@@ -1,4 +1,4 @@
--- `take` moves a value out of its cell, which is room from then on. Assumes `Logic`.
+-- `take` moves a value out of its cell, which is then blank. Assumes `Logic`.
 use mathlib.Core.Path.{◌≡◌, refl, sym, subst, ◌∙◌}
 use Prim.Native.Nat.{◌+◌, ◌*◌, ◌<◌, ◌^◌}
 use native.Mathlib.Omega.{arith}
@@ -82,7 +82,7 @@ take_spec 𝓤 𝓛 𝓜 𝓡 wired X LX =
     value_out ! E x b at (λ v good.
     sets_last ! (of_opd ! (load ! (through ! refl (stop !)) (look ! 0 refl))) refl good $
     exec ! 𝓣.C 𝓣.Λ En (after 1 fn.body) (at_ret En Post) $ sets ! (of_opd ! (get ! refl)) refl good $
-    -- The cell is room again, and goes back among the others.
+    -- The cell is blank again, and goes back among the others.
     use1 𝓛 (‵ (froom (elτ E) b at)) (𝓛.laws.at_room (elτ E) b at v) $ as_raw ! (elτ E) b at $
     move ! (0 ∷ 2 ∷ 3 ∷ 4 ∷ 5 ∷ 6 ∷ 7 ∷ []) $ use2 𝓛 (‵ (cells_owned (R E) b o left)) (cell_in E 𝓛 b d.held k o there None) $
     flt_i ! (length left * s) (2 ^ 63) (subst (λ n. n * s < 2 ^ 63) (sym (length-set d.held k None)) small) $ fjoin ! $

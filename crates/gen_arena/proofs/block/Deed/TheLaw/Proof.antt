@@ -1,4 +1,4 @@
--- A `&` to a deed is worth nothing. Assumes `Logic`.
+-- A `&` to a deed gives no access. Assumes `Logic`.
 use denote.RattleType.{RattleType}
 use denote.RawPtr.{RawPtr}
 use denote.Param.Laws.{Laws}

@@ -1,4 +1,4 @@
--- After a refill the window begins at the buffer's front.
+-- After a refill the window starts at the front of the buffer.
 use Rattle.std.proofs.Common.{◌≡◌, ◌+◌, ℕ, refl, sym, ◌∙◌, ap, subst, arith, length, take}
 use Rattle.text_io.specs.inner.Waiting.{IsWindow}
 use Rattle.text_io.specs.declared.window.Window.TheInside.{Inside}

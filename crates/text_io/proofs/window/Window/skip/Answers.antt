@@ -1,4 +1,4 @@
--- What is left of a window begins later.
+-- The rest of a window starts later.
 use Rattle.std.proofs.Common.{◌≤◌, ◌+◌, ap, ◌∙◌, arith, length, drop}
 use Rattle.text_io.proofs.Ranges.{range-skip, range-none, length-range}
 use Rattle.text_io.proofs.window.Window.skip.Goals as goal
