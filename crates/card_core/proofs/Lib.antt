@@ -8,6 +8,7 @@ pub mod DeskLemmas
 pub mod DeskSteps
 pub mod Follow
 pub mod GivenOnce
+pub mod Inspecting
 pub mod JudgeLemmas
 pub mod JudgeSteps
 pub mod Keeping

@@ -1,5 +1,5 @@
 -- A new core agrees with the opening world.
-use Rattle.std.proofs.Common.{◌≡◌, ◌<◌, ℕ, zero, suc, Bool, true, false, cond, Option, Some, None, List, ◌∷◌, length, replicate, refl, sym, ap, subst, ◌∙◌, arith}
+use Rattle.std.proofs.Common.{◌≡◌, ◌<◌, ℕ, zero, suc, Bool, true, false, cond, Option, Some, None, List, ◌∷◌, length, replicate, refl, sym, ap, subst, ◌∙◌, arith, ◌≤◌}
 use Rattle.std.specs.Prelude.{slice_get, ◌==◌}
 use Rattle.gen_arena.specs.declared.id.Id.{Id}
 use Rattle.gen_arena.specs.Slot.{Slot, empty_slot, unused_slots, generation_at, generation_or_zero}
@@ -83,8 +83,9 @@ opening-agrees shape store directory lines ports stored empty free idle =
 
 pub opening-core : (shape : Shape) (directory : DirectoryView) (lines : List LineView) (ports : List Port)
     → IsEmpty directory shape.lines 1 → lines ≡ replicate shape.lines (free_line shape.journal nothing false)
-    → ports ≡ replicate shape.ports Outside → IsCore directory lines ports
-opening-core shape directory lines ports empty free idle = record {
+    → ports ≡ replicate shape.ports Outside → shape.lines ≤ 4096 → IsCore directory lines ports
+opening-core shape directory lines ports empty free idle few = record {
+  most = omega (arith, empty.lines, few);
   sized = empty.lines ∙ sym (ap length free ∙ length_replicated shape.lines (free_line shape.journal nothing false));
   within = λ port found at.
       let none : (o : Option Port) → slice_get ports port ≡ o → found_in o ≡ Some found → found.seating.line < length lines = elim [

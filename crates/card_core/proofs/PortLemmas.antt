@@ -1,5 +1,5 @@
 -- What the core's ports are to the world, and what a move of one leaves of the agreement.
-use Rattle.std.proofs.Common.{◌≡◌, ◌⊎◌, ℕ, zero, suc, ◌<◌, true, false, Option, Some, None, List, [], ◌∷◌, length, set, refl, sym, ap, subst, ◌∙◌, inl, inr}
+use Rattle.std.proofs.Common.{◌≡◌, ◌⊎◌, ℕ, zero, suc, ◌<◌, true, false, Option, Some, None, List, [], ◌∷◌, length, set, refl, sym, ap, subst, ◌∙◌, inl, inr, arith}
 use Rattle.std.specs.Prelude.{slice_get, slice_set, option_map}
 use Rattle.std.proofs.lemmas.Bool.{cases_eq}
 use Rattle.std.proofs.lemmas.List.{map-set, length-set}
@@ -126,6 +126,7 @@ IsCore-moved old new lines others ports after port next is same_lines same_lengt
     (k : ℕ) (found : Found) → found_in (slice_get list k) ≡ Some found → found.seating.line < most in
     record {
       sized = same_lines ∙ is.sized ∙ sym same_length;
+      most = omega (arith, same_lines, is.most);
       within = subst (λ (most : ℕ). Within most after) (sym same_length)
           (subst (Within (length lines)) (sym e) (within-moved lines ports port next is.within fits));
     }
@@ -144,6 +145,7 @@ IsCore-kept old new lines after ports number next is same e =
     let long : length after ≡ length lines = ap length e ∙ length-set lines number next in
     record {
       sized = same ∙ is.sized ∙ sym long;
+      most = omega (arith, same, is.most);
       within = subst (λ (most : ℕ). (k : ℕ) (found : Found) → found_in (slice_get ports k) ≡ Some found → found.seating.line < most)
           (sym long) is.within;
     }

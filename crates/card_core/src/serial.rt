@@ -27,10 +27,10 @@ use upc_cell::{Cell, Side, Vc};
 #[derive(Drop)]
 pub struct Core {
     shape: Shape,
-    store: Store,
-    directory: Directory,
-    lines: Vec<Line>,
-    ports: Vec<Port>,
+    pub(crate) store: Store,
+    pub(crate) directory: Directory,
+    pub(crate) lines: Vec<Line>,
+    pub(crate) ports: Vec<Port>,
 }
 
 impl Model for Core {
@@ -57,6 +57,7 @@ impl Core {
     ghost use Rattle.card_core.specs.declared.step.Step.TheVariants.{Enter, Pick, Judge, Load, Retire, Setup, Reload, Release, Cut};
     ghost use Rattle.card_core.specs.Agreement.{CoreAgrees, Follows, FollowsAll};
     ghost use Rattle.card_core.specs.Arrival.{Answers};
+    ghost use Rattle.card_core.specs.Inspection.{load_fault_of, IsRetireFault, PutsIn, TakesOut};
     ghost use Rattle.card_core.specs.Kept.{RefusalKeeps};
     ghost use Rattle.card_core.specs.Sections.{answer_to};
     ghost use Rattle.card_core.specs.PortReplies.{reply_of};
@@ -220,6 +221,7 @@ impl Core {
         ensures answered { IfSome result (λ told.
             Answers self.old port cell.now moment (answer_to cell.now told) self.new) }
         ensures not_now { IfNone result (Follows self.old (Enter port cell.now moment) Reply.NotNow self.new) }
+        ensures rest { self.new ≡ record self.old { lines = self.new.lines } }
         ensures unchanged { IfNone result (self.new ≡ self.old) }
         ensures memory { IfSome result (λ told. answer_to cell.now told ≢ Answer.NoMemory) }
     {
@@ -244,6 +246,14 @@ impl Core {
     pub fn load(&mut self, program: Program) -> Result<Id, (DeskFault, Program)>
         ensures follows { Follows self.old (Load program) (load_reply result) self.new }
         ensures unchanged { RefusalKeeps (load_reply result) (Load program) self.old self.new }
+
+        // It is refused exactly where there is a fault, and then nothing changes and the program comes back.
+        ensures fault { MatchResult result
+            (λ _. load_fault_of self.old ≡ None)
+            (λ refused. load_fault_of self.old ≡ Some refused.0) }
+        ensures returned { IfErr result (λ refused. refused.1 ≡ program) }
+        ensures kept { OnErr result (self.new ≡ self.old) }
+        ensures put_in { IfOk result (λ id. PutsIn self.old id program self.new) }
     {
         if !are_outside(&self.ports) {
             return Err((DeskFault::Busy, program));
@@ -260,6 +270,13 @@ impl Core {
     pub fn retire(&mut self, id: Id) -> Result<Program, DeskFault>
         ensures follows { Follows self.old (Retire id) (retire_reply result) self.new }
         ensures unchanged { RefusalKeeps (retire_reply result) (Retire id) self.old self.new }
+
+        // It is refused exactly where there is a fault, and then nothing changes.
+        ensures fault { MatchResult result
+            (λ _. IsRetireFault self.old id None)
+            (λ fault. IsRetireFault self.old id (Some fault)) }
+        ensures kept { OnErr result (self.new ≡ self.old) }
+        ensures taken_out { IfOk result (λ program. TakesOut self.old id program self.new) }
     {
         if !are_outside(&self.ports) {
             return Err(DeskFault::Busy);
@@ -276,6 +293,8 @@ impl Core {
     pub fn setup(&mut self, ask: Ask) -> Result<Owner, (DeskFault, Ask)>
         ensures follows { Follows self.old (Setup ask) (setup_reply result) self.new }
         ensures unchanged { RefusalKeeps (setup_reply result) (Setup ask) self.old self.new }
+        ensures returned { IfErr result (λ refused. refused.1 ≡ ask) }
+        ensures rest { self.new ≡ record self.old { directory = self.new.directory; lines = self.new.lines } }
     {
         let number = match desk::admit(&self.store, &self.directory, &ask) {
             Ok(number) => number,
@@ -292,6 +311,7 @@ impl Core {
     pub fn reload(&mut self, vc: Vc, program: Id) -> Result<Id, DeskFault>
         ensures follows { Follows self.old (Reload vc program) (reload_reply result) self.new }
         ensures unchanged { RefusalKeeps (reload_reply result) (Reload vc program) self.old self.new }
+        ensures rest { self.new ≡ record self.old { directory = self.new.directory } }
     {
         desk::reload(&self.store, &mut self.directory, vc, program)
     }
@@ -304,6 +324,7 @@ impl Core {
     pub fn release(&mut self, vc: Vc) -> Result<Piece, DeskFault>
         ensures follows { Follows self.old (Release vc) (release_reply result) self.new }
         ensures unchanged { RefusalKeeps (release_reply result) (Release vc) self.old self.new }
+        ensures rest { self.new ≡ record self.old { directory = self.new.directory; lines = self.new.lines } }
     {
         let Some(seating) = pick(&self.directory, vc) else {
             return Err(DeskFault::NoConnection);
@@ -319,6 +340,7 @@ impl Core {
     pub fn cut(&mut self, vc: Vc) -> Result<Piece, DeskFault>
         ensures follows { Follows self.old (Cut vc) (cut_reply result) self.new }
         ensures unchanged { RefusalKeeps (cut_reply result) (Cut vc) self.old self.new }
+        ensures rest { self.new ≡ record self.old { lines = self.new.lines } }
     {
         let Some(seating) = pick(&self.directory, vc) else {
             return Err(DeskFault::NoConnection);

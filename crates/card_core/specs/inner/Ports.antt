@@ -1,5 +1,5 @@
 -- How a core keeps its ports.
-use Rattle.std.specs.Prelude.{◌≡◌, ℕ, ◌<◌, Bool, true, false, List, length, map, Option, Some, None, slice_get}
+use Rattle.std.specs.Prelude.{◌≡◌, ℕ, ◌<◌, ◌≤◌, Bool, true, false, List, length, map, Option, Some, None, slice_get}
 use Rattle.card_core.specs.declared.port.Port.{Port}
 use Rattle.card_core.specs.declared.port.Port.TheVariants.{Outside, Entered, Picked}
 use Rattle.card_core.specs.declared.port.Came.{Came}
@@ -57,8 +57,10 @@ found_in (Some Outside) = None
 found_in (Some (Entered came)) = None
 found_in (Some (Picked found)) = Some found
 
--- What every core keeps: the directory speaks of its lines, and so does each picked cell.
+-- What every core keeps: the directory speaks of its lines, of which there are at most 4096, and so does each
+-- picked cell.
 pub record IsCore (directory : DirectoryView) (lines : List LineView) (ports : List Port) : Type 0 where
   pub sized : directory.lines ≡ length lines
+  pub most : directory.lines ≤ 4096
   pub within : (port : ℕ) (found : Found) → found_in (slice_get ports port) ≡ Some found
       → found.seating.line < length lines

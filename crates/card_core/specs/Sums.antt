@@ -1,0 +1,14 @@
+-- The sums of the counts of lines.
+use Rattle.std.specs.Prelude.{List}
+use Rattle.std.specs.List.{sum_by}
+use Rattle.line_record.specs.Line.{LineView}
+use Rattle.card_core.specs.declared.sums.Totals.{Totals}
+
+-- For each verdict the sum of what these lines have counted.
+abbrev pub totals_of : List LineView → Totals
+totals_of lines = record {
+  passed = sum_by (λ line. line.state.counts.passed) lines;
+  tagged = sum_by (λ line. line.state.counts.tagged) lines;
+  discarded = sum_by (λ line. line.state.counts.discarded) lines;
+  refused = sum_by (λ line. line.state.counts.refused) lines;
+}

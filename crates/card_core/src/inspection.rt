@@ -1,0 +1,74 @@
+//! What a core tells of itself without a step.
+
+use crate::fault::DeskFault;
+use crate::picking::pick;
+use crate::port::are_outside;
+use crate::serial::Core;
+use crate::sums::{Totals, totals_of};
+use bpf_verify::Program;
+use gen_arena::Id;
+use line_record::Line;
+use upc_cell::Vc;
+
+impl Core {
+    ghost use Rattle.std.specs.Prelude.{◌≡◌, ◌≤◌, length, option_copied};
+    ghost use Rattle.gen_arena.specs.Live.{live_value};
+    ghost use Rattle.card_core.specs.Sums.{totals_of};
+    ghost use Rattle.card_core.specs.Inspection.{line_at, load_fault_of, IsRetireFault};
+
+    /// The line that serves a connection, so that its counts, its journal and its contracts can be read. None
+    /// exactly where there is no such connection.
+    pub fn line_of(&self, vc: Vc) -> Option<&Line>
+        ensures line { option_copied result ≡ line_at self.now vc }
+    {
+        let seating = pick(&self.directory, vc)?;
+        Some(&self.lines[usize::from(seating.line)])
+    }
+
+    /// The program of this id. None exactly where the id isn't live.
+    pub fn program_of(&self, id: Id) -> Option<&Program>
+        ensures program { option_copied result ≡ live_value self.now.store id }
+    {
+        self.store.get(id)
+    }
+
+    /// For each verdict the sum of what the lines have counted since the card was made.
+    pub fn totals(&self) -> Totals
+        ensures sums { result ≡ totals_of self.now.lines }
+        ensures lines { length self.now.lines ≤ 4096 }
+    {
+        totals_of(&self.lines)
+    }
+
+    /// Why no program can be put in now: `Busy` where a port has a cell, then `ProgramsFull` where no slot is
+    /// free. None exactly where [`Core::load`] would succeed.
+    pub fn load_fault(&self) -> Option<DeskFault>
+        ensures { result ≡ load_fault_of self.now }
+    {
+        if !are_outside(&self.ports) {
+            return Some(DeskFault::Busy);
+        }
+        if self.store.free() == 0 {
+            return Some(DeskFault::ProgramsFull);
+        }
+        None
+    }
+
+    /// Why the program of this id can't be taken out now: `Busy` where a port has a cell, then `NoProgram`
+    /// where the id isn't live, then `InUse` where some connection names it. None exactly where
+    /// [`Core::retire`] would succeed.
+    pub fn retire_fault(&self, id: Id) -> Option<DeskFault>
+        ensures { IsRetireFault self.now id result }
+    {
+        if !are_outside(&self.ports) {
+            return Some(DeskFault::Busy);
+        }
+        if !self.store.holds(id) {
+            return Some(DeskFault::NoProgram);
+        }
+        if self.directory.names(id) {
+            return Some(DeskFault::InUse);
+        }
+        None
+    }
+}
