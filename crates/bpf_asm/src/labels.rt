@@ -3,14 +3,31 @@
 ghost use Rattle.std.specs.Prelude.{◌≡◌, ℕ, List, Some, None, if◌then◌else◌, IfOk, OnErr};
 ghost use Rattle.std.specs.Option.{is_none};
 ghost use Rattle.std.specs.Str.{bytes_eq};
+ghost use Rattle.bpf_asm.specs.inner.LabelPlaces.{tail_number};
 
 use std::alloc::{AllocError, Global};
 use std::collections::BTreeMap;
 
-/// The places of labels, by their names in the source.
+/// The places of labels, by their names in the source. A key is a name and, before it, the number of its last
+/// eight octets, so that most comparisons of keys compare two numbers.
 #[derive(Drop)]
 pub(crate) struct Labels<'a> {
-    pub places: BTreeMap<&'a [u8], usize>,
+    pub places: BTreeMap<(u64, &'a [u8]), usize>,
+}
+
+/// All but the top octet of a number.
+const LOW_OCTETS: u64 = 72057594037927936;
+
+/// The last eight octets of a name, as one number.
+#[inline(always)]
+fn tail(name: &[u8]) -> u64
+    ensures { result ≡ tail_number name.now }
+{
+    let mut number = 0;
+    for octet in name {
+        number = number % LOW_OCTETS * 256 + u64::from(*octet);
+    }
+    number
 }
 
 impl<'a> Labels<'a> {
@@ -29,7 +46,7 @@ impl<'a> Labels<'a> {
     pub(crate) fn find(&self, name: &'a [u8]) -> Option<usize>
         ensures { result ≡ place_of self.now name.entry.now }
     {
-        self.places.get(&name).copied()
+        self.places.get(&(tail(name), name)).copied()
     }
 
     /// Gives a name its place. Whether it had none.
@@ -38,7 +55,7 @@ impl<'a> Labels<'a> {
         ensures places { IfOk result (λ _. (other : List ℕ) → place_of self.new other
             ≡ (if bytes_eq name.entry.now other then Some place else place_of self.old other)) }
     {
-        let before = self.places.insert(name, place)?;
+        let before = self.places.insert((tail(name), name), place)?;
         Ok(before.is_none())
     }
 }

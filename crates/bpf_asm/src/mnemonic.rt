@@ -4,7 +4,7 @@ ghost use Rattle.std.specs.Prelude.{◌≡◌, map, MatchOption};
 ghost use Rattle.bpf_asm.specs.inner.Reading.{ended, entry_of, inverse_of, moved_in, named_in, op_of, other_in, statement_in, test_of};
 ghost use Rattle.bpf_asm.specs.inner.Seen.{statement_seen};
 ghost use Rattle.bpf_asm.specs.StatementSpelling.{plain};
-ghost use Rattle.bpf_asm.specs.Tokens.{tokens_read};
+ghost use Rattle.bpf_asm.specs.Tokens.{tokens_in};
 
 use crate::operand::{after_name, at_end};
 use crate::statement::{
@@ -82,8 +82,8 @@ fn inverse_named(name: &[u8]) -> Option<Test>
 /// The loads and stores of a mnemonic.
 #[tactic(auto, unfolding(crate::specs::inner::Reading::moved_in))]
 fn moved(name: &[u8], text: &[u8]) -> Option<Instr>
-    ensures { MatchOption result (moved_in name.now (tokens_read text.now) ≡ None)
-        (λ i. moved_in name.now (tokens_read text.now) ≡ Some (plain i)) }
+    ensures { MatchOption result (moved_in name.now (tokens_in text.now) ≡ None)
+        (λ i. moved_in name.now (tokens_in text.now) ≡ Some (plain i)) }
 {
     if name == b"ld".as_slice() {
         return word_load(text);
@@ -114,8 +114,8 @@ fn moved(name: &[u8], text: &[u8]) -> Option<Instr>
 
 /// An instruction without operands.
 fn alone(instr: Instr, text: &[u8]) -> Option<LentStatement<'_>>
-    ensures { MatchOption result (ended (plain instr) (tokens_read text.now) ≡ None)
-        (λ c. ended (plain instr) (tokens_read text.now) ≡ Some (statement_seen c)) }
+    ensures { MatchOption result (ended (plain instr) (tokens_in text.now) ≡ None)
+        (λ c. ended (plain instr) (tokens_in text.now) ≡ Some (statement_seen c)) }
 {
     if at_end(text) {
         Some(LentStatement::Plain(instr))
@@ -127,8 +127,8 @@ fn alone(instr: Instr, text: &[u8]) -> Option<LentStatement<'_>>
 /// The other instructions of a mnemonic.
 #[tactic(auto, unfolding(crate::specs::inner::Reading::other_in))]
 fn other<'a>(name: &[u8], text: &'a [u8]) -> Option<LentStatement<'a>>
-    ensures { MatchOption result (other_in name.now (tokens_read text.entry.now) ≡ None)
-        (λ c. other_in name.now (tokens_read text.entry.now) ≡ Some (statement_seen c)) }
+    ensures { MatchOption result (other_in name.now (tokens_in text.entry.now) ≡ None)
+        (λ c. other_in name.now (tokens_in text.entry.now) ≡ Some (statement_seen c)) }
 {
     if name == b"neg".as_slice() {
         return alone(Instr::Neg, text);
@@ -155,8 +155,8 @@ fn other<'a>(name: &[u8], text: &'a [u8]) -> Option<LentStatement<'a>>
 /// The statement of a mnemonic and what is behind it.
 #[tactic(auto, unfolding(crate::specs::inner::Reading::named_in))]
 pub(crate) fn named<'a>(name: &[u8], text: &'a [u8]) -> Option<LentStatement<'a>>
-    ensures { MatchOption result (named_in name.now (tokens_read text.entry.now) ≡ None)
-        (λ c. named_in name.now (tokens_read text.entry.now) ≡ Some (statement_seen c)) }
+    ensures { MatchOption result (named_in name.now (tokens_in text.entry.now) ≡ None)
+        (λ c. named_in name.now (tokens_in text.entry.now) ≡ Some (statement_seen c)) }
 {
     if let Some(op) = op_named(name) {
         let instr = arithmetic(op, text)?;
@@ -177,8 +177,8 @@ pub(crate) fn named<'a>(name: &[u8], text: &'a [u8]) -> Option<LentStatement<'a>
 /// The statement of a text's tokens.
 #[tactic(auto, unfolding(crate::specs::inner::Reading::statement_in))]
 pub(crate) fn read_statement(text: &[u8]) -> Option<LentStatement<'_>>
-    ensures { MatchOption result (statement_in (tokens_read text.now) ≡ None)
-        (λ c. statement_in (tokens_read text.now) ≡ Some (statement_seen c)) }
+    ensures { MatchOption result (statement_in (tokens_in text.now) ≡ None)
+        (λ c. statement_in (tokens_in text.now) ≡ Some (statement_seen c)) }
 {
     let (name, rest) = after_name(text)?;
     named(name, rest)

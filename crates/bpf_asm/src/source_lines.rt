@@ -4,16 +4,16 @@ ghost use Rattle.std.specs.Prelude.{◌≡◌, ◌<◌, ◌≤◌, [], ◌∷◌
 ghost use Rattle.bpf_asm.specs.SourceLines.{source_lines};
 ghost use Rattle.bpf_asm.specs.inner.Feeds.{no_feed};
 
-use dialogue::before_return;
-use memchr::memchr;
+use dialogue::{before_return, first_feed};
 
 /// How many octets stand before the first line feed.
+#[inline(always)]
 fn line_len(text: &[u8]) -> usize
     ensures within { result ≤ length text.now }
     ensures line { no_feed (take result text.now) ≡ true }
     ensures feed { result < length text.now → slice_index text.now result ≡ 10 }
 {
-    match memchr(b'\n', text) {
+    match first_feed(text, 0) {
         Some(at) => at,
         None => text.len(),
     }

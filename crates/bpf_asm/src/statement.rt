@@ -4,7 +4,7 @@ ghost use Rattle.std.specs.Prelude.{◌≡◌, true, MatchBool, MatchOption};
 ghost use Rattle.bpf_asm.specs.inner.Reading.{absolute_in, arithmetic_in, bracket_in, branch_in, constant_in, header_in, indexed_in, inverse_in, jump_in, length_in, load_index, load_word, packet, return_in, scratch_in};
 ghost use Rattle.bpf_asm.specs.inner.Seen.{statement_seen};
 ghost use Rattle.bpf_asm.specs.StatementSpelling.{plain};
-ghost use Rattle.bpf_asm.specs.Tokens.{tokens_read};
+ghost use Rattle.bpf_asm.specs.Tokens.{tokens_in};
 
 use crate::operand::{
     after_constant, after_length, after_mark, after_name, after_number, after_operand,
@@ -30,7 +30,7 @@ pub(crate) enum LentStatement<'a> {
 
 /// `k]` and no more.
 fn bracket(text: &[u8]) -> Option<u32>
-    ensures { result ≡ bracket_in (tokens_read text.now) }
+    ensures { result ≡ bracket_in (tokens_in text.now) }
 {
     let (k, rest) = after_number(text)?;
     let rest = after_mark(rest, b']')?;
@@ -39,14 +39,14 @@ fn bracket(text: &[u8]) -> Option<u32>
 
 /// `[k]` and no more.
 fn absolute(text: &[u8]) -> Option<u32>
-    ensures { result ≡ absolute_in (tokens_read text.now) }
+    ensures { result ≡ absolute_in (tokens_in text.now) }
 {
     bracket(after_mark(text, b'[')?)
 }
 
 /// `[x+k]` and no more.
 fn indexed(text: &[u8]) -> Option<u32>
-    ensures { result ≡ indexed_in (tokens_read text.now) }
+    ensures { result ≡ indexed_in (tokens_in text.now) }
 {
     let rest = after_mark(text, b'[')?;
     let rest = after_word(rest, b"x")?;
@@ -55,7 +55,7 @@ fn indexed(text: &[u8]) -> Option<u32>
 
 /// `#k` and no more.
 fn constant(text: &[u8]) -> Option<u32>
-    ensures { result ≡ constant_in (tokens_read text.now) }
+    ensures { result ≡ constant_in (tokens_in text.now) }
 {
     let (k, rest) = after_constant(text)?;
     if at_end(rest) { Some(k) } else { None }
@@ -63,14 +63,14 @@ fn constant(text: &[u8]) -> Option<u32>
 
 /// `M[k]` and no more.
 pub(crate) fn scratch(text: &[u8]) -> Option<u32>
-    ensures { result ≡ scratch_in (tokens_read text.now) }
+    ensures { result ≡ scratch_in (tokens_in text.now) }
 {
     absolute(after_word(text, b"M")?)
 }
 
 /// `4*([k]&0xf)` and no more.
 pub(crate) fn header(text: &[u8]) -> Option<u32>
-    ensures { result ≡ header_in (tokens_read text.now) }
+    ensures { result ≡ header_in (tokens_in text.now) }
 {
     let rest = after_value(text, 4)?;
     let rest = after_mark(rest, b'*')?;
@@ -86,7 +86,7 @@ pub(crate) fn header(text: &[u8]) -> Option<u32>
 
 /// Whether there is `#len` and no more.
 fn packet_length(text: &[u8]) -> bool
-    ensures { MatchBool result (length_in (tokens_read text.now) ≡ Some true) (length_in (tokens_read text.now) ≡ None) }
+    ensures { MatchBool result (length_in (tokens_in text.now) ≡ Some true) (length_in (tokens_in text.now) ≡ None) }
 {
     match after_length(text) {
         Some(rest) => at_end(rest),
@@ -96,8 +96,8 @@ fn packet_length(text: &[u8]) -> bool
 
 /// The loads of a part of the packet.
 pub(crate) fn packet_load(size: Size, text: &[u8]) -> Option<Instr>
-    ensures { MatchOption result (packet size (tokens_read text.now) ≡ None)
-        (λ i. packet size (tokens_read text.now) ≡ Some (plain i)) }
+    ensures { MatchOption result (packet size (tokens_in text.now) ≡ None)
+        (λ i. packet size (tokens_in text.now) ≡ Some (plain i)) }
 {
     if let Some(k) = absolute(text) {
         return Some(Instr::LoadAbs { size, k });
@@ -108,8 +108,8 @@ pub(crate) fn packet_load(size: Size, text: &[u8]) -> Option<Instr>
 
 /// The forms of `ld`.
 pub(crate) fn word_load(text: &[u8]) -> Option<Instr>
-    ensures { MatchOption result (load_word (tokens_read text.now) ≡ None)
-        (λ i. load_word (tokens_read text.now) ≡ Some (plain i)) }
+    ensures { MatchOption result (load_word (tokens_in text.now) ≡ None)
+        (λ i. load_word (tokens_in text.now) ≡ Some (plain i)) }
 {
     if let Some(instr) = packet_load(Size::Word, text) {
         return Some(instr);
@@ -129,8 +129,8 @@ pub(crate) fn word_load(text: &[u8]) -> Option<Instr>
 
 /// The forms of `ldx`.
 pub(crate) fn index_load(text: &[u8]) -> Option<Instr>
-    ensures { MatchOption result (load_index (tokens_read text.now) ≡ None)
-        (λ i. load_index (tokens_read text.now) ≡ Some (plain i)) }
+    ensures { MatchOption result (load_index (tokens_in text.now) ≡ None)
+        (λ i. load_index (tokens_in text.now) ≡ Some (plain i)) }
 {
     if let Some(k) = constant(text) {
         return Some(Instr::LdxImm(k));
@@ -147,8 +147,8 @@ pub(crate) fn index_load(text: &[u8]) -> Option<Instr>
 
 /// The forms of `ret`.
 pub(crate) fn end(text: &[u8]) -> Option<Instr>
-    ensures { MatchOption result (return_in (tokens_read text.now) ≡ None)
-        (λ i. return_in (tokens_read text.now) ≡ Some (plain i)) }
+    ensures { MatchOption result (return_in (tokens_in text.now) ≡ None)
+        (λ i. return_in (tokens_in text.now) ≡ Some (plain i)) }
 {
     if let Some(k) = constant(text) {
         return Some(Instr::RetK(k));
@@ -163,8 +163,8 @@ pub(crate) fn end(text: &[u8]) -> Option<Instr>
 
 /// The forms of arithmetic.
 pub(crate) fn arithmetic(op: Op, text: &[u8]) -> Option<Instr>
-    ensures { MatchOption result (arithmetic_in op (tokens_read text.now) ≡ None)
-        (λ i. arithmetic_in op (tokens_read text.now) ≡ Some (plain i)) }
+    ensures { MatchOption result (arithmetic_in op (tokens_in text.now) ≡ None)
+        (λ i. arithmetic_in op (tokens_in text.now) ≡ Some (plain i)) }
 {
     let (by, rest) = after_operand(text)?;
     if at_end(rest) {
@@ -176,8 +176,8 @@ pub(crate) fn arithmetic(op: Op, text: &[u8]) -> Option<Instr>
 
 /// The forms of branches.
 pub(crate) fn branch(test: Test, text: &[u8]) -> Option<LentStatement<'_>>
-    ensures { MatchOption result (branch_in test (tokens_read text.now) ≡ None)
-        (λ c. branch_in test (tokens_read text.now) ≡ Some (statement_seen c)) }
+    ensures { MatchOption result (branch_in test (tokens_in text.now) ≡ None)
+        (λ c. branch_in test (tokens_in text.now) ≡ Some (statement_seen c)) }
 {
     let (by, rest) = after_operand(text)?;
     let (met, rest) = after_target(rest)?;
@@ -204,8 +204,8 @@ pub(crate) fn branch(test: Test, text: &[u8]) -> Option<LentStatement<'_>>
 
 /// The forms of branches that go on behind themselves where the test holds.
 pub(crate) fn inverse(test: Test, text: &[u8]) -> Option<LentStatement<'_>>
-    ensures { MatchOption result (inverse_in test (tokens_read text.now) ≡ None)
-        (λ c. inverse_in test (tokens_read text.now) ≡ Some (statement_seen c)) }
+    ensures { MatchOption result (inverse_in test (tokens_in text.now) ≡ None)
+        (λ c. inverse_in test (tokens_in text.now) ≡ Some (statement_seen c)) }
 {
     let (by, rest) = after_operand(text)?;
     let (unmet, rest) = after_target(rest)?;
@@ -223,8 +223,8 @@ pub(crate) fn inverse(test: Test, text: &[u8]) -> Option<LentStatement<'_>>
 
 /// The forms of `ja`.
 pub(crate) fn jump(text: &[u8]) -> Option<LentStatement<'_>>
-    ensures { MatchOption result (jump_in (tokens_read text.now) ≡ None)
-        (λ c. jump_in (tokens_read text.now) ≡ Some (statement_seen c)) }
+    ensures { MatchOption result (jump_in (tokens_in text.now) ≡ None)
+        (λ c. jump_in (tokens_in text.now) ≡ Some (statement_seen c)) }
 {
     let (target, rest) = after_name(text)?;
     if at_end(rest) {
