@@ -1,4 +1,4 @@
-//! The labels of a source and the places that they stand for.
+//! The labels of a source and their places.
 
 ghost use Rattle.std.specs.Prelude.{◌≡◌, ℕ, List, Some, None, if◌then◌else◌, IfOk, OnErr};
 ghost use Rattle.std.specs.Option.{is_none};
@@ -8,17 +8,17 @@ ghost use Rattle.bpf_asm.specs.inner.LabelPlaces.{tail_number};
 use std::alloc::{AllocError, Global};
 use std::collections::BTreeMap;
 
-/// The places of labels, by their names in the source. A key is a name and, before it, the number of its last
-/// eight octets, so that most comparisons of keys compare two numbers.
+/// The place of each label. A key holds the last eight octets of the name as one number, and then the name, so
+/// that most comparisons of two keys compare two numbers.
 #[derive(Drop)]
 pub(crate) struct Labels<'a> {
     pub places: BTreeMap<(u64, &'a [u8]), usize>,
 }
 
-/// All but the top octet of a number.
+/// A number below this one leaves room for one more octet.
 const LOW_OCTETS: u64 = 72057594037927936;
 
-/// The last eight octets of a name, as one number.
+/// Returns the last eight octets of a name as one number.
 #[inline(always)]
 fn tail(name: &[u8]) -> u64
     ensures { result ≡ tail_number name.now }
@@ -33,7 +33,7 @@ fn tail(name: &[u8]) -> u64
 impl<'a> Labels<'a> {
     ghost use Rattle.bpf_asm.specs.inner.LabelPlaces.{place_of};
 
-    /// No labels.
+    /// Returns a map without labels.
     pub(crate) fn new(alloc: Global) -> Labels<'a>
         ensures { (name : List ℕ) → place_of result name ≡ None }
     {
@@ -42,14 +42,14 @@ impl<'a> Labels<'a> {
         }
     }
 
-    /// The place of a name.
+    /// Returns the place of a name, if it has one.
     pub(crate) fn find(&self, name: &'a [u8]) -> Option<usize>
         ensures { result ≡ place_of self.now name.entry.now }
     {
         self.places.get(&(tail(name), name)).copied()
     }
 
-    /// Gives a name its place. Whether it had none.
+    /// Sets the place of a name. Returns whether the name is new.
     pub(crate) fn define(&mut self, name: &'a [u8], place: usize) -> Result<bool, AllocError>
         ensures fresh { IfOk result (λ fresh. fresh ≡ is_none (place_of self.old name.entry.now)) }
         ensures places { IfOk result (λ _. (other : List ℕ) → place_of self.new other

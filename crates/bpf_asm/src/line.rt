@@ -1,4 +1,4 @@
-//! Lines, read one by one.
+//! One line of a source: its label and its statement.
 
 ghost use Rattle.std.specs.Prelude.{◌≡◌, List, Some, IfErr, IfOk, MatchOption};
 ghost use Rattle.bpf_asm.specs.Faults.{IsLineFault};
@@ -14,16 +14,16 @@ use crate::operand::{after_mark, after_name, at_end};
 use crate::statement::LentStatement;
 use crate::token::{LentToken, next_token};
 
-/// What a line says, with its label in the source.
+/// A line that was read. Its names borrow from the source.
 #[derive(Clone, Copy)]
 pub(crate) struct LentLine<'a> {
-    /// The label that it defines.
+    /// The label that the line defines.
     pub label: Option<&'a [u8]>,
-    /// Its instruction.
+    /// The statement of the line.
     pub statement: Option<LentStatement<'a>>,
 }
 
-/// Whether some word of a text begins with a digit and is no number.
+/// Returns whether some word of a text begins with a digit but is no number.
 fn bad_number(text: &[u8]) -> bool
     ensures { result ≡ has_faulty (line_tokens text.now) }
 {
@@ -37,7 +37,7 @@ fn bad_number(text: &[u8]) -> bool
     false
 }
 
-/// What a line says after its label.
+/// Reads the rest of a line after its label.
 fn behind_label<'a>(label: &'a [u8], text: &'a [u8]) -> Option<LentLine<'a>>
     ensures { MatchOption result (body_in (Some label.entry.now) (tokens_in text.entry.now) ≡ None)
         (λ said. body_in (Some label.entry.now) (tokens_in text.entry.now) ≡ Some (line_seen said)) }
@@ -55,7 +55,7 @@ fn behind_label<'a>(label: &'a [u8], text: &'a [u8]) -> Option<LentLine<'a>>
     })
 }
 
-/// What a line says. Its first name is a label or a mnemonic.
+/// Reads a line, if it is a line of the grammar. Its first name is a label or a mnemonic.
 #[tactic(auto, unfolding(crate::specs::inner::Reading::line_in, crate::specs::inner::Reading::statement_in))]
 fn line_of(text: &[u8]) -> Option<LentLine<'_>>
     ensures { MatchOption result (line_in (tokens_in text.now) ≡ None)
@@ -81,14 +81,14 @@ fn line_of(text: &[u8]) -> Option<LentLine<'_>>
     })
 }
 
-/// What a line says, or its own fault.
+/// Reads a line, or returns the fault of its own.
 pub(crate) fn read_line(line: &[u8]) -> Result<LentLine<'_>, AsmKind>
     ensures said { IfOk result (λ said. IsLine line.now (line_seen said)) }
     ensures fault { IfErr result (λ kind. (before : List Line) → IsLineFault before line.now kind) }
 {
     match line_of(line) {
         Some(said) => Ok(said),
-        // A line of the grammar has no such number, so only other lines are looked through for one.
+        // A line of the grammar has no bad number, so only other lines are searched for one.
         None if bad_number(line) => Err(AsmKind::BadNumber),
         None => Err(AsmKind::BadLine),
     }

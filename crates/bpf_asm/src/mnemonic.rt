@@ -1,4 +1,4 @@
-//! Mnemonics, and what may stand behind each.
+//! Mnemonics, and the operands that each takes.
 
 ghost use Rattle.std.specs.Prelude.{◌≡◌, map, MatchOption};
 ghost use Rattle.bpf_asm.specs.inner.Reading.{ended, entry_of, inverse_of, moved_in, named_in, op_of, other_in, statement_in, test_of};
@@ -35,7 +35,7 @@ const TESTS: [(&[u8], Test); 4] = [
     (b"jset", Test::Set),
 ];
 
-/// The mnemonics of branches that go on behind themselves where the test holds.
+/// The mnemonics of branches to one label, which jump if the test fails.
 const INVERSES: [(&[u8], Test); 4] = [
     (b"jne", Test::Eq),
     (b"jneq", Test::Eq),
@@ -43,7 +43,7 @@ const INVERSES: [(&[u8], Test); 4] = [
     (b"jle", Test::Gt),
 ];
 
-/// What a table has for a name.
+/// Returns the entry of a table for a name.
 #[inline(always)]
 fn found_in<T: Copy>(name: &[u8], rows: &[(&[u8], T)]) -> Option<T>
     ensures { result ≡ entry_of name.now (map (λ row. (row.0.now, row.1)) rows.now) }
@@ -58,28 +58,28 @@ fn found_in<T: Copy>(name: &[u8], rows: &[(&[u8], T)]) -> Option<T>
     None
 }
 
-/// The arithmetic of a mnemonic.
+/// Returns the operation of a mnemonic of arithmetic.
 fn op_named(name: &[u8]) -> Option<Op>
     ensures { result ≡ op_of name.now }
 {
     found_in(name, &OPS)
 }
 
-/// The branch of a mnemonic.
+/// Returns the test of a mnemonic of a branch.
 fn test_named(name: &[u8]) -> Option<Test>
     ensures { result ≡ test_of name.now }
 {
     found_in(name, &TESTS)
 }
 
-/// The test that a mnemonic is the opposite of.
+/// Returns the test whose opposite a mnemonic names.
 fn inverse_named(name: &[u8]) -> Option<Test>
     ensures { result ≡ inverse_of name.now }
 {
     found_in(name, &INVERSES)
 }
 
-/// The loads and stores of a mnemonic.
+/// Reads the operands of a mnemonic of a load or a store.
 #[tactic(auto, unfolding(crate::specs::inner::Reading::moved_in))]
 fn moved(name: &[u8], text: &[u8]) -> Option<Instr>
     ensures { MatchOption result (moved_in name.now (tokens_in text.now) ≡ None)
@@ -112,7 +112,7 @@ fn moved(name: &[u8], text: &[u8]) -> Option<Instr>
     None
 }
 
-/// An instruction without operands.
+/// Returns an instruction without operands, if no token is left.
 fn alone(instr: Instr, text: &[u8]) -> Option<LentStatement<'_>>
     ensures { MatchOption result (ended (plain instr) (tokens_in text.now) ≡ None)
         (λ c. ended (plain instr) (tokens_in text.now) ≡ Some (statement_seen c)) }
@@ -124,7 +124,7 @@ fn alone(instr: Instr, text: &[u8]) -> Option<LentStatement<'_>>
     }
 }
 
-/// The other instructions of a mnemonic.
+/// Reads the operands of the other mnemonics.
 #[tactic(auto, unfolding(crate::specs::inner::Reading::other_in))]
 fn other<'a>(name: &[u8], text: &'a [u8]) -> Option<LentStatement<'a>>
     ensures { MatchOption result (other_in name.now (tokens_in text.entry.now) ≡ None)
@@ -152,7 +152,7 @@ fn other<'a>(name: &[u8], text: &'a [u8]) -> Option<LentStatement<'a>>
     None
 }
 
-/// The statement of a mnemonic and what is behind it.
+/// Reads the statement of a mnemonic and its operands.
 #[tactic(auto, unfolding(crate::specs::inner::Reading::named_in))]
 pub(crate) fn named<'a>(name: &[u8], text: &'a [u8]) -> Option<LentStatement<'a>>
     ensures { MatchOption result (named_in name.now (tokens_in text.entry.now) ≡ None)
@@ -174,7 +174,7 @@ pub(crate) fn named<'a>(name: &[u8], text: &'a [u8]) -> Option<LentStatement<'a>
     other(name, text)
 }
 
-/// The statement of a text's tokens.
+/// Reads a statement.
 #[tactic(auto, unfolding(crate::specs::inner::Reading::statement_in))]
 pub(crate) fn read_statement(text: &[u8]) -> Option<LentStatement<'_>>
     ensures { MatchOption result (statement_in (tokens_in text.now) ≡ None)

@@ -1,4 +1,4 @@
-//! What is cut from the front of a line: octets that are tokens, numbers, names, operands.
+//! Operands and their parts, taken from the front of a text. Each function returns the rest of the text.
 
 ghost use Rattle.std.specs.Prelude.{◌≡◌, ◌≢◌, ◌-◌, ◌%◌, ◌^◌, ℕ, true, MatchOption};
 ghost use Rattle.bpf_asm.specs.inner.Reading.{cut_constant, cut_length, cut_mark, cut_name, cut_number, cut_operand, cut_target, cut_value, cut_word, is_ended};
@@ -8,7 +8,7 @@ ghost use Rattle.bpf_asm.specs.inner.WordRuns.{is_mark};
 use crate::token::{digit, is_spent, next_mark, next_word, number};
 use bpf_code::By;
 
-/// What is behind an octet other than `#`.
+/// Takes this octet, which is not `#`.
 #[inline(always)]
 pub(crate) fn after_mark(text: &[u8], octet: u8) -> Option<&[u8]>
     requires other { octet ≢ 35 }
@@ -20,7 +20,7 @@ pub(crate) fn after_mark(text: &[u8], octet: u8) -> Option<&[u8]>
     Some(rest)
 }
 
-/// A number, and what is behind it.
+/// Takes a number.
 pub(crate) fn after_number(text: &[u8]) -> Option<(u32, &[u8])>
     ensures { MatchOption result (cut_number (tokens_in text.now) ≡ None)
         (λ found. cut_number (tokens_in text.now) ≡ Some (found.0, tokens_in found.1.now)) }
@@ -34,7 +34,7 @@ pub(crate) fn after_number(text: &[u8]) -> Option<(u32, &[u8])>
     }
 }
 
-/// A name, and what is behind it.
+/// Takes a name.
 pub(crate) fn after_name(text: &[u8]) -> Option<(&[u8], &[u8])>
     ensures { MatchOption result (cut_name (tokens_in text.now) ≡ None)
         (λ found. cut_name (tokens_in text.now) ≡ Some (found.0.now, tokens_in found.1.now)) }
@@ -47,7 +47,7 @@ pub(crate) fn after_name(text: &[u8]) -> Option<(&[u8], &[u8])>
     }
 }
 
-/// What is behind `#`, and behind whatever follows it.
+/// Takes `#`, whatever follows it.
 fn after_hash(text: &[u8]) -> Option<&[u8]>
     ensures { MatchOption result (cut_mark 35 (tokens_in text.now) ≡ None)
         (λ rest. tokens_in text.now ≡ signed_behind (mark 35) (tokens_in rest.now)) }
@@ -56,7 +56,7 @@ fn after_hash(text: &[u8]) -> Option<&[u8]>
     Some(rest)
 }
 
-/// `#k` or `#-n`, and what is behind it.
+/// Takes `#k` or `#-n`.
 pub(crate) fn after_constant(text: &[u8]) -> Option<(u32, &[u8])>
     ensures { MatchOption result (cut_constant (tokens_in text.now) ≡ None)
         (λ found. cut_constant (tokens_in text.now) ≡ Some (found.0, tokens_in found.1.now)) }
@@ -71,14 +71,14 @@ pub(crate) fn after_constant(text: &[u8]) -> Option<(u32, &[u8])>
     }
 }
 
-/// The number that makes 2^32 with another, modulo 2^32.
+/// Returns 2^32 less a number, modulo 2^32.
 fn negated(value: u32) -> u32
     ensures { result ≡ (2 ^ 32 - value) % 2 ^ 32 }
 {
     if value == 0 { 0 } else { u32::MAX - value + 1 }
 }
 
-/// What is behind a name that is this word.
+/// Takes this word.
 pub(crate) fn after_word<'a>(text: &'a [u8], word: &[u8]) -> Option<&'a [u8]>
     ensures { MatchOption result (cut_word word.now (tokens_in text.entry.now) ≡ None)
         (λ rest. cut_word word.now (tokens_in text.entry.now) ≡ Some (tokens_in rest.now)) }
@@ -87,7 +87,7 @@ pub(crate) fn after_word<'a>(text: &'a [u8], word: &[u8]) -> Option<&'a [u8]>
     if name == word { Some(rest) } else { None }
 }
 
-/// What is behind `#len`.
+/// Takes `#len`.
 pub(crate) fn after_length(text: &[u8]) -> Option<&[u8]>
     ensures { MatchOption result (cut_length (tokens_in text.now) ≡ None)
         (λ rest. cut_length (tokens_in text.now) ≡ Some (tokens_in rest.now)) }
@@ -95,7 +95,7 @@ pub(crate) fn after_length(text: &[u8]) -> Option<&[u8]>
     after_word(after_hash(text)?, b"len")
 }
 
-/// What is behind a number of this value.
+/// Takes a number of this value.
 pub(crate) fn after_value(text: &[u8], value: u32) -> Option<&[u8]>
     ensures { MatchOption result (cut_value value (tokens_in text.now) ≡ None)
         (λ rest. cut_value value (tokens_in text.now) ≡ Some (tokens_in rest.now)) }
@@ -104,14 +104,14 @@ pub(crate) fn after_value(text: &[u8], value: u32) -> Option<&[u8]>
     if found == value { Some(rest) } else { None }
 }
 
-/// Whether no token is left.
+/// Returns whether no token is left.
 pub(crate) fn at_end(text: &[u8]) -> bool
     ensures { result ≡ is_ended (tokens_in text.now) }
 {
     is_spent(text)
 }
 
-/// An operand of arithmetic or of a branch, and what is behind it.
+/// Takes an operand of arithmetic or of a branch.
 pub(crate) fn after_operand(text: &[u8]) -> Option<(By, &[u8])>
     ensures { MatchOption result (cut_operand (tokens_in text.now) ≡ None)
         (λ found. cut_operand (tokens_in text.now) ≡ Some (found.0, tokens_in found.1.now)) }
@@ -125,7 +125,7 @@ pub(crate) fn after_operand(text: &[u8]) -> Option<(By, &[u8])>
     }
 }
 
-/// `, label`, and what is behind it.
+/// Takes `, label`.
 pub(crate) fn after_target(text: &[u8]) -> Option<(&[u8], &[u8])>
     ensures { MatchOption result (cut_target (tokens_in text.now) ≡ None)
         (λ found. cut_target (tokens_in text.now) ≡ Some (found.0.now, tokens_in found.1.now)) }

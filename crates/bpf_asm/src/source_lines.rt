@@ -6,7 +6,7 @@ ghost use Rattle.bpf_asm.specs.inner.Feeds.{no_feed};
 
 use dialogue::{before_return, first_feed};
 
-/// How many octets stand before the first line feed.
+/// Returns the number of octets before the first line feed.
 #[inline(always)]
 fn line_len(text: &[u8]) -> usize
     ensures within { result ≤ length text.now }
@@ -19,7 +19,7 @@ fn line_len(text: &[u8]) -> usize
     }
 }
 
-/// The first line of a text, and what is behind it.
+/// Returns the first line of a text and the rest.
 pub(crate) fn next_line(text: &[u8]) -> Option<(&[u8], &[u8])>
     ensures lines { MatchOption result (source_lines text.now ≡ [])
         (λ found. source_lines text.now ≡ found.0.now ∷ source_lines found.1.now) }

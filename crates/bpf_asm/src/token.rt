@@ -9,20 +9,20 @@ ghost use Rattle.bpf_asm.specs.inner.LineTokens.{line_tokens};
 ghost use Rattle.bpf_asm.specs.inner.WordRuns.{all_word, is_mark};
 ghost use Rattle.dialogue.specs.Words.{is_blank, is_digit};
 
-/// A token, with the octets of its name in the line.
+/// A token. A name borrows its octets from the line.
 #[derive(Clone, Copy)]
 pub(crate) enum LentToken<'a> {
-    /// A word that doesn't begin with a digit.
+    /// A word that does not begin with a digit.
     Name(&'a [u8]),
     /// The value of a number.
     Number(u32),
-    /// A word that begins with a digit and is no number.
+    /// A word that begins with a digit but is no number.
     Faulty,
     /// Any other octet.
     Mark(u8),
 }
 
-/// Whether the octet is an ASCII digit.
+/// Returns whether the octet is an ASCII digit.
 #[inline(always)]
 pub(crate) fn digit(octet: u8) -> bool
     ensures { result ≡ is_digit octet }
@@ -30,7 +30,7 @@ pub(crate) fn digit(octet: u8) -> bool
     b'0' <= octet && octet <= b'9'
 }
 
-// 1 at each octet of a word.
+// The entry of an octet is 1 if it belongs to words, else 0.
 #[rattlefmt::skip]
 static WORD_OCTETS: [u8; 256] = [
     0, 0, 0, 0, 0, 0, 0, 0, 0, 0, 0, 0, 0, 0, 0, 0,
@@ -51,7 +51,7 @@ static WORD_OCTETS: [u8; 256] = [
     0, 0, 0, 0, 0, 0, 0, 0, 0, 0, 0, 0, 0, 0, 0, 0,
 ];
 
-/// Whether the octet is one of a word.
+/// Returns whether the octet belongs to words.
 #[inline(always)]
 fn word_octet(octet: u8) -> bool
     ensures { result ≡ is_word octet }
@@ -59,17 +59,17 @@ fn word_octet(octet: u8) -> bool
     WORD_OCTETS[usize::from(octet)] == 1
 }
 
-/// Whether the octet is a space or a tab.
+/// Returns whether the octet is a space or a tab.
 fn blank(octet: u8) -> bool
     ensures { result ≡ is_blank octet }
 {
     octet == b' ' || octet == b'\t'
 }
 
-/// The greatest number of a source, which has 32 bits.
+/// The largest number of a source, which has 32 bits.
 const MOST_NUMBER: u64 = 4294967295;
 
-/// The value of a digit of base 16, or 16.
+/// Returns the value of a digit of base 16, and 16 for any other octet.
 fn digit_value(octet: u8) -> u8
     ensures { result ≡ digit_of octet }
 {
@@ -81,7 +81,7 @@ fn digit_value(octet: u8) -> u8
     }
 }
 
-/// The number of at most 4294967295 that digits of a base spell.
+/// Returns the number that digits of a base spell, if it is at most 4294967295.
 fn value(base: u8, digits: &[u8]) -> Option<u32>
     requires low { 1 ≤ base }
     requires high { base ≤ 16 }
@@ -104,7 +104,7 @@ fn value(base: u8, digits: &[u8]) -> Option<u32>
     Some(value as u32)
 }
 
-/// Whether a word begins with `0x` or `0X`.
+/// Returns whether a word begins with `0x` or `0X`.
 fn hexadecimal(word: &[u8]) -> bool
     ensures long { IsTrue result → 2 ≤ length word.now }
     ensures value { result ≡ is_hexadecimal word.now }
@@ -112,7 +112,7 @@ fn hexadecimal(word: &[u8]) -> bool
     word.len() >= 2 && word[0] == b'0' && (word[1] == b'x' || word[1] == b'X')
 }
 
-/// The number that a word spells.
+/// Returns the number that a word spells.
 #[tactic(auto, unfolding(crate::specs::Numbers::number_of))]
 pub(crate) fn number(word: &[u8]) -> Option<u32>
     ensures { result ≡ number_of word.now }
@@ -124,7 +124,7 @@ pub(crate) fn number(word: &[u8]) -> Option<u32>
     }
 }
 
-/// The token of a word.
+/// Returns the token of a word.
 fn token_of_word(word: &[u8]) -> LentToken<'_>
     requires { 0 < length word.now }
     ensures { token_seen result ≡ word_token word.now }
@@ -139,7 +139,7 @@ fn token_of_word(word: &[u8]) -> LentToken<'_>
     }
 }
 
-/// How many octets of words a text begins with.
+/// Returns the length of the word that a text begins with.
 #[inline(always)]
 fn word_len(text: &[u8]) -> usize
     ensures within { result ≤ length text.now }
@@ -154,14 +154,14 @@ fn word_len(text: &[u8]) -> usize
     text.len()
 }
 
-/// Whether a comment begins at the octet.
+/// Returns whether a comment begins at the octet.
 fn begins_comment(octet: u8) -> bool
     ensures { result ≡ (octet == 59) }
 {
     octet == b';'
 }
 
-/// The text after the blanks that it begins with.
+/// Returns the text after its leading blanks.
 fn skip_blanks(text: &[u8]) -> &[u8]
     ensures tokens { line_tokens result.now ≡ line_tokens text.now }
     ensures within { length result.now ≤ length text.now }
@@ -175,8 +175,7 @@ fn skip_blanks(text: &[u8]) -> &[u8]
     &text[text.len()..]
 }
 
-/// What follows an octet, where a text begins with it after blanks. A word is not read here, since another cut
-/// reads it.
+/// Takes this octet, which is a token by itself, if a text begins with it after blanks. Returns the rest.
 #[inline(always)]
 pub(crate) fn next_mark(text: &[u8], octet: u8) -> Option<&[u8]>
     requires { is_mark octet ≡ true }
@@ -194,7 +193,7 @@ pub(crate) fn next_mark(text: &[u8], octet: u8) -> Option<&[u8]>
     }
 }
 
-/// The word that a text begins with after blanks, and the rest.
+/// Takes the word that a text begins with after blanks. Returns it and the rest.
 #[inline(always)]
 pub(crate) fn next_word(text: &[u8]) -> Option<(&[u8], &[u8])>
     ensures { MatchOption result (HasNoWord (tokens_in text.now))
@@ -211,7 +210,7 @@ pub(crate) fn next_word(text: &[u8]) -> Option<(&[u8], &[u8])>
     }
 }
 
-/// Whether a text has no tokens.
+/// Returns whether a text has no tokens.
 #[inline(always)]
 pub(crate) fn is_spent(text: &[u8]) -> bool
     ensures { result ≡ is_ended (tokens_in text.now) }
@@ -223,7 +222,7 @@ pub(crate) fn is_spent(text: &[u8]) -> bool
     begins_comment(left[0])
 }
 
-/// The first token of a text, and the rest.
+/// Takes the first token of a text. Returns it and the rest.
 pub(crate) fn next_token(text: &[u8]) -> Option<(LentToken<'_>, &[u8])>
     ensures tokens { MatchOption result (line_tokens text.now ≡ [])
         (λ found. line_tokens text.now ≡ token_seen found.0 ∷ line_tokens found.1.now) }
