@@ -1,3 +1,4 @@
 pub mod Cuts
 pub mod Peeks
+pub mod FirstWords
 pub mod TokenCuts

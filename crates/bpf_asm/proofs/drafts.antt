@@ -1,3 +1,4 @@
+pub mod LabelKeys
 pub mod Agreement
 pub mod PendingSteps
 pub mod DraftSteps

@@ -3,6 +3,7 @@ pub mod Drafts
 pub mod Feeds
 pub mod Pending
 pub mod LabelPlaces
+pub mod LineTokens
 pub mod Reading
 pub mod Seen
 pub mod Counts

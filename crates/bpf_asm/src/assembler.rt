@@ -1,4 +1,4 @@
-//! A source, read whole.
+//! The assembler: it reads a whole source and returns its code or its one fault.
 
 ghost use Rattle.std.specs.Prelude.{◌<◌, ◌⊎◌, List, length, IfErr, IfOk, IfSome, IsErr};
 ghost use Rattle.bpf_asm.specs.Faults.{IsFault, IsFirstLineFault, IsOutOfMemory};
@@ -13,7 +13,7 @@ use crate::unresolved::Draft;
 use bpf_code::Instr;
 use std::alloc::Global;
 
-/// The fault of a kind at a line.
+/// Returns the fault of this kind at a line.
 fn fault_at(line: usize, kind: AsmKind) -> AsmFault
     ensures { IsFaultAt line kind result }
 {
@@ -23,7 +23,7 @@ fn fault_at(line: usize, kind: AsmKind) -> AsmFault
     }
 }
 
-/// The draft of a source, up to the first line that has a fault of its own.
+/// Reads every line of a source into a draft. Returns an error at the first line that has a fault of its own.
 fn read_source(alloc: Global, source: &[u8]) -> Result<Draft<'_>, AsmFault>
     ensures draft { IfOk result (IsDraftOf source.now) }
     ensures within { IfOk result (λ draft. IfSome draft.dangling (λ at. at < length source.now)) }
@@ -43,14 +43,14 @@ fn read_source(alloc: Global, source: &[u8]) -> Result<Draft<'_>, AsmFault>
     Ok(draft)
 }
 
-/// The code that a source means, or the one fault for which it means none.
+/// Assembles a source: returns the code that it means, or its one fault.
 ///
 /// # Errors
 ///
-/// The first of these: the smallest line with a number that is none, with no line of the grammar, or
-/// with a label of an earlier line; the first label that no instruction follows; the first label
-/// operand that no line defines, that goes backward or that is too far for its field. `NoMemory`, at
-/// line 0, may stand in place of any of them.
+/// The first of these applies: the first line with a bad number, outside the grammar, or with a label that an
+/// earlier line defines; the first label that no instruction follows; the first label operand that no line
+/// defines, that goes backward, or whose offset is too large for its field. An allocation failure returns
+/// `NoMemory` at line 0 in place of any of them.
 pub fn assemble(alloc: Global, source: &[u8]) -> Result<Vec<Instr>, AsmFault>
     ensures code { IfOk result (λ code. IsMeaning source.now code.items) }
     ensures fault { IfErr result (λ fault. IsFault source.now fault ⊎ IsOutOfMemory fault) }

@@ -1,26 +1,26 @@
-//! Why a source is no code, and why a code has no listing.
+//! The errors of the assembler and of the listing.
 
 use thiserror::Error;
 
-/// What is wrong with a line of a source.
+/// The kind of a fault in a source.
 #[derive(Clone, Copy, Debug, PartialEq, Eq, Error)]
 pub enum AsmKind {
-    /// No line of the grammar.
+    /// The line is outside the grammar.
     #[error("1 BadLine")]
     BadLine,
-    /// A word that begins with a digit is no number of at most 4294967295.
+    /// A word begins with a digit but is no number, or its number is above 4294967295.
     #[error("2 BadNumber")]
     BadNumber,
-    /// The label was defined on an earlier line.
+    /// An earlier line defines the same label.
     #[error("3 LabelTwice")]
     LabelTwice,
     /// No line defines the label.
     #[error("4 UnknownLabel")]
     UnknownLabel,
-    /// The label stands for the jump's own place or for an earlier one.
+    /// The label names the jump's own place or an earlier one.
     #[error("5 Backward")]
     Backward,
-    /// The offset is above 255 in a branch, above 4294967295 in `ja`.
+    /// The offset is above 255 in a branch, or above 4294967295 in `ja`.
     #[error("6 TooFar")]
     TooFar,
     /// No instruction follows the label.
@@ -31,20 +31,20 @@ pub enum AsmKind {
     NoMemory,
 }
 
-/// Why a source means no code.
+/// The fault of a source that means no code.
 #[derive(Clone, Copy, Debug, PartialEq, Eq, Error)]
 #[error("{kind} {line}")]
 pub struct AsmFault {
-    /// The line, counted from 1; 0 where memory ran out.
+    /// The line, counted from 1; 0 after an allocation failure.
     pub line: usize,
-    /// What is wrong with it.
+    /// The kind of the fault.
     pub kind: AsmKind,
 }
 
 /// Why a code has no listing.
 #[derive(Clone, Copy, Debug, PartialEq, Eq, Error)]
 pub enum ListFault {
-    /// The first place, counted from 0, with a target that is no place of the code.
+    /// Some jump leads outside the code: the first such place, counted from 0.
     #[error("1 JumpOutside {0}")]
     JumpOutside(usize),
     /// Memory ran out.

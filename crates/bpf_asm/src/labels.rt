@@ -1,22 +1,39 @@
-//! The labels of a source and the places that they stand for.
+//! The labels of a source and their places.
 
 ghost use Rattle.std.specs.Prelude.{◌≡◌, ℕ, List, Some, None, if◌then◌else◌, IfOk, OnErr};
 ghost use Rattle.std.specs.Option.{is_none};
 ghost use Rattle.std.specs.Str.{bytes_eq};
+ghost use Rattle.bpf_asm.specs.inner.LabelPlaces.{tail_number};
 
 use std::alloc::{AllocError, Global};
 use std::collections::BTreeMap;
 
-/// The places of labels, by their names in the source.
+/// The place of each label. A key holds the last eight octets of the name as one number, and then the name, so
+/// that most comparisons of two keys compare two numbers.
 #[derive(Drop)]
 pub(crate) struct Labels<'a> {
-    pub places: BTreeMap<&'a [u8], usize>,
+    pub places: BTreeMap<(u64, &'a [u8]), usize>,
+}
+
+/// A number below this one leaves room for one more octet.
+const LOW_OCTETS: u64 = 72057594037927936;
+
+/// Returns the last eight octets of a name as one number.
+#[inline(always)]
+fn tail(name: &[u8]) -> u64
+    ensures { result ≡ tail_number name.now }
+{
+    let mut number = 0;
+    for octet in name {
+        number = number % LOW_OCTETS * 256 + u64::from(*octet);
+    }
+    number
 }
 
 impl<'a> Labels<'a> {
     ghost use Rattle.bpf_asm.specs.inner.LabelPlaces.{place_of};
 
-    /// No labels.
+    /// Returns a map without labels.
     pub(crate) fn new(alloc: Global) -> Labels<'a>
         ensures { (name : List ℕ) → place_of result name ≡ None }
     {
@@ -25,20 +42,20 @@ impl<'a> Labels<'a> {
         }
     }
 
-    /// The place of a name.
+    /// Returns the place of a name, if it has one.
     pub(crate) fn find(&self, name: &'a [u8]) -> Option<usize>
         ensures { result ≡ place_of self.now name.entry.now }
     {
-        self.places.get(&name).copied()
+        self.places.get(&(tail(name), name)).copied()
     }
 
-    /// Gives a name its place. Whether it had none.
+    /// Sets the place of a name. Returns whether the name is new.
     pub(crate) fn define(&mut self, name: &'a [u8], place: usize) -> Result<bool, AllocError>
         ensures fresh { IfOk result (λ fresh. fresh ≡ is_none (place_of self.old name.entry.now)) }
         ensures places { IfOk result (λ _. (other : List ℕ) → place_of self.new other
             ≡ (if bytes_eq name.entry.now other then Some place else place_of self.old other)) }
     {
-        let before = self.places.insert(name, place)?;
+        let before = self.places.insert((tail(name), name), place)?;
         Ok(before.is_none())
     }
 }

@@ -40,8 +40,8 @@ pub fn tokens_spell_one_statement()
         IsOneOf tokens (spellings one) → IsOneOf tokens (spellings other) → one ≡ other }
 {}
 
-/// Where a source means a code, the octets of that code, as they are written, spell it with 0 in each
-/// field that an instruction doesn't use.
+/// If a source means a code, the octets that `encode` writes for it spell that code, with 0 in each field that
+/// an instruction does not use.
 pub fn octets_of_a_source_spell_its_code()
     ensures { (source : List ℕ) (code : List Instr) →
         IsMeaning source code → SpellsPlainly (code_octets code) code }

@@ -1,4 +1,4 @@
-//! The assembly language of classic BPF programs: a source and the code that it means.
+//! The assembler of classic BPF programs, and the listing of a code.
 #![tactic(auto)]
 
 mod assembler;

@@ -1,42 +1,31 @@
-//! Lines, read one by one.
+//! One line of a source: its label and its statement.
 
 ghost use Rattle.std.specs.Prelude.{◌≡◌, List, Some, IfErr, IfOk, MatchOption};
 ghost use Rattle.bpf_asm.specs.Faults.{IsLineFault};
 ghost use Rattle.bpf_asm.specs.Grammar.{IsLine, Line};
-ghost use Rattle.bpf_asm.specs.SourceLines.{without_comment};
 ghost use Rattle.bpf_asm.specs.inner.Reading.{body_in, line_in};
+ghost use Rattle.bpf_asm.specs.inner.LineTokens.{line_tokens};
 ghost use Rattle.bpf_asm.specs.inner.Seen.{line_seen};
-ghost use Rattle.bpf_asm.specs.Tokens.{HasBadNumber, has_faulty, tokens_of, tokens_read};
+ghost use Rattle.bpf_asm.specs.Tokens.{HasBadNumber, has_faulty, tokens_in};
 
 use crate::fault::AsmKind;
 use crate::mnemonic::{named, read_statement};
 use crate::operand::{after_mark, after_name, at_end};
 use crate::statement::LentStatement;
 use crate::token::{LentToken, next_token};
-use memchr::memchr;
 
-/// What a line says, with its label in the source.
+/// A line that was read. Its names borrow from the source.
 #[derive(Clone, Copy)]
 pub(crate) struct LentLine<'a> {
-    /// The label that it defines.
+    /// The label that the line defines.
     pub label: Option<&'a [u8]>,
-    /// Its instruction.
+    /// The statement of the line.
     pub statement: Option<LentStatement<'a>>,
 }
 
-/// What stands before the first `;`.
-fn before_comment(line: &[u8]) -> &[u8]
-    ensures { result.now ≡ without_comment line.now }
-{
-    match memchr(b';', line) {
-        Some(at) => &line[..at],
-        None => line,
-    }
-}
-
-/// Whether some word of a text begins with a digit and is no number.
+/// Returns whether some word of a text begins with a digit but is no number.
 fn bad_number(text: &[u8]) -> bool
-    ensures { result ≡ has_faulty (tokens_of text.now) }
+    ensures { result ≡ has_faulty (line_tokens text.now) }
 {
     let mut left = text;
     while let Some((token, rest)) = next_token(left) {
@@ -48,10 +37,10 @@ fn bad_number(text: &[u8]) -> bool
     false
 }
 
-/// What is behind the label of a line.
+/// Reads the rest of a line after its label.
 fn behind_label<'a>(label: &'a [u8], text: &'a [u8]) -> Option<LentLine<'a>>
-    ensures { MatchOption result (body_in (Some label.entry.now) (tokens_read text.entry.now) ≡ None)
-        (λ said. body_in (Some label.entry.now) (tokens_read text.entry.now) ≡ Some (line_seen said)) }
+    ensures { MatchOption result (body_in (Some label.entry.now) (tokens_in text.entry.now) ≡ None)
+        (λ said. body_in (Some label.entry.now) (tokens_in text.entry.now) ≡ Some (line_seen said)) }
 {
     if at_end(text) {
         return Some(LentLine {
@@ -66,11 +55,11 @@ fn behind_label<'a>(label: &'a [u8], text: &'a [u8]) -> Option<LentLine<'a>>
     })
 }
 
-/// The line of a text without comments. Its first name is a label or a mnemonic.
+/// Reads a line, if it is a line of the grammar. Its first name is a label or a mnemonic.
 #[tactic(auto, unfolding(crate::specs::inner::Reading::line_in, crate::specs::inner::Reading::statement_in))]
 fn line_of(text: &[u8]) -> Option<LentLine<'_>>
-    ensures { MatchOption result (line_in (tokens_read text.now) ≡ None)
-        (λ said. line_in (tokens_read text.now) ≡ Some (line_seen said)) }
+    ensures { MatchOption result (line_in (tokens_in text.now) ≡ None)
+        (λ said. line_in (tokens_in text.now) ≡ Some (line_seen said)) }
 {
     let Some((name, rest)) = after_name(text) else {
         return if at_end(text) {
@@ -92,16 +81,15 @@ fn line_of(text: &[u8]) -> Option<LentLine<'_>>
     })
 }
 
-/// What a line says, or its own fault.
+/// Reads a line, or returns the fault of its own.
 pub(crate) fn read_line(line: &[u8]) -> Result<LentLine<'_>, AsmKind>
     ensures said { IfOk result (λ said. IsLine line.now (line_seen said)) }
     ensures fault { IfErr result (λ kind. (before : List Line) → IsLineFault before line.now kind) }
 {
-    let text = before_comment(line);
-    match line_of(text) {
+    match line_of(line) {
         Some(said) => Ok(said),
-        // A line of the grammar has no such number, so only other lines are looked through for one.
-        None if bad_number(text) => Err(AsmKind::BadNumber),
+        // A line of the grammar has no bad number, so only other lines are searched for one.
+        None if bad_number(line) => Err(AsmKind::BadNumber),
         None => Err(AsmKind::BadLine),
     }
 }

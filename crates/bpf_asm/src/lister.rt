@@ -66,7 +66,7 @@ fn put_number(text: &mut Vec<u8>, front: &[u8], number: u32, back: &[u8]) -> Res
     text.extend_from_slice(back)
 }
 
-/// Writes the label of a place behind a text.
+/// Writes a text and then the label of a place.
 fn put_label(text: &mut Vec<u8>, front: &[u8], place: usize) -> Result<(), AllocError>
     ensures { OnOk result (text.new.items ≡ text.old.items ++ (front.now ++ label_at place)) }
 {
@@ -87,7 +87,7 @@ fn put_operand(text: &mut Vec<u8>, by: By) -> Result<(), AllocError>
     }
 }
 
-/// Writes a branch that stands at a place, with both labels.
+/// Writes the branch at a place, with both labels.
 #[tactic(auto, unfolding(crate::specs::Listing::instruction_text, crate::specs::StatementSpelling::spellings))]
 fn put_branch(
     text: &mut Vec<u8>,
@@ -109,7 +109,7 @@ fn put_branch(
     put_label(text, b", ", place + 1 + jf as usize)
 }
 
-/// Writes the spelling of the instruction that stands at a place.
+/// Writes the spelling of the instruction at a place.
 #[tactic(auto, unfolding(crate::specs::Listing::instruction_text, crate::specs::StatementSpelling::spellings))]
 fn put_instruction(text: &mut Vec<u8>, place: usize, instr: Instr) -> Result<(), AllocError>
     requires { StaysWithin (2 ^ 64) place instr }
@@ -149,7 +149,7 @@ fn put_instruction(text: &mut Vec<u8>, place: usize, instr: Instr) -> Result<(),
     }
 }
 
-/// Writes the line of the instruction that stands at a place.
+/// Writes the line of the instruction at a place.
 #[tactic(auto, unfolding(crate::specs::Listing::line_text))]
 fn put_line(text: &mut Vec<u8>, place: usize, instr: Instr) -> Result<(), AllocError>
     requires { StaysWithin (2 ^ 64) place instr }
@@ -162,7 +162,7 @@ fn put_line(text: &mut Vec<u8>, place: usize, instr: Instr) -> Result<(), AllocE
     text.extend_from_slice(b"\n")
 }
 
-/// Whether some target of an instruction lies behind a code that has so many instructions behind it.
+/// Returns whether some target of an instruction is outside the code, where `behind` instructions follow it.
 fn leaves(behind: usize, instr: Instr) -> bool
     ensures { (place : ℕ) → MatchBool result
         (Leaves (place + 1 + behind) place instr) (StaysWithin (place + 1 + behind) place instr) }
@@ -174,7 +174,7 @@ fn leaves(behind: usize, instr: Instr) -> bool
     }
 }
 
-/// The first place with a target that is no place of the code.
+/// Returns the first place with a target outside the code.
 fn first_leaving(code: &[Instr]) -> Option<usize>
     ensures found { IfSome result (IsFirstLeaving code.now) }
     ensures none { IfNone result (NoneLeaves code.now) }
@@ -187,12 +187,12 @@ fn first_leaving(code: &[Instr]) -> Option<usize>
     None
 }
 
-/// The listing of a code: for each instruction its place as a label and its spelling. Read as a
-/// source, it means the same code.
+/// Returns the listing of a code: a line for each instruction, with its place as a label and its spelling. The
+/// listing is a source that means the same code.
 ///
 /// # Errors
 ///
-/// `JumpOutside` wherever some target is no place of the code; else `NoMemory` alone.
+/// `JumpOutside` if some target is outside the code; otherwise only `NoMemory`, after an allocation failure.
 pub fn listing(alloc: Global, code: &[Instr]) -> Result<Vec<u8>, ListFault>
     ensures text { IfOk result (λ text. text.items ≡ listing_of code.now) }
     ensures meaning { IfOk result (λ text. IsMeaning text.items code.now) }

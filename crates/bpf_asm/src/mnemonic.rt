@@ -1,10 +1,10 @@
-//! Mnemonics, and what may stand behind each.
+//! Mnemonics, and the operands that each takes.
 
 ghost use Rattle.std.specs.Prelude.{◌≡◌, map, MatchOption};
 ghost use Rattle.bpf_asm.specs.inner.Reading.{ended, entry_of, inverse_of, moved_in, named_in, op_of, other_in, statement_in, test_of};
 ghost use Rattle.bpf_asm.specs.inner.Seen.{statement_seen};
 ghost use Rattle.bpf_asm.specs.StatementSpelling.{plain};
-ghost use Rattle.bpf_asm.specs.Tokens.{tokens_read};
+ghost use Rattle.bpf_asm.specs.Tokens.{tokens_in};
 
 use crate::operand::{after_name, at_end};
 use crate::statement::{
@@ -35,7 +35,7 @@ const TESTS: [(&[u8], Test); 4] = [
     (b"jset", Test::Set),
 ];
 
-/// The mnemonics of branches that go on behind themselves where the test holds.
+/// The mnemonics of branches to one label, which jump if the test fails.
 const INVERSES: [(&[u8], Test); 4] = [
     (b"jne", Test::Eq),
     (b"jneq", Test::Eq),
@@ -43,7 +43,7 @@ const INVERSES: [(&[u8], Test); 4] = [
     (b"jle", Test::Gt),
 ];
 
-/// What a table has for a name.
+/// Returns the entry of a table for a name.
 #[inline(always)]
 fn found_in<T: Copy>(name: &[u8], rows: &[(&[u8], T)]) -> Option<T>
     ensures { result ≡ entry_of name.now (map (λ row. (row.0.now, row.1)) rows.now) }
@@ -58,32 +58,32 @@ fn found_in<T: Copy>(name: &[u8], rows: &[(&[u8], T)]) -> Option<T>
     None
 }
 
-/// The arithmetic of a mnemonic.
+/// Returns the operation of a mnemonic of arithmetic.
 fn op_named(name: &[u8]) -> Option<Op>
     ensures { result ≡ op_of name.now }
 {
     found_in(name, &OPS)
 }
 
-/// The branch of a mnemonic.
+/// Returns the test of a mnemonic of a branch.
 fn test_named(name: &[u8]) -> Option<Test>
     ensures { result ≡ test_of name.now }
 {
     found_in(name, &TESTS)
 }
 
-/// The test that a mnemonic is the opposite of.
+/// Returns the test whose opposite a mnemonic names.
 fn inverse_named(name: &[u8]) -> Option<Test>
     ensures { result ≡ inverse_of name.now }
 {
     found_in(name, &INVERSES)
 }
 
-/// The loads and stores of a mnemonic.
+/// Reads the operands of a mnemonic of a load or a store.
 #[tactic(auto, unfolding(crate::specs::inner::Reading::moved_in))]
 fn moved(name: &[u8], text: &[u8]) -> Option<Instr>
-    ensures { MatchOption result (moved_in name.now (tokens_read text.now) ≡ None)
-        (λ i. moved_in name.now (tokens_read text.now) ≡ Some (plain i)) }
+    ensures { MatchOption result (moved_in name.now (tokens_in text.now) ≡ None)
+        (λ i. moved_in name.now (tokens_in text.now) ≡ Some (plain i)) }
 {
     if name == b"ld".as_slice() {
         return word_load(text);
@@ -112,10 +112,10 @@ fn moved(name: &[u8], text: &[u8]) -> Option<Instr>
     None
 }
 
-/// An instruction without operands.
+/// Returns an instruction without operands, if no token is left.
 fn alone(instr: Instr, text: &[u8]) -> Option<LentStatement<'_>>
-    ensures { MatchOption result (ended (plain instr) (tokens_read text.now) ≡ None)
-        (λ c. ended (plain instr) (tokens_read text.now) ≡ Some (statement_seen c)) }
+    ensures { MatchOption result (ended (plain instr) (tokens_in text.now) ≡ None)
+        (λ c. ended (plain instr) (tokens_in text.now) ≡ Some (statement_seen c)) }
 {
     if at_end(text) {
         Some(LentStatement::Plain(instr))
@@ -124,11 +124,11 @@ fn alone(instr: Instr, text: &[u8]) -> Option<LentStatement<'_>>
     }
 }
 
-/// The other instructions of a mnemonic.
+/// Reads the operands of the other mnemonics.
 #[tactic(auto, unfolding(crate::specs::inner::Reading::other_in))]
 fn other<'a>(name: &[u8], text: &'a [u8]) -> Option<LentStatement<'a>>
-    ensures { MatchOption result (other_in name.now (tokens_read text.entry.now) ≡ None)
-        (λ c. other_in name.now (tokens_read text.entry.now) ≡ Some (statement_seen c)) }
+    ensures { MatchOption result (other_in name.now (tokens_in text.entry.now) ≡ None)
+        (λ c. other_in name.now (tokens_in text.entry.now) ≡ Some (statement_seen c)) }
 {
     if name == b"neg".as_slice() {
         return alone(Instr::Neg, text);
@@ -152,11 +152,11 @@ fn other<'a>(name: &[u8], text: &'a [u8]) -> Option<LentStatement<'a>>
     None
 }
 
-/// The statement of a mnemonic and what is behind it.
+/// Reads the statement of a mnemonic and its operands.
 #[tactic(auto, unfolding(crate::specs::inner::Reading::named_in))]
 pub(crate) fn named<'a>(name: &[u8], text: &'a [u8]) -> Option<LentStatement<'a>>
-    ensures { MatchOption result (named_in name.now (tokens_read text.entry.now) ≡ None)
-        (λ c. named_in name.now (tokens_read text.entry.now) ≡ Some (statement_seen c)) }
+    ensures { MatchOption result (named_in name.now (tokens_in text.entry.now) ≡ None)
+        (λ c. named_in name.now (tokens_in text.entry.now) ≡ Some (statement_seen c)) }
 {
     if let Some(op) = op_named(name) {
         let instr = arithmetic(op, text)?;
@@ -174,11 +174,11 @@ pub(crate) fn named<'a>(name: &[u8], text: &'a [u8]) -> Option<LentStatement<'a>
     other(name, text)
 }
 
-/// The statement of a text's tokens.
+/// Reads a statement.
 #[tactic(auto, unfolding(crate::specs::inner::Reading::statement_in))]
 pub(crate) fn read_statement(text: &[u8]) -> Option<LentStatement<'_>>
-    ensures { MatchOption result (statement_in (tokens_read text.now) ≡ None)
-        (λ c. statement_in (tokens_read text.now) ≡ Some (statement_seen c)) }
+    ensures { MatchOption result (statement_in (tokens_in text.now) ≡ None)
+        (λ c. statement_in (tokens_in text.now) ≡ Some (statement_seen c)) }
 {
     let (name, rest) = after_name(text)?;
     named(name, rest)

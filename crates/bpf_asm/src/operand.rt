@@ -1,59 +1,65 @@
-//! What is cut from the front of a line: octets that are tokens, numbers, names, operands.
+//! Operands and their parts, taken from the front of a text. Each function returns the rest of the text.
 
-ghost use Rattle.std.specs.Prelude.{◌≡◌, ◌≢◌, ◌-◌, ◌%◌, ◌^◌, ℕ, MatchOption};
+ghost use Rattle.std.specs.Prelude.{◌≡◌, ◌≢◌, ◌-◌, ◌%◌, ◌^◌, ℕ, true, MatchOption};
 ghost use Rattle.bpf_asm.specs.inner.Reading.{cut_constant, cut_length, cut_mark, cut_name, cut_number, cut_operand, cut_target, cut_value, cut_word, is_ended};
-ghost use Rattle.bpf_asm.specs.Tokens.{mark, signed_behind, tokens_read};
+ghost use Rattle.bpf_asm.specs.Tokens.{mark, signed_behind, tokens_in};
+ghost use Rattle.bpf_asm.specs.inner.WordRuns.{is_mark};
 
-use crate::token::{LentToken, is_spent, next_mark, next_token};
+use crate::token::{digit, is_spent, next_mark, next_word, number};
 use bpf_code::By;
 
-/// What is behind an octet other than `#`.
+/// Takes this octet, which is not `#`.
+#[inline(always)]
 pub(crate) fn after_mark(text: &[u8], octet: u8) -> Option<&[u8]>
-    requires { octet ≢ 35 }
-    ensures { MatchOption result (cut_mark octet (tokens_read text.now) ≡ None)
-        (λ rest. cut_mark octet (tokens_read text.now) ≡ Some (tokens_read rest.now)) }
+    requires other { octet ≢ 35 }
+    requires mark { is_mark octet ≡ true }
+    ensures { MatchOption result (cut_mark octet (tokens_in text.now) ≡ None)
+        (λ rest. cut_mark octet (tokens_in text.now) ≡ Some (tokens_in rest.now)) }
 {
-    let (found, rest) = next_mark(text)?;
-    if found == octet { Some(rest) } else { None }
+    let rest = next_mark(text, octet)?;
+    Some(rest)
 }
 
-/// A number, and what is behind it.
+/// Takes a number.
 pub(crate) fn after_number(text: &[u8]) -> Option<(u32, &[u8])>
-    ensures { MatchOption result (cut_number (tokens_read text.now) ≡ None)
-        (λ found. cut_number (tokens_read text.now) ≡ Some (found.0, tokens_read found.1.now)) }
+    ensures { MatchOption result (cut_number (tokens_in text.now) ≡ None)
+        (λ found. cut_number (tokens_in text.now) ≡ Some (found.0, tokens_in found.1.now)) }
 {
-    let (token, rest) = next_token(text)?;
-    match token {
-        LentToken::Number(value) => Some((value, rest)),
-        _ => None,
+    let (word, rest) = next_word(text)?;
+    if digit(word[0]) {
+        let value = number(word)?;
+        Some((value, rest))
+    } else {
+        None
     }
 }
 
-/// A name, and what is behind it.
+/// Takes a name.
 pub(crate) fn after_name(text: &[u8]) -> Option<(&[u8], &[u8])>
-    ensures { MatchOption result (cut_name (tokens_read text.now) ≡ None)
-        (λ found. cut_name (tokens_read text.now) ≡ Some (found.0.now, tokens_read found.1.now)) }
+    ensures { MatchOption result (cut_name (tokens_in text.now) ≡ None)
+        (λ found. cut_name (tokens_in text.now) ≡ Some (found.0.now, tokens_in found.1.now)) }
 {
-    let (token, rest) = next_token(text)?;
-    match token {
-        LentToken::Name(name) => Some((name, rest)),
-        _ => None,
+    let (word, rest) = next_word(text)?;
+    if digit(word[0]) {
+        None
+    } else {
+        Some((word, rest))
     }
 }
 
-/// What is behind `#`, and behind whatever follows it.
+/// Takes `#`, whatever follows it.
 fn after_hash(text: &[u8]) -> Option<&[u8]>
-    ensures { MatchOption result (cut_mark 35 (tokens_read text.now) ≡ None)
-        (λ rest. tokens_read text.now ≡ signed_behind (mark 35) (tokens_read rest.now)) }
+    ensures { MatchOption result (cut_mark 35 (tokens_in text.now) ≡ None)
+        (λ rest. tokens_in text.now ≡ signed_behind (mark 35) (tokens_in rest.now)) }
 {
-    let (found, rest) = next_mark(text)?;
-    if found == b'#' { Some(rest) } else { None }
+    let rest = next_mark(text, b'#')?;
+    Some(rest)
 }
 
-/// `#k` or `#-n`, and what is behind it.
+/// Takes `#k` or `#-n`.
 pub(crate) fn after_constant(text: &[u8]) -> Option<(u32, &[u8])>
-    ensures { MatchOption result (cut_constant (tokens_read text.now) ≡ None)
-        (λ found. cut_constant (tokens_read text.now) ≡ Some (found.0, tokens_read found.1.now)) }
+    ensures { MatchOption result (cut_constant (tokens_in text.now) ≡ None)
+        (λ found. cut_constant (tokens_in text.now) ≡ Some (found.0, tokens_in found.1.now)) }
 {
     let text = after_hash(text)?;
     match after_mark(text, b'-') {
@@ -65,50 +71,50 @@ pub(crate) fn after_constant(text: &[u8]) -> Option<(u32, &[u8])>
     }
 }
 
-/// The number that makes 2^32 with another, modulo 2^32.
+/// Returns 2^32 less a number, modulo 2^32.
 fn negated(value: u32) -> u32
     ensures { result ≡ (2 ^ 32 - value) % 2 ^ 32 }
 {
     if value == 0 { 0 } else { u32::MAX - value + 1 }
 }
 
-/// What is behind a name that is this word.
+/// Takes this word.
 pub(crate) fn after_word<'a>(text: &'a [u8], word: &[u8]) -> Option<&'a [u8]>
-    ensures { MatchOption result (cut_word word.now (tokens_read text.entry.now) ≡ None)
-        (λ rest. cut_word word.now (tokens_read text.entry.now) ≡ Some (tokens_read rest.now)) }
+    ensures { MatchOption result (cut_word word.now (tokens_in text.entry.now) ≡ None)
+        (λ rest. cut_word word.now (tokens_in text.entry.now) ≡ Some (tokens_in rest.now)) }
 {
     let (name, rest) = after_name(text)?;
     if name == word { Some(rest) } else { None }
 }
 
-/// What is behind `#len`.
+/// Takes `#len`.
 pub(crate) fn after_length(text: &[u8]) -> Option<&[u8]>
-    ensures { MatchOption result (cut_length (tokens_read text.now) ≡ None)
-        (λ rest. cut_length (tokens_read text.now) ≡ Some (tokens_read rest.now)) }
+    ensures { MatchOption result (cut_length (tokens_in text.now) ≡ None)
+        (λ rest. cut_length (tokens_in text.now) ≡ Some (tokens_in rest.now)) }
 {
     after_word(after_hash(text)?, b"len")
 }
 
-/// What is behind a number of this value.
+/// Takes a number of this value.
 pub(crate) fn after_value(text: &[u8], value: u32) -> Option<&[u8]>
-    ensures { MatchOption result (cut_value value (tokens_read text.now) ≡ None)
-        (λ rest. cut_value value (tokens_read text.now) ≡ Some (tokens_read rest.now)) }
+    ensures { MatchOption result (cut_value value (tokens_in text.now) ≡ None)
+        (λ rest. cut_value value (tokens_in text.now) ≡ Some (tokens_in rest.now)) }
 {
     let (found, rest) = after_number(text)?;
     if found == value { Some(rest) } else { None }
 }
 
-/// Whether no token is left.
+/// Returns whether no token is left.
 pub(crate) fn at_end(text: &[u8]) -> bool
-    ensures { result ≡ is_ended (tokens_read text.now) }
+    ensures { result ≡ is_ended (tokens_in text.now) }
 {
     is_spent(text)
 }
 
-/// An operand of arithmetic or of a branch, and what is behind it.
+/// Takes an operand of arithmetic or of a branch.
 pub(crate) fn after_operand(text: &[u8]) -> Option<(By, &[u8])>
-    ensures { MatchOption result (cut_operand (tokens_read text.now) ≡ None)
-        (λ found. cut_operand (tokens_read text.now) ≡ Some (found.0, tokens_read found.1.now)) }
+    ensures { MatchOption result (cut_operand (tokens_in text.now) ≡ None)
+        (λ found. cut_operand (tokens_in text.now) ≡ Some (found.0, tokens_in found.1.now)) }
 {
     match after_constant(text) {
         Some((k, rest)) => Some((By::Imm(k), rest)),
@@ -119,10 +125,10 @@ pub(crate) fn after_operand(text: &[u8]) -> Option<(By, &[u8])>
     }
 }
 
-/// `, label`, and what is behind it.
+/// Takes `, label`.
 pub(crate) fn after_target(text: &[u8]) -> Option<(&[u8], &[u8])>
-    ensures { MatchOption result (cut_target (tokens_read text.now) ≡ None)
-        (λ found. cut_target (tokens_read text.now) ≡ Some (found.0.now, tokens_read found.1.now)) }
+    ensures { MatchOption result (cut_target (tokens_in text.now) ≡ None)
+        (λ found. cut_target (tokens_in text.now) ≡ Some (found.0.now, tokens_in found.1.now)) }
 {
     after_name(after_mark(text, b',')?)
 }

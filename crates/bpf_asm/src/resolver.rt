@@ -1,4 +1,4 @@
-//! Labels turned into offsets.
+//! Labels become offsets.
 
 ghost use Rattle.std.specs.Prelude.{◌≤◌, ℕ, List, option_copied, IfErr, IfOk};
 ghost use Rattle.bpf_asm.specs.Faults.{IsFirstOperandFault, IsOperandFault, IsStatementFault};
@@ -15,13 +15,13 @@ use crate::statement::LentStatement;
 use crate::unresolved::Draft;
 use bpf_code::Instr;
 
-/// The greatest offset of a branch, whose fields have 8 bits.
+/// The largest offset of a branch, whose fields have 8 bits.
 const MOST_BRANCH: usize = 255;
 
-/// The greatest offset of `ja`, whose field has 32 bits.
+/// The largest offset of `ja`, whose field has 32 bits.
 const MOST_JUMP: usize = 4294967295;
 
-/// The offset of a label in the instruction at a place, of at most so much.
+/// Returns the offset of a label in the instruction at a place, if it is at most `most`.
 fn offset<'a>(
     labels: &Labels<'a>,
     place: usize,
@@ -50,7 +50,7 @@ fn offset<'a>(
     }
 }
 
-/// The offset of a side of a branch.
+/// Returns the offset of one side of a branch.
 fn side<'a>(labels: &Labels<'a>, place: usize, label: Option<&'a [u8]>) -> Result<u8, AsmKind>
     ensures ok { (lines : List Line) (count : ℕ) → AgreesWith lines (place_of labels.now) count →
         IfOk result (IsSide lines place (option_copied label.entry)) }
@@ -66,7 +66,7 @@ fn side<'a>(labels: &Labels<'a>, place: usize, label: Option<&'a [u8]>) -> Resul
     }
 }
 
-/// The instruction that a statement at a place means.
+/// Returns the instruction that a statement at a place means.
 fn resolved<'a>(
     labels: &Labels<'a>,
     place: usize,
@@ -98,8 +98,7 @@ fn resolved<'a>(
     }
 }
 
-/// The code of a draft in which every label stands before an instruction: its labels are turned into
-/// offsets where they stand.
+/// Resolves the labels of a draft in place, and returns its code. An instruction follows each label of the draft.
 pub(crate) fn resolve_all(draft: Draft<'_>) -> Result<Vec<Instr>, AsmFault>
     requires { (lines : List Line) × Drafts lines draft }
     ensures code { (lines : List Line) → Drafts lines draft.entry →

@@ -4,22 +4,22 @@ ghost use Rattle.std.specs.Prelude.{◌≡◌, ◌<◌, ◌≤◌, [], ◌∷◌
 ghost use Rattle.bpf_asm.specs.SourceLines.{source_lines};
 ghost use Rattle.bpf_asm.specs.inner.Feeds.{no_feed};
 
-use memchr::memchr;
-use text_io::before_return;
+use text_io::{before_return, first_feed};
 
-/// How many octets stand before the first line feed.
+/// Returns the number of octets before the first line feed.
+#[inline(always)]
 fn line_len(text: &[u8]) -> usize
     ensures within { result ≤ length text.now }
     ensures line { no_feed (take result text.now) ≡ true }
     ensures feed { result < length text.now → slice_index text.now result ≡ 10 }
 {
-    match memchr(b'\n', text) {
+    match first_feed(text, 0) {
         Some(at) => at,
         None => text.len(),
     }
 }
 
-/// The first line of a text, and what is behind it.
+/// Returns the first line of a text and the rest.
 pub(crate) fn next_line(text: &[u8]) -> Option<(&[u8], &[u8])>
     ensures lines { MatchOption result (source_lines text.now ≡ [])
         (λ found. source_lines text.now ≡ found.0.now ∷ source_lines found.1.now) }

@@ -1,10 +1,10 @@
-//! Statements, read from the tokens of a line.
+//! Statements: the forms of operands after each mnemonic.
 
 ghost use Rattle.std.specs.Prelude.{◌≡◌, true, MatchBool, MatchOption};
 ghost use Rattle.bpf_asm.specs.inner.Reading.{absolute_in, arithmetic_in, bracket_in, branch_in, constant_in, header_in, indexed_in, inverse_in, jump_in, length_in, load_index, load_word, packet, return_in, scratch_in};
 ghost use Rattle.bpf_asm.specs.inner.Seen.{statement_seen};
 ghost use Rattle.bpf_asm.specs.StatementSpelling.{plain};
-ghost use Rattle.bpf_asm.specs.Tokens.{tokens_read};
+ghost use Rattle.bpf_asm.specs.Tokens.{tokens_in};
 
 use crate::operand::{
     after_constant, after_length, after_mark, after_name, after_number, after_operand,
@@ -12,14 +12,14 @@ use crate::operand::{
 };
 use bpf_code::{By, Instr, Op, Size, Test};
 
-/// What an instruction line says, with its labels in the source.
+/// A statement that was read. Its labels borrow from the source.
 #[derive(Clone, Copy)]
 pub(crate) enum LentStatement<'a> {
     /// An instruction without labels.
     Plain(Instr),
     /// A jump to a label.
     Jump(&'a [u8]),
-    /// A branch with the label of each side; a side without one goes on behind the branch.
+    /// A branch with the label of each side; a side without one goes on to the next instruction.
     Branch {
         test: Test,
         by: By,
@@ -28,49 +28,49 @@ pub(crate) enum LentStatement<'a> {
     },
 }
 
-/// `k]` and no more.
+/// Reads `k]` and the end.
 fn bracket(text: &[u8]) -> Option<u32>
-    ensures { result ≡ bracket_in (tokens_read text.now) }
+    ensures { result ≡ bracket_in (tokens_in text.now) }
 {
     let (k, rest) = after_number(text)?;
     let rest = after_mark(rest, b']')?;
     if at_end(rest) { Some(k) } else { None }
 }
 
-/// `[k]` and no more.
+/// Reads `[k]` and the end.
 fn absolute(text: &[u8]) -> Option<u32>
-    ensures { result ≡ absolute_in (tokens_read text.now) }
+    ensures { result ≡ absolute_in (tokens_in text.now) }
 {
     bracket(after_mark(text, b'[')?)
 }
 
-/// `[x+k]` and no more.
+/// Reads `[x+k]` and the end.
 fn indexed(text: &[u8]) -> Option<u32>
-    ensures { result ≡ indexed_in (tokens_read text.now) }
+    ensures { result ≡ indexed_in (tokens_in text.now) }
 {
     let rest = after_mark(text, b'[')?;
     let rest = after_word(rest, b"x")?;
     bracket(after_mark(rest, b'+')?)
 }
 
-/// `#k` and no more.
+/// Reads `#k` and the end.
 fn constant(text: &[u8]) -> Option<u32>
-    ensures { result ≡ constant_in (tokens_read text.now) }
+    ensures { result ≡ constant_in (tokens_in text.now) }
 {
     let (k, rest) = after_constant(text)?;
     if at_end(rest) { Some(k) } else { None }
 }
 
-/// `M[k]` and no more.
+/// Reads `M[k]` and the end.
 pub(crate) fn scratch(text: &[u8]) -> Option<u32>
-    ensures { result ≡ scratch_in (tokens_read text.now) }
+    ensures { result ≡ scratch_in (tokens_in text.now) }
 {
     absolute(after_word(text, b"M")?)
 }
 
-/// `4*([k]&0xf)` and no more.
+/// Reads `4*([k]&0xf)` and the end.
 pub(crate) fn header(text: &[u8]) -> Option<u32>
-    ensures { result ≡ header_in (tokens_read text.now) }
+    ensures { result ≡ header_in (tokens_in text.now) }
 {
     let rest = after_value(text, 4)?;
     let rest = after_mark(rest, b'*')?;
@@ -84,9 +84,9 @@ pub(crate) fn header(text: &[u8]) -> Option<u32>
     if at_end(rest) { Some(k) } else { None }
 }
 
-/// Whether there is `#len` and no more.
+/// Returns whether there is `#len` and the end.
 fn packet_length(text: &[u8]) -> bool
-    ensures { MatchBool result (length_in (tokens_read text.now) ≡ Some true) (length_in (tokens_read text.now) ≡ None) }
+    ensures { MatchBool result (length_in (tokens_in text.now) ≡ Some true) (length_in (tokens_in text.now) ≡ None) }
 {
     match after_length(text) {
         Some(rest) => at_end(rest),
@@ -94,10 +94,10 @@ fn packet_length(text: &[u8]) -> bool
     }
 }
 
-/// The loads of a part of the packet.
+/// Reads the operand of a load from the packet.
 pub(crate) fn packet_load(size: Size, text: &[u8]) -> Option<Instr>
-    ensures { MatchOption result (packet size (tokens_read text.now) ≡ None)
-        (λ i. packet size (tokens_read text.now) ≡ Some (plain i)) }
+    ensures { MatchOption result (packet size (tokens_in text.now) ≡ None)
+        (λ i. packet size (tokens_in text.now) ≡ Some (plain i)) }
 {
     if let Some(k) = absolute(text) {
         return Some(Instr::LoadAbs { size, k });
@@ -106,10 +106,10 @@ pub(crate) fn packet_load(size: Size, text: &[u8]) -> Option<Instr>
     Some(Instr::LoadInd { size, k })
 }
 
-/// The forms of `ld`.
+/// Reads the operand of `ld`.
 pub(crate) fn word_load(text: &[u8]) -> Option<Instr>
-    ensures { MatchOption result (load_word (tokens_read text.now) ≡ None)
-        (λ i. load_word (tokens_read text.now) ≡ Some (plain i)) }
+    ensures { MatchOption result (load_word (tokens_in text.now) ≡ None)
+        (λ i. load_word (tokens_in text.now) ≡ Some (plain i)) }
 {
     if let Some(instr) = packet_load(Size::Word, text) {
         return Some(instr);
@@ -127,10 +127,10 @@ pub(crate) fn word_load(text: &[u8]) -> Option<Instr>
     }
 }
 
-/// The forms of `ldx`.
+/// Reads the operand of `ldx`.
 pub(crate) fn index_load(text: &[u8]) -> Option<Instr>
-    ensures { MatchOption result (load_index (tokens_read text.now) ≡ None)
-        (λ i. load_index (tokens_read text.now) ≡ Some (plain i)) }
+    ensures { MatchOption result (load_index (tokens_in text.now) ≡ None)
+        (λ i. load_index (tokens_in text.now) ≡ Some (plain i)) }
 {
     if let Some(k) = constant(text) {
         return Some(Instr::LdxImm(k));
@@ -145,10 +145,10 @@ pub(crate) fn index_load(text: &[u8]) -> Option<Instr>
     Some(Instr::LdxMsh(k))
 }
 
-/// The forms of `ret`.
+/// Reads the operand of `ret`.
 pub(crate) fn end(text: &[u8]) -> Option<Instr>
-    ensures { MatchOption result (return_in (tokens_read text.now) ≡ None)
-        (λ i. return_in (tokens_read text.now) ≡ Some (plain i)) }
+    ensures { MatchOption result (return_in (tokens_in text.now) ≡ None)
+        (λ i. return_in (tokens_in text.now) ≡ Some (plain i)) }
 {
     if let Some(k) = constant(text) {
         return Some(Instr::RetK(k));
@@ -161,10 +161,10 @@ pub(crate) fn end(text: &[u8]) -> Option<Instr>
     }
 }
 
-/// The forms of arithmetic.
+/// Reads the operand of arithmetic.
 pub(crate) fn arithmetic(op: Op, text: &[u8]) -> Option<Instr>
-    ensures { MatchOption result (arithmetic_in op (tokens_read text.now) ≡ None)
-        (λ i. arithmetic_in op (tokens_read text.now) ≡ Some (plain i)) }
+    ensures { MatchOption result (arithmetic_in op (tokens_in text.now) ≡ None)
+        (λ i. arithmetic_in op (tokens_in text.now) ≡ Some (plain i)) }
 {
     let (by, rest) = after_operand(text)?;
     if at_end(rest) {
@@ -174,10 +174,10 @@ pub(crate) fn arithmetic(op: Op, text: &[u8]) -> Option<Instr>
     }
 }
 
-/// The forms of branches.
+/// Reads the operand and the labels of a branch.
 pub(crate) fn branch(test: Test, text: &[u8]) -> Option<LentStatement<'_>>
-    ensures { MatchOption result (branch_in test (tokens_read text.now) ≡ None)
-        (λ c. branch_in test (tokens_read text.now) ≡ Some (statement_seen c)) }
+    ensures { MatchOption result (branch_in test (tokens_in text.now) ≡ None)
+        (λ c. branch_in test (tokens_in text.now) ≡ Some (statement_seen c)) }
 {
     let (by, rest) = after_operand(text)?;
     let (met, rest) = after_target(rest)?;
@@ -202,10 +202,10 @@ pub(crate) fn branch(test: Test, text: &[u8]) -> Option<LentStatement<'_>>
     }
 }
 
-/// The forms of branches that go on behind themselves where the test holds.
+/// Reads the operand and the label of a branch that jumps if the test fails.
 pub(crate) fn inverse(test: Test, text: &[u8]) -> Option<LentStatement<'_>>
-    ensures { MatchOption result (inverse_in test (tokens_read text.now) ≡ None)
-        (λ c. inverse_in test (tokens_read text.now) ≡ Some (statement_seen c)) }
+    ensures { MatchOption result (inverse_in test (tokens_in text.now) ≡ None)
+        (λ c. inverse_in test (tokens_in text.now) ≡ Some (statement_seen c)) }
 {
     let (by, rest) = after_operand(text)?;
     let (unmet, rest) = after_target(rest)?;
@@ -221,10 +221,10 @@ pub(crate) fn inverse(test: Test, text: &[u8]) -> Option<LentStatement<'_>>
     }
 }
 
-/// The forms of `ja`.
+/// Reads the label of `ja`.
 pub(crate) fn jump(text: &[u8]) -> Option<LentStatement<'_>>
-    ensures { MatchOption result (jump_in (tokens_read text.now) ≡ None)
-        (λ c. jump_in (tokens_read text.now) ≡ Some (statement_seen c)) }
+    ensures { MatchOption result (jump_in (tokens_in text.now) ≡ None)
+        (λ c. jump_in (tokens_in text.now) ≡ Some (statement_seen c)) }
 {
     let (target, rest) = after_name(text)?;
     if at_end(rest) {

@@ -1,4 +1,4 @@
-//! A code whose labels are not resolved yet: the draft of its instructions, and the labels that wait for their places.
+//! The draft of a code, whose labels are not resolved yet.
 
 ghost use Rattle.std.specs.Prelude.{◌≡◌, ◌++◌, List, [], ◌∷◌, length};
 ghost use Rattle.bpf_asm.specs.Grammar.{Line};
@@ -13,7 +13,7 @@ use crate::statement::LentStatement;
 use bpf_code::Instr;
 use std::alloc::{AllocError, Global};
 
-/// An instruction with labels, and where it stands.
+/// An instruction with labels, its line and its place.
 #[derive(Clone, Copy)]
 pub(crate) struct Unresolved<'a> {
     /// Its line, counted from 1.
@@ -24,21 +24,21 @@ pub(crate) struct Unresolved<'a> {
     pub statement: LentStatement<'a>,
 }
 
-/// What the lines of a source say that were read so far. Of a line without a label and without an
-/// instruction nothing is kept, and of an instruction without labels its code alone.
+/// What was read so far. The draft keeps nothing of a line without label and instruction, and only the code of
+/// an instruction without labels.
 #[derive(Drop)]
 pub(crate) struct Draft<'a> {
-    /// The instructions, with offsets of 0 where they have labels.
+    /// The instructions, with offsets of 0 in those with labels.
     pub code: Vec<Instr>,
     /// The instructions with labels, in order.
     pub unresolved: Vec<Unresolved<'a>>,
-    /// The places that labels stand for.
+    /// The places of the labels.
     pub labels: Labels<'a>,
-    /// The first line, counted from 0, with a label that no instruction follows yet.
+    /// The first line, counted from 0, whose label no instruction follows yet.
     pub dangling: Option<usize>,
 }
 
-/// The instruction of a statement, with offsets of 0 where it has labels.
+/// Returns the instruction of a statement, with offsets of 0 if it has labels.
 fn first_form(statement: LentStatement<'_>) -> Instr
     ensures { result ≡ drafted statement.entry }
 {
@@ -54,7 +54,7 @@ fn first_form(statement: LentStatement<'_>) -> Instr
     }
 }
 
-/// The first line whose label no instruction follows yet, behind one line more.
+/// Returns the first line whose label no instruction follows yet, after one more line.
 fn pending_after(pending: Option<usize>, at: usize, said: &LentLine<'_>) -> Option<usize>
     ensures { (before : List Line) → length before ≡ at → IsPending before pending →
         IsPending (before ++ line_seen said.now ∷ []) result }
@@ -79,7 +79,7 @@ impl<'a> Draft<'a> {
     ghost use Rattle.bpf_asm.specs.inner.Seen.{line_seen};
     ghost use Rattle.bpf_asm.specs.inner.Drafts.{AgreesWith, Drafts, IsAddFault, IsTakeFault, IsTwice, Takes, drafted, unresolved_of};
 
-    /// The draft of no lines.
+    /// Returns the draft of no lines.
     pub(crate) fn new(alloc: Global) -> Draft<'a>
         ensures { Drafts [] result }
     {
@@ -91,7 +91,7 @@ impl<'a> Draft<'a> {
         }
     }
 
-    /// Gives the label of a line, if it has one, the next place. Whether it is new.
+    /// Sets the place of a line's label, if it has one, to the next place. Returns whether the label is new.
     fn define(&mut self, said: LentLine<'a>) -> Result<bool, AllocError>
         ensures code { self.new.code ≡ self.old.code }
         ensures unresolved { self.new.unresolved ≡ self.old.unresolved }
@@ -109,7 +109,7 @@ impl<'a> Draft<'a> {
         }
     }
 
-    /// Adds an instruction of a line, which counts from 1.
+    /// Adds the statement of a line, which is counted from 1.
     fn put(&mut self, line: usize, statement: LentStatement<'a>) -> Result<(), AllocError>
         ensures labels { self.new.labels ≡ self.old.labels }
         ensures dangling { self.new.dangling ≡ self.old.dangling }
@@ -129,7 +129,7 @@ impl<'a> Draft<'a> {
         Ok(())
     }
 
-    /// Adds what a line says, which counts from 0.
+    /// Adds the label and the statement of a line, which is counted from 0.
     fn add(&mut self, at: usize, said: LentLine<'a>) -> Result<(), AsmKind>
         requires { at < 2 ^ 64 - 1 }
         ensures drafts { OnOk result ((lines : List Line) → length lines ≡ at → Drafts lines self.old →
@@ -149,7 +149,7 @@ impl<'a> Draft<'a> {
         }
     }
 
-    /// Reads a line, which counts from 0, and adds what it says.
+    /// Reads a line, which is counted from 0, and adds its label and its statement.
     pub(crate) fn take_line(&mut self, at: usize, line: &'a [u8]) -> Result<(), AsmKind>
         requires { at < 2 ^ 64 - 1 }
         ensures taken { OnOk result ((lines : List Line) → length lines ≡ at → Drafts lines self.old →

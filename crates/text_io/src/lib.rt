@@ -26,7 +26,7 @@ pub use device::{Failed, Input, Output};
 pub use driver::answer_lines;
 pub use ending::{Done, RunFault};
 pub use gathering::gather;
-pub use line_ends::before_return;
+pub use line_ends::{before_return, first_feed};
 pub use machine::{Machine, Turn};
 pub use stream::{Giving, Taking};
 pub use words::{LineWords, first_word, line_words};

@@ -19,7 +19,7 @@ unfolding tokens_read signed
 read_cons text rest token e = ap signed e
 
 -- A mark stands in front, whatever is behind it.
-cut_mark-found : (octet : ℕ) (tokens : List Token) → octet ≢ 35 → signed_behind (mark octet) tokens ≡ mark octet ∷ tokens
+pub cut_mark-found : (octet : ℕ) (tokens : List Token) → octet ≢ 35 → signed_behind (mark octet) tokens ≡ mark octet ∷ tokens
 cut_mark-found octet [] h = refl
 cut_mark-found octet (name octets ∷ tokens) h = refl
 cut_mark-found octet (number value ∷ tokens) h = refl
@@ -30,7 +30,7 @@ cut_mark-found octet (mark minus ∷ faulty ∷ tokens) h = refl
 cut_mark-found octet (mark minus ∷ mark other ∷ tokens) h = refl
 cut_mark-found octet (mark minus ∷ number value ∷ tokens) h = rw (ne_eqb octet 35 h) refl
 
-mark_behind : (found octet : ℕ) (tokens : List Token) → (found == octet) ≡ false → cut_mark octet (signed_behind (mark found) tokens) ≡ None
+pub mark_behind : (found octet : ℕ) (tokens : List Token) → (found == octet) ≡ false → cut_mark octet (signed_behind (mark found) tokens) ≡ None
 mark_behind found octet [] h = rw h refl
 mark_behind found octet (name octets ∷ tokens) h = rw h refl
 mark_behind found octet (number value ∷ tokens) h = rw h refl
@@ -76,7 +76,7 @@ number_found value text rest token m e =
     let whole : tokens_of text ≡ number value ∷ tokens_of rest = e ∙ ap (λ (t : LentToken). token_seen t ∷ tokens_of rest) m in
     rw (read_cons text rest (number value) whole) refl
 
-number_behind : (found : ℕ) (tokens : List Token) → cut_number (signed_behind (mark found) tokens) ≡ None
+pub number_behind : (found : ℕ) (tokens : List Token) → cut_number (signed_behind (mark found) tokens) ≡ None
 number_behind found [] = refl
 number_behind found (name octets ∷ tokens) = refl
 number_behind found (number value ∷ tokens) = refl
@@ -99,7 +99,7 @@ name_found octets text rest token m e =
     let whole : tokens_of text ≡ name octets.now ∷ tokens_of rest = e ∙ ap (λ (t : LentToken). token_seen t ∷ tokens_of rest) m in
     rw (read_cons text rest (name octets.now) whole) refl
 
-name_behind : (found : ℕ) (tokens : List Token) → cut_name (signed_behind (mark found) tokens) ≡ None
+pub name_behind : (found : ℕ) (tokens : List Token) → cut_name (signed_behind (mark found) tokens) ≡ None
 name_behind found [] = refl
 name_behind found (name octets ∷ tokens) = refl
 name_behind found (number value ∷ tokens) = refl

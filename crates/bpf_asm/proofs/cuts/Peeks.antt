@@ -1,12 +1,14 @@
 -- What a text begins with, as far as its first octet tells.
-use Rattle.std.proofs.Common.{◌≡◌, ◌≢◌, ℕ, ◌<◌, Bool, true, false, ◌&&◌, ◌==◌, if◌then◌else◌, List, [], ◌∷◌, Option, Some, None, length, get_or, drop, refl, sym, ap, ◌∙◌, arith}
-use Rattle.std.proofs.lemmas.Bool.{ne_eqb}
+use Rattle.std.proofs.Common.{◌≡◌, ℕ, ◌<◌, Bool, true, false, ◌&&◌, ◌==◌, if◌then◌else◌, List, [], ◌∷◌, Option, Some, None, length, get_or, drop, refl, sym, ap, ◌∙◌, arith}
 use Rattle.std.specs.List.{cons_option, filter_map}
 use Rattle.text_io.specs.Words.{is_blank, is_digit}
 use Rattle.bpf_asm.specs.inner.Reading.{cut_mark, is_ended}
 use Rattle.bpf_asm.specs.Numbers.{number_of}
-use Rattle.bpf_asm.specs.Tokens.{Token, name, mark, is_run, is_word, joined, number_token, pieces_of, signed, signed_behind, token_of, tokens_of, tokens_read, word_token}
-use Rattle.bpf_asm.proofs.cuts.Cuts.{read_none, some_behind}
+use Rattle.bpf_asm.specs.SourceLines.{without_comment}
+use Rattle.bpf_asm.specs.Tokens.{Token, name, mark, is_run, is_word, joined, number_token, pieces_of, signed, signed_behind, token_of, tokens_in, tokens_of, tokens_read, word_token}
+use Rattle.bpf_asm.specs.inner.LineTokens.{line_tokens}
+use Rattle.bpf_asm.proofs.cuts.Cuts.{mark_none, read_none, some_behind}
+use Rattle.bpf_asm.proofs.octets.Comments.{apart_comment, comment_first, word_apart}
 use Rattle.bpf_asm.proofs.octets.Reading.{mark_first, tokens_of-none}
 
 -- A piece that begins with an octet of a word.
@@ -57,15 +59,30 @@ unfolding tokens_read signed
 read-begun text token tokens e = ap signed e
 
 -- Where a word stands no mark is cut.
-pub no_mark : (text : List ℕ) → 0 < length text → is_word (get_or text 0 0) ≡ true → (octet : ℕ) → cut_mark octet (tokens_read text) ≡ None
+no_mark : (text : List ℕ) → 0 < length text → is_word (get_or text 0 0) ≡ true → (octet : ℕ) → cut_mark octet (tokens_read text) ≡ None
 no_mark [] some w octet = absurd (omega arith)
 no_mark (first ∷ rest) some w octet =
     let begins = word-begun first rest w in
     rw (read-begun (first ∷ rest) (word_token (first ∷ begins.0)) begins.1 begins.2) (word-no_mark octet first begins.0 (signed begins.1))
 
-pub read-same : (text skipped : List ℕ) → tokens_of skipped ≡ tokens_of text → tokens_read skipped ≡ tokens_read text
+read-same : (text skipped : List ℕ) → tokens_of skipped ≡ tokens_of text → tokens_read skipped ≡ tokens_read text
 unfolding tokens_read
 read-same text skipped e = ap signed e
+
+-- Nor before a comment.
+pub word_no_cut : (text : List ℕ) → 0 < length text → is_word (get_or text 0 0) ≡ true → (octet : ℕ) → cut_mark octet (tokens_in text) ≡ None
+unfolding tokens_in
+word_no_cut [] some w octet = absurd (omega arith)
+word_no_cut (first ∷ rest) some w octet = rw (apart_comment first rest (word_apart first w)) (no_mark (first ∷ without_comment rest) (omega arith) w octet)
+
+-- Where there is no token, no mark is cut.
+pub none_no_cut : (text : List ℕ) → line_tokens text ≡ [] → (octet : ℕ) → cut_mark octet (tokens_in text) ≡ None
+unfolding tokens_in
+none_no_cut text e octet = mark_none octet (without_comment text) e
+
+pub line_same : (text skipped : List ℕ) → line_tokens skipped ≡ line_tokens text → tokens_in skipped ≡ tokens_in text
+unfolding tokens_in
+line_same text skipped e = read-same (without_comment text) (without_comment skipped) e
 
 -- A text that begins with no blank has a token.
 first-token : (first : ℕ) (rest : List ℕ) (b : Bool) → is_word first ≡ b → is_blank first ≡ false → is_ended (tokens_read (first ∷ rest)) ≡ false
@@ -76,13 +93,17 @@ first-token first rest false w blank =
     let begins = mark_first (first ∷ rest) (omega arith) w blank in
     ap is_ended (read-begun (first ∷ rest) (mark first) (tokens_of (drop 1 (first ∷ rest))) begins) ∙ some_behind (mark first) (signed (tokens_of (drop 1 (first ∷ rest))))
 
-spent-skipped : (skipped : List ℕ) (t : Bool) → (0 < length skipped → is_blank (get_or skipped 0 0) ≡ false) → t ≡ (length skipped == 0) → t ≡ is_ended (tokens_read skipped)
-spent-skipped [] t begins is = is ∙ sym (ap is_ended (read_none [] (tokens_of-none [] refl)))
-spent-skipped (first ∷ rest) t begins is =
-    let more : length (first ∷ rest) ≢ 0 = λ e. omega (arith, e) in
-    is ∙ ne_eqb (length (first ∷ rest)) 0 more ∙ sym (first-token first rest (is_word first) refl (begins (omega arith)))
+-- Where there is no token, none is left.
+pub spent_none : (text : List ℕ) → line_tokens text ≡ [] → true ≡ is_ended (tokens_in text)
+unfolding tokens_in
+spent_none text e = sym (ap is_ended (read_none (without_comment text) e))
 
--- What is left behind blanks tells whether there is a token.
-pub spent-read : (text skipped : List ℕ) (t : Bool) → tokens_of skipped ≡ tokens_of text
-    → (0 < length skipped → is_blank (get_or skipped 0 0) ≡ false) → t ≡ (length skipped == 0) → t ≡ is_ended (tokens_read text)
-spent-read text skipped t same begins is = spent-skipped skipped t begins is ∙ ap is_ended (read-same text skipped same)
+spent_by : (first : ℕ) (rest : List ℕ) (t : Bool) → (first == 59) ≡ t → is_blank first ≡ false → t ≡ is_ended (tokens_in (first ∷ rest))
+unfolding tokens_in
+spent_by first rest true e blank = rw (comment_first first rest e) (sym (ap is_ended (read_none [] (tokens_of-none [] refl))))
+spent_by first rest false e blank = rw (apart_comment first rest e) (sym (first-token first (without_comment rest) (is_word first) refl blank))
+
+-- After blanks the first octet tells whether a token is left: none is where a comment begins.
+pub spent_first : (text : List ℕ) → 0 < length text → is_blank (get_or text 0 0) ≡ false → (get_or text 0 0 == 59) ≡ is_ended (tokens_in text)
+spent_first [] some blank = absurd (omega arith)
+spent_first (first ∷ rest) some blank = spent_by first rest (first == 59) refl blank

@@ -41,7 +41,8 @@ pub mark_first : (text : List ℕ) → 0 < length text → is_word (get_or text 
 mark_first [] h w b = absurd (omega arith)
 mark_first (octet ∷ rest) h w b = tokens_of-mark octet rest w b
 
-some_word : (text : List ℕ) (at : ℕ) → is_word (get_or text 0 0) ≡ true → is_run (drop at text) ≡ false → 0 < length text → 0 < at
+-- A run that begins with an octet of a word has one octet at least.
+pub some_word : (text : List ℕ) (at : ℕ) → is_word (get_or text 0 0) ≡ true → is_run (drop at text) ≡ false → 0 < length text → 0 < at
 some_word [] at w r h = absurd (omega arith)
 some_word (octet ∷ rest) zero w r h = let both : true ≡ false = sym w ∙ r in cc
 some_word (octet ∷ rest) (suc at) w r h = omega arith

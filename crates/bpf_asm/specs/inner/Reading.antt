@@ -1,6 +1,6 @@
 -- How the tokens of a line are read as a statement: the table of spellings turned round. That it is the
 -- table is a law.
-use Rattle.std.specs.Prelude.{ℕ, Bool, true, false, ◌==◌, if◌then◌else◌, List, [], ◌∷◌, Option, Some, None, codes}
+use Rattle.std.specs.Prelude.{◌≡◌, ℕ, Bool, true, false, ◌==◌, if◌then◌else◌, List, [], ◌∷◌, Option, Some, None, codes}
 use Rattle.std.specs.Option.{option_and_then, option_map_or}
 use Rattle.std.specs.Str.{bytes_eq}
 use Rattle.bpf_asm.specs.Grammar.{Line}
@@ -49,6 +49,10 @@ cut_number _ = None
 abbrev pub cut_name : List Token → Option (List ℕ × List Token)
 cut_name (name octets ∷ tokens) = Some (octets, tokens)
 cut_name _ = None
+
+-- Neither a name nor a number comes first.
+abbrev pub HasNoWord : List Token → Type 0
+HasNoWord tokens = (cut_name tokens ≡ None) × (cut_number tokens ≡ None)
 
 -- What is behind this name.
 abbrev pub cut_word : List ℕ → List Token → Option (List Token)

@@ -4,12 +4,12 @@ use Rattle.bpf_asm.proofs.spellings.LineRead.{bad_line_is, bad_number_is, said_l
 use Rattle.bpf_asm.proofs.line.read_line.Goals as goal
 
 pub returns-in-Some-clause-said : goal.returns-in-Some-clause-said
-returns-in-Some-clause-said c = said_line c.args.line.now c.before_comment-text.result.now (line_seen c.in-Some.said) c.before_comment-text.ensures c.in-Some.ensures
+returns-in-Some-clause-said c = said_line c.args.line.now (line_seen c.in-Some.said) c.in-Some.ensures
 
 pub returns-in-None-clause-fault : goal.returns-in-None-clause-fault
 returns-in-None-clause-fault c = λ before.
-    bad_number_is c.args.line.now c.before_comment-text.result.now before c.before_comment-text.ensures (sym c.bad_number.ensures ∙ c.if-bad_number.true)
+    bad_number_is c.args.line.now before (sym c.bad_number.ensures ∙ c.if-bad_number.true)
 
 pub returns-in-None-2-clause-fault : goal.returns-in-None-2-clause-fault
 returns-in-None-2-clause-fault c = λ before.
-    bad_line_is c.args.line.now c.before_comment-text.result.now before c.before_comment-text.ensures (sym c.bad_number.ensures ∙ c.if-bad_number.false) c.in-None-2.ensures
+    bad_line_is c.args.line.now before (sym c.bad_number.ensures ∙ c.if-bad_number.false) c.in-None-2.ensures

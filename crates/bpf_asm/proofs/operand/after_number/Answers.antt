@@ -1,11 +1,15 @@
-use Rattle.bpf_asm.proofs.cuts.Cuts.{number_default, number_found, number_none}
+use Rattle.std.proofs.Common.{sym, ◌∙◌}
+use Rattle.bpf_asm.proofs.cuts.FirstWords.{faulty_no_number, name_no_number, number_cut}
 use Rattle.bpf_asm.proofs.operand.after_number.Goals as goal
 
-pub returns-in_err-token : goal.returns-in_err-token
-returns-in_err-token c = rw c.from_residual.ensures (number_none c.args.text.now c.in_err-token.ensures.tokens)
+pub returns-in_err-word : goal.returns-in_err-word
+returns-in_err-word c = rw c.from_residual.ensures c.in_err-word.ensures.1
 
-pub returns-in-Number : goal.returns-in-Number
-returns-in-Number c = number_found c.in-Number.value c.args.text.now c.in_ok-token.rest.now c.in_ok-token.token c.in-Number.is c.in_ok-token.ensures.tokens
+pub returns-in_err-value : goal.returns-in_err-value
+returns-in_err-value c = rw c.from_residual-in_err-value.ensures (faulty_no_number c.in_ok-word.word.now c.args.text.now c.in_ok-word.rest.now c.in_ok-word.ensures.0 (sym c.digit.ensures ∙ c.if-digit.true) (sym c.in_err-value.ensures) c.in_ok-word.ensures.1)
 
-pub returns-in_default : goal.returns-in_default
-returns-in_default c = number_default c.args.text.now c.in_ok-token.rest.now c.in_ok-token.token c.in_default.not-Number c.in_ok-token.ensures.tokens
+pub returns-in_ok-value : goal.returns-in_ok-value
+returns-in_ok-value c = number_cut c.in_ok-word.word.now c.args.text.now c.in_ok-word.rest.now c.in_ok-value.value c.in_ok-word.ensures.0 (sym c.digit.ensures ∙ c.if-digit.true) (sym c.in_ok-value.ensures) c.in_ok-word.ensures.1
+
+pub returns-else-digit : goal.returns-else-digit
+returns-else-digit c = name_no_number c.in_ok-word.word.now c.args.text.now c.in_ok-word.rest.now c.in_ok-word.ensures.0 (sym c.digit.ensures ∙ c.if-digit.false) c.in_ok-word.ensures.1
