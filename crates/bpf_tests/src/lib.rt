@@ -1,5 +1,5 @@
-//! Tests of the crates below the card: cells, instructions, the assembler, the check of programs, the machine.
-//! They call only public items. A crate with tests is proved twice, so the tests have this crate of their own.
+//! Tests of cells, instructions, the assembler, the check of programs, and the machine. They call only public items.
+//! The tests have their own crate because a crate with tests is proved twice.
 #![tactic(auto)]
 
 #[cfg(test)]

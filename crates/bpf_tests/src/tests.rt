@@ -1,4 +1,4 @@
-//! A module for each crate.
+//! One module for each crate.
 
 mod assembly;
 mod cells;
@@ -9,7 +9,7 @@ mod machine;
 use std::alloc::{AllocError, Global};
 use std::fmt::Display;
 
-/// The text that a value is printed as.
+/// The text of a value.
 fn text_of(alloc: Global, value: &impl Display) -> Result<String, AllocError> {
     format!(in alloc; "{value}")
 }

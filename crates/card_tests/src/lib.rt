@@ -1,5 +1,5 @@
-//! Tests of what a card is made of: buckets, the arena, lines with their journals, and whole cards step by step.
-//! They call only public items. A crate with tests is proved twice, so the tests have this crate of their own.
+//! Tests of the parts of a card: buckets, the arena, lines with their journals, and whole cards step by step. They
+//! call only public items. The tests have their own crate because a crate with tests is proved twice.
 #![tactic(auto)]
 
 #[cfg(test)]

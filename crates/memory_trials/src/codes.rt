@@ -1,4 +1,4 @@
-//! Codes: read, written, assembled and listed.
+//! Codes: decoding, encoding, assembling and listing.
 
 use crate::trial::{Attempt, Call, ample_if, refused_if, try_out};
 use bpf_asm::{AsmKind, ListFault, assemble, listing};
@@ -11,10 +11,10 @@ const OCTETS: [u8; 16] = [0, 7, 0, 0, 0, 0, 0, 0, 0, 6, 0, 0, 0, 0, 0, 1];
 /// A source with a label and a jump to it.
 const SOURCE: &[u8; 37] = b"  ja end ; over one\n  tax\nend: ret #1";
 
-/// The octets of that source.
+/// The code of that source.
 const ASSEMBLED: [Instr; 3] = [Instr::Jump(1), Instr::Tax, Instr::RetK(1)];
 
-/// What `listing` writes of them.
+/// The listing of that code.
 const LISTING: &[u8; 29] = b"L0: ja L2\nL1: tax\nL2: ret #1\n";
 
 #[derive(Drop)]

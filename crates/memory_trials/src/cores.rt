@@ -1,4 +1,4 @@
-//! The card, one step at a time.
+//! The card, step by step.
 
 use crate::trial::{Attempt, Call, ample_if, refused_if, try_out};
 use arrayvec::ArrayVec;
@@ -40,7 +40,7 @@ pub fn try_new_core(alloc: Global) -> Attempt {
     try_out(&mut MakingCore { alloc })
 }
 
-/// A program that gives this value for every cell.
+/// A program that returns this value for every cell.
 fn constant(alloc: Global, value: u32) -> Result<Program, AllocError> {
     let code = vec![in alloc; Instr::RetK(value)]?;
     match verify(code) {
@@ -49,7 +49,7 @@ fn constant(alloc: Global, value: u32) -> Result<Program, AllocError> {
     }
 }
 
-/// The connection of every cell here.
+/// The connection of every cell in this file.
 fn vc() -> Vc {
     Vc { vpi: 0, vci: 0 }
 }
@@ -87,7 +87,7 @@ impl Call for Loading<'_> {
     }
 }
 
-/// Sets up the connection, whose cells ask for this program.
+/// Sets up the connection with this program.
 #[derive(Drop)]
 struct SettingUp<'a> {
     alloc: Global,
@@ -125,7 +125,7 @@ impl Call for SettingUp<'_> {
     }
 }
 
-/// Gives the connection another program between the pick of a cell and its judgement.
+/// Gives the connection another program between the look-up of a cell and its judgement.
 #[derive(Drop)]
 struct Policing<'a> {
     alloc: Global,
@@ -187,7 +187,7 @@ impl Call for Policing<'_> {
     }
 }
 
-/// Loads two programs, and gives their ids, if that was done.
+/// Loads two programs, and returns their ids if that succeeds.
 fn load_two(alloc: Global, core: &mut Core) -> (Attempt, Option<(Id, Id)>) {
     let mut loading = Loading {
         alloc,
@@ -198,7 +198,7 @@ fn load_two(alloc: Global, core: &mut Core) -> (Attempt, Option<(Id, Id)>) {
     (outcome, loading.ids)
 }
 
-/// Sets up the connection, whose cells ask for this program.
+/// Sets up the connection with this program.
 fn set_up(alloc: Global, core: &mut Core, program: Id) -> Attempt {
     try_out(&mut SettingUp {
         alloc,
@@ -207,7 +207,7 @@ fn set_up(alloc: Global, core: &mut Core, program: Id) -> Attempt {
     })
 }
 
-/// Polices a cell, with a reload between its pick and its judgement.
+/// Polices a cell, with a reload between look-up and judgement.
 fn police_one(alloc: Global, core: &mut Core, first: Id, second: Id) -> Attempt {
     try_out(&mut Policing {
         alloc,
@@ -217,7 +217,7 @@ fn police_one(alloc: Global, core: &mut Core, first: Id, second: Id) -> Attempt 
     })
 }
 
-/// `Core::run`, of lists that are cut where a step needs an id that an earlier one answered.
+/// `Core::run`, with a new list wherever a step needs an id that an earlier one returned.
 pub fn try_run(alloc: Global) -> Attempt {
     let Ok(mut core) = Core::new(alloc, shape()) else {
         return Attempt::Refused;
@@ -231,8 +231,8 @@ pub fn try_run(alloc: Global) -> Attempt {
         .then(police_one(alloc, &mut core, first, second))
 }
 
-/// A connection, and five cells of it. Once it is set up neither its cells nor its release are refused for want of memory,
-/// whatever is.
+/// A connection and five of its cells. After the setup, neither the cells nor the release fail, whichever allocation
+/// does.
 pub fn try_cells(alloc: Global) -> Attempt {
     let Ok(mut core) = Core::new(alloc, shape()) else {
         return Attempt::Refused;
@@ -252,7 +252,7 @@ pub fn try_cells(alloc: Global) -> Attempt {
     ample_if(hands_out_five(&mut core))
 }
 
-/// Sets up the connection, by one call.
+/// Sets up the connection with one call.
 fn set_up_once(alloc: Global, core: &mut Core, program: Id) -> Attempt {
     let mut setting_up = SettingUp {
         alloc,
@@ -262,7 +262,7 @@ fn set_up_once(alloc: Global, core: &mut Core, program: Id) -> Attempt {
     setting_up.make()
 }
 
-/// How many entries a piece has, if the reply hands one out.
+/// The number of entries of a piece, if the reply has one.
 fn entries_of(reply: Reply) -> Option<usize> {
     match reply {
         Reply::Cut(piece) | Reply::Released(piece) => Some(piece.entries().len()),
@@ -270,7 +270,7 @@ fn entries_of(reply: Reply) -> Option<usize> {
     }
 }
 
-/// Whether the connection's five cells are handed out: by the cut, or by the release where the cut lacks memory.
+/// Whether the connection's five cells are returned: by the cut, or by the release if the cut has no memory.
 fn hands_out_five(core: &mut Core) -> bool {
     let reply = core.step(Step::Cut(vc()));
     let is_refused = matches!(reply, Reply::Refused(DeskFault::NoMemory));
@@ -283,7 +283,7 @@ fn hands_out_five(core: &mut Core) -> bool {
     }
 }
 
-/// Whether a cell of this moment was judged.
+/// Whether a cell at this moment was judged.
 fn police(core: &mut Core, moment: u64) -> bool {
     core.enter(0, Cell::from([0; 52]), moment);
     core.pick(0);

@@ -1,8 +1,8 @@
-//! Makes each call that may be refused memory, and makes it again where it was refused.
+//! Makes each call that may fail with NoMemory, and makes it again if it failed.
 //!
-//! A line is printed for each: its name, and whether it gave its ample answer at once, or was refused and gave it when it
-//! was made again. Anything else is status 1. `tests/memory-trials` runs this program with its first request for memory
-//! refused, then with its second, and so on.
+//! Prints one line for each: its name, and whether it succeeded at once or only when it was made again. Anything else
+//! is status 1. `tests/memory-trials` runs this program with its first allocation refused, then with its second, and
+//! so on.
 #![tactic(auto)]
 
 mod codes;
@@ -17,17 +17,17 @@ use std::io;
 use std::process::ExitCode;
 use trial::Attempt;
 
-/// A call by its name.
+/// A call and its name.
 type Trial = (&'static str, fn(Global) -> Attempt);
 
-/// The name that the words ask for, if they ask for one: its trial alone is made.
+/// The name on the command line, if there is one: only that call is made.
 fn name_asked(rt: &HostRuntime) -> io::Result<Option<String>> {
     Ok(std::env::args(rt)?.nth(1))
 }
 
 fn main(rt: HostRuntime) -> ExitCode {
     let Ok(asked) = name_asked(&rt) else {
-        // The words themselves were refused memory.
+        // Reading the command line failed for lack of memory.
         return ExitCode::SUCCESS;
     };
     let trials: [Trial; 18] = [
@@ -56,7 +56,7 @@ fn main(rt: HostRuntime) -> ExitCode {
             ends_well &= tell(&rt, name, trial(rt.alloc()));
         }
     }
-    // Those that may wait, for a lock or for a thread, are no values of a table.
+    // Calls that may wait, for a lock or a thread, can't be in the table.
     if is_asked(&asked, "Desk::setup, cut, Card::close") {
         let outcome = running::try_card(&rt, rt.alloc());
         ends_well &= tell(&rt, "Desk::setup, cut, Card::close", outcome);
@@ -71,7 +71,7 @@ fn main(rt: HostRuntime) -> ExitCode {
     }
 }
 
-/// Whether this trial is made: where no name was asked for each is.
+/// Whether this call is made: all are if there is no name.
 fn is_asked(asked: &Option<String>, name: &str) -> bool {
     match asked {
         Some(asked) => asked.as_str() == name,
@@ -79,7 +79,7 @@ fn is_asked(asked: &Option<String>, name: &str) -> bool {
     }
 }
 
-/// Prints how a trial ended, and says whether it ended well.
+/// Prints how a trial ended, and returns whether it ended well.
 fn tell(rt: &HostRuntime, name: &str, outcome: Attempt) -> bool {
     let said = match outcome {
         Attempt::Ample => "answered",

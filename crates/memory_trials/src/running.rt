@@ -17,11 +17,10 @@ use std::marker::Brand;
 use std::sync::Wait;
 use upc_cell::{Cell, Side, Vc};
 
-/// The source of a program that gives 1 for user data and 2 for cells of operation.
+/// The source of a program that returns 1 for user data and 2 for OAM cells.
 const SOURCE: &[u8; 60] = b"ldb [3]\nand #0xe\njge #8, oam, data\ndata: ret #1\noam: ret #2\n";
 
-/// The cells of the connection 1/100: their moments, their last header octets, and their verdicts. The last one is a cell of
-/// operation.
+/// The cells of the connection 1/100: moments, last header octets, and verdicts. The last one is an OAM cell.
 const CELLS: [(u64, u8, Verdict); 5] = [
     (0, 0x40, Verdict::Pass),
     (6, 0x40, Verdict::Pass),
@@ -55,7 +54,7 @@ impl Call for MakingCard {
     }
 }
 
-/// Makes a card: no other has its ledgers.
+/// Makes a card with its own ledgers.
 fn make_alone(alloc: Global) -> Attempt {
     let blanks = Blanks::new(2, 2);
     make_card::<Brand>(alloc, shape(), blanks)
@@ -72,7 +71,7 @@ fn make_card<S: Ledgers>(alloc: Global, shape: Shape, blanks: Blanks) -> Attempt
     }
 }
 
-/// Whether these are the seats of two ports that no cell came to yet.
+/// Whether these are the seats of two ports at which no cell has arrived.
 fn are_new<S: Ledgers>(seats: &[PortSeat<S>]) -> bool {
     let [first, second] = seats else {
         return false;
@@ -85,7 +84,7 @@ pub fn try_new_card(alloc: Global) -> Attempt {
     try_out(&mut MakingCard { alloc })
 }
 
-/// A card that is to be closed, with its seats, and the number of the line that judged its cells.
+/// A card to close, its seats, and the number of the line that judged its cells.
 #[derive(Drop)]
 struct ClosingCard<S: Ledgers> {
     alloc: Global,
@@ -95,7 +94,7 @@ struct ClosingCard<S: Ledgers> {
 
 impl<S: Ledgers> Call for ClosingCard<S> {
     fn make(&mut self) -> Attempt
-        // A refused close hands the card and its seats back, as they were.
+        // A failed close returns the card and its seats unchanged.
         ensures handed_back { result ≡ Attempt.Refused → IfSome self.old.unclosed (λ before.
             IsSomeAnd self.new.unclosed (λ after. (after.0 ≡ before.0) × (after.1.items ≡ before.1.items))) }
     {
@@ -122,7 +121,7 @@ fn sums() -> Tally {
     }
 }
 
-/// Whether the line of this number counted the card's five cells, and the other line none, both as its seats did.
+/// Whether the line of this number counted the card's five cells and the other line none, as the seats did.
 fn has_the_sums(closing: &Closing, line: u16) -> bool {
     let counts = match (line, closing.lines.as_slice()) {
         (0, [own, other]) | (1, [other, own]) => (own.counts(), other.counts()),
@@ -131,13 +130,13 @@ fn has_the_sums(closing: &Closing, line: u16) -> bool {
     closing.uneven.is_none() && counts == (sums(), Tally::new())
 }
 
-/// The program of `SOURCE`; none where memory was refused.
+/// The program of `SOURCE`, or none if an allocation fails.
 fn by_payload_type(alloc: Global) -> Option<Program> {
     let code = assemble(alloc, SOURCE).ok()?;
     verify(code).ok()
 }
 
-/// The connection of every cell here.
+/// The connection of every cell in this file.
 fn vc() -> Vc {
     Vc { vpi: 1, vci: 100 }
 }
@@ -150,7 +149,7 @@ fn owner() -> Owner {
     }
 }
 
-/// The connection 1/100, with a cell every 10 ticks, and none more than 5 too early.
+/// The connection 1/100, with a cell every 10 ticks and a tolerance of 5.
 fn asked(program: Id) -> Option<Ask> {
     let mut contracts = ArrayVec::new();
     contracts.push(Contract::Cbr1(Gcra::new(10, 5).ok()?));
@@ -161,7 +160,7 @@ fn asked(program: Id) -> Option<Ask> {
     })
 }
 
-/// Whether this is what [`asked`] asks for.
+/// Whether this equals [`asked`].
 fn is_asked(ask: &Ask, program: Id) -> bool {
     match asked(program) {
         Some(wanted) => {
@@ -173,7 +172,7 @@ fn is_asked(ask: &Ask, program: Id) -> bool {
     }
 }
 
-/// Lets the cells come to both ports in turn, and gives the number of the line that judged them, if each got its verdict.
+/// The cells arrive at both ports in turn. Returns the number of the line that judged them, if each got its verdict.
 fn police<S: Ledgers, R: Wait>(rt: &R, card: &Card<S>, seats: &mut [PortSeat<S>]) -> Option<u16> {
     let mut number = None;
     for (place, (moment, last, wanted)) in CELLS.into_iter().enumerate() {
@@ -213,7 +212,7 @@ impl<S: Ledgers, R: Wait> Call for SettingUp<'_, S, R> {
     }
 }
 
-/// Whether the piece has the connection's five cells in order, and begins where none was judged.
+/// Whether the piece has the connection's five cells in order, and starts before the first.
 fn has_the_cells(piece: &Piece) -> bool {
     for (place, (moment, _, verdict)) in CELLS.into_iter().enumerate() {
         match piece.entries().get(place) {
@@ -227,8 +226,8 @@ fn has_the_cells(piece: &Piece) -> bool {
         && piece.end().counts == sums()
 }
 
-/// Hands out the connection's journal by a cut, and then releases the connection. A cut that is refused changed nothing:
-/// the release hands out all of the journal.
+/// Cuts the connection's journal and then releases the connection. A failed cut changes nothing: the release returns
+/// the whole journal.
 fn hand_out<S: Ledgers, R: Wait>(rt: &R, card: &Card<S>, desk: &mut Desk<S>) -> Attempt {
     let cut = desk.cut(rt, card, vc());
     let Ok(last) = desk.release(rt, card, vc()) else {
@@ -241,8 +240,8 @@ fn hand_out<S: Ledgers, R: Wait>(rt: &R, card: &Card<S>, desk: &mut Desk<S>) -> 
     }
 }
 
-/// Puts a program in, sets up the connection and lets its cells come, none of which takes memory; hands out the journal,
-/// and ends the connection. The number of the line that judged the cells is given too.
+/// Loads a program, sets up the connection, polices its cells, returns the journal and ends the connection. Load and
+/// cells don't fail with NoMemory. Also returns the number of the line that judged the cells.
 fn serve<S: Ledgers, R: Wait>(
     rt: &R,
     card: &Card<S>,
@@ -261,7 +260,7 @@ fn serve<S: Ledgers, R: Wait>(
     Some((set_up.then(hand_out(rt, card, desk)), line))
 }
 
-/// A whole life of a card: it is made, serves a connection, and is closed.
+/// The whole life of a card: it is made, serves a connection, and is closed.
 fn live<S: Ledgers, R: Wait>(rt: &R, alloc: Global, shape: Shape, blanks: Blanks) -> Attempt
     requires names { blanks ≡ S.names }
     requires for_shape { AreFor shape S.names }

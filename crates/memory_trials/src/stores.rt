@@ -10,7 +10,7 @@ use line_record::{DirFault, Directory, Line, LineFault, Owner};
 use std::alloc::Global;
 use upc_cell::Vc;
 
-/// How many entries a journal has here.
+/// The number of entries of a journal.
 const JOURNAL: u32 = 4;
 
 #[derive(Drop)]
@@ -79,7 +79,7 @@ pub fn try_prepare(alloc: Global) -> Attempt {
     }
 }
 
-/// The owner of a line: the first connection of 1/100.
+/// The owner of a line: the first incarnation of 1/100.
 fn owner() -> Owner {
     Owner {
         vc: Vc { vpi: 1, vci: 100 },
@@ -87,7 +87,7 @@ fn owner() -> Owner {
     }
 }
 
-/// One contract: a cell in ten ticks.
+/// One contract: a cell every ten ticks.
 fn contracts() -> ArrayVec<Contract, 4>
     ensures { 0 < length result.items }
 {
@@ -125,13 +125,13 @@ pub fn try_open(alloc: Global) -> Attempt {
     }
 }
 
-/// An id that an arena gave; none where it was refused memory.
+/// An id that an arena gave, or none if an allocation fails.
 fn some_id(alloc: Global) -> Option<Id> {
     let mut arena = Arena::<u64>::new(alloc, 1).ok()?;
     arena.insert(0).ok()
 }
 
-/// A line that serves its owner, and has judged one cell.
+/// A line that serves its owner and has judged one cell.
 fn line_of_one_cell(alloc: Global) -> Option<Line> {
     let program = some_id(alloc)?;
     let mut line = Line::new(alloc, JOURNAL).ok()?;

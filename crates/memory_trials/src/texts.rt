@@ -1,4 +1,4 @@
-//! The dialogues, over an input and an output in memory.
+//! The subcommands, over an input and an output in memory.
 
 use crate::trial::{Attempt, Call, ample_if, made_again, refused_if, try_out};
 use std::alloc::Global;
@@ -9,18 +9,18 @@ use upc_ports::run_ports;
 use upc_programs::{check_source, eval_bytes};
 use upc_run::run_script;
 
-/// A program and two cells, and what `eval` answers.
+/// A program and two cells, and the output of `eval`.
 const INPUT: &[u8; 83] =
     b"0030000000000003001500010000004a00060000000000020006000000000001\n00100640\n0010064a\n";
 
 const VALUES: &[u8; 43] = b"accepted 4\nvalue 1 steps 3\nvalue 2 steps 3\n";
 
-/// A source, and what `check` answers.
+/// A source, and the output of `check`.
 const SOURCE: &[u8; 13] = b"tax\nret #300\n";
 
 const CHECKED: &[u8; 44] = b"accepted 2\n0007000000000000000600000000012c\n";
 
-/// A script in which each thing that takes memory is done, with refusals of the desk between, and what `run` answers.
+/// A script that does everything that allocates, with refusals of the desk in between, and the output of `run`.
 const SCRIPT: &[u8; 341] =
     b"card 2 1 1 16\nload 0006000000000001\nload 0006000000000001\nload 0006000000000001\n\
     setup 1 100 p1 cbr1:10/0\ncell 0 00100640\nretire p1\nreload 1 100 p2\ncell 5 00100640\n\
@@ -34,7 +34,7 @@ const ANSWERS: &[u8; 334] =
     fault desk 1 NoProgram\nfault desk 3 Taken\nfault desk 4 NoLine\nreleased 1/100 2 1 0 1 0\n\
     fault arrive 1 NoConnection\nset 1/100\npass 1/100 p3 1 00100640\ncut 1/100 1 1 0 0 0\n";
 
-/// The dialogues.
+/// The subcommands.
 #[derive(Clone, Copy)]
 enum Dialogue {
     Eval,
@@ -79,11 +79,11 @@ impl Call for Talking {
     }
 }
 
-/// What a dialogue that ended so, and wrote this, is beside its ample text.
+/// The outcome of a subcommand that ended in this way and wrote this, compared with its full output.
 fn outcome_of(ended: Result<Done, RunFault>, written: &[u8], ample: &[u8]) -> Attempt {
     match ended {
         Ok(Done::Whole) => ample_if(written == ample),
-        // An output in memory fails where its growth is refused.
+        // An output in memory fails if it can't grow.
         Err(RunFault::NoMemory | RunFault::WriteFailed) => refused_if(ample.starts_with(written)),
         _ => Attempt::Otherwise,
     }
@@ -108,7 +108,7 @@ pub fn try_script(alloc: Global) -> Attempt {
     try_dialogue(alloc, Dialogue::Run)
 }
 
-/// A script whose cells come to two ports, and what `ports` answers.
+/// A script with two ports, and the output of `ports`.
 const PORTS_SCRIPT: &[u8; 151] = b"card 2 2 2 16\nload 0006000000000001\n\
     setup 1 100 p1 cbr1:10/0\nsetup 1 101 p1 cbr1:10/0\ncell 0 00100640\ncell 0 00100650\n\
     cell 5 00100640\ncell 10 00100650\n";

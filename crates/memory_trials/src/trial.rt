@@ -1,13 +1,13 @@
-//! A call that is made, and made again where it was refused memory.
+//! A call that is made, and made again if it failed with NoMemory.
 
 ghost use Rattle.std.specs.Prelude.{◌≡◌, ◌≢◌, ◌↔◌, IsTrue};
 
-/// What a call answered.
+/// The result of a call.
 #[derive(Clone, Copy, PartialEq, Eq)]
 pub enum Attempt {
-    /// The answer that it gives where there is memory.
+    /// The result that it has when no allocation fails.
     Ample,
-    /// Want of memory, by its own name, and what the call was made on is as it was before.
+    /// NoMemory, and the objects of the call are unchanged.
     Refused,
     /// Anything else.
     Otherwise,
@@ -29,14 +29,14 @@ impl Attempt {
     }
 }
 
-/// A call that may be refused memory, and what it is made on.
+/// A call that may fail with NoMemory, and its objects.
 pub trait Call {
     /// Makes the call.
     fn make(&mut self) -> Attempt;
 }
 
-/// Makes a call, and makes it again where it was refused: at most one request of a process is refused, so that the
-/// second call has memory.
+/// Makes a call, and makes it again if it failed with NoMemory. At most one allocation of a process is refused, so
+/// the second call has memory.
 pub fn try_out<C: Call>(call: &mut C) -> Attempt {
     match call.make() {
         Attempt::Refused => made_again(call.make()),
@@ -44,7 +44,7 @@ pub fn try_out<C: Call>(call: &mut C) -> Attempt {
     }
 }
 
-/// The outcome of a call that was refused, and answered this when it was made again.
+/// The outcome of a call that failed and then returned this.
 pub fn made_again(again: Attempt) -> Attempt
     ensures refused { result ≡ Attempt.Refused ↔ (again ≡ Attempt.Ample) }
     ensures not_ample { result ≢ Attempt.Ample }
@@ -55,7 +55,7 @@ pub fn made_again(again: Attempt) -> Attempt
     }
 }
 
-/// Whether what is asked holds of an answer.
+/// Ample if this holds of the result.
 pub fn ample_if(holds: bool) -> Attempt
     ensures ample { result ≡ Attempt.Ample ↔ IsTrue holds }
     ensures not_refused { result ≢ Attempt.Refused }
@@ -67,7 +67,7 @@ pub fn ample_if(holds: bool) -> Attempt
     }
 }
 
-/// Whether what is asked holds of what is left where a call was refused.
+/// Refused if this holds of what a failed call left.
 pub fn refused_if(holds: bool) -> Attempt
     ensures refused { result ≡ Attempt.Refused ↔ IsTrue holds }
     ensures not_ample { result ≢ Attempt.Ample }

@@ -1,4 +1,4 @@
--- What the columns of seats tell of the seats.
+-- Columns and the seats that they are from.
 use Rattle.std.proofs.Common.{◌≡◌, ℕ, Option, Some, None, List, map, sym, ap, ◌∙◌}
 use Rattle.std.proofs.lemmas.Simd.{map-map}
 use Rattle.line_record.specs.declared.tally.Tally.{Tally}
@@ -17,7 +17,7 @@ columns_total-of seats = ap total (map-map total (λ (seat : SeatView). seat.tal
 pub columns_on-of : (seats : List SeatView) (line : ℕ) → columns_on (columns_of seats) line ≡ seats_on seats line
 columns_on-of seats line = ap total (map-map (column_on line) (λ (seat : SeatView). seat.tallies) seats)
 
--- Which line is the first uneven one is told by any sums that are equal, line by line.
+-- The first uneven line is the same for equal sums.
 even-along : (lines : List LineView) (one other : ℕ → Tally) → ((line : ℕ) → one line ≡ other line)
     → (number : ℕ) → IsEven lines one number → IsEven lines other number
 even-along lines one other same number even line at = even line at ∙ same number

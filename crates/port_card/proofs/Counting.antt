@@ -8,12 +8,12 @@ use Rattle.line_record.specs.Tally.{nothing, counted, count_of, plus, total, Has
 use Rattle.line_record.proofs.Public.{parts_are_within}
 use Rattle.port_card.specs.Seats.{SeatView, tally_or_nothing, counted_on}
 
--- No cell on each of several lines is no cell.
+-- A sum of zeros is zero.
 pub total-unused : (lines : ℕ) → total (replicate lines nothing) ≡ nothing
 total-unused zero = refl
 total-unused (suc lines) = ap (plus nothing) (total-unused lines)
 
--- What is a part of a tally below 2^62 can count one more.
+-- A tally that is part of a tally with room has room.
 pub room_in-part : (part whole : Tally) (verdict : Verdict) → IsPart part whole → HasRoom whole
     → count_of part verdict + 1 < 18446744073709551616
 room_in-part part whole Pass within room = omega (arith, within.passed, room.passed)
@@ -29,7 +29,7 @@ IsPart-trans part whole larger first second = record {
   refused = omega (arith, first.refused, second.refused);
 }
 
--- One of several tallies can count one more where all of them together are part of a tally that has room.
+-- One of several tallies has room if their sum is part of a tally with room.
 pub room_on-line : (tallies : List Tally) (line : ℕ) (tally whole : Tally) (verdict : Verdict)
     → slice_get tallies line ≡ Some tally → IsPart (total tallies) whole → HasRoom whole
     → count_of tally verdict + 1 < 18446744073709551616
@@ -37,7 +37,7 @@ room_on-line tallies line tally whole verdict at within room =
     room_in-part tally whole verdict
     (IsPart-trans tally (total tallies) whole (parts_are_within.total tallies line tally at) within) room
 
--- The seat of these tallies, once one of them has counted one more cell.
+-- The seat after one of its tallies counts one cell.
 pub counted-seat : (port from line : ℕ) (tallies : List Tally) (here next : Tally) (verdict : Verdict)
     → from ≡ line → slice_get tallies from ≡ Some here → next ≡ counted here verdict
     → (let after : SeatView = record { port = port; tallies = slice_set tallies from next } in after)

@@ -1,4 +1,4 @@
--- Totals of lists that grow at their end.
+-- Sums of lists that grow at their end.
 use Rattle.std.proofs.Common.{◌≡◌, ℕ, ◌+◌, ◌<◌, Option, Some, None, List, [], ◌∷◌, ◌++◌, length, take, drop, map, get_or, refl, sym, ap, subst, ◌∙◌, arith}
 use Rattle.std.specs.Prelude.{slice_get}
 use Rattle.std.proofs.lemmas.List.{map-append, take_more, take-append-drop}
@@ -19,18 +19,18 @@ plus-nothing tally = λ i. record {
   refused = add_nothing tally.refused i;
 }
 
--- The total of a list with one more at its end.
+-- The sum of a list with one more element.
 module _ {X : Type 0} where
   pub total-push : (f : X → Tally) (xs : List X) (x : X) → total (map f (xs ++ x ∷ [])) ≡ plus (total (map f xs)) (f x)
   total-push f xs x = ap total (map-append f xs (x ∷ [])) ∙ totals_join (map f xs) (f x ∷ [])
       ∙ ap (plus (total (map f xs))) (plus-nothing (f x))
 
-  -- One more of a list, from its front.
+  -- One more element of a prefix.
   pub total-more : (f : X → Tally) (xs : List X) (k : ℕ) (d : X) → k < length xs
       → total (map f (take (k + 1) xs)) ≡ plus (total (map f (take k xs))) (f (get_or xs k d))
   total-more f xs k d within = ap (λ (ys : List X). total (map f ys)) (take_more xs k d within) ∙ total-push f (take k xs) (get_or xs k d)
 
-  -- The front is part of the whole.
+  -- The sum of a prefix is part of the whole.
   pub IsPart-take : (f : X → Tally) (xs : List X) (k : ℕ) → IsPart (total (map f (take k xs))) (total (map f xs))
   IsPart-take f xs k =
       let front = map f (take k xs) in
@@ -56,7 +56,7 @@ IsPart-plus one other more another first second = record {
   refused = omega (arith, first.refused, second.refused);
 }
 
--- One line of a seat is part of all of them, also over several seats.
+-- One line of a seat is part of all its lines, also over several seats.
 IsPart-nothing : (tally : Tally) → IsPart nothing tally
 IsPart-nothing tally = record {
   passed = omega arith;

@@ -1,4 +1,4 @@
--- What a release tells of the piece that it hands out, and why it is refused.
+-- The result of a release: the piece, or why it is refused.
 use Rattle.std.proofs.Common.{◌≡◌, ◌≢◌, Some, Ok, Err, sym, ap, subst, ◌∙◌}
 use Rattle.std.specs.Prelude.{MatchResult, IfOk, IfErr}
 use Rattle.std.specs.declared.result.Result.{Result}
@@ -13,7 +13,7 @@ use Rattle.card_core.specs.declared.fault.DeskFault.TheVariants.{Stale}
 use Rattle.card_core.specs.Sections.{holder}
 use Rattle.port_card.specs.Answers.{IsOfRelease}
 
--- What the locked section says of its result.
+-- The contract of the locked section.
 abbrev pub IsServed : Result PieceView DeskFault → LineView → Vc → Seating → Type 0
 IsServed result line vc seating = MatchResult result
     (λ _. line.owner ≡ Some (holder vc seating))

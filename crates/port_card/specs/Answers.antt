@@ -1,4 +1,4 @@
--- What an answer of a running card tells.
+-- What contracts say about the answers of a running card.
 use Rattle.std.specs.Prelude.{◌≡◌, ◌<◌, ◌^◌, ◌≤◌, ℕ, ⊤, List}
 use Rattle.bpf_code.specs.declared.instr.Instr.{Instr}
 use Rattle.bpf_verify.specs.Accepted.{IsAccepted}
@@ -11,13 +11,15 @@ use Rattle.card_core.specs.declared.fault.DeskFault.TheVariants.{NoProgram, NoCo
 use Rattle.card_core.specs.Sections.{JudgedView}
 use Rattle.card_core.specs.Steps.{Gives, cell_after}
 
--- One accepted code gives the value for the cell.
+-- Some accepted code gives this value for the cell.
 pub record IsGiven (cell : List ℕ) (value : ℕ) : Type 0 where
   pub code : List Instr
   pub accepted : IsAccepted code
   pub gives : Gives code cell value
 
--- What is told of a cell that came at this moment and was judged.
+-- About a judged cell that arrived at this moment: the answer has that moment, which is at most 2^62; the cell that
+-- leaves is tagged or unchanged, as the verdict says; a value that is no contract number is refused; some accepted
+-- code gives the value for the cell.
 pub record IsTold (cell : List ℕ) (moment : ℕ) (judged : JudgedView) : Type 0 where
   pub same_moment : judged.moment ≡ moment
   pub in_time : moment ≤ 2 ^ 62
@@ -25,13 +27,13 @@ pub record IsTold (cell : List ℕ) (moment : ℕ) (judged : JudgedView) : Type 
   pub unnamed : IsNoNumber judged.value → judged.verdict ≡ Refuse
   pub given : IsGiven cell judged.value
 
--- Where a cell of this moment is refused for its moment, the moment is to blame.
+-- A cell is refused for its moment only if the moment is too late, or earlier than the one in the answer.
 abbrev pub BlamesRightly : ℕ → Answer → Type 0
 BlamesRightly moment MomentTooLate = 2 ^ 62 < moment
 BlamesRightly moment (MomentBack last) = moment < last
 BlamesRightly moment _ = ⊤
 
--- What a setup may be refused for.
+-- The errors of a setup.
 abbrev pub IsOfSetup : DeskFault → Type 0
 IsOfSetup NoProgram = ⊤
 IsOfSetup Taken = ⊤
@@ -42,25 +44,25 @@ IsOfSetup Stale = ⊤
 IsOfSetup NoMemory = ⊤
 IsOfSetup _ = ⊥
 
--- What a retirement may be refused for.
+-- The errors of a retirement.
 abbrev pub IsOfRetirement : DeskFault → Type 0
 IsOfRetirement NoProgram = ⊤
 IsOfRetirement InUse = ⊤
 IsOfRetirement _ = ⊥
 
--- What a reload may be refused for.
+-- The errors of a reload.
 abbrev pub IsOfReload : DeskFault → Type 0
 IsOfReload NoProgram = ⊤
 IsOfReload NoConnection = ⊤
 IsOfReload _ = ⊥
 
--- What a release may be refused for.
+-- The errors of a release.
 abbrev pub IsOfRelease : DeskFault → Type 0
 IsOfRelease NoConnection = ⊤
 IsOfRelease Stale = ⊤
 IsOfRelease _ = ⊥
 
--- What a cut may be refused for.
+-- The errors of a cut.
 abbrev pub IsOfCut : DeskFault → Type 0
 IsOfCut NoConnection = ⊤
 IsOfCut Stale = ⊤

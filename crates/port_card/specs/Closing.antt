@@ -1,4 +1,4 @@
--- What the close of a card tells: the lines' own counts beside the seats' tallies.
+-- Closing a card: the counts of the lines compared with the tallies of the seats.
 use Rattle.std.specs.Prelude.{◌≡◌, ◌≢◌, ℕ, ◌<◌, ◌≤◌, List, length, map, Option, Some, None, slice_get}
 use Rattle.line_record.specs.declared.tally.Tally.{Tally}
 use Rattle.line_record.specs.Line.{LineView}
@@ -8,40 +8,40 @@ use Rattle.port_card.specs.Seats.{SeatView, tally_on, tally_of_seat}
 use Rattle.port_card.specs.declared.closing.CloseFault.{CloseFault}
 use Rattle.port_card.specs.declared.closing.CloseFault.TheVariants.{Missing, NoMemory}
 
--- What the line counted, over its whole life.
+-- The counts of the line since it was made.
 abbrev pub counts_of : LineView → Tally
 counts_of line = line.state.counts
 
--- What all lines counted together.
+-- The sum of the counts of all lines.
 abbrev pub lines_total : List LineView → Tally
 lines_total lines = total (map counts_of lines)
 
--- What all seats counted together, on all lines.
+-- The sum of the tallies of all seats, over all lines.
 abbrev pub seats_total : List SeatView → Tally
 seats_total seats = total (map tally_of_seat seats)
 
--- What all seats counted together on this line.
+-- The sum of the tallies of all seats for this line.
 abbrev pub seats_on : List SeatView → ℕ → Tally
 seats_on seats line = total (map (tally_on line) seats)
 
--- The line of this number, where there is one, counted what was counted on it otherwise.
+-- The counts of this line, if it exists, are those in `otherwise`.
 abbrev pub IsEven : List LineView → (ℕ → Tally) → ℕ → Type 0
 IsEven lines otherwise number = (line : LineView) → slice_get lines number ≡ Some line
     → counts_of line ≡ otherwise number
 
--- There is a line of this number, and some count of it isn't what was counted on it otherwise.
+-- This line exists, and its counts differ from those in `otherwise`.
 pub record IsUneven (lines : List LineView) (otherwise : ℕ → Tally) (number : ℕ) : Type 0 where
   pub line : LineView
   pub there : slice_get lines number ≡ Some line
   pub differs : counts_of line ≢ otherwise number
 
--- The first line that is uneven; none exactly where each is even.
+-- The first uneven line, or None if all lines are even.
 abbrev pub IsFirstUneven : List LineView → (ℕ → Tally) → Option ℕ → Type 0
 IsFirstUneven lines otherwise None = (number : ℕ) → IsEven lines otherwise number
 IsFirstUneven lines otherwise (Some first) =
     IsUneven lines otherwise first × ((number : ℕ) → number < first → IsEven lines otherwise number)
 
--- Why a card isn't closed: there are fewer seats than ports; or else the memory was refused.
+-- Why a card isn't closed: there are fewer seats than ports, or an allocation failed.
 abbrev pub IsUnclosed : Shape → List SeatView → CloseFault → Type 0
 IsUnclosed shape seats Missing = length seats < shape.ports
 IsUnclosed shape seats NoMemory = shape.ports ≤ length seats

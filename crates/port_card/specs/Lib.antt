@@ -1,5 +1,5 @@
--- The running card: which ledgers count its cells, what stands behind its locks, what an answer and a
--- close tell. To be read in the order Names, Seats, Keeping, Answers, Closing.
+-- The running card: its ledgers, the data behind its locks, its answers and its close. Read Names, Seats, Keeping,
+-- Answers and Closing in this order.
 pub mod Names
 pub mod Seats
 pub mod Keeping

@@ -1,10 +1,10 @@
--- Which ledgers count the cells of a card.
+-- The ledgers that count the cells of a card.
 use Rattle.std.specs.Prelude.{◌≡◌, ℕ}
 use Rattle.card_core.specs.declared.shape.Shape.{Shape}
 
--- Of each verdict there are two ledgers: one has a share behind each line's lock, with the line's
--- count for its amount, and one has a share in each seat, with the seat's count for its amount. These
--- are how many lines and seats there are, and the names of the eight ledgers.
+-- Each verdict has two ledgers. One is divided among the lines: the share behind a line's lock has the amount that
+-- the line counted. The other is divided among the seats in the same way. The record has the number of lines, the
+-- number of seats, and the names of the eight ledgers.
 pub record Names : Type 0 where
   pub lines : ℕ
   pub ports : ℕ
@@ -17,7 +17,7 @@ pub record Names : Type 0 where
   pub refused_on_lines : ℕ
   pub refused_at_seats : ℕ
 
--- The names that a card has which no one chose names for.
+-- Default names, for a type that has no others.
 abbrev pub no_names : Names
 no_names = record {
   lines = 0;
@@ -32,7 +32,7 @@ no_names = record {
   refused_at_seats = 0;
 }
 
--- The ledgers are for a card of this shape: cut into as many shares as it has lines, and ports.
+-- The ledgers fit a card of this shape: one has a share for each line, the other a share for each port.
 pub record AreFor (shape : Shape) (names : Names) : Type 0 where
   pub lines : names.lines ≡ shape.lines
   pub ports : names.ports ≡ shape.ports

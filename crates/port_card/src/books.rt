@@ -1,4 +1,4 @@
-//! The four verdicts' sums, each counted twice: on the lines and at the seats.
+//! The sums by verdict. Each is counted by two ledgers, that of the lines and that of the seats.
 
 ghost use Rattle.std.specs.Prelude.{◌≡◌, ◌+◌, ◌<◌, ◌≤◌, ◌^◌, ◌↔◌, IsTrue};
 
@@ -12,8 +12,7 @@ use line_record::MOST_CELLS;
 use std::marker::Model;
 use std::sync::ledger::{Blank, Book, Ledger, Share};
 
-/// The eight ledgers of a card, before any type stands for them. Contracts see how many lines and
-/// ports they are for, and the names that they have.
+/// The eight ledgers of a card before they are opened. Contracts see the numbers of lines and ports, and the names.
 #[derive(Drop)]
 pub struct Blanks {
     passed_on_lines: Blank,
@@ -54,7 +53,7 @@ impl Model for Blanks {
 }
 
 impl Blanks {
-    /// The ledgers of a card of so many lines and ports.
+    /// The ledgers of a card with this number of lines and ports.
     pub fn new(lines: u64, ports: u64) -> Self
         ensures lines { result.lines ≡ lines }
         ensures ports { result.ports ≡ ports }
@@ -72,8 +71,8 @@ impl Blanks {
     }
 }
 
-/// How many cells got one verdict, by two ledgers: that of the lines and that of the seats.
-/// Contracts see the number.
+/// The number of cells with one verdict, and its two ledgers: that of the lines and that of the seats. Contracts see
+/// the number.
 #[derive(Drop)]
 struct Pair<L: Ledger, M: Ledger> {
     count: u64,
@@ -92,7 +91,7 @@ impl<L: Ledger, M: Ledger> Model for Pair<L, M> {
 }
 
 impl<L: Ledger, M: Ledger> Pair<L, M> {
-    /// Opens both ledgers, and gives the whole share of each.
+    /// Opens both ledgers and returns the whole share of each.
     fn open(on_lines: Blank, at_seats: Blank) -> (Self, Share<L>, Share<M>)
         requires line_name { on_lines.name ≡ L.name }
         requires line_parts { on_lines.parts ≡ L.parts }
@@ -119,7 +118,7 @@ impl<L: Ledger, M: Ledger> Pair<L, M> {
         self.count < MOST_CELLS
     }
 
-    /// Counts one more cell, in both ledgers.
+    /// Counts one cell in both ledgers.
     fn count(&mut self, line: &mut Share<L>, seat: &mut Share<M>)
         requires room { self.old < 2 ^ 62 }
         requires line_part { 0 < line.old.parts }
@@ -133,8 +132,8 @@ impl<L: Ledger, M: Ledger> Pair<L, M> {
         self.count += 1;
     }
 
-    /// Changes nothing. A seat has counted no more than all seats together, which the ledger knows
-    /// and the seat's tallies don't: so a tally has room wherever the card's sum has.
+    /// Changes nothing. Shows that one seat has counted at most as many cells as all seats together. Only the ledger
+    /// knows this; so a tally has room if the card's sum has.
     fn bound(&mut self, seat: &mut Share<M>)
         ensures same { self.new ≡ self.old }
         ensures seat { (seat.new.parts ≡ seat.old.parts) × (seat.new.amount ≡ seat.old.amount) }
@@ -144,8 +143,8 @@ impl<L: Ledger, M: Ledger> Pair<L, M> {
         self.at_seats.audit(seat);
     }
 
-    /// Changes nothing. Who has all shares of both ledgers knows that the lines counted what the
-    /// seats did.
+    /// Changes nothing. Shows that lines and seats have counted equally many cells, if these are all shares of both
+    /// ledgers.
     fn audit(&mut self, line: &mut Share<L>, seat: &mut Share<M>)
         requires all_lines { line.old.parts ≡ L.parts }
         requires all_seats { seat.old.parts ≡ M.parts }
@@ -160,9 +159,8 @@ impl<L: Ledger, M: Ledger> Pair<L, M> {
     }
 }
 
-/// What stands behind the lock of the books: the sums of a card by verdict, of what the lines
-/// counted and of what the seats counted, which are the same. No sum is above 2^62. Contracts see
-/// the sums as a tally.
+/// The data behind the lock of the books: the sums of a card by verdict, which are both the sums over the lines and
+/// the sums over the seats. No sum is above 2^62. Contracts see the sums as a tally.
 #[derive(Drop)]
 pub(crate) struct Books<S: Ledgers> {
     passed: Pair<PassedOnLines<S>, PassedAtSeats<S>>,
@@ -188,7 +186,7 @@ impl<S: Ledgers> Books<S> {
     ghost use Rattle.line_record.specs.Tally.{nothing, counted, count_of, HasRoom, IsPart};
     ghost use Rattle.port_card.specs.inner.Marks.{unused_marks, counted_mark, IsBounded};
 
-    /// Opens books that have counted no cell, and gives all marks of lines and of seats.
+    /// Opens books that have counted no cell, and returns all marks of lines and of seats.
     pub(crate) fn open(blanks: Blanks) -> (Self, LineMarks<S>, SeatMarks<S>)
         requires { blanks ≡ S.names }
         ensures books { result.0 ≡ nothing }
@@ -243,7 +241,7 @@ impl<S: Ledgers> Books<S> {
             && self.refused.has_room()
     }
 
-    /// Counts one more cell of this verdict, on a line and at a seat.
+    /// Counts one cell with this verdict, on a line and at a seat.
     #[inline]
     pub(crate) fn count(
         &mut self,
@@ -268,7 +266,8 @@ impl<S: Ledgers> Books<S> {
         }
     }
 
-    /// Changes nothing. A seat has counted no more than all seats together, verdict by verdict.
+    /// Changes nothing. Shows that one seat has counted at most as many cells as all seats together, for each
+    /// verdict.
     #[inline]
     pub(crate) fn bound(&mut self, seat: &mut SeatMarks<S>)
         ensures same { self.new ≡ self.old }
@@ -282,8 +281,8 @@ impl<S: Ledgers> Books<S> {
         self.refused.bound(&mut seat.refused);
     }
 
-    /// Changes nothing. Who has all marks of lines and of seats knows that the lines counted what
-    /// the seats did, verdict by verdict.
+    /// Changes nothing. Shows that lines and seats have counted equally many cells for each verdict, if these are all
+    /// marks of both.
     pub(crate) fn audit(&mut self, lines: &mut LineMarks<S>, seats: &mut SeatMarks<S>)
         requires all_lines { lines.old.parts ≡ S.names.lines }
         requires all_seats { seats.old.parts ≡ S.names.ports }

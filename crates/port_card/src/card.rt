@@ -1,4 +1,4 @@
-//! The running card: what ports and the desk have in common, behind its locks.
+//! The running card: the data that ports and desk share, behind locks.
 
 use crate::books::{Blanks, Books};
 use crate::counted_line::CountedLine;
@@ -16,10 +16,10 @@ use std::marker::Model;
 use std::sync::{Mutex, RwLock, Wait};
 use upc_cell::{Cell, Vc};
 
-/// A card that ports and a desk use at the same time, each from a thread of its own.
+/// A card that ports and a desk use at the same time, each from its own thread.
 ///
-/// Locks are taken in the order of the fields: the programs are read, or written by loads and
-/// retirements; then the directory; then a line; then the books.
+/// Locks are taken in the order of the fields: the programs (to read, or to write in `load` and `retire`), the
+/// directory, a line, the books.
 #[derive(Drop)]
 pub struct Card<S: Ledgers> {
     pub(crate) shape: Shape,
@@ -50,13 +50,13 @@ impl<S: Ledgers> Card<S> {
     ghost use Rattle.port_card.specs.Seats.{AreNewSeats, seat_after};
     ghost use Rattle.port_card.specs.Answers.{IsTold, BlamesRightly};
 
-    /// A card of this shape, without programs and connections, with a seat for each port, in the
-    /// order of the ports, and its one desk.
+    /// Makes a card of this shape, without programs and connections. Returns it with one seat for each port, in the
+    /// order of the ports, and its only desk.
     ///
     /// # Errors
     ///
-    /// `Programs`, `Lines`, `Ports` or `Journal` for the first number of the shape that is out of its
-    /// limits. Then `NoMemory`, where memory is refused.
+    /// `Programs`, `Lines`, `Ports` or `Journal` for the first number of the shape that is out of its limits.
+    /// Otherwise `NoMemory` if an allocation fails.
     pub fn new(
         alloc: Global,
         shape: Shape,
@@ -102,14 +102,14 @@ impl<S: Ledgers> Card<S> {
         Ok((card, seats, Desk::new()))
     }
 
-    /// Lets a cell arrive at the port of this seat, at this moment in ticks. Takes no memory.
+    /// Answers a cell that arrives at the port of this seat at `moment`, in ticks. Doesn't allocate.
     ///
-    /// The programs are read from the look-up to the end. The directory's lock is held for the look-up
-    /// alone, the line's lock and the books' for the judgement. The gate's `between` is called in
-    /// between, without these three.
+    /// The read lock of the programs is held from the look-up to the end. The directory's lock is held only for the
+    /// look-up, the locks of the line and the books only for judging. `gate.between` is called between the two, while
+    /// only the read lock is held.
     ///
-    /// `NoConnection` where the cell belongs to none, `Stale` where the connection's program isn't
-    /// live; then what `judge_at` of `card_core` answers, or `JournalFull` where one of the card's
+    /// The answer is `NoConnection` if the cell belongs to no connection and `Stale` if the connection's program
+    /// isn't live. Otherwise it is the answer of `judge_at` in `card_core`, or `JournalFull` if one of the card's
     /// sums is 2^62.
     pub fn arrive<G: Gate, R: Wait>(
         &self,
@@ -119,7 +119,7 @@ impl<S: Ledgers> Card<S> {
         moment: u64,
         gate: &G,
     ) -> Answer
-        // The seat counts the cell on its line and by its verdict exactly where it was judged.
+        // The seat counts the cell, on its line and by its verdict, exactly if it was judged.
         ensures tallied { seat.new ≡ seat_after seat.old (told result) }
         ensures there { IfSome (told result) (λ judged. judged.line < self.now.lines) }
 
@@ -153,7 +153,8 @@ ghost use Rattle.std.specs.Prelude.{◌≡◌, ◌≤◌, IfSome, vec_len};
 ghost use Rattle.port_card.specs.Seats.{AreNewSeats};
 ghost use Rattle.port_card.specs.inner.Marks.{unused_marks};
 
-/// Makes so many free lines with their marks, behind a lock each; none where the memory is refused.
+/// Makes `lines` free lines, each with a journal of `journal` entries, its marks and its lock. Returns none if an
+/// allocation fails.
 fn free_lines<S: Ledgers>(
     alloc: Global,
     lines: usize,
@@ -178,7 +179,7 @@ fn free_lines<S: Ledgers>(
     Some(counted_lines)
 }
 
-/// Makes the seats of so many ports; none where the memory is refused.
+/// Makes the seats of `ports` ports. Returns none if an allocation fails.
 fn new_seats<S: Ledgers>(
     alloc: Global,
     ports: u8,

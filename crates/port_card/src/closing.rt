@@ -1,4 +1,4 @@
-//! The closing of a card: lines and sums once every seat and the desk are back.
+//! Closing a card, after all seats and the desk are back.
 
 use crate::card::Card;
 use crate::counted_line::CountedLine;
@@ -11,13 +11,13 @@ use std::alloc::Global;
 use std::sync::Mutex;
 use thiserror::Error;
 
-/// A card that was closed.
+/// A closed card.
 #[derive(Debug, Drop)]
 pub struct Closing {
-    /// The lines, in the order of their numbers, with all that they counted.
+    /// The lines in the order of their numbers, with everything that they counted.
     pub lines: Vec<Line>,
-    /// The number of the first line, from 0, of which some count isn't the sum of the seats' tallies
-    /// of it; none where there is no such line.
+    /// The number of the first line, from 0, whose counts aren't the sum of the seats' tallies for it; none if there
+    /// is no such line.
     pub uneven: Option<u16>,
     ghost fit: { FitsWords (lines_total lines.items) },
 }
@@ -26,7 +26,7 @@ impl Closing {
     ghost use Rattle.std.specs.Prelude.{◌≡◌};
     ghost use Rattle.port_card.specs.Closing.{lines_total};
 
-    /// How many cells got each verdict, on all lines together.
+    /// The number of cells with each verdict, over all lines.
     pub fn total(&self) -> Tally
         ensures { result ≡ lines_total self.now.lines.items }
     {
@@ -38,13 +38,13 @@ impl Closing {
     }
 }
 
-/// Why a card can't be closed. It is printed as its number and its name.
+/// Why a card can't be closed. Printed as its number and its name.
 #[derive(Clone, Copy, Debug, PartialEq, Eq, Error)]
 pub enum CloseFault {
     /// There are fewer seats than ports.
     #[error("1 Missing")]
     Missing,
-    /// The memory was refused.
+    /// An allocation failed.
     #[error("2 NoMemory")]
     NoMemory,
 }
@@ -53,13 +53,13 @@ impl<S: Ledgers> Card<S> {
     ghost use Rattle.std.specs.Prelude.{◌≡◌, ◌≤◌, length, IfOk, IfErr, MatchResult};
     ghost use Rattle.port_card.specs.Closing.{lines_total, seats_total, seats_on, IsFirstUneven, IsUnclosed};
 
-    /// Takes the card apart, with the seats of its ports: its lines, and the first of them that
-    /// counted otherwise than the seats did. No lock is taken, since no one else has the card.
+    /// Takes the card and its seats apart. Returns the lines, and the first line whose counts differ from the seats'
+    /// tallies for it. Takes no lock, since nobody else has the card.
     ///
     /// # Errors
     ///
-    /// `Missing` where there are fewer seats than ports, then `NoMemory` where memory is refused; both
-    /// with the card and the seats.
+    /// `Missing` if there are fewer seats than ports; otherwise `NoMemory` if an allocation fails. Both return the
+    /// card and the seats.
     pub fn close(
         self,
         alloc: Global,
@@ -67,7 +67,7 @@ impl<S: Ledgers> Card<S> {
     ) -> Result<Closing, (CloseFault, Card<S>, Vec<PortSeat<S>>)>
         ensures lines { IfOk result (λ closing. length closing.lines.items ≡ self.lines) }
 
-        // What all lines counted is what all seats counted, verdict by verdict.
+        // The counts of all lines are the tallies of all seats, for each verdict.
         ensures sums { IfOk result (λ closing. lines_total closing.lines.items ≡ seats_total seats.items) }
 
         ensures uneven { IfOk result (λ closing.
@@ -113,7 +113,7 @@ ghost use Rattle.port_card.specs.Closing.{lines_total, IsFirstUneven};
 ghost use Rattle.port_card.specs.inner.Columns.{columns_total, columns_on};
 ghost use Rattle.port_card.specs.inner.Marks.{unused_marks};
 
-/// Marks of no part, of the lines' ledgers, to which those of each line are merged.
+/// Marks of no part, for merging the marks of the lines.
 fn marks_of_no_line<S: Ledgers>(counted_lines: &mut [Mutex<CountedLine<S>>]) -> LineMarks<S>
     requires { 0 < length counted_lines.old }
     ensures { result ≡ unused_marks 0 }
@@ -121,7 +121,7 @@ fn marks_of_no_line<S: Ledgers>(counted_lines: &mut [Mutex<CountedLine<S>>]) -> 
     counted_lines[0].get_mut().no_marks()
 }
 
-/// Takes the lines out of their locks, into a list that has room for them, and merges their marks.
+/// Takes the lines out of their locks into a list that has room for them, and merges their marks.
 fn gathered_lines<S: Ledgers>(
     counted_lines: Vec<Mutex<CountedLine<S>>>,
     lines: Vec<Line>,
@@ -144,7 +144,7 @@ fn gathered_lines<S: Ledgers>(
     (lines, marks)
 }
 
-/// Takes the seats' tallies, into a list that has room for them, and merges their marks.
+/// Takes the seats' tallies into a list that has room for them, and merges their marks.
 fn gathered_columns<S: Ledgers>(
     seats: Vec<PortSeat<S>>,
     columns: Vec<Column>,
@@ -168,8 +168,7 @@ fn gathered_columns<S: Ledgers>(
     (columns, marks)
 }
 
-/// The number of the first line that counted otherwise than the seats did; none where there is no
-/// such line.
+/// The number of the first line whose counts differ from the seats' tallies for it; none if there is no such line.
 fn first_uneven(lines: &[Line], columns: &[Column]) -> Option<u16>
     requires few { length lines.now ≤ MOST_LINES }
     requires fit { FitsWords (columns_total columns.now) }
@@ -183,14 +182,14 @@ fn first_uneven(lines: &[Line], columns: &[Column]) -> Option<u16>
     None
 }
 
-/// Whether both have the same counts.
+/// Whether both have equal counts.
 fn is_same(one: Tally, other: Tally) -> bool
     ensures { IsTrue result ↔ (one ≡ other) }
 {
     one == other
 }
 
-/// What the seats counted on this line together.
+/// The sum of the seats' tallies for this line.
 fn sum_on(columns: &[Column], line: usize) -> Tally
     requires { FitsWords (columns_total columns.now) }
     ensures { result ≡ columns_on columns.now line }

@@ -1,4 +1,4 @@
-//! A line of the running card, with the marks of what it has counted.
+//! A line of the running card, with the marks of its counts.
 
 ghost use Rattle.std.specs.Prelude.{◌≡◌, option_map};
 ghost use Rattle.card_core.specs.Sections.{told};
@@ -13,8 +13,7 @@ use leaky::Verdict;
 use line_record::{Line, Owner, Piece, Seating};
 use upc_cell::Vc;
 
-/// What stands behind the lock of a line: the line, and marks of one part that have counted what the
-/// line has.
+/// The data behind the lock of a line: the line, and marks of one part with the same counts.
 #[derive(Drop)]
 pub(crate) struct CountedLine<S: Ledgers> {
     pub(crate) line: Line,
@@ -51,8 +50,8 @@ impl<S: Ledgers> CountedLine<S> {
         self.marks.none()
     }
 
-    /// Judges a named cell on the line, and counts it where it was judged. The answer is
-    /// `JournalFull` where one of the card's sums is 2^62, whatever the verdict would be.
+    /// Judges a named cell on the line, and counts it if it was judged. Returns `JournalFull` if one of the card's
+    /// sums is 2^62, whatever the verdict would be.
     pub(crate) fn judge(
         &mut self,
         books: &mut Books<S>,
@@ -64,7 +63,7 @@ impl<S: Ledgers> CountedLine<S> {
     ) -> Answer
         requires { seating.now.line < length seat.old.tallies }
 
-        // It is the locked section of the core, on the line that was lent.
+        // As the locked section of `card_core`, on this line.
         ensures section { HasRoom books.old → MatchOption (judging_refusal self.old.line vc seating.now moment)
             (JudgesAt self.old.line seating.now named.now moment result self.new.line)
             (λ refused. (result ≡ refused) × (self.new.line ≡ self.old.line)) }
@@ -74,7 +73,7 @@ impl<S: Ledgers> CountedLine<S> {
         // The seat counts a judged cell and no other.
         ensures tallied { seat.new ≡ seat_after seat.old (told result) }
 
-        // What is told of a judged cell, and what of its moment.
+        // The answer to a judged cell, and when a moment may be blamed.
         ensures there { IfSome (told result) (λ judged. judged.line ≡ seating.now.line) }
         ensures moment { IfSome (told result) (λ judged. judged.moment ≡ moment) }
         ensures value { IfSome (told result) (λ judged. judged.value ≡ named.now.value) }
@@ -96,7 +95,7 @@ impl<S: Ledgers> CountedLine<S> {
         answer
     }
 
-    /// Sets a connection up on the line, whose number this is.
+    /// Sets up a connection on the line with this number.
     pub(crate) fn setup(
         &mut self,
         seatings: &mut Seatings<S>,
@@ -109,7 +108,7 @@ impl<S: Ledgers> CountedLine<S> {
         requires some { 0 < length ask.contracts.items }
         requires unworn { seatings.old.directory.used < 2 ^ 62 }
 
-        // It is the locked section of the core, on the line and the directory that were lent.
+        // As the locked section of `card_core`, on this line and this directory.
         ensures opened { IfOk result (λ owner.
             Opens self.old.line owner ask.contracts.items self.new.line) }
         ensures seating { OnOk result (Sits seatings.old.directory ask.vc
@@ -127,7 +126,7 @@ impl<S: Ledgers> CountedLine<S> {
         setup(&mut seatings.directory, &mut self.line, number, ask)
     }
 
-    /// Ends the connection that the directory has here, and answers its journal.
+    /// Ends the connection that the directory has on this line, and returns its journal.
     pub(crate) fn release(
         &mut self,
         seatings: &mut Seatings<S>,
@@ -136,7 +135,7 @@ impl<S: Ledgers> CountedLine<S> {
     ) -> Result<Piece, DeskFault>
         requires { seating_at seatings.old.directory vc ≡ Some seating.now }
 
-        // It is the locked section of the core, on the line and the directory that were lent.
+        // As the locked section of `card_core`, on this line and this directory.
         ensures served { MatchResult result
             (λ _. self.old.line.owner ≡ Some (holder vc seating.now))
             (λ fault. (fault ≡ DeskFault.Stale) × (self.old.line.owner ≢ Some (holder vc seating.now))) }
@@ -152,9 +151,9 @@ impl<S: Ledgers> CountedLine<S> {
         release(&mut seatings.directory, &mut self.line, vc)
     }
 
-    /// Hands out the connection's journal, and begins a new one.
+    /// Returns the connection's journal and starts a new one.
     pub(crate) fn cut(&mut self, vc: Vc, seating: &Seating) -> Result<Piece, DeskFault>
-        // It is the locked section of the core, on the line that was lent.
+        // As the locked section of `card_core`, on this line.
         ensures served { OnOk result (self.old.line.owner ≡ Some (holder vc seating.now)) }
         ensures uncut { IfErr result (λ fault. IsUncut self.old.line (holder vc seating.now) fault) }
         ensures journal { IfOk result (λ piece. IsJournalOf self.old.line piece) }
@@ -170,7 +169,7 @@ impl<S: Ledgers> CountedLine<S> {
     }
 }
 
-/// The number of the line and the verdict of a judged cell; none where the cell wasn't judged.
+/// The line's number and the verdict if the cell was judged, otherwise none.
 #[inline]
 fn judged_on(answer: &Answer) -> Option<(u16, Verdict)>
     ensures { result ≡ option_map (λ judged. (judged.line, judged.verdict)) (told answer.now) }

@@ -10,8 +10,8 @@ use std::marker::PhantomData;
 use std::sync::Wait;
 use upc_cell::Vc;
 
-/// The desk of a card. Whoever has it may load and retire programs, and set up, reload, release and
-/// cut connections. It can't be copied.
+/// The desk of a card. Its owner may load and retire programs, and set up, reload, release and cut connections. It
+/// can't be copied.
 #[derive(Drop)]
 pub struct Desk<S: Ledgers> {
     of: PhantomData<S>,
@@ -23,17 +23,17 @@ impl<S: Ledgers> Desk<S> {
     ghost use Rattle.line_record.specs.Piece.{IsPiece};
     ghost use Rattle.port_card.specs.Answers.{IsOfSetup, IsOfRetirement, IsOfReload, IsOfRelease, IsOfCut};
 
-    /// The desk of a card that is being made. No other is ever made for it.
+    /// The desk of a new card. Each card has only one.
     pub(crate) fn new() -> Self {
         Desk { of: PhantomData }
     }
 
-    /// Puts a program into a free slot, under an id that was never given before. It waits until no
-    /// cell is between its look-up and its judgement. Takes no memory.
+    /// Puts a program into a free slot, under an id that was never given before. Waits until no cell is between its
+    /// look-up and its judgement. Doesn't allocate.
     ///
     /// # Errors
     ///
-    /// `ProgramsFull` with the program, where no slot is free.
+    /// `ProgramsFull` with the program, if no slot is free.
     pub fn load<R: Wait>(
         &mut self,
         rt: &R,
@@ -48,11 +48,11 @@ impl<S: Ledgers> Desk<S> {
     }
 
     /// Takes a program out that no connection names. It waits until no cell is between its look-up
-    /// and its judgement. Takes no memory.
+    /// and its judgement. Doesn't allocate.
     ///
     /// # Errors
     ///
-    /// `NoProgram` where the id isn't live, then `InUse` where some connection names it.
+    /// `NoProgram` if the id isn't live; otherwise `InUse` if some connection names it.
     pub fn retire<R: Wait>(&mut self, rt: &R, card: &Card<S>, id: Id) -> Result<Program, DeskFault>
         ensures accepted { IfOk result (λ program. IsAccepted program) }
         ensures refused { IfErr result IsOfRetirement }
@@ -65,10 +65,10 @@ impl<S: Ledgers> Desk<S> {
     ///
     /// # Errors
     ///
-    /// With what was asked: `NoProgram` where the program isn't live, `Taken` where the virtual
-    /// connection has a connection, `BadContracts` where there is no contract, `NoLine` where each
-    /// line is some connection's, `Exhausted` where the last incarnation was given: the first that
-    /// holds. Then `Stale` where the line isn't free, and `NoMemory` where memory is refused.
+    /// The first that applies, with `ask`: `NoProgram` if the program isn't live; `Taken` if the virtual channel
+    /// already has a connection; `BadContracts` if there is no contract; `NoLine` if every line has a connection;
+    /// `Exhausted` if the last incarnation was used; `Stale` if the line isn't free; `NoMemory` if an allocation
+    /// fails.
     pub fn setup<R: Wait>(
         &mut self,
         rt: &R,
@@ -91,11 +91,11 @@ impl<S: Ledgers> Desk<S> {
     }
 
     /// Gives a connection another program, and answers the one that it had. Its buckets and its
-    /// journal stay. Takes no memory.
+    /// journal stay. Doesn't allocate.
     ///
     /// # Errors
     ///
-    /// `NoProgram` where the program isn't live, then `NoConnection` where there is no connection.
+    /// `NoProgram` if the program isn't live; otherwise `NoConnection` if there is no connection.
     pub fn reload<R: Wait>(
         &mut self,
         rt: &R,
@@ -113,7 +113,7 @@ impl<S: Ledgers> Desk<S> {
     ///
     /// # Errors
     ///
-    /// `NoConnection` where there is none, then `Stale` where its line doesn't serve it; nothing
+    /// `NoConnection` if there is none; otherwise `Stale` if its line doesn't serve it. Nothing
     /// changes.
     pub fn release<R: Wait>(&mut self, rt: &R, card: &Card<S>, vc: Vc) -> Result<Piece, DeskFault>
         ensures piece { IfOk result (λ piece. piece.owner.vc ≡ vc) }
@@ -134,8 +134,8 @@ impl<S: Ledgers> Desk<S> {
     ///
     /// # Errors
     ///
-    /// `NoConnection` where there is no connection, `Stale` where its line doesn't serve it, then
-    /// `NoMemory` where memory is refused; nothing changes.
+    /// `NoConnection` if there is none; otherwise `Stale` if its line doesn't serve it; otherwise
+    /// `NoMemory` if an allocation fails. Nothing changes.
     pub fn cut<R: Wait>(&mut self, rt: &R, card: &Card<S>, vc: Vc) -> Result<Piece, DeskFault>
         ensures piece { IfOk result (λ piece. piece.owner.vc ≡ vc) }
         ensures run { IfOk result (λ piece. IsPiece piece) }
@@ -158,9 +158,9 @@ ghost use Rattle.gen_arena.specs.Insert.{Inserts};
 ghost use Rattle.gen_arena.specs.Live.{live_value};
 ghost use Rattle.gen_arena.specs.Past.{KeepsPast};
 
-/// Puts a program into a free slot of the programs that were lent.
+/// Puts a program into a free slot of this store.
 fn put(store: &mut Store, program: Program) -> Result<Id, (DeskFault, Program)>
-    // It is the locked section of the core, on the programs that were lent.
+    // As the locked section of `card_core`, on this store.
     ensures loaded { IfOk result (λ id. Inserts store.old store.new id program) }
     ensures live { IfOk result (λ id. live_value store.new id ≡ Some program) }
     ensures full { IsErr result ↔ (free_slots store.old ≡ 0) }

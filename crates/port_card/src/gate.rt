@@ -1,13 +1,13 @@
-//! What happens at a port between picking and judging.
+//! A hook between the look-up and the judgement of a cell.
 
-/// What happens at a port between the picking and the judging of a cell. A test makes a port wait
-/// there for what another thread does. No lock but the read lock of the programs is held then.
+/// A hook between the look-up and the judgement of a cell. A test uses it to make a port wait for another thread. At
+/// that time the port holds only the read lock of the programs.
 pub trait Gate {
-    /// A cell was picked at the port of this number, from 0, and is not judged yet.
+    /// Called when a cell at the port of this number, from 0, has been looked up and isn't judged yet.
     fn between(&self, port: u8);
 }
 
-/// Cells are judged as soon as they are picked.
+/// Doesn't wait: cells are judged right after their look-up.
 #[derive(Clone, Copy, Debug)]
 pub struct NoWait;
 

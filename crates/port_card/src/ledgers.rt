@@ -1,12 +1,12 @@
-//! The eight ledgers of a card: for each verdict one of the lines and one of the seats.
+//! The eight ledgers of a card: for each verdict one for the lines and one for the seats.
 
 ghost use Rattle.port_card.specs.Names.{Names, no_names};
 
 use std::marker::{Brand, PhantomData};
 use std::sync::ledger::Ledger;
 
-/// The ledgers of one card, as a type that the card, its seats and its desk have in common. A
-/// function that is generic over it is called at [`Brand`], and its caller's proof picks the names.
+/// The ledgers of one card, as a type parameter that the card, its seats and its desk share. A function that is
+/// generic over it is called with [`Brand`], and the proof of its caller chooses the names.
 pub trait Ledgers {
     ghost names: { Names };
 }
@@ -15,7 +15,7 @@ impl Ledgers for Brand {
     ghost names = { no_names };
 }
 
-/// Counts the cells that lines passed.
+/// Counts the cells passed, by line.
 pub(crate) struct PassedOnLines<S>(PhantomData<S>);
 
 impl<S: Ledgers> Ledger for PassedOnLines<S> {
@@ -24,7 +24,7 @@ impl<S: Ledgers> Ledger for PassedOnLines<S> {
     ghost parts = { S.names.lines };
 }
 
-/// Counts the cells that were answered at seats as passed.
+/// Counts the cells passed, by seat.
 pub(crate) struct PassedAtSeats<S>(PhantomData<S>);
 
 impl<S: Ledgers> Ledger for PassedAtSeats<S> {
@@ -33,7 +33,7 @@ impl<S: Ledgers> Ledger for PassedAtSeats<S> {
     ghost parts = { S.names.ports };
 }
 
-/// Counts the cells that lines tagged.
+/// Counts the cells tagged, by line.
 pub(crate) struct TaggedOnLines<S>(PhantomData<S>);
 
 impl<S: Ledgers> Ledger for TaggedOnLines<S> {
@@ -42,7 +42,7 @@ impl<S: Ledgers> Ledger for TaggedOnLines<S> {
     ghost parts = { S.names.lines };
 }
 
-/// Counts the cells that were answered at seats as tagged.
+/// Counts the cells tagged, by seat.
 pub(crate) struct TaggedAtSeats<S>(PhantomData<S>);
 
 impl<S: Ledgers> Ledger for TaggedAtSeats<S> {
@@ -51,7 +51,7 @@ impl<S: Ledgers> Ledger for TaggedAtSeats<S> {
     ghost parts = { S.names.ports };
 }
 
-/// Counts the cells that lines discarded.
+/// Counts the cells discarded, by line.
 pub(crate) struct DiscardedOnLines<S>(PhantomData<S>);
 
 impl<S: Ledgers> Ledger for DiscardedOnLines<S> {
@@ -60,7 +60,7 @@ impl<S: Ledgers> Ledger for DiscardedOnLines<S> {
     ghost parts = { S.names.lines };
 }
 
-/// Counts the cells that were answered at seats as discarded.
+/// Counts the cells discarded, by seat.
 pub(crate) struct DiscardedAtSeats<S>(PhantomData<S>);
 
 impl<S: Ledgers> Ledger for DiscardedAtSeats<S> {
@@ -69,7 +69,7 @@ impl<S: Ledgers> Ledger for DiscardedAtSeats<S> {
     ghost parts = { S.names.ports };
 }
 
-/// Counts the cells that lines refused.
+/// Counts the cells refused, by line.
 pub(crate) struct RefusedOnLines<S>(PhantomData<S>);
 
 impl<S: Ledgers> Ledger for RefusedOnLines<S> {
@@ -78,7 +78,7 @@ impl<S: Ledgers> Ledger for RefusedOnLines<S> {
     ghost parts = { S.names.lines };
 }
 
-/// Counts the cells that were answered at seats as refused.
+/// Counts the cells refused, by seat.
 pub(crate) struct RefusedAtSeats<S>(PhantomData<S>);
 
 impl<S: Ledgers> Ledger for RefusedAtSeats<S> {

@@ -1,5 +1,5 @@
-//! The running card: one seat a port and one desk, each for a thread of its own, over the locked
-//! sections of `card_core`, and ledgers that add up the lines' counts and the seats' tallies.
+//! The running card: one seat for each port and one desk, each for its own thread. It uses the locked sections of
+//! `card_core`, and ledgers that relate the lines' counts to the seats' tallies.
 #![tactic(auto)]
 
 mod books;

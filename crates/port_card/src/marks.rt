@@ -1,4 +1,4 @@
-//! Shares of four ledgers, one a verdict, that are counted together.
+//! Shares of four ledgers, one for each verdict.
 
 use crate::ledgers::{
     DiscardedAtSeats, DiscardedOnLines, PassedAtSeats, PassedOnLines, RefusedAtSeats,
@@ -7,7 +7,7 @@ use crate::ledgers::{
 use std::marker::Model;
 use std::sync::ledger::{Ledger, Share};
 
-/// Shares of four ledgers, one a verdict, that have as many parts each. They take no bytes.
+/// Shares of four ledgers, one for each verdict, with equally many parts. They have size 0.
 #[derive(Drop)]
 pub(crate) struct Marks<P: Ledger, T: Ledger, D: Ledger, R: Ledger> {
     pub(crate) passed: Share<P>,
@@ -16,7 +16,7 @@ pub(crate) struct Marks<P: Ledger, T: Ledger, D: Ledger, R: Ledger> {
     pub(crate) refused: Share<R>,
 }
 
-/// What a line has counted.
+/// The counts of lines.
 pub(crate) type LineMarks<S> = Marks<
     PassedOnLines<S>,
     TaggedOnLines<S>,
@@ -24,7 +24,7 @@ pub(crate) type LineMarks<S> = Marks<
     RefusedOnLines<S>,
 >;
 
-/// What a seat has counted.
+/// The counts of seats.
 pub(crate) type SeatMarks<S> = Marks<
     PassedAtSeats<S>,
     TaggedAtSeats<S>,
@@ -85,8 +85,7 @@ impl<P: Ledger, T: Ledger, D: Ledger, R: Ledger> Marks<P, T, D, R> {
         }
     }
 
-    /// Takes in other marks. No ledger has more parts than it was cut into, which bounds the parts
-    /// of both together.
+    /// Adds other marks to these. The sum has at most as many parts as the ledger was divided into.
     pub(crate) fn merge(&mut self, other: Self)
         ensures both { self.new ≡ both_marks self.old other }
         ensures all { self.new.parts ≤ P.parts }

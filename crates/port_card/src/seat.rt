@@ -1,4 +1,4 @@
-//! The seat of a port, and what it has counted.
+//! The seat of a port, and its tallies.
 
 ghost use Rattle.std.specs.Prelude.{◌≡◌, IfSome, replicate};
 ghost use Rattle.line_record.specs.Tally.{nothing};
@@ -11,12 +11,12 @@ use line_record::Tally;
 use std::alloc::Global;
 use std::marker::Model;
 
-/// The seat of one port: whoever has it may let cells arrive at the port. It can't be copied, and it
-/// counts the cells that were judged.
+/// The seat of one port. Its owner may let cells arrive at the port. It can't be copied. It counts the cells that
+/// were judged.
 #[derive(Drop)]
 pub struct PortSeat<S: Ledgers> {
     port: u8,
-    /// By the number of the line.
+    /// The tallies, by the number of the line.
     tallies: Vec<Tally>,
     marks: SeatMarks<S>,
 }
@@ -41,7 +41,7 @@ impl<S: Ledgers> PortSeat<S> {
     ghost use Rattle.port_card.specs.Seats.{new_seat, counted_on};
     ghost use Rattle.port_card.specs.inner.Marks.{unused_marks, counted_mark};
 
-    /// The seat of a port at which no cell was judged; none where the memory is refused.
+    /// A seat that has counted no cell. Returns none if an allocation fails.
     pub(crate) fn new(alloc: Global, port: u8, lines: usize, marks: SeatMarks<S>) -> Option<Self>
         requires lines { lines ≡ S.names.lines }
         requires marks { marks ≡ unused_marks 1 }
@@ -66,15 +66,15 @@ impl<S: Ledgers> PortSeat<S> {
         self.port
     }
 
-    /// What the port's cells got that were judged on the line of this number; none exactly where the
-    /// card has no such line.
+    /// The tally of the cells that arrived at this port and were judged on this line; none exactly if the card has no
+    /// such line.
     pub fn tally(&self, line: u16) -> Option<Tally>
         ensures { result ≡ slice_get self.now.tallies line }
     {
         self.tallies.get(usize::from(line)).copied()
     }
 
-    /// Marks of no part, of the seats' ledgers, to which those of each seat are merged.
+    /// Marks of no part, for merging the marks of the seats.
     pub(crate) fn no_marks(&mut self) -> SeatMarks<S>
         ensures none { result ≡ unused_marks 0 }
         ensures same { self.new ≡ self.old }
@@ -82,7 +82,7 @@ impl<S: Ledgers> PortSeat<S> {
         self.marks.none()
     }
 
-    /// Takes the seat apart: its tallies, and the marks that have counted what they have together.
+    /// Takes the seat apart: its tallies, and the marks, whose counts are the sum of the tallies.
     pub(crate) fn into_column(self) -> (Column, SeatMarks<S>)
         ensures column { result.0 ≡ self.tallies }
         ensures parts { result.1.parts ≡ 1 }
@@ -96,7 +96,7 @@ impl<S: Ledgers> PortSeat<S> {
         (Column { tallies }, marks)
     }
 
-    /// Counts a cell that the line of this number judged: here, on the line and in the books.
+    /// Counts a judged cell: in the seat, on the line and in the books.
     #[inline]
     pub(crate) fn count(
         &mut self,
@@ -118,7 +118,7 @@ impl<S: Ledgers> PortSeat<S> {
     }
 }
 
-/// The tallies of a seat whose card is closed, by line.
+/// The tallies of a seat of a closed card, by line.
 #[derive(Drop)]
 pub(crate) struct Column {
     tallies: Vec<Tally>,
@@ -137,7 +137,7 @@ impl Column {
     ghost use Rattle.std.specs.Prelude.{◌≡◌};
     ghost use Rattle.port_card.specs.inner.Columns.{column_on};
 
-    /// The tally of this line, and that of no cell where the column is shorter.
+    /// The tally for this line, or zero if the column is shorter.
     pub(crate) fn on(&self, line: usize) -> Tally
         ensures { result ≡ column_on line self.now }
     {
@@ -148,7 +148,7 @@ impl Column {
     }
 }
 
-/// Makes the tally of no cell for each of so many lines; none where the memory is refused.
+/// Makes a tally of zero for each of `lines` lines. Returns none if an allocation fails.
 fn no_tallies(alloc: Global, lines: usize) -> Option<Vec<Tally>>
     ensures { IfSome result (λ tallies. tallies.items ≡ replicate lines nothing) }
 {

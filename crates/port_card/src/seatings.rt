@@ -1,4 +1,4 @@
-//! The directory of a running card, as it stands behind its lock.
+//! The directory of a running card.
 
 ghost use Rattle.std.specs.Prelude.{◌≡◌};
 
@@ -11,7 +11,7 @@ use std::alloc::Global;
 use std::marker::PhantomData;
 use upc_cell::Vc;
 
-/// What stands behind the directory's lock: the directory of the card's lines.
+/// The data behind the directory's lock: the directory of the card's lines.
 #[derive(Drop)]
 pub(crate) struct Seatings<S: Ledgers> {
     pub(crate) directory: Directory,
@@ -29,7 +29,7 @@ impl<S: Ledgers> Seatings<S> {
     ghost use Rattle.card_core.specs.Sections.{Admits, IsUnfit};
     ghost use Rattle.port_card.specs.Answers.{IsOfSetup, IsOfRetirement, IsOfReload};
 
-    /// The directory of a card without connections; none where the memory is refused.
+    /// The directory of a card without connections. Returns none if an allocation fails.
     pub(crate) fn new(alloc: Global, lines: u16) -> Option<Self>
         requires lines { lines ≡ S.names.lines }
         requires some { 0 < lines }
@@ -51,9 +51,9 @@ impl<S: Ledgers> Seatings<S> {
         pick(&self.directory, vc)
     }
 
-    /// Takes out a program that no connection names.
+    /// Removes a program that no connection names.
     pub(crate) fn retire(&self, store: &mut Store, id: Id) -> Result<Program, DeskFault>
-        // It is the locked section of the core, on the programs that were lent.
+        // As the locked section of `card_core`, on this store.
         ensures retired { IfOk result (λ program. Removes store.old store.new id program) }
         ensures no_program { IsErrOf result DeskFault.NoProgram ↔ (live_value store.old id ≡ None) }
         ensures in_use { IsErrOf result DeskFault.InUse
@@ -65,13 +65,13 @@ impl<S: Ledgers> Seatings<S> {
     {
         let retired = retire(store, &self.directory, id);
         if let Ok(program) = &retired {
-            // That the code is accepted is known once the program is looked at.
+            // Reading the code gives the fact that it is accepted.
             let _ = program.code();
         }
         retired
     }
 
-    /// The number of a line on which what is asked may be set up.
+    /// The number of a free line for the setup that is asked for.
     pub(crate) fn admit(&self, store: &Store, ask: &Ask) -> Result<u16, DeskFault>
         ensures admitted { MatchResult result
             (λ line. Admits store.now self.now.directory ask.now line)
@@ -82,9 +82,9 @@ impl<S: Ledgers> Seatings<S> {
         admit(store, &self.directory, ask)
     }
 
-    /// Gives a connection another program, and answers the one that it had.
+    /// Gives a connection another program, and returns the one that it had.
     pub(crate) fn reload(&mut self, store: &Store, vc: Vc, program: Id) -> Result<Id, DeskFault>
-        // It is the locked section of the core, on the directory that was lent.
+        // As the locked section of `card_core`, on this directory.
         ensures no_program { IsErrOf result DeskFault.NoProgram
             ↔ (live_value store.now program ≡ None) }
         ensures no_connection { IsErrOf result DeskFault.NoConnection

@@ -1,5 +1,4 @@
-//! Scenes of a running card, as tests: what ports and the desk do to one another while they run, which
-//! no contract can say.
+//! Tests of the running card: what ports and the desk do to each other while they run, which no contract covers.
 #![tactic(auto)]
 
 #[cfg(test)]

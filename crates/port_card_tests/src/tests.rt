@@ -1,4 +1,4 @@
-//! What the scenes have in common: shapes, cells, programs and connections.
+//! Shapes, cells, programs and connections that the tests share.
 
 mod changes;
 mod journals;
@@ -33,10 +33,10 @@ const MANAGEMENT: [u8; 4] = [0x00, 0x10, 0x06, 0x4a];
 /// The header of a data cell of 1/101.
 const OTHER: [u8; 4] = [0x00, 0x10, 0x06, 0x50];
 
-/// The most turns that a thread makes to wait for another.
+/// The maximum number of turns that a thread waits for another.
 const TURNS: u64 = 10_000_000;
 
-/// A shape at the side of users.
+/// A shape for the user network interface.
 fn shape(programs: u64, lines: u64, ports: u64, journal: u64) -> Shape
     ensures lines { result.lines ≡ lines }
     ensures ports { result.ports ≡ ports }
@@ -50,7 +50,7 @@ fn shape(programs: u64, lines: u64, ports: u64, journal: u64) -> Shape
     }
 }
 
-/// A cell of this header with a payload of zeros.
+/// A cell with this header and a payload of zeros.
 fn cell(header: [u8; 4]) -> Cell {
     let mut octets = [0u8; 52];
     octets[0] = header[0];
@@ -60,13 +60,13 @@ fn cell(header: [u8; 4]) -> Cell {
     Cell::from(octets)
 }
 
-/// A program that gives this value for every cell.
+/// A program that returns this value for every cell.
 fn constant(alloc: Global, value: u32) -> Result<Program, Fail> {
     let code = vec![in alloc; Instr::RetK(value)]?;
     Ok(verify(code)?)
 }
 
-/// A program that gives 1 for user data, and 2 for management.
+/// A program that returns 1 for user data and 2 for management cells.
 fn classifier(alloc: Global) -> Result<Program, Fail> {
     let mut code = Vec::new(alloc);
     code.push(Instr::LoadAbs {
@@ -88,7 +88,7 @@ fn classifier(alloc: Global) -> Result<Program, Fail> {
     Ok(verify(code)?)
 }
 
-/// A connection of 1 under this channel: a cell in ten ticks, with this tolerance.
+/// A connection with path 1 and this channel: a cell every ten ticks, with this tolerance.
 fn ask(vci: u16, program: Id, limit: u64) -> Result<Ask, Fail> {
     let mut contracts = ArrayVec::new();
     contracts.push(Contract::Cbr1(Gcra::new(10, limit)?));
@@ -99,7 +99,7 @@ fn ask(vci: u16, program: Id, limit: u64) -> Result<Ask, Fail> {
     })
 }
 
-/// A program is put in.
+/// Loads a program.
 fn load<S: Ledgers, R: Wait>(
     rt: &R,
     desk: &mut Desk<S>,
@@ -112,7 +112,7 @@ fn load<S: Ledgers, R: Wait>(
     }
 }
 
-/// A connection is set up. Where memory is refused it is asked for once more, with what came back.
+/// Sets up a connection. If an allocation fails, tries once more with the returned values.
 fn set_up<S: Ledgers, R: Wait>(
     rt: &R,
     desk: &mut Desk<S>,
@@ -130,7 +130,7 @@ fn set_up<S: Ledgers, R: Wait>(
     }
 }
 
-/// Both seats of a card of two ports, that of port 0 first.
+/// Both seats of a card with two ports, that of port 0 first.
 fn both<S: Ledgers>(seats: Vec<PortSeat<S>>) -> Result<(PortSeat<S>, PortSeat<S>), Fail> {
     let mut seats = seats;
     let Some(second) = seats.pop() else {
@@ -142,7 +142,7 @@ fn both<S: Ledgers>(seats: Vec<PortSeat<S>>) -> Result<(PortSeat<S>, PortSeat<S>
     Ok((first, second))
 }
 
-/// A card is closed. Where memory is refused it is asked for once more, with what came back.
+/// Closes a card. If an allocation fails, tries once more with the returned values.
 fn closed<S: Ledgers>(
     alloc: Global,
     card: Card<S>,
@@ -159,7 +159,7 @@ fn closed<S: Ledgers>(
     }
 }
 
-/// The verdict and its number, where a cell was judged.
+/// The verdict and the cell's number on the line, if the cell was judged.
 fn judged(answer: Answer) -> Option<(Verdict, u64)> {
     match answer {
         Answer::Judged {
@@ -191,7 +191,7 @@ fn kept(line: &Line) -> ([Option<Entry>; 3], Tally) {
     (journal, line.counts())
 }
 
-/// How many cells a journal has that was handed out.
+/// The number of cells in a returned journal.
 fn entries(piece: Result<Piece, DeskFault>) -> Option<usize> {
     match piece {
         Ok(piece) => Some(piece.entries().len()),
@@ -199,7 +199,7 @@ fn entries(piece: Result<Piece, DeskFault>) -> Option<usize> {
     }
 }
 
-/// Whether the flag was raised before the turns ran out.
+/// Whether the flag was set before the turns ran out.
 fn turned_until(flag: &AtomicU64) -> bool {
     for _ in 0..TURNS {
         if flag.load(Ordering::SeqCst) != 0 {
@@ -210,7 +210,7 @@ fn turned_until(flag: &AtomicU64) -> bool {
     false
 }
 
-/// Port 0 tells that its cell was picked, and turns until it is let go. No other port waits.
+/// A gate: port 0 reports that its cell was looked up, and waits until it is released. Other ports don't wait.
 #[derive(Drop)]
 struct Until {
     picked: AtomicU64,
@@ -227,17 +227,17 @@ impl Until {
         }
     }
 
-    /// Whether the cell was picked before the turns ran out.
+    /// Whether the cell was looked up before the turns ran out.
     fn was_picked(&self) -> bool {
         turned_until(&self.picked)
     }
 
-    /// Lets port 0 go on.
+    /// Releases port 0.
     fn let_go(&self) {
         self.done.store(1, Ordering::SeqCst);
     }
 
-    /// Whether port 0 was let go before its turns ran out.
+    /// Whether port 0 was released before its turns ran out.
     fn was_in_time(&self) -> bool {
         self.in_time.load(Ordering::SeqCst) == 1
     }

@@ -1,2 +1,2 @@
--- What the machine of the tests answers.
+-- The answers of the machine in the tests.
 pub mod Parity

@@ -1,5 +1,6 @@
-//! Tests of what reads and prints text: lines and devices, programs and their faults, scripts and their answers, scripts of
-//! running cards. They call only public items. A crate with tests is proved twice, so the tests have this crate of their own.
+//! Tests of the crates that read and print text: lines and devices, programs and their errors, scripts and their
+//! answers, scripts of running cards. They call only public items. The tests have their own crate because a crate
+//! with tests is proved twice.
 #![tactic(auto)]
 
 #[cfg(test)]

@@ -1,4 +1,4 @@
-//! A module for each crate.
+//! One module for each group of crates.
 
 mod lines;
 mod ports;

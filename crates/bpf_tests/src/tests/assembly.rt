@@ -1,7 +1,7 @@
-//! Tables of sources, each with the code that it means or with its fault.
+//! Tables of sources, each with its code or its error.
 //!
-//! A row is a source, an arrow and its answer. In a source `|`, which is no token, stands for a line
-//! feed. A code is spelled by the digits of its instructions' octets, and a fault as it is printed.
+//! A row is a source, an arrow and an answer. In a source, `|` means a line feed; it isn't a token. A code is written
+//! as the digits of its instructions' octets, an error as it is printed.
 
 mod bad_lines;
 mod faults;
@@ -19,12 +19,12 @@ use std::alloc::{AllocError, Global};
 use std::process::Abort;
 use std::test::Fail;
 
-/// The octets of a source in which `|` stands for a line feed.
+/// The octets of a source in which `|` means a line feed.
 fn octets_of(alloc: Global, source: &str) -> Result<Vec<u8>, AllocError> {
     Ok(source.replace(alloc, '|', "\n")?.into_bytes())
 }
 
-/// The digits of each instruction's octets, with blanks between them.
+/// The digits of each instruction's octets, separated by blanks.
 fn digits_of(alloc: Global, code: &[Instr]) -> Result<String, AllocError> {
     let mut digits = String::new(alloc);
     for instr in code {
@@ -44,7 +44,7 @@ fn answer_to(alloc: Global, source: &[u8]) -> Result<String, AllocError> {
     }
 }
 
-/// Asks that a source has this answer, and that the listing of its code has the same.
+/// Expects this answer to a source, and to the listing of its code.
 fn expect(rt: &impl Abort, alloc: Global, source: &str, answer: &str) -> Result<(), Fail> {
     let octets = octets_of(alloc, source)?;
     let found = answer_to(alloc, &octets)?;
@@ -62,7 +62,7 @@ fn parts_of(row: &str) -> Result<(&str, &str), Fail> {
     Ok(row.split_once(" => ").ok_or("a row without an arrow")?)
 }
 
-/// Asks that each source of a table has the answer beside it.
+/// Expects the answer in each row of a table.
 fn expect_table(rt: &impl Abort, alloc: Global, table: &str) -> Result<(), Fail> {
     for row in table.lines() {
         let (source, answer) = parts_of(row)?;

@@ -1,4 +1,4 @@
-//! Headers of known cells, at either side, and where octets or numbers are refused.
+//! Headers of known cells, at either side, and refused octets and numbers.
 
 use crate::tests::text_of;
 use std::test::Fail;
@@ -14,7 +14,8 @@ fn cell_of(header: [u8; 4]) -> Result<Cell, CellFault> {
     Cell::from_bytes(&octets)
 }
 
-/// The flow control, path, channel, payload type and priority of the cell with this header, for users.
+/// Flow control, path, channel, payload type and priority of the cell with this header, at the user network
+/// interface.
 fn fields_of(header: [u8; 4]) -> Result<(u8, u16, u16, u8, bool), CellFault> {
     let cell = cell_of(header)?;
     Ok((cell.gfc(), cell.vpi(), cell.vci(), cell.pti(), cell.clp()))

@@ -1,4 +1,4 @@
-//! Codes at the limits of each rule, with their faults.
+//! Codes at the limits of each rule, with their errors.
 
 use crate::tests::text_of;
 use bpf_code::{By, Instr, Op, Size, Test};
@@ -20,7 +20,7 @@ fn alu(op: Op, by: By) -> Instr {
     Instr::Alu { op, by }
 }
 
-/// `jeq #number` over so many instructions
+/// `jeq #number`, skipping `jt` or `jf` instructions
 fn jump_if_equal(number: u32, jt: u8, jf: u8) -> Instr {
     Instr::Branch {
         test: Test::Eq,
@@ -30,7 +30,7 @@ fn jump_if_equal(number: u32, jt: u8, jf: u8) -> Instr {
     }
 }
 
-/// The fault of a code, if it is refused.
+/// The error of a code, if it is refused.
 fn fault_in(code: Vec<Instr>) -> Option<Fault> {
     match verify(code) {
         Ok(_) => None,
@@ -38,7 +38,7 @@ fn fault_in(code: Vec<Instr>) -> Option<Fault> {
     }
 }
 
-/// A code's fault and the code that comes back with it, if it is refused.
+/// The error of a code and the returned code, if it is refused.
 fn refused(code: Vec<Instr>) -> Option<(Fault, Vec<Instr>)> {
     match verify(code) {
         Ok(_) => None,
@@ -46,7 +46,7 @@ fn refused(code: Vec<Instr>) -> Option<(Fault, Vec<Instr>)> {
     }
 }
 
-/// That a code comes back with this fault.
+/// Expects that a code is refused with this error, and returned.
 fn assert_refused(
     rt: &impl Abort,
     alloc: Global,
@@ -59,7 +59,7 @@ fn assert_refused(
     Ok(())
 }
 
-/// A first instruction before so many others that are alike.
+/// One instruction, followed by a number of equal instructions.
 fn before(
     alloc: Global,
     first: Instr,
@@ -77,7 +77,7 @@ fn a_program_may_pass_between_threads() {
     is_shared::<Program>();
 }
 
-/// Each fault with its line.
+/// Each error with its text.
 const FAULTS: [(Fault, &str); 8] = [
     (Fault::Empty, "1 Empty"),
     (Fault::TooLong, "2 TooLong"),
@@ -104,7 +104,7 @@ fn each_fault_prints_its_number_and_name(rt: HostRuntime) -> Result<(), Fail> {
 fn each_fault_of_an_instruction_has_its_place(rt: HostRuntime) -> Result<(), Fail> {
     let divided = alu(Op::Div, By::Imm(0));
     for (code, fault) in [
-        // The first instruction that is not sound decides, before the return at the end is asked for.
+        // The first bad instruction decides, before the return at the end is checked.
         ([Instr::LoadMem(16), divided], Fault::BadScratch { at: 0 }),
         ([divided, Instr::RetK(1)], Fault::ZeroDivisor { at: 0 }),
         (
@@ -119,7 +119,7 @@ fn each_fault_of_an_instruction_has_its_place(rt: HostRuntime) -> Result<(), Fai
             [jump_if_equal(0, 1, 0), Instr::RetK(1)],
             Fault::JumpOutside { at: 0 },
         ),
-        // Nothing is asked of the return at the end where a jump leads outside.
+        // A jump outside decides before the return at the end is checked.
         (
             [load_octet(0), Instr::Jump(0)],
             Fault::JumpOutside { at: 1 },
@@ -140,7 +140,7 @@ fn each_fault_of_a_code_is_found(rt: HostRuntime) -> Result<(), Fail> {
             &[either_way, Instr::Store(0), Instr::LoadMem(0), Instr::RetA],
             Fault::Unwritten { at: 2, word: 0 },
         ),
-        // Of two reads of what no path stores, the first is named.
+        // Of two reads of words that no path stores, the first is reported.
         (
             &[Instr::LoadMem(3), Instr::LoadMem(1), Instr::RetA],
             Fault::Unwritten { at: 0, word: 3 },
@@ -167,9 +167,9 @@ fn accepted_codes_are_handed_through(rt: HostRuntime) -> Result<(), Fail> {
     let either_way = jump_if_equal(0x4a, 0, 1);
     for code in [
         vec![in alloc; load_octet(3), either_way, Instr::RetK(2), Instr::RetK(1)]?,
-        // No path leads past the first return, so nothing is asked of the read.
+        // No path reaches the read after the first return, so it isn't checked.
         vec![in alloc; Instr::RetK(0), Instr::LoadMem(3), Instr::RetA]?,
-        // A division by X is the machine's matter.
+        // Division by X is checked only when the program runs.
         vec![in alloc; Instr::LdxImm(0), alu(Op::Div, By::X), Instr::RetK(1)]?,
         vec![in alloc; Instr::LdxImm(0), alu(Op::Mod, By::X), Instr::RetK(1)]?,
         vec![in alloc;
@@ -211,7 +211,7 @@ fn the_longest_code_has_4096_instructions(rt: HostRuntime) -> Result<(), Fail> {
     Ok(())
 }
 
-/// A store of word 15, a thousand branches each of which may leave out a store of word 0, and a read.
+/// A store of word 15, a thousand branches that may each skip a store of word 0, and a read.
 fn ladder(alloc: Global, read: u32) -> Result<Vec<Instr>, AllocError> {
     let branch = Instr::Branch {
         test: Test::Set,

@@ -1,10 +1,10 @@
-//! Every row of the instruction table, read and written, and octets that are none.
+//! Every row of the instruction table, encoded and decoded, and octets that spell no instruction.
 
 use crate::tests::text_of;
 use bpf_code::*;
 use std::test::Fail;
 
-/// The operand that the table's test writes into every instruction.
+/// The operand of every instruction in the test of the table.
 const K: u32 = 0x01020304;
 
 const IMM: By = By::Imm(K);
@@ -30,7 +30,7 @@ fn branch(test: Test, by: By) -> Instr {
     }
 }
 
-/// The low octet of each code of the instruction table, and its instruction.
+/// The low octet of each number of the instruction table, and its instruction.
 fn table() -> [(u8, Instr); 49] {
     [
         (0x20, load_abs(Size::Word)),
@@ -152,7 +152,7 @@ fn a_program_is_read_and_written_in_order(rt: HostRuntime) -> Result<(), Fail> {
     Ok(())
 }
 
-/// As many octets as a line of 70,000 characters and more could spell.
+/// More octets than a line of 70,000 characters can spell.
 const MANY_OCTETS: usize = 80_008;
 
 #[test]

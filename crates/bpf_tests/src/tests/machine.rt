@@ -1,4 +1,4 @@
-//! Programs on cells, with their values and steps.
+//! Values and steps of programs on cells.
 
 use bpf_code::{By, Instr, Op, Size, Test};
 use bpf_interp::{Outcome, run};
@@ -7,13 +7,13 @@ use std::alloc::{AllocError, Global};
 use std::test::Fail;
 use upc_cell::Cell;
 
-/// A cell of user data on VPI 1, VCI 100.
+/// A user data cell of VPI 1, VCI 100.
 const USER: [u8; 4] = [0x00, 0x10, 0x06, 0x40];
 
-/// The same connection's end-to-end OAM.
+/// An end-to-end OAM cell of the same connection.
 const OAM: [u8; 4] = [0x00, 0x10, 0x06, 0x4a];
 
-/// The cell with this header, a payload of zeros, and 01 02 03 04 at its end.
+/// A cell with this header and a payload of zeros that ends with 01 02 03 04.
 fn cell_of(header: [u8; 4]) -> Result<Cell, Fail> {
     let mut octets = [0; 52];
     octets[..4].copy_from_slice(&header);
@@ -23,7 +23,7 @@ fn cell_of(header: [u8; 4]) -> Result<Cell, Fail> {
     Ok(Cell::from_bytes(&octets)?)
 }
 
-/// The value and the steps of a code on the cell with this header.
+/// Value and steps of a code on the cell with this header.
 fn outcome(alloc: Global, code: &[Instr], header: [u8; 4]) -> Result<(u32, u32), Fail> {
     let program = verify(code.to_vec(alloc)?)?;
     let Outcome { value, steps } = run(&program, &cell_of(header)?);
@@ -154,7 +154,7 @@ fn scratch_words_hold_what_was_stored(rt: HostRuntime) -> Result<(), Fail> {
     Ok(())
 }
 
-/// So many instructions that are alike, with a last one in place of the last of them.
+/// Equal instructions up to this length, the last replaced by another.
 fn ended_by(
     alloc: Global,
     each: Instr,
@@ -175,8 +175,7 @@ fn the_longest_program_takes_a_step_an_instruction(rt: HostRuntime) -> Result<()
     Ok(())
 }
 
-/// The outcome of a code, and of the same code with returns behind it that nothing reaches, so many that
-/// it isn't laid out.
+/// The outcome of a code, and of the same code followed by enough unreachable returns that it isn't laid out.
 fn both_ways(alloc: Global, code: &[Instr], header: [u8; 4]) -> Result<[(u32, u32); 2], Fail> {
     let behind = [Instr::RetK(0)].repeat(alloc, MOST_LAID_OUT)?;
     let longer = [code, behind.as_slice()].concat(alloc)?;
@@ -195,7 +194,7 @@ fn and(k: u32) -> Instr {
     alu(Op::And, By::Imm(k))
 }
 
-/// Two instructions before `ret #2` and `ret #1`, and the outcome of the four on a cell of user data.
+/// Two instructions before `ret #2` and `ret #1`, and the outcome on a user data cell.
 fn pairs() -> [([Instr; 2], (u32, u32)); 11] {
     let half_at_x = Instr::LoadInd {
         size: Size::Half,

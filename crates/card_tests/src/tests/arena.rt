@@ -12,12 +12,12 @@ fn id(slot: u16, generation: u32) -> Id {
     Id { slot, generation }
 }
 
-/// Asks that an id names this value, or none.
+/// Expects this value, or none, under an id.
 fn expect_at<T: Copy + Eq + Debug>(rt: &impl Abort, arena: &Arena<T>, id: Id, value: Option<T>) {
     assert_eq!(rt; arena.get(id).copied(), value, "{id:?}");
 }
 
-/// Asks that so many slots are free.
+/// Expects this number of free slots.
 fn expect_free<T>(rt: &impl Abort, arena: &Arena<T>, free: usize) {
     assert_eq!(rt; arena.free(), free);
 }
@@ -28,12 +28,12 @@ fn is_sent<S: Send>() {}
 
 fn is_shared<S: Sync>() {}
 
-/// An arena may be sent to another thread where its values may.
+/// An arena is `Send` if its values are.
 fn arena_is_sent<T: Send>() {
     is_sent::<Arena<T>>();
 }
 
-/// It may be shared by threads where its values may.
+/// And `Sync` if its values are.
 fn arena_is_shared<T: Sync>() {
     is_shared::<Arena<T>>();
 }
@@ -45,7 +45,7 @@ fn an_id_is_a_key_and_an_arena_crosses_threads() {
     arena_is_shared::<u32>();
 }
 
-/// Ids go by their slot first, and within a slot by their generation.
+/// Ids are ordered by slot, then by generation.
 #[test]
 fn ids_are_ordered_by_slot_and_then_by_generation(rt: HostRuntime) {
     assert!(rt; id(1, 4294967295) < id(2, 1));
@@ -155,7 +155,7 @@ impl Drop for Counted<'_> {
     }
 }
 
-/// How many values of each counter were dropped.
+/// The number of dropped values of each counter.
 fn drops(removed: &AtomicU64, kept: &AtomicU64, refilled: &AtomicU64) -> [u64; 3] {
     [
         removed.load(Ordering::SeqCst),
@@ -197,7 +197,7 @@ fn zeros(alloc: Global, count: u32) -> Result<Vec<AtomicU64>, Fail> {
     Ok(counts)
 }
 
-/// Asks that each value was dropped once.
+/// Expects that each value was dropped once.
 fn expect_each_once(rt: &impl Abort, counts: &[AtomicU64]) {
     for count in counts {
         assert_eq!(rt; count.load(Ordering::SeqCst), 1);
@@ -229,7 +229,7 @@ fn of_many_values_each_is_dropped_once(rt: HostRuntime) -> Result<(), Fail> {
     Ok(())
 }
 
-/// The slot that was emptied last is taken first.
+/// The slot that was emptied last is used first.
 #[test]
 fn freed_slots_come_again_from_the_last_on(rt: HostRuntime) -> Result<(), Fail> {
     let mut arena = Arena::new(rt.alloc(), 3)?;
@@ -243,7 +243,7 @@ fn freed_slots_come_again_from_the_last_on(rt: HostRuntime) -> Result<(), Fail> 
     Ok(())
 }
 
-/// Values of 4 KiB, at the greatest alignment that the allocator gives.
+/// Values of 4 KiB, with the largest alignment that the allocator supports.
 #[test]
 fn large_values_come_back_as_they_went_in(rt: HostRuntime) -> Result<(), Fail> {
     let mut arena = Arena::new(rt.alloc(), 3)?;

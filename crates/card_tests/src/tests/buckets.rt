@@ -4,7 +4,7 @@ use leaky::*;
 use std::process::Abort;
 use std::test::Fail;
 
-/// The verdicts on cells of these CLPs and moments, from the opening state on.
+/// Expects these verdicts on cells of these CLPs and moments, from the initial state.
 fn assert_verdicts(rt: &impl Abort, contract: &Contract, cells: &[(bool, u32, Verdict)]) {
     let mut levels = Levels::new();
     for (clp, moment, verdict) in cells {
@@ -16,8 +16,8 @@ fn assert_verdicts(rt: &impl Abort, contract: &Contract, cells: &[(bool, u32, Ve
     }
 }
 
-/// After a cell at 0 the next is due at 10. With a limit of 5 it conforms from 5 on, and the one
-/// after is then due at 20.
+/// After a cell at 0 the next is due at 10. With a limit of 5 a cell conforms from 5 on, and the next is then due at
+/// 20.
 #[test]
 fn equality_at_the_limit_conforms(rt: HostRuntime) -> Result<(), Fail> {
     assert_verdicts(
@@ -84,7 +84,7 @@ fn both_rates_for_every_cell(rt: HostRuntime) -> Result<(), Fail> {
     Ok(())
 }
 
-/// The cell at 18 fails on bucket 2 alone; had it charged bucket 1, the last would be discarded.
+/// The cell at 18 fails only on bucket 2. If it charged bucket 1, the last cell would be discarded.
 #[test]
 fn a_discarded_cell_charges_no_bucket(rt: HostRuntime) -> Result<(), Fail> {
     let contract = Contract::Vbr2(Gcra::new(5, 0)?, Gcra::new(20, 20)?);
@@ -118,7 +118,7 @@ fn a_tagged_cell_charges_bucket_1_alone(rt: HostRuntime) -> Result<(), Fail> {
     Ok(())
 }
 
-/// Had the first cell charged bucket 2, the third of the first table would be tagged.
+/// If the first cell charged bucket 2, the third of the first table would be tagged.
 #[test]
 fn cells_of_clp_1_leave_bucket_2_alone(rt: HostRuntime) -> Result<(), Fail> {
     let contract = Contract::Vbr3(Gcra::new(5, 0)?, Gcra::new(20, 20)?);

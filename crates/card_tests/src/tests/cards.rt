@@ -27,7 +27,7 @@ fn shape(programs: u64, ports: u64, journal: u64) -> Shape {
     }
 }
 
-/// A program that gives this value for every cell.
+/// A program that returns this value for every cell.
 fn constant(alloc: Global, value: u32) -> Result<Program, Fail> {
     let code = vec![in alloc; Instr::RetK(value)]?;
     Ok(verify(code)?)
@@ -43,7 +43,7 @@ fn cell() -> Cell {
     Cell::from(octets)
 }
 
-/// A connection under one contract: a cell in ten ticks, and no tolerance.
+/// A connection with one contract: a cell every ten ticks, without tolerance.
 fn ask(program: Id) -> Result<Ask, Fail> {
     let mut contracts = ArrayVec::new();
     contracts.push(Contract::Cbr1(Gcra::new(10, 0)?));
@@ -91,7 +91,7 @@ fn fault_of(reply: &Reply) -> Option<DeskFault> {
     }
 }
 
-/// A cell comes to the port and is picked.
+/// A cell arrives at the port and is looked up.
 fn pick_at(core: &mut Core, port: u8, moment: u64) -> bool {
     let enter = Step::Enter {
         port,
@@ -106,7 +106,7 @@ fn judge_at_port(core: &mut Core, port: u8) -> Option<Answer> {
     answer_of(&core.step(Step::Judge { port }))
 }
 
-/// The verdict, its number on the line, and the program that named the contract.
+/// The verdict, the cell's number on the line, and the program that named the contract.
 fn judged(answer: Option<Answer>) -> Option<(Verdict, u64, Id)> {
     match answer {
         Some(

@@ -19,7 +19,7 @@ fn program(slot: u16) -> Id {
     }
 }
 
-/// Opens a line for 1/100 under one contract: a cell in ten ticks, without tolerance.
+/// Opens a line for 1/100 with one contract: a cell every ten ticks, without tolerance.
 fn open_for(line: &mut Line, owner: Owner) -> Result<(), Fail>
     requires { line.old.owner ≡ None }
     ensures { OnOk result (line.new.owner ≡ Some owner) }
@@ -38,7 +38,7 @@ fn owner(incarnation: u64) -> Result<Owner, Fail> {
     Ok(Owner { vc, incarnation })
 }
 
-/// A line that was opened so for 1/100.
+/// A line that is open for 1/100.
 fn policed_line(alloc: Global, journal: u32) -> Result<Line, Fail>
     requires some { 1 ≤ journal }
     requires most { journal ≤ 65536 }
@@ -58,7 +58,7 @@ fn verdict(line: &mut Line, moment: u64, value: u32) -> Result<Verdict, LineFaul
     Ok(entry.verdict)
 }
 
-/// Asks that a cell of cell loss priority 0 is answered so.
+/// Expects this result for a cell of cell loss priority 0.
 fn expect_verdict(
     rt: &impl Abort,
     line: &mut Line,
@@ -72,7 +72,7 @@ fn expect_verdict(
     assert_eq!(rt; verdict(line, moment, value), answer, "at {moment}");
 }
 
-/// Asks that what was found of a connection, or taken, is this seating, or none.
+/// Expects this seating, or none, from a directory.
 fn expect_seating(rt: &impl Abort, found: Option<Seating>, seating: Option<Seating>)
     ensures { found ≡ seating }
 {
@@ -81,7 +81,7 @@ fn expect_seating(rt: &impl Abort, found: Option<Seating>, seating: Option<Seati
 
 fn is_shared<T: Send + Sync>() {}
 
-/// The same cells as one piece after another, and in the wrong order.
+/// The same cells in several pieces, also in the wrong order.
 #[test]
 fn a_cut_keeps_the_buckets_and_pieces_chain(rt: HostRuntime) -> Result<(), Fail> {
     let mut line = policed_line(rt.alloc(), 2)?;
@@ -117,7 +117,7 @@ fn a_cut_keeps_the_buckets_and_pieces_chain(rt: HostRuntime) -> Result<(), Fail>
     Ok(())
 }
 
-/// A value that names no contract leaves the buckets as they are, but later cells may not be earlier.
+/// A value that names no contract leaves the buckets unchanged, but later cells must not be earlier.
 #[test]
 fn a_refused_cell_charges_no_bucket(rt: HostRuntime) -> Result<(), Fail> {
     let mut line = policed_line(rt.alloc(), 3)?;
@@ -231,7 +231,7 @@ fn faults_are_printed_by_number_and_name(rt: HostRuntime) -> Result<(), Fail> {
     Ok(())
 }
 
-/// The largest journal, which is filled, handed out by a cut, and handed out again at the end.
+/// The largest journal is filled, returned by a cut, and returned again at the end.
 #[test]
 fn the_largest_journal_is_filled_cut_and_closed(rt: HostRuntime) -> Result<(), Fail> {
     let mut line = policed_line(rt.alloc(), MOST_ENTRIES)?;
@@ -321,7 +321,7 @@ fn a_connection_is_policed(rt: HostRuntime) -> Result<(), Fail> {
     Ok(())
 }
 
-/// As many connections as a card has lines at most, each found on its own line.
+/// As many connections as a card can have lines, each found on its own line.
 #[test]
 fn a_directory_of_4096_lines_is_filled(rt: HostRuntime) -> Result<(), Fail> {
     let mut directory = Directory::new(rt.alloc(), 4096, 1)?;

@@ -1,27 +1,27 @@
--- What contracts see of a card's tokens.
+-- Shares of a card's ledgers, as contracts see them.
 use Rattle.std.specs.Prelude.{ℕ, ◌+◌, ◌≤◌, ◌^◌}
 use Rattle.leaky.specs.declared.verdict.Verdict.{Verdict}
 use Rattle.line_record.specs.declared.tally.Tally.{Tally}
 use Rattle.line_record.specs.Tally.{nothing, counted, plus}
 
--- Shares of four ledgers, one a verdict: how many parts each has, and their amounts by verdict.
+-- Shares of four ledgers, one for each verdict: how many parts each has, and their amounts.
 pub record MarksView : Type 0 where
   pub parts : ℕ
   pub tally : Tally
 
--- So many parts that have counted no cell.
+-- `parts` parts that have counted no cell.
 abbrev pub unused_marks : ℕ → MarksView
 unused_marks parts = record { parts = parts; tally = nothing }
 
--- The marks have counted one more cell with this verdict.
+-- The marks after they count one cell with this verdict.
 abbrev pub counted_mark : MarksView → Verdict → MarksView
 counted_mark marks verdict = record marks { tally = counted marks.tally verdict }
 
--- Both marks together.
+-- The sum of both marks.
 abbrev pub both_marks : MarksView → MarksView → MarksView
 both_marks one other = record { parts = one.parts + other.parts; tally = plus one.tally other.tally }
 
--- Each number is at most 2^62.
+-- Each count is at most 2^62.
 pub record IsBounded (tally : Tally) : Type 0 where
   pub passed : tally.passed ≤ 2 ^ 62
   pub tagged : tally.tagged ≤ 2 ^ 62

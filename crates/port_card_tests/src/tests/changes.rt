@@ -1,4 +1,4 @@
-//! What the desk does while a cell is between its look-up and its judgement.
+//! The desk acts while a cell is between its look-up and its judgement.
 
 ghost use Rattle.std.specs.Prelude.{◌≡◌};
 ghost use Rattle.port_card.specs.Names.{AreFor};
@@ -8,34 +8,34 @@ use port_card::Blanks;
 use std::marker::Brand;
 use std::thread::Threads;
 
-/// How long a gate looks whether a retirement was answered.
+/// How often a gate checks whether a retirement has returned.
 const LOOKS: u64 = 1_000_000;
 
-/// What a port saw of its one cell.
+/// The port's results for its one cell.
 #[derive(Debug, Drop)]
 struct AtPort {
     answer: Answer,
-    /// What the seat counted on the first line and on the second.
+    /// The seat's tallies of the first line and of the second.
     first: Option<Tally>,
     second: Option<Tally>,
 }
 
-/// What the desk saw once the cell was answered.
+/// The desk's results after the cell is answered.
 #[derive(Debug, Drop)]
 struct AtDesk {
-    /// How the retirement of the first program was answered, and how once more.
+    /// The error of the first program's retirement, and of a second try.
     retired: Option<DeskFault>,
     again: Option<DeskFault>,
-    /// How many cells the connection's journal had.
+    /// The number of cells in the connection's journal.
     entries: Option<usize>,
 }
 
-/// What came of a scene in which the desk changed something while a cell was at its gate.
+/// The results of a test in which the desk acts while a cell is at its gate.
 #[derive(Debug, Drop)]
 struct Seen {
-    /// The desk was done before the gate's turns ran out.
+    /// The desk finished before the gate's turns ran out.
     in_time: bool,
-    /// The program that the connection was set up with.
+    /// The program with which the connection was set up.
     program: Id,
     port: AtPort,
     desk: AtDesk,
@@ -77,7 +77,7 @@ fn a_cell_is_judged_by_the_program_that_was_picked(rt: HostRuntime) -> Result<()
     Ok(())
 }
 
-/// Puts two programs in, and sets up a connection with the first.
+/// Loads two programs, and sets up a connection with the first.
 fn prepared<S: Ledgers, R: Wait>(
     rt: &R,
     alloc: Global,
@@ -96,8 +96,8 @@ fn prepared<S: Ledgers, R: Wait>(
     })
 }
 
-/// While port 0 is at its gate, the desk gives the connection another program, or releases it and sets
-/// it up again. The port waits there until that is done.
+/// While port 0 is at its gate, the desk reloads the connection with the other program, or releases it and sets it up
+/// again. The port waits until that is done.
 fn changed<S: Ledgers + Send + Sync, R: Threads + Wait + Sync>(
     rt: &R,
     alloc: Global,
@@ -125,7 +125,7 @@ fn changed<S: Ledgers + Send + Sync, R: Threads + Wait + Sync>(
     })
 }
 
-/// A cell comes to a port, which then tells what it counted on both lines.
+/// One cell arrives at a port. Returns the answer and the seat's tallies of both lines.
 fn arrive_once<S: Ledgers, G: Gate, R: Wait>(
     rt: &R,
     card: &Card<S>,
@@ -141,7 +141,7 @@ fn arrive_once<S: Ledgers, G: Gate, R: Wait>(
     }
 }
 
-/// Whether the connection was set up once more.
+/// Whether the connection was set up again.
 fn set_up_again<S: Ledgers, R: Wait>(
     rt: &R,
     card: &Card<S>,
@@ -161,7 +161,8 @@ fn set_up_again<S: Ledgers, R: Wait>(
     desk.setup(rt, card, again).is_ok()
 }
 
-/// What the desk is to do on a connection of the first program: it gives it the other, or releases it and sets it up again.
+/// What the desk does to a connection of the first program: it reloads it with the other, or releases it and sets it
+/// up again.
 #[derive(Clone, Copy)]
 struct Errand {
     vc: Vc,
@@ -170,7 +171,7 @@ struct Errand {
     reloads: bool,
 }
 
-/// Whether the errand was done.
+/// Whether that succeeded.
 fn done<S: Ledgers, R: Wait>(rt: &R, card: &Card<S>, desk: &mut Desk<S>, errand: Errand) -> bool {
     if errand.reloads {
         desk.reload(rt, card, errand.vc, errand.other).is_ok()
@@ -179,8 +180,8 @@ fn done<S: Ledgers, R: Wait>(rt: &R, card: &Card<S>, desk: &mut Desk<S>, errand:
     }
 }
 
-/// Once the cell was picked, the errand is done and port 0 let go. Then the first program is retired twice, the first time
-/// of which waits for the cell, and the connection's journal is cut.
+/// After the look-up of the cell, does the errand and releases port 0. Then retires the first program twice (the
+/// first call waits for the cell) and cuts the connection's journal.
 fn change<S: Ledgers, R: Wait>(
     rt: &R,
     card: &Card<S>,
@@ -200,7 +201,7 @@ fn change<S: Ledgers, R: Wait>(
     }
 }
 
-/// A port tells that its cell was picked, and looks for a while whether the desk was answered.
+/// A gate: a port reports that its cell was looked up, and checks for a while whether the desk's call has returned.
 #[derive(Drop)]
 struct Looks {
     picked: AtomicU64,
@@ -269,7 +270,7 @@ fn waiting<S: Ledgers + Send + Sync, R: Threads + Wait + Sync>(
     ))
 }
 
-/// Once the cell was picked, the program that gives 2 is retired: whether it came back.
+/// After the look-up of the cell, retires the program that returns 2. Returns whether the program was returned.
 fn retire_once<S: Ledgers, R: Wait>(
     rt: &R,
     card: &Card<S>,

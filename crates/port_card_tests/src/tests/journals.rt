@@ -1,5 +1,5 @@
-//! Journals, tallies and closes, on one thread. They hold whichever request for memory is refused: what
-//! is answered so changes nothing, and is asked for once more.
+//! Journals, tallies and closes, on one thread. The tests pass whichever allocation fails: a call that fails changes
+//! nothing and is made once more.
 
 ghost use Rattle.std.specs.Prelude.{◌≡◌};
 ghost use Rattle.port_card.specs.Names.{AreFor};
@@ -8,7 +8,7 @@ use super::*;
 use port_card::Blanks;
 use std::marker::Brand;
 
-/// What a cell is answered, by name.
+/// The answer to a cell, by name.
 fn answered(answer: Answer) -> &'static str {
     match answer {
         Answer::Judged { verdict, .. } => match verdict {
@@ -27,17 +27,17 @@ fn answered(answer: Answer) -> &'static str {
     }
 }
 
-/// What came of the cells of one connection, on a card of two ports and two lines.
+/// The results for the cells of one connection, on a card with two ports and two lines.
 #[derive(Debug, Drop)]
 struct Outcome {
     answers: [&'static str; 5],
-    /// How many cells the journal had that the release gave.
+    /// The number of cells in the journal that the release returned.
     entries: usize,
-    /// What both seats counted on the connection's line, and what that line did.
+    /// Both seats' tallies of the connection's line, and the counts of that line.
     own: [Option<Tally>; 3],
-    /// The same of the other line.
+    /// The same for the other line.
     other: [Option<Tally>; 3],
-    /// How many lines the close gave, and which is uneven.
+    /// The number of lines after the close, and the uneven one.
     lines: usize,
     uneven: Option<u16>,
 }
@@ -58,13 +58,13 @@ fn lines_count_what_seats_do(rt: HostRuntime) -> Result<(), Fail> {
     Ok(())
 }
 
-/// What the line of this number counted; none where there is no such line.
+/// The counts of the line of this number, if it exists.
 fn counts_of(closing: &Closing, number: u16) -> Option<Tally> {
     let line = closing.lines.get(usize::from(number))?;
     Some(line.counts())
 }
 
-/// Five cells that come to both ports in turn, a release, and a close.
+/// Five cells that arrive at both ports in turn, a release, and a close.
 fn policed<S: Ledgers, R: Wait>(
     rt: &R,
     alloc: Global,
@@ -127,7 +127,7 @@ fn a_full_journal_is_cut(rt: HostRuntime) -> Result<(), Fail> {
     Ok(())
 }
 
-/// Three cells into a journal of two, a cut, and two more; and the tally after the first three.
+/// Three cells into a journal of two, a cut, and two more cells; and the tally after the first three.
 fn filled<S: Ledgers, R: Wait>(
     rt: &R,
     alloc: Global,
@@ -158,7 +158,7 @@ fn filled<S: Ledgers, R: Wait>(
     Ok(([first, second, third, fourth, fifth], cut, counted))
 }
 
-/// A cell of cell loss priority 0 in a journal, for which its program gave 1.
+/// A journal entry of cell loss priority 0 and value 1.
 fn entry(moment: u64, program: Id, verdict: Verdict) -> Entry {
     Entry {
         moment,
@@ -188,8 +188,8 @@ fn a_card_is_closed_with_all_its_seats(rt: HostRuntime) -> Result<(), Fail> {
     Ok(())
 }
 
-/// A cell at each port, a close with one seat of two, and then one with both; the program, and the number of the line
-/// that judged the first cell.
+/// A cell at each port, a close with one seat of two, and a close with both. Returns the program, the number of the
+/// line that judged the first cell, and the closed card.
 fn missed<S: Ledgers, R: Wait>(
     rt: &R,
     alloc: Global,

@@ -1,4 +1,4 @@
-//! Two ports at work at the same time.
+//! Two ports work at the same time.
 
 ghost use Rattle.std.specs.Prelude.{◌≡◌};
 ghost use Rattle.port_card.specs.Names.{AreFor};
@@ -24,7 +24,7 @@ fn a_port_judges_while_another_is_at_its_gate(rt: HostRuntime) -> Result<(), Fai
     Ok(())
 }
 
-/// Port 0 waits at its gate until port 1 has been answered.
+/// Port 0 waits at its gate until port 1 has its answer.
 fn overlapping<S: Ledgers + Send + Sync, R: Threads + Wait + Sync>(
     rt: &R,
     alloc: Global,

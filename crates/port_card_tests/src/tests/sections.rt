@@ -1,11 +1,11 @@
-//! The locked sections, on parts that are lent to them without a card.
+//! The locked sections, called without a card.
 
 use super::*;
 use card_core::{Store, admit, judge_at, load as put_in, name, release, reload, retire, setup};
 use gen_arena::Arena;
 use line_record::{Directory, Owner, Seating};
 
-/// A connection is set up on a line that is lent.
+/// Sets up a connection on this line.
 fn seat(
     store: &Store,
     directory: &mut Directory,
@@ -21,7 +21,7 @@ fn seat(
     }
 }
 
-/// A program is put into a store.
+/// Puts a program into a store.
 fn put(store: &mut Store, program: Program) -> Result<Id, Fail> {
     match put_in(store, program) {
         Ok(id) => Ok(id),
@@ -29,7 +29,7 @@ fn put(store: &mut Store, program: Program) -> Result<Id, Fail> {
     }
 }
 
-/// Two cells come to the line that is lent: one passes, and one is discarded.
+/// Two cells arrive on the line: one passes and one is discarded.
 fn police(store: &Store, directory: &Directory, line: &mut Line, vc: Vc) -> Result<(), Fail> {
     let Some(seating) = directory.find(vc) else {
         return Err(Fail::from("not found"));
@@ -45,7 +45,7 @@ fn police(store: &Store, directory: &Directory, line: &mut Line, vc: Vc) -> Resu
     Ok(())
 }
 
-/// What a directory shows: the places of both connections, whether it names each program, and a free line.
+/// The state of a directory: the seatings of both connections, whether it names each program, and a free line.
 fn shown(
     directory: &Directory,
     vcs: [Vc; 2],

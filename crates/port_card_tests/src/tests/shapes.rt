@@ -1,4 +1,4 @@
-//! What a card is made of, and what it is refused for.
+//! The parts of a card, and why a card is refused.
 
 ghost use Rattle.std.specs.Prelude.{◌≡◌};
 ghost use Rattle.port_card.specs.Names.{AreFor};
@@ -8,7 +8,7 @@ use card_core::CardFault;
 use port_card::Blanks;
 use std::marker::Brand;
 
-/// Why a card of this shape is not made; none where it is made.
+/// The error for a card of this shape, or none if the card is made.
 fn refused<S: Ledgers>(alloc: Global, shape: Shape, blanks: Blanks) -> Option<CardFault>
     requires names { blanks ≡ S.names }
     requires for_shape { AreFor shape S.names }
@@ -19,7 +19,7 @@ fn refused<S: Ledgers>(alloc: Global, shape: Shape, blanks: Blanks) -> Option<Ca
     }
 }
 
-/// The same, with ledgers that are for this shape.
+/// The same, with ledgers for this shape.
 fn fault_of(alloc: Global, shape: Shape) -> Option<CardFault> {
     let blanks = Blanks::new(shape.lines, shape.ports);
     refused::<Brand>(alloc, shape, blanks)
@@ -48,7 +48,7 @@ fn a_card_is_refused_for_the_first_number_out_of_its_limits(rt: HostRuntime) {
     assert_eq!(rt; fault_of(alloc, shape(1024, 4096, 16, 65536)), None);
 }
 
-/// The numbers of the ports of a card's seats, and the first seat's tallies of three lines.
+/// The port numbers of a card's seats, and the first seat's tallies of three lines.
 fn seated<S: Ledgers>(
     alloc: Global,
     shape: Shape,

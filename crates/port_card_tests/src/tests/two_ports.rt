@@ -1,4 +1,4 @@
-//! A caller's example: a card of two ports, whose cells come at the same time.
+//! An example for callers: a card with two ports, whose cells arrive at the same time.
 
 ghost use Rattle.std.specs.Prelude.{◌≡◌};
 ghost use Rattle.port_card.specs.Names.{AreFor};
@@ -8,7 +8,7 @@ use port_card::Blanks;
 use std::marker::Brand;
 use std::thread::Threads;
 
-/// What a cell was answered at the port of this seat, which comes back.
+/// A cell arrives at the port of this seat. Returns the seat and the answer.
 fn arrived<S: Ledgers, R: Wait>(
     rt: &R,
     card: &Card<S>,
@@ -20,7 +20,7 @@ fn arrived<S: Ledgers, R: Wait>(
     (seat, answer)
 }
 
-/// A cell at each port, on a thread of its own: both seats, and both answers.
+/// One cell arrives at each port, each on its own thread. Returns both seats and both answers.
 fn arrive_at_both<S: Ledgers + Send + Sync, R: Threads + Wait + Sync>(
     rt: &R,
     card: &Card<S>,

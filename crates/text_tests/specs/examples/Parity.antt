@@ -1,5 +1,5 @@
--- A machine that tells of each line whether an even number of lines came before it. Its world is the list
--- of all lines so far, of which it holds one bit.
+-- A machine that answers each line with whether an even number of lines came before it. Its world is the list of all
+-- lines so far; it stores only one bit of it.
 use Rattle.std.specs.Prelude.{◌≡◌, ℕ, Bool, true, false, not, List, [], ◌∷◌, codes, Option, Some}
 use Rattle.text_io.specs.Printing.{Rules, IsTotal}
 use Rattle.text_io.specs.declared.ending.Done.{Done}
@@ -10,7 +10,7 @@ use Rattle.std.proofs.Common.{refl}
 abbrev pub Lines : Type 0
 Lines = List (List ℕ)
 
--- There is an even number of them.
+-- Whether their number is even.
 abbrev pub is_even : Lines → Bool
 is_even [] = true
 is_even (line ∷ lines) = not (is_even lines)

@@ -1,4 +1,4 @@
-//! Machines over devices that move one octet a call, and fail at a call of one's choice.
+//! Machines over devices that move one octet a call and fail at a given call.
 
 mod devices;
 mod parity;
@@ -12,8 +12,8 @@ use text_io::{
     line_words,
 };
 
-/// Runs the machine over devices that fail once so many calls have gone well: how it ends, what was
-/// written, and how many octets are left.
+/// Runs the machine over devices that fail after a number of successful calls. Returns how it ends, the output, and
+/// the number of octets left.
 fn run(
     alloc: Global,
     octets: &[u8],

@@ -1,4 +1,4 @@
-//! Scripts whose cells come to ports that are threads of their own, with gates; and why a card is not closed.
+//! Scripts whose ports are threads, with gates; and why a card isn't closed.
 
 use port_card::{CloseFault, Gate};
 use std::alloc::Global;
@@ -9,7 +9,7 @@ use std::thread::{self, Threads};
 use text_io::{Done, Giving, RunFault, Taking};
 use upc_ports::run_ports_with;
 
-/// The most turns that a gate makes.
+/// The maximum number of turns of a gate.
 const TURNS: u64 = 10_000_000;
 
 /// Two ports, and a connection on each.
@@ -34,7 +34,7 @@ pass 1/101 p1 1 00100650
 totals 3 0 1 0
 ";
 
-/// What `ports` prints for a script, and how it ends, where each port waits at this gate.
+/// The output of `ports` for a script, and how it ends, when each port waits at this gate.
 fn printed<G: Gate + Sync, R: Threads + Wait + Sync>(
     rt: &R,
     alloc: Global,
@@ -47,7 +47,7 @@ fn printed<G: Gate + Sync, R: Threads + Wait + Sync>(
     Ok((sink.writer, done))
 }
 
-/// Each port, at its first cell, raises its flag and turns until the other's is up.
+/// A gate: each port, at its first cell, sets its flag and waits for the other's.
 #[derive(Drop)]
 struct Meeting {
     flags: [AtomicU64; 2],
@@ -92,7 +92,7 @@ fn both_ports_are_between_look_up_and_judgement_at_once(rt: HostRuntime) -> Resu
     Ok(())
 }
 
-/// Remembers the number of the last port that came, and one.
+/// Stores the number of the last port that came, plus one.
 #[derive(Drop)]
 struct Remembering {
     port: AtomicU64,

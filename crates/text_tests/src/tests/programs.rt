@@ -1,4 +1,5 @@
-//! Words of digits beside the library, as the program is built; and what no clause says of fault lines.
+//! Hexadecimal words compared with the library, as compiled; and the texts of fault lines, which no contract relates
+//! to the crates of the errors.
 
 mod digits;
 mod fault_lines;

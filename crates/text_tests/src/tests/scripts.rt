@@ -1,4 +1,4 @@
-//! The lines of a card and of cells, and the contracts that a script asks for.
+//! The lines of a card and of cells, and the contracts of a script.
 
 mod card_faults;
 mod rates;

@@ -1,11 +1,11 @@
-//! Lines that are close to a spelling and none.
+//! Lines that are almost correct.
 
 use super::expect;
 use std::alloc::Global;
 use std::process::Abort;
 use std::test::Fail;
 
-/// Lines that are close to a spelling.
+/// Instructions that are almost correct.
 const BAD_LINES: &str = "\
 ret x
 ret
@@ -69,7 +69,7 @@ ja #5
 jmp far, far
 ";
 
-/// Lines that are close to a branch.
+/// Branches that are almost correct.
 const BAD_BRANCHES: &str = "\
 jeq
 jeq far
@@ -91,7 +91,7 @@ jlt x, far, near
 jle #5, far, near
 ";
 
-/// Lines with letters of another case than in the table.
+/// Lines with letters of the wrong case.
 const OTHER_CASES: &str = "\
 LD [3]
 Ld [3]
@@ -111,7 +111,7 @@ ldx #LEN
 ld #Len
 ";
 
-/// Asks that no line of a table is a line of the grammar, between two others that are.
+/// Expects BadLine for each line of a table, between two correct lines.
 fn expect_bad_lines(rt: &impl Abort, alloc: Global, table: &str) -> Result<(), Fail> {
     for line in table.lines() {
         let source = ["near: ret #1|", line, "|far: ret #2"].concat(alloc)?;

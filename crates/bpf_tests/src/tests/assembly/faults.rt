@@ -1,10 +1,10 @@
-//! The texts of all faults.
+//! The texts of all errors.
 
 use crate::tests::text_of;
 use bpf_asm::{AsmFault, AsmKind, ListFault};
 use std::test::Fail;
 
-/// Each kind of a source's fault, with its text.
+/// Each kind of error in a source, with its text.
 const KINDS: [(AsmKind, &str); 8] = [
     (AsmKind::BadLine, "1 BadLine"),
     (AsmKind::BadNumber, "2 BadNumber"),
@@ -16,7 +16,7 @@ const KINDS: [(AsmKind, &str); 8] = [
     (AsmKind::NoMemory, "8 NoMemory"),
 ];
 
-/// Faults of sources, with their lines.
+/// Errors in sources, with their lines.
 const FAULTS: [(AsmFault, &str); 3] = [
     (
         AsmFault {
@@ -41,7 +41,7 @@ const FAULTS: [(AsmFault, &str); 3] = [
     ),
 ];
 
-/// Faults of codes.
+/// Errors in codes.
 const LIST_FAULTS: [(ListFault, &str); 3] = [
     (ListFault::JumpOutside(0), "1 JumpOutside 0"),
     (ListFault::JumpOutside(4095), "1 JumpOutside 4095"),

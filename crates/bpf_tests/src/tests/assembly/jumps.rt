@@ -1,4 +1,4 @@
-//! Operands that are labels: how far they may be, and their faults.
+//! Labels as operands: how far they may be, and their errors.
 
 use super::{expect, expect_table, parts_of};
 use std::alloc::{AllocError, Global};
@@ -29,7 +29,7 @@ ja gone => 4 UnknownLabel 1
 top: ja top => 5 Backward 1
 ";
 
-/// The first operand with a fault, by lines and then from left to right; its line is the jump's.
+/// The first operand with an error, by line and then from left to right. Its line is the jump's.
 const OPERANDS: &str = "\
 top: jeq x, top, gone|ret a => 5 Backward 1
 top: jeq x, gone, top|ret a => 4 UnknownLabel 1
@@ -50,7 +50,7 @@ a: ja a|ja gone|ret a => 5 Backward 1
 ret #1|jset #1, on, gone||on: ret a => 4 UnknownLabel 2
 ";
 
-/// A first line, then `near`, so many more instructions, and `far`.
+/// A first line, then `near`, then `others` more instructions, then `far`.
 fn source_over(alloc: Global, line: &str, others: usize) -> Result<String, AllocError> {
     let others = "ret #1|".repeat(alloc, others)?;
     [
@@ -62,7 +62,7 @@ fn source_over(alloc: Global, line: &str, others: usize) -> Result<String, Alloc
     .concat(alloc)
 }
 
-/// The answer to that source, where the first line has these octets.
+/// The answer to that source, if the first line has these octets.
 fn answer_over(alloc: Global, octets: &str, others: usize) -> Result<String, AllocError> {
     let others = "0006000000000001 ".repeat(alloc, others)?;
     [
@@ -74,7 +74,7 @@ fn answer_over(alloc: Global, octets: &str, others: usize) -> Result<String, All
     .concat(alloc)
 }
 
-/// Asks that a line that far from `far` has these octets.
+/// Expects these octets for a line at this distance from `far`.
 fn expect_octets(
     rt: &impl Abort,
     alloc: Global,
@@ -87,7 +87,7 @@ fn expect_octets(
     expect(rt, alloc, source.as_str(), answer.as_str())
 }
 
-/// Asks that a line before 256 instructions and `far` has this fault.
+/// Expects this error for a line before 256 instructions and `far`.
 fn expect_fault(rt: &impl Abort, alloc: Global, line: &str, fault: &str) -> Result<(), Fail> {
     let source = source_over(alloc, line, 255)?;
     expect(rt, alloc, source.as_str(), fault)

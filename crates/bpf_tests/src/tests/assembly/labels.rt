@@ -1,18 +1,18 @@
-//! Names of labels, and labels with faults.
+//! Names of labels, and errors in labels.
 
 use super::{expect, expect_table};
 use std::alloc::Global;
 use std::process::Abort;
 use std::test::Fail;
 
-/// Names that mean something in another place of a line, and some that look like numbers.
+/// Names that have another meaning elsewhere in a line, and names that look like numbers.
 const NAMES: &str = "\
 ld ldh ldb ldx ldxb st stx add sub mul div or and lsh rsh mod xor neg ja jmp jeq jgt jge jset jne jneq
 jlt jle ret tax txa a x M len A X m LEN Ret L0 L1 _ __ _1 _0x x1 x9a a_b xf end END e3
 abcdefghijklmnopqrstuvwxyz_ABCDEFGHIJKLMNOPQRSTUVWXYZ_0123456789
 ";
 
-/// Lines with one label, none, and several.
+/// Lines with no, one and several labels.
 const LABELLED: &str = "\
 jeq: jeq x, x, jeq2|x: jeq2: ret a => 1 BadLine 2
 jeq: jeq x, x|x: ret a => 001d000000000000 0016000000000000
@@ -40,7 +40,7 @@ ja End|end: ret a => 4 UnknownLabel 1
 ja END|END: ret #1|end: ret #2 => 0005000000000000 0006000000000001 0006000000000002
 ";
 
-/// The smallest line with a fault of its own; in a line a label of an earlier one comes last.
+/// The lowest line with its own error. Within a line, LabelTwice comes last.
 const FAULTY_LINES: &str = "\
 a: ret a|a: ret a => 3 LabelTwice 2
 a:|a: ret a => 3 LabelTwice 2
@@ -56,7 +56,7 @@ ret x|ret #9a => 1 BadLine 1
 ret #9a|ret x => 2 BadNumber 1
 ";
 
-/// Labels that no instruction follows come behind all faults of lines.
+/// Labels that no instruction follows. Errors of single lines come before them.
 const DANGLING: &str = "\
 a: => 7 DanglingLabel 1
 ret a|a: => 7 DanglingLabel 2
@@ -69,7 +69,7 @@ a:|9a => 2 BadNumber 2
 a:|b:|a: => 3 LabelTwice 3
 ";
 
-/// And before all faults of operands.
+/// Errors of operands come after them.
 const DANGLING_BEFORE_OPERANDS: &str = "\
 ja end|end: => 7 DanglingLabel 2
 ja gone|end: => 7 DanglingLabel 2
@@ -79,16 +79,16 @@ ja gone|ret x => 1 BadLine 2
 a: ja a|a: 1x => 2 BadNumber 2
 ";
 
-/// Jumps to a label `N` beside an instruction.
+/// Jumps to a label `N` that has an instruction on its line.
 const BESIDE: &str = "N0: ja N|jeq x, N, N|jne #1, N|N: ret a";
 
-/// The same jumps to a label `N` alone in a line, with other blanks.
+/// The same jumps to a label `N` alone on its line, with other blanks.
 const ALONE: &str = "ja N|jeq x,N ,N|jneq#1,N|\tN :;||ret a";
 
 /// The octets of both.
 const THEIR_OCTETS: &str = "0005000000000002 001d010100000000 0015000000000001 0016000000000000";
 
-/// Asks that jumps find the label of this name, beside an instruction and alone in a line.
+/// Expects that jumps find the label of this name, with an instruction on its line and alone.
 fn expect_name(rt: &impl Abort, alloc: Global, name: &str) -> Result<(), Fail> {
     let beside = BESIDE.replace(alloc, 'N', name)?;
     expect(rt, alloc, beside.as_str(), THEIR_OCTETS)?;

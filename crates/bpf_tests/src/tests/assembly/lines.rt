@@ -1,4 +1,4 @@
-//! Lines, comments, and octets that are no tokens.
+//! Lines, comments, and octets that aren't tokens.
 
 use super::{answer_to, expect_table};
 use std::alloc::Global;
@@ -30,7 +30,7 @@ ret #1\r|ret #2|ret #3 => 0006000000000001 0006000000000002 0006000000000003
 ld #5;|ret a => 0000000000000005 0016000000000000
 ";
 
-/// Octets that end no line, part no words and begin no comment.
+/// Octets that don't end a line, separate words or begin a comment.
 const FAULTY: &str = "\
 ret a\r => 1 BadLine 1
 ret a\r\r| => 1 BadLine 1
@@ -67,7 +67,7 @@ fn lines_end_by_feeds_and_comments_begin_at_semicolons(rt: HostRuntime) -> Resul
     expect_table(&rt, rt.alloc(), FAULTY)
 }
 
-/// Asks that an octet between two texts makes a source with this answer.
+/// Expects this answer to a source with an octet between two texts.
 fn expect_around(
     rt: &impl Abort,
     alloc: Global,

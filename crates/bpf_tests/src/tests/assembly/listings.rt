@@ -7,7 +7,7 @@ use std::alloc::Global;
 use std::process::Abort;
 use std::test::Fail;
 
-/// Codes and their listings, or the first jump outside.
+/// Codes, and their listings or the first jump outside.
 const LISTINGS: &str = "\
 0016000000000000 => L0: ret a|
 0005000000000000 0016000000000000 => L0: ja L1|L1: ret a|
@@ -24,7 +24,7 @@ const LISTINGS: &str = "\
 0016000000000000 0016000000000000 001dffff00000000 => 1 JumpOutside 2
 ";
 
-/// A rule on the payload type of cells, as it is written by hand.
+/// A rule on the payload type of cells, as written by hand.
 const BY_PAYLOAD_TYPE: &str =
     "ldb [3]|and #0xe|jge #8, oam, data ; maintenance cells|data: ret #1|oam: ret #2|";
 
@@ -35,13 +35,13 @@ const ITS_OCTETS: &str =
 /// Its listing.
 const ITS_LISTING: &str = "L0: ldb [3]|L1: and #14|L2: jge #8, L4, L3|L3: ret #1|L4: ret #2|";
 
-/// The instruction that digits spell.
+/// The instruction of these digits.
 fn instr_of(word: &str) -> Option<Instr> {
     let octets = u64::from_str_radix(word, 16).ok()?;
     decode_one(&octets.to_be_bytes()).ok()
 }
 
-/// The instructions that words of digits spell.
+/// The instructions of these words of digits.
 fn code_of(alloc: Global, digits: &str) -> Result<Vec<Instr>, Fail> {
     let mut code = Vec::new(alloc);
     for word in digits.split_whitespace() {
@@ -51,7 +51,7 @@ fn code_of(alloc: Global, digits: &str) -> Result<Vec<Instr>, Fail> {
     Ok(code)
 }
 
-/// Asks that a code has this listing, in which `|` stands for a line feed, or this fault.
+/// Expects this listing of a code (`|` means a line feed), or this error.
 fn expect_listing(rt: &impl Abort, alloc: Global, digits: &str, answer: &str) -> Result<(), Fail> {
     let code = code_of(alloc, digits)?;
     match listing(alloc, &code) {

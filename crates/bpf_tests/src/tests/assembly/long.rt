@@ -6,10 +6,10 @@ use std::alloc::{AllocError, Global};
 use std::process::Abort;
 use std::test::Fail;
 
-/// How many instructions without labels the source has.
+/// The number of instructions without labels.
 const PLAIN: u32 = 65536;
 
-/// A jump over them all, so many instructions with blank lines and remarks between them, and a return.
+/// A jump over all of them, these instructions with blank lines and comments between, and a return.
 fn long_source(alloc: Global) -> Result<Vec<u8>, AllocError> {
     let plain = "tax\n\n; nothing\n".repeat(alloc, PLAIN as usize)?;
     Ok(
@@ -19,7 +19,7 @@ fn long_source(alloc: Global) -> Result<Vec<u8>, AllocError> {
     )
 }
 
-/// Asks that a code is that of the source: as many instructions, the jump first, the return last.
+/// Expects the code of that source: this number of instructions, the jump first, the return last.
 fn expect_long(rt: &impl Abort, code: &[Instr]) {
     assert_eq!(rt; code.len(), PLAIN as usize + 2);
     assert_eq!(rt; code.first().copied(), Some(Instr::Jump(PLAIN)));

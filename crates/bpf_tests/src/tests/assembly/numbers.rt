@@ -1,4 +1,4 @@
-//! Numbers, and numbers below zero.
+//! Numbers, and negative numbers.
 
 use super::{expect, expect_table, parts_of};
 use std::alloc::Global;
@@ -27,7 +27,7 @@ const NUMBERS: &str = "\
 0x9 => 00000009
 ";
 
-/// Words that begin with a digit and are no numbers.
+/// Words that begin with a digit and aren't numbers.
 const BAD_NUMBERS: &str = "\
 9a 1_0 00x1 0x 0X 0xg 0x1g 0x_1 0x1_ 0x0x1 1x0 0b1 0o7 0_ 0a 1e3 5u32 4294967296 42949672950
 0x100000000 18446744073709551616 18446744073709551617 0x10000000000000001
@@ -35,7 +35,7 @@ const BAD_NUMBERS: &str = "\
 0x100000000000000000000000000000000
 ";
 
-/// Lines with a number in the place of `N`, and the octets before its value.
+/// Lines with a number in place of `N`, and the octets before its value.
 const PLACES: &str = "\
 ret #N => 00060000
 ld #N => 00000000
@@ -49,7 +49,7 @@ st M[N] => 00020000
 ldxb 4*([N]&0xf) => 00b10000
 ";
 
-/// Lines with a bad number beside other faults.
+/// Lines with a bad number and another error.
 const BAD_NUMBER_LINES: &str = "\
 9a => 2 BadNumber 1
 9a: ret a => 2 BadNumber 1
@@ -115,7 +115,7 @@ ja -1 => 1 BadLine 1
 jeq -1, a|a: ret a => 1 BadLine 1
 ";
 
-/// Asks that a line with a number in the place of `N` has this answer; a return follows it.
+/// Expects this answer to a line with a number in place of `N`, followed by a return.
 fn expect_number(
     rt: &impl Abort,
     alloc: Global,
@@ -128,7 +128,7 @@ fn expect_number(
     expect(rt, alloc, source.as_str(), answer)
 }
 
-/// Asks that each word has its value in this place.
+/// Expects each number's value in this place.
 fn expect_values(rt: &impl Abort, alloc: Global, line: &str, octets: &str) -> Result<(), Fail> {
     for row in NUMBERS.lines() {
         let (number, value) = parts_of(row)?;
@@ -138,7 +138,7 @@ fn expect_values(rt: &impl Abort, alloc: Global, line: &str, octets: &str) -> Re
     Ok(())
 }
 
-/// Asks that no bad number is a number in this place, in the second line of a source.
+/// Expects BadNumber for each bad number in this place, on the second line of a source.
 fn expect_no_values(rt: &impl Abort, alloc: Global, line: &str) -> Result<(), Fail> {
     let second = ["|", line].concat(alloc)?;
     for number in BAD_NUMBERS.split_whitespace() {
@@ -167,7 +167,7 @@ fn a_minus_stands_only_between_a_hash_and_a_number(rt: HostRuntime) -> Result<()
     expect_table(&rt, rt.alloc(), MINUS_LINES)
 }
 
-/// Asks that a header length with these numbers, read by both names, has this answer.
+/// Expects this answer to a header length with these numbers, under both names.
 fn expect_header(
     rt: &impl Abort,
     alloc: Global,

@@ -1,4 +1,4 @@
-//! The instruction table, spelled with any blanks.
+//! The instruction table, written with any blanks.
 
 use super::{expect, expect_table, parts_of};
 use bpf_asm::{assemble, listing};
@@ -6,8 +6,7 @@ use std::alloc::{AllocError, Global};
 use std::process::Abort;
 use std::test::Fail;
 
-/// The tokens of a spelling with blanks between them, its octets, and how a listing spells it. Behind
-/// it stand two instructions, `near` and `far`.
+/// Tokens separated by blanks, their octets, and their form in a listing. Two instructions follow, `near` and `far`.
 const SPELLINGS: &str = "\
 ld [ 3 ] => 0020000000000003 => ld [3]
 ldh [ 3 ] => 0028000000000003 => ldh [3]
@@ -78,7 +77,7 @@ tax => 0007000000000000 => tax
 txa => 0087000000000000 => txa
 ";
 
-/// Sources of arithmetic. Which divisors and shifts are lawful is no matter of the assembler.
+/// Sources with arithmetic. The assembler doesn't check divisors and shifts.
 const ARITHMETIC: &str = "\
 ld [0]|mod #7|ret a => 0020000000000000 0094000000000007 0016000000000000
 ld [0]|xor #0xffffffff|ret a => 0020000000000000 00a40000ffffffff 0016000000000000
@@ -93,15 +92,15 @@ Mod x|ret a => 1 BadLine 1
 XOR x|ret a => 1 BadLine 1
 ";
 
-/// Whether a token is a word; two of them side by side would be one.
+/// Whether a token is a word. Two adjacent words would be one.
 fn is_word(token: &str) -> bool {
     token
         .bytes()
         .all(|octet| octet.is_ascii_alphanumeric() || octet == b'_')
 }
 
-/// Tokens with blanks in one gap, and else only where two words would run together. The gap before the
-/// first token is 0, that behind the last their number, and at a number above it there is none.
+/// Tokens with blanks in gap `at`, and otherwise only between two words. Gap 0 is before the first token, the last
+/// gap after the last token; a larger `at` is no gap.
 fn with_gap(alloc: Global, tokens: &[&str], at: usize) -> Result<String, AllocError> {
     let mut text = String::new(alloc);
     let mut behind_word = false;
@@ -129,14 +128,14 @@ fn with_all_gaps(alloc: Global, tokens: &[&str]) -> Result<String, AllocError> {
     Ok(text)
 }
 
-/// Asks that a line before the two instructions means these octets.
+/// Expects these octets for a line before the two instructions.
 fn expect_line(rt: &impl Abort, alloc: Global, line: &str, octets: &str) -> Result<(), Fail> {
     let source = [line, "|near: ret #1|far: ret #2|"].concat(alloc)?;
     let answer = [octets, " 0006000000000001 0006000000000002"].concat(alloc)?;
     expect(rt, alloc, source.as_str(), answer.as_str())
 }
 
-/// Asks that tokens mean these octets wherever blanks stand between them.
+/// Expects these octets for the tokens, whichever gaps have blanks.
 fn expect_tokens(rt: &impl Abort, alloc: Global, tokens: &str, octets: &str) -> Result<(), Fail> {
     expect_line(rt, alloc, tokens, octets)?;
     let tokens: Vec<&str> = tokens.split_whitespace().collect(alloc)?;
@@ -151,7 +150,7 @@ fn expect_tokens(rt: &impl Abort, alloc: Global, tokens: &str, octets: &str) -> 
     Ok(())
 }
 
-/// Asks that tokens are read so with a label before them too, and with a number below zero for `#5`.
+/// The same with a label before the tokens, and with a negative number in place of `#5`.
 fn expect_forms(rt: &impl Abort, alloc: Global, tokens: &str, octets: &str) -> Result<(), Fail> {
     expect_tokens(rt, alloc, tokens, octets)?;
     let labelled = ["here : ", tokens].concat(alloc)?;
@@ -163,7 +162,7 @@ fn expect_forms(rt: &impl Abort, alloc: Global, tokens: &str, octets: &str) -> R
     Ok(())
 }
 
-/// Asks that the code of tokens is listed by this spelling.
+/// Expects this line in the listing of the tokens' code.
 fn expect_listed(rt: &impl Abort, alloc: Global, tokens: &str, listed: &str) -> Result<(), Fail> {
     let source = [tokens, "\nnear: ret #1\nfar: ret #2"].concat(alloc)?;
     let code = assemble(alloc, source.as_bytes())?;

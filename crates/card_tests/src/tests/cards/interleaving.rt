@@ -1,9 +1,9 @@
-//! One interleaving of two ports and the desk, step by step; the documents have it as a table with the
-//! world after each step.
+//! One interleaving of two ports and the desk, step by step. The page of card_core has it as a table, with the world
+//! after each step.
 
 use super::*;
 
-/// A connection under two contracts, each a cell in ten ticks and no tolerance.
+/// A connection with two contracts, each a cell every ten ticks without tolerance.
 fn ask_for_two(program: Id) -> Result<Ask, Fail> {
     let mut contracts = ArrayVec::new();
     contracts.push(Contract::Cbr1(Gcra::new(10, 0)?));

@@ -1,8 +1,8 @@
-//! A connection on a card of its own, and the same connection beside another.
+//! A connection alone on a card, and the same connection together with another.
 
 use super::*;
 
-/// A connection of path 1 and this channel, under one contract: a cell in ten ticks, and no tolerance.
+/// A connection with path 1, this channel and one contract: a cell every ten ticks, without tolerance.
 fn ask_on(channel: u16, program: Id) -> Result<Ask, Fail> {
     let mut contracts = ArrayVec::new();
     contracts.push(Contract::Cbr1(Gcra::new(10, 0)?));
@@ -13,20 +13,20 @@ fn ask_on(channel: u16, program: Id) -> Result<Ask, Fail> {
     })
 }
 
-/// Sets up the connection of path 1 and this channel, with a program of its own that gives this value.
+/// Sets up a connection with path 1, this channel and its own program, which returns this value.
 fn set_up(core: &mut Core, alloc: Global, channel: u16, value: u32) -> Result<Owner, Fail> {
     let program = id_of(&core.step(Step::Load(constant(alloc, value)?)))?;
     owner_of(&core.step(Step::Setup(ask_on(channel, program)?)))
 }
 
-/// A card that has the connection of channel 100 alone.
+/// A card with only the connection of channel 100.
 fn own_card(alloc: Global) -> Result<Core, Fail> {
     let mut core = Core::new(alloc, shape(1, 1, 16))?;
     set_up(&mut core, alloc, 100, 1)?;
     Ok(core)
 }
 
-/// A card on which that connection has another line, incarnation and program id, beside that of channel 101.
+/// A card on which that connection has another line, incarnation and program id, together with that of channel 101.
 fn shared_card(alloc: Global) -> Result<Core, Fail> {
     let mut shape = shape(2, 2, 16);
     shape.lines = 2;
@@ -36,7 +36,7 @@ fn shared_card(alloc: Global) -> Result<Core, Fail> {
     Ok(core)
 }
 
-/// A cell of path 1 and channel 101 enters port 1, and is picked.
+/// A cell of path 1 and channel 101 arrives at port 1 and is looked up.
 fn pick_another(core: &mut Core, moment: u64) -> bool {
     let mut octets = *cell().bytes();
     octets[3] = 0x50;
@@ -67,7 +67,7 @@ fn seen(answer: Option<Answer>) -> Option<(u64, u32, Verdict)> {
     }
 }
 
-/// What is seen of a cell of channel 100.
+/// The result for a cell of channel 100.
 fn by_itself(core: &mut Core, moment: u64) -> Option<(u64, u32, Verdict)> {
     if pick_at(core, 0, moment) {
         seen(judge_at_port(core, 0))
@@ -76,7 +76,7 @@ fn by_itself(core: &mut Core, moment: u64) -> Option<(u64, u32, Verdict)> {
     }
 }
 
-/// What is seen of a cell of channel 100 that comes after one of channel 101, and is judged after it.
+/// The result for a cell of channel 100 that arrives after one of channel 101 and is judged after it.
 fn beside_another(core: &mut Core, moment: u64) -> Option<(u64, u32, Verdict)> {
     if pick_another(core, moment) && pick_at(core, 0, moment) {
         seen(judge_at_port(core, 1))?;

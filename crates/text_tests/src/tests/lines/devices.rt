@@ -1,4 +1,4 @@
-//! Devices that move one octet a call, and fail once so many calls have gone well.
+//! Devices that move one octet a call and fail after a number of successful calls.
 
 ghost use Rattle.std.specs.Prelude.{◌≡◌};
 

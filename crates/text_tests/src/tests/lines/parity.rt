@@ -1,4 +1,4 @@
-//! A machine whose world is the list of all lines so far, of which it holds one bit.
+//! A machine whose world is the list of all lines so far, and which stores only one bit of it.
 
 ghost use Rattle.std.specs.Prelude.{◌≡◌};
 ghost use Rattle.text_tests.specs.examples.Parity.{answer_of};
@@ -12,7 +12,7 @@ fn text_of(even: bool) -> &'static [u8]
     if even { b"even\n" } else { b"odd\n" }
 }
 
-/// Tells of each line whether an even number of lines came before it.
+/// Answers each line with whether an even number of lines came before it.
 #[derive(Drop)]
 pub struct Parity {
     pub even: bool,

@@ -1,10 +1,10 @@
-//! Cell words beside the library's reading of them.
+//! Cell words compared with the library's reading.
 
 use std::process::Abort;
 use upc_cell::Cell;
 use upc_words::cell_of_digits;
 
-/// Asks that a word is read as the library reads it, whose octets these are, if it reads any.
+/// Expects that a word is read as the library reads it: these octets, or nothing.
 fn expect_as(rt: &impl Abort, word: &[u8], read: bool, octets: [u8; 52]) {
     match cell_of_digits(word) {
         Some(cell) => {

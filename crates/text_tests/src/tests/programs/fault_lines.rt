@@ -1,4 +1,4 @@
-//! Each fault line is `fault`, the fault's family, and the fault as its own crate prints it.
+//! Each fault line is `fault`, the part that found the error, and the error as its own crate prints it.
 
 use bpf_asm::{AsmFault, AsmKind};
 use bpf_code::DecodeFault;
@@ -8,7 +8,7 @@ use std::string::String;
 use std::test::Fail;
 use upc_words::{add_asm_fault, add_decode_fault, add_verify_fault};
 
-/// Asks that these answers are this line.
+/// Expects that the answers are this line.
 fn expect(rt: &impl Abort, answers: &Vec<u8>, line: &String) {
     assert_eq!(rt; answers.as_slice(), line.as_bytes());
 }

@@ -1,4 +1,4 @@
-//! The fault lines of rates, shapes and the desk: `fault`, the family, and the fault as its own crate prints it.
+//! The fault lines of rates, shapes and the desk: `fault`, the part, and the error as its own crate prints it.
 
 use card_core::{CardFault, DeskFault};
 use leaky::GcraFault;

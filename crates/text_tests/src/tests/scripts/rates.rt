@@ -1,11 +1,11 @@
-//! The contracts that a script asks for.
+//! The contracts of a script.
 
 use arrayvec::ArrayVec;
 use leaky::{Contract, Gcra};
 use std::test::Fail;
 use upc_run::{Rate, Wanted, contracts_of};
 
-/// The greatest number of ticks of a rate.
+/// The largest number of ticks of a rate.
 const MOST: u64 = 281474976710656;
 
 fn rate(increment: u64, limit: u64) -> Rate {

@@ -1,4 +1,4 @@
-//! The lines of replies that no script of one port gets, and the longest ones.
+//! The lines of replies that no script with one port gets, and the longest ones.
 
 use card_core::Answer;
 use gen_arena::Id;
@@ -9,7 +9,7 @@ use std::test::Fail;
 use upc_cell::{Cell, Side, Vc};
 use upc_run::add_answer;
 
-/// A cell that was judged so, with the greatest value and a header of ones.
+/// A cell with this verdict, the largest value and a header of ones.
 fn judged(verdict: Verdict) -> Answer {
     Answer::Judged {
         line: 3,
@@ -25,7 +25,7 @@ fn judged(verdict: Verdict) -> Answer {
     }
 }
 
-/// Asks that a cell's answer is this line, added after what was there.
+/// Expects that this line is appended for a cell's answer.
 fn expect_line(
     rt: &impl Abort,
     alloc: Global,
