@@ -1,10 +1,10 @@
-/* Assembles and checks a source, as `upc check` does: prints the number of the program's instructions and its octets, or
- * the fault. With the word "list" it prints the program's listing instead. */
+/* Assembles and checks a source, as `upc check` does. Prints the number of instructions and the octets of the program, or
+ * the error. With the argument "list" it prints the program's listing instead. */
 #include <stdio.h>
 #include <string.h>
 #include "upc.h"
 
-/* Prints a fault by its numbers, and returns the status of a program that failed. */
+/* Prints the numbers of an error, and returns the exit status for it. */
 static int refused(const upc_fault *fault)
 {
 	printf("fault kind %u number %u place %zu word %u code %04x\n", (unsigned)fault->kind, (unsigned)fault->number,

@@ -1,5 +1,5 @@
-/* A card in forty lines: reads lines "cell MOMENT HEADER", judges the cells of one connection, VPI/VCI 1/100, by the contract
- * that a program names, and prints what becomes of each, with the header that leaves. Other lines are passed over. */
+/* A card in forty lines. Reads lines "cell MOMENT HEADER", judges the cells of one connection, VPI/VCI 1/100, by the contract
+ * that a program names, and prints each verdict with the header of the cell that leaves. Ignores other lines. */
 #include <inttypes.h>
 #include <stdio.h>
 #include "upc.h"

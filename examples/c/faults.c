@@ -1,11 +1,11 @@
-/* Asks each call for what it refuses, and prints the faults; it says so where a call wrote although it refused. */
+/* Makes each call fail in all its ways and prints the errors. Reports a call that wrote something although it failed. */
 #include <stdio.h>
 #include <string.h>
 #include "upc.h"
 
 static upc_fault fault;
 
-/* Prints the fault of a call that refused, or says that it didn't, or that what it was lent isn't as it was. */
+/* Prints the error of a call, a return value that isn't the error's number, and a write although the call failed. */
 static void tell(const char *what, uint32_t number, const void *lent, const void *before, size_t size)
 {
 	printf("%s: kind %u number %u", what, (unsigned)fault.kind, (unsigned)fault.number);
@@ -78,7 +78,7 @@ static void cell(const char *what, size_t length, uint32_t side)
 		printf("%s: %02x%02x%02x%02x\n", what, octets[0], octets[1], octets[2], octets[3]);
 }
 
-/* Checks and lists octets that are written as hexadecimal digits. */
+/* Checks and lists the octets of a hexadecimal text. */
 static void program(const char *digits)
 {
 	uint8_t octets[64], room[64] = {0}, before[64] = {0};
@@ -104,7 +104,7 @@ static void source(const char *text, size_t room_length)
 		printf("%s: the count is %lu\n", text, (unsigned long)count);
 }
 
-/* A label behind more lines than a branch can jump over, and a program of more instructions than are accepted. */
+/* A label that is too far for a branch, and a program that is too long. */
 static void far_and_long(void)
 {
 	static char text[8 * 4097 + 1];
@@ -122,7 +122,7 @@ static void far_and_long(void)
 	tell("4097 instructions", upc_check(octets, 8 * 4097, &fault), text, text, 1);
 }
 
-/* What a upc_program refuses: to run where it has no program, another program where it has one, what is no cell. */
+/* The errors of a upc_program: a run without a program, a second program, octets that aren't a cell. */
 static void kept_program(void)
 {
 	static const uint8_t octets[] = {0, 6, 0, 0, 0, 0, 0, 7}, wrong[] = {0, 7, 0, 0, 0, 0, 0, 0};
@@ -142,7 +142,7 @@ static void kept_program(void)
 	tell("let go", upc_program_run(&program, cell, sizeof cell, &value[0], &value[1], &fault), value, value, 0);
 }
 
-/* A card of these numbers can't be made. */
+/* Expects an error for a card with these numbers. */
 static void no_card(const char *what, uint32_t side, uint64_t programs, uint64_t lines, uint64_t ports, uint64_t journal)
 {
 	upc_shape shape = {side, programs, lines, ports, journal};
@@ -174,7 +174,7 @@ static void set_up(const char *what, upc_card *card, uint16_t path, uint16_t cha
 	tell(what, upc_card_setup(card, path, channel, &id, all, count, &fault), "", "", 0);
 }
 
-/* The desk of a card of one program and one line, whose journal has room for two cells. */
+/* The desk of a card with one program and one line, whose journal holds two cells. */
 static void card_desk(upc_card *card, upc_id id, upc_contract it)
 {
 	static const uint8_t octets[] = {0, 6, 0, 0, 0, 0, 0, 2}, wrong[] = {0, 7, 0, 0, 0, 0, 0, 0};
@@ -210,7 +210,7 @@ static void tell_journal(const char *what, uint32_t number, const upc_journal *j
 		       (unsigned long)journal->before.refused, (unsigned long)journal->after.refused);
 }
 
-/* What a upc_card refuses, in the order of a card's life. The program names contract 2, and there is one. */
+/* The errors of a upc_card, in the order of a card's life. The program names contract 2, but there is only one. */
 static void kept_card(void)
 {
 	static const uint8_t octets[] = {0, 6, 0, 0, 0, 0, 0, 2};

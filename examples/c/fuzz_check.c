@@ -1,5 +1,5 @@
-/* Checks random octets, nearly programs and not, for so many seconds (5 without a word). Each answer has to be one that the
- * header allows, and of an accepted program the listing has to mean an accepted program again. */
+/* Checks random octets, some of them almost programs, for a number of seconds (the argument; 5 without one). Each result must
+ * be one that the header allows, and the listing of an accepted program must assemble to an accepted program. */
 #include <stdio.h>
 #include <stdlib.h>
 #include <string.h>
@@ -21,7 +21,7 @@ static uint32_t random_bits(void)
 	return seed ^= seed << 5;
 }
 
-/* Ends with status 1 where an answer can't be. */
+/* Exits with status 1 if a result is impossible. */
 static void ask(int holds, const char *what)
 {
 	if (!holds) {
@@ -30,7 +30,7 @@ static void ask(int holds, const char *what)
 	}
 }
 
-/* Fills octets, mostly with codes of the table, small offsets and a return at the end. Returns how many. */
+/* Fills a buffer, mostly with codes of the table, small offsets and a return at the end. Returns the number of octets. */
 static size_t fill(uint8_t *octets)
 {
 	size_t places = random_bits() % 12, k;
@@ -48,7 +48,7 @@ static size_t fill(uint8_t *octets)
 	return 8 * places + (random_bits() % 32 == 0 ? 1 : 0);
 }
 
-/* A listing of an accepted program is written, and means one. */
+/* Lists an accepted program, and expects that the listing assembles to an accepted program. */
 static void list(const uint8_t *program, size_t length)
 {
 	uint8_t text[MOST * MOST], again[8 * MOST];
@@ -68,7 +68,7 @@ int main(int count, char **words)
 	time_t end = time(NULL) + (time_t)seconds;
 
 	do {
-		/* Of exactly the length, so that a tool that watches memory sees each read beyond it. */
+		/* Exactly as long as the octets, so that an address checker sees each read beyond them. */
 		uint8_t octets[8 * MOST], *program;
 		size_t length = fill(octets);
 		upc_fault fault;

@@ -1,5 +1,5 @@
-/* A meter in the manner of a line card's loop: one contract for all flows, the levels of each flow in the caller's own
- * table. Prints how many cells of each verdict there were, and the levels of the last flow. */
+/* A meter as in the loop of a line card: one contract for all flows, and a table with the levels of each flow. Prints the
+ * number of cells with each verdict, and the levels of the last flow. */
 #include <inttypes.h>
 #include <stdio.h>
 #include "upc.h"
@@ -22,7 +22,7 @@ int main(void)
 	upc_fault fault;
 	int k;
 
-	/* The limit of the sustainable rate: the tolerance of a burst of ten cells, and 50 ticks of delay variation. */
+	/* The limit of the sustainable rate: the burst tolerance of ten cells, and 50 ticks of delay variation. */
 	if (upc_burst_tolerance(10, contract.sustained_increment, contract.peak_increment, &contract.sustained_limit, &fault))
 		return 1;
 	contract.sustained_limit += 50;

@@ -1,5 +1,5 @@
-/* A policer in forty lines: reads lines "cell MOMENT HEADER", judges the cells of one connection under VBR.3, and prints
- * what becomes of each, with the header that leaves. Other lines are passed over. */
+/* A policer in forty lines. Reads lines "cell MOMENT HEADER", judges the cells of one connection under VBR.3, and prints
+ * each verdict with the header of the cell that leaves. Ignores other lines. */
 #include <inttypes.h>
 #include <stdio.h>
 #include <string.h>

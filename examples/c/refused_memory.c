@@ -1,5 +1,5 @@
-/* Calls each function that takes memory while malloc and realloc refuse the first request, then the second, and so on. Each
- * such call has to answer UPC_NO_MEMORY and to leave the room as it was. It is linked with --wrap=malloc,--wrap=realloc. */
+/* Calls each function that allocates while malloc and realloc refuse the first request, then the second, and so on. Each such
+ * call must return UPC_NO_MEMORY and leave its buffer unchanged. Linked with --wrap=malloc,--wrap=realloc. */
 #include <stdio.h>
 #include <stdlib.h>
 #include <string.h>
@@ -16,7 +16,7 @@ void *__wrap_realloc(void *block, size_t size);
 }
 #endif
 
-/* The request that is refused, from 1, and how many there were; 0 refuses none. */
+/* The number of the request to refuse, from 1 (0: none), and the number of requests so far. */
 static unsigned long refused, requests;
 
 void *__wrap_malloc(size_t size)
@@ -48,7 +48,7 @@ static uint32_t list(upc_fault *fault)
 	return upc_listing(program, octets, room, sizeof room, &count, fault);
 }
 
-/* Puts the program in, and lets it go again. */
+/* Checks a program and frees it. */
 static uint32_t put_in(upc_fault *fault)
 {
 	upc_program kept = {0, 0};
@@ -63,7 +63,7 @@ static const upc_contract contract = {UPC_CBR1, 5, 0, 0, 0};
 static upc_card card;
 static upc_id id;
 
-/* Makes a card, and lets it go again. */
+/* Makes a card and frees it. */
 static uint32_t make_card(upc_fault *fault)
 {
 	upc_card made = {0, 0};
@@ -73,7 +73,7 @@ static uint32_t make_card(upc_fault *fault)
 	return number;
 }
 
-/* Puts a program into the card, and takes it out again. */
+/* Loads a program into the card and retires it. */
 static uint32_t load(upc_fault *fault)
 {
 	upc_id other = {7, 7};
@@ -85,7 +85,7 @@ static uint32_t load(upc_fault *fault)
 	return number == 0 || (other.slot == 7 && other.generation == 7) ? number : 99;
 }
 
-/* Sets up a connection, has a cell judged on it, and ends it. */
+/* Sets up a connection, judges a cell on it, and releases it. */
 static uint32_t set_up(upc_fault *fault)
 {
 	uint8_t cell[UPC_CELL_OCTETS] = {0, 0x10, 0x06, 0x40};
@@ -109,7 +109,7 @@ static uint32_t cut(upc_fault *fault)
 	return upc_card_cut(&card, 1, 101, &journal, fault);
 }
 
-/* Calls with each request refused in turn, until no request is. Returns whether each answer was right. */
+/* Makes the call with each request refused in turn, until none is. Returns whether each result was right. */
 static int try_call(const char *name, uint32_t (*call)(upc_fault *))
 {
 	unsigned long k;

@@ -1,5 +1,5 @@
-/* `upc run` over the library: reads a script and prints its answers, those of the program, a line for each line with words.
- * It knows the faults of scripts whose words have the right forms, and BadLine for others. */
+/* `upc run` over the library. Reads a script and prints the same answers as the program, one for each line with words.
+ * It knows all errors of scripts whose words have the right forms, and only BadLine for others. */
 #include <inttypes.h>
 #include <stdio.h>
 #include <stdlib.h>
@@ -8,7 +8,7 @@
 
 enum { MOST_NAMES = 4096, MOST_OCTETS = 32768, MOST_LINE = 70000 };
 
-/* The script's card, the side of its cells, and the programs by their names: p1 is the first. */
+/* The card of the script, the side of its cells, and its programs by name: p1 is the first. */
 static upc_card card;
 static uint32_t side;
 static upc_id names[MOST_NAMES];
@@ -41,7 +41,7 @@ static void print_fault(const upc_fault *fault)
 	static const char *const kinds[] = {"", "", "cell", "decode", "asm", "verify", "gcra", "", "arrive", "shape", "desk"};
 	uint32_t number = fault->number;
 
-	if (fault->kind == UPC_CALL) { /* the numbers of a word are out of their limits, or memory was refused */
+	if (fault->kind == UPC_CALL) { /* a number of a word is out of its limits, or an allocation failed */
 		if (number == UPC_NO_MEMORY)
 			exit(3);
 		printf("fault script 1 BadLine\n");
@@ -58,7 +58,7 @@ static void print_fault(const upc_fault *fault)
 	printf("\n");
 }
 
-/* How many octets the digits spell, at most MOST_OCTETS; -1 where they spell none. */
+/* The number of octets of the digits, at most MOST_OCTETS, or -1 if the word isn't hexadecimal. */
 static long octets_of(const char *digits, uint8_t *octets)
 {
 	size_t length = strlen(digits), k;
@@ -73,7 +73,7 @@ static long octets_of(const char *digits, uint8_t *octets)
 	return (long)(length / 2);
 }
 
-/* The program of this name, if it was given. */
+/* The program of this name, if there is one. */
 static const upc_id *program_of(unsigned long name)
 {
 	return name >= 1 && name <= named ? &names[name - 1] : NULL;
@@ -137,7 +137,7 @@ static void retire(unsigned long name)
 		printf("retired p%lu\n", name);
 }
 
-/* The contracts that the words spell; -1 where one spells none. */
+/* The contracts of these words, or -1 if one isn't a contract. */
 static int contracts_of(char *words, upc_contract *contracts)
 {
 	static const char *const kinds[] = {"cbr1:", "vbr1:", "vbr2:", "vbr3:"};
@@ -240,7 +240,7 @@ static void police(uint64_t moment, const char *digits)
 		printf("fault script 3 BadHex\n");
 		return;
 	}
-	if (count == 4) { /* a header alone means a cell with a payload of zeros */
+	if (count == 4) { /* only a header: the payload is zeros */
 		memset(octets + 4, 0, UPC_CELL_OCTETS - 4);
 		count = UPC_CELL_OCTETS;
 	}

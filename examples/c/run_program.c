@@ -1,12 +1,12 @@
-/* Runs a program on cells, as `upc eval` does: the first line that is read is the program in hexadecimal digits, and each
- * later one a cell, or a header alone, whose payload is zeros. Other lines are passed over. */
+/* Runs a program on cells, as `upc eval` does. The first hexadecimal line is the program. Each later one is a cell, or only a
+ * header, with a payload of zeros. Ignores other lines. */
 #include <ctype.h>
 #include <inttypes.h>
 #include <stdio.h>
 #include <string.h>
 #include "upc.h"
 
-/* Reads the digits of a line into octets. Returns how many, or -1 where the line is no such word. */
+/* Reads the digits of a line into octets. Returns their number, or -1 if the line isn't hexadecimal. */
 static int octets_of(const char *line, uint8_t *octets, int most)
 {
 	int count = 0;
@@ -20,7 +20,7 @@ static int octets_of(const char *line, uint8_t *octets, int most)
 	return *line == '\n' || *line == 0 ? count : -1;
 }
 
-/* Prints a fault by its numbers. */
+/* Prints the numbers of an error. */
 static void refused(const upc_fault *fault)
 {
 	printf("fault kind %u number %u place %lu\n", (unsigned)fault->kind, (unsigned)fault->number, (unsigned long)fault->place);

@@ -1,10 +1,10 @@
-//! A safe wrapper of the library's meter, and its use: rustc alone builds it.
+//! A safe wrapper of the library's meter, and its use. Built with rustc alone:
 //!
 //!     rustc -L FOLDER -l static=upc examples/rust/meter.rs
 
 use std::fmt;
 
-/// A fault, as `upc_fault` of `include/upc.h`.
+/// An error: `upc_fault` of `include/upc.h`.
 #[repr(C)]
 #[derive(Clone, Copy, Default)]
 pub struct Fault {
@@ -52,7 +52,8 @@ extern "C" {
 }
 
 impl Levels {
-    /// The verdict on a cell. References are never null, and a `&mut` is lent to nobody else: that is all that the call asks.
+    /// The verdict on a cell. The call requires pointers that aren't null and exclusive access through `&mut`; references
+    /// guarantee both.
     pub fn judge(&mut self, contract: &Contract, clp: bool, moment: u64) -> Result<Verdict, Fault> {
         let (mut verdict, mut fault) = (0, Fault::default());
         match unsafe { upc_judge(contract, self, clp.into(), moment, &mut verdict, &mut fault) } {

@@ -49,7 +49,8 @@ ContractsBoundBursts = (contract : Contract) (buckets : Buckets)
     → IsBounded first span (first_charges contract buckets arrivals) (peak_of contract)
     × IfSome (second_of contract) (IsBounded first span (second_charges contract buckets arrivals))
 
--- A cell fills exactly the buckets that `charges_first` and `charges_second` name.
+-- A cell fills exactly the buckets that `charges_first` and `charges_second` name. It conforms to those, and leaves
+-- the others unchanged.
 pub record ChargesAsTold (contract : Contract) (buckets : Buckets) (clp : Bool) (moment : ℕ) (after : Buckets) : Type 0 where
   pub first : Fills (peak_of contract) buckets.first after.first moment
       (charges_first (verdict_of contract buckets clp moment))
@@ -84,14 +85,14 @@ LevelsFollowBuckets = (contract : Contract) (levels : Levels) (buckets : Buckets
     → All (λ a. a.moment ≤ 2 ^ 62) arrivals
     → (after : Levels) × Agrees after (buckets_left contract buckets arrivals)
 
--- A cell leaves no bucket charged after the cell's own moment.
+-- If no bucket was charged after the cell's moment before the cell, none is after it.
 abbrev pub ChargesKeepUp : Type 0
 ChargesKeepUp = (contract : Contract) (buckets : Buckets) (clp : Bool) (moment : ℕ)
     → IsChargedBy buckets moment
     → IsChargedBy (buckets_after contract buckets clp moment) moment
 
 -- A burst of `mbs` cells at the peak rate conforms, from an empty bucket of the sustainable rate, exactly if the
--- burst tolerance for `mbs` is at most the bucket's limit.
+-- burst tolerance for `mbs` is at most the bucket's limit. The peak rate is at least the sustainable rate.
 abbrev pub TolerancesAreExact : Type 0
 TolerancesAreExact = (gcra : Gcra) (mbs tp first : ℕ)
     → tp ≤ gcra.increment

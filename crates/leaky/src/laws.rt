@@ -47,14 +47,14 @@ pub fn levels_follow_buckets()
     ensures { LevelsFollowBuckets }
 {}
 
-/// After a cell, no bucket was charged later than the cell's moment. So the next cell may come at that moment or
-/// later.
+/// If no bucket was charged later than the cell's moment before the cell, none is after it. So the next cell may
+/// come at that moment or later.
 pub fn charges_keep_up()
     ensures { ChargesKeepUp }
 {}
 
 /// A bucket of the sustainable rate admits a burst of `mbs` cells at the peak rate exactly if its limit is at least
-/// the burst tolerance.
+/// the burst tolerance. The peak rate is at least the sustainable rate.
 pub fn tolerances_are_exact()
     ensures { TolerancesAreExact }
 {}

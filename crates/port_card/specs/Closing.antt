@@ -41,7 +41,7 @@ IsFirstUneven lines otherwise None = (number : ℕ) → IsEven lines otherwise n
 IsFirstUneven lines otherwise (Some first) =
     IsUneven lines otherwise first × ((number : ℕ) → number < first → IsEven lines otherwise number)
 
--- Why a card isn't closed: there are fewer seats than ports, or an allocation failed.
+-- The errors of a close: Missing only if there are fewer seats than ports, NoMemory only if there are enough.
 abbrev pub IsUnclosed : Shape → List SeatView → CloseFault → Type 0
 IsUnclosed shape seats Missing = length seats < shape.ports
 IsUnclosed shape seats NoMemory = shape.ports ≤ length seats
