@@ -1,4 +1,4 @@
-//! Octets, read as instructions.
+//! The decoder: octets become instructions.
 
 ghost use Rattle.std.specs.Prelude.{◌≡◌, ◌≢◌, ◌↔◌, ◌<◌, ◌%◌, ◌⊎◌, ℕ, List, length, IfErr, IfNone, IfOk, IfSome, OnErr};
 ghost use Rattle.std.specs.Result.{IsOkUnless};
@@ -20,14 +20,14 @@ use byteorder::{BigEndian, ByteOrder};
 use std::alloc::Global;
 use thiserror::Error;
 
-/// Why octets are no code.
+/// The errors of the decoder.
 #[derive(Clone, Copy, Debug, PartialEq, Eq, Error)]
 pub enum DecodeFault {
-    /// The number of octets is no multiple of 8.
+    /// The number of octets is not a multiple of 8.
     #[error("1 Ragged")]
     Ragged,
-    /// The first eight octets that spell no instruction: their place, counted in instructions
-    /// from 0, and the number in the first two of them.
+    /// Some eight octets spell no instruction. The first such place, counted in instructions from 0, and the
+    /// number in its first two octets.
     #[error("2 UnknownCode {at} {code:04x}")]
     UnknownCode { at: usize, code: u16 },
     /// Memory ran out.
@@ -35,7 +35,7 @@ pub enum DecodeFault {
     NoMemory,
 }
 
-/// The arithmetic or the branch whose code is in the octets, by the instruction table.
+/// Returns the arithmetic or the branch whose code is in the octets, by the instruction table.
 fn operation(octets: &[u8; 8]) -> Option<Instr>
     ensures spelled { IfSome result (λ i. Spells octets.now i) }
     ensures no_arithmetic { IfNone result ((op : Op) (by : By) → code_of (Instr.Alu op by) ≢ code_in octets.now) }
@@ -79,7 +79,7 @@ fn operation(octets: &[u8; 8]) -> Option<Instr>
     })
 }
 
-/// The instruction whose code is in the octets, by the instruction table.
+/// Returns the instruction whose code is in the octets, by the instruction table.
 fn instruction(octets: &[u8; 8]) -> Option<Instr>
     ensures spelled { IfSome result (λ i. Spells octets.now i) }
     ensures no_row { IfNone result ((i : Instr) → code_of i ≢ code_in octets.now) }
@@ -111,11 +111,11 @@ fn instruction(octets: &[u8; 8]) -> Option<Instr>
     })
 }
 
-/// The instruction that eight octets spell. Octets of fields that it doesn't use are free.
+/// Returns the instruction that eight octets spell. The octets of fields that it does not use may be anything.
 ///
 /// # Errors
 ///
-/// The number in the first two octets, where they spell no instruction.
+/// The number in the first two octets, if the octets spell no instruction.
 pub fn decode_one(octets: &[u8; 8]) -> Result<Instr, u16>
     ensures spelled { (i : Instr) → (Spells octets.now i ↔ (result ≡ Ok i)) }
     ensures nothing_spelled { OnErr result ((i : Instr) → ¬ Spells octets.now i) }
@@ -124,11 +124,11 @@ pub fn decode_one(octets: &[u8; 8]) -> Result<Instr, u16>
     instruction(octets).ok_or(BigEndian::read_u16(octets))
 }
 
-/// The code that octets spell, eight octets an instruction.
+/// Returns the code that octets spell, eight octets an instruction.
 ///
 /// # Errors
 ///
-/// `Ragged` before any other; `NoMemory` may stand in place of `UnknownCode`.
+/// `Ragged` comes before any other. An allocation failure returns `NoMemory` in place of `UnknownCode`.
 pub fn decode(alloc: Global, octets: &[u8]) -> Result<Vec<Instr>, DecodeFault>
     ensures code { IfOk result (λ code. SpellsCode octets.now code.items) }
     ensures fault { IfErr result (IsFaultOf octets.now) }

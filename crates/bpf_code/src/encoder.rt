@@ -1,4 +1,4 @@
-//! Instructions, written as octets.
+//! The encoder: instructions become octets.
 
 ghost use Rattle.std.specs.Prelude.{◌≡◌, ◌≤◌, ◌+◌, ℕ, unwrap_or, IfOk};
 ghost use Rattle.bpf_code.specs.Encoding.{octets_of, code_octets};
@@ -11,7 +11,7 @@ use byteorder::{BigEndian, ByteOrder};
 use std::alloc::Global;
 use thiserror::Error;
 
-/// The fields of an instruction, 0 where it doesn't use them.
+/// The fields of an instruction, 0 if it does not use them.
 struct Fields {
     code: u16,
     jt: u8,
@@ -19,7 +19,7 @@ struct Fields {
     k: u32,
 }
 
-/// What the size adds to the code of a load.
+/// Returns what the size adds to the code of a load.
 fn size_bits(size: Size) -> u16
     ensures absolute { (k : ℕ) → code_of (Instr.LoadAbs size k) ≡ 0x0020 + result }
     ensures indirect { (k : ℕ) → code_of (Instr.LoadInd size k) ≡ 0x0040 + result }
@@ -32,7 +32,7 @@ fn size_bits(size: Size) -> u16
     }
 }
 
-/// What the operation adds to the code of arithmetic.
+/// Returns what the operation adds to the code of arithmetic.
 fn op_bits(op: Op) -> u16
     ensures by_constant { (k : ℕ) → code_of (Instr.Alu op (By.Imm k)) ≡ 0x0004 + result }
     ensures by_x { code_of (Instr.Alu op By.X) ≡ 0x000c + result }
@@ -52,7 +52,7 @@ fn op_bits(op: Op) -> u16
     }
 }
 
-/// What the test adds to the code of a branch.
+/// Returns what the test adds to the code of a branch.
 fn test_bits(test: Test) -> u16
     ensures by_constant { (k jt jf : ℕ) → code_of (Instr.Branch test (By.Imm k) jt jf) ≡ 0x0005 + result }
     ensures by_x { (jt jf : ℕ) → code_of (Instr.Branch test By.X jt jf) ≡ 0x000d + result }
@@ -67,14 +67,14 @@ fn test_bits(test: Test) -> u16
 }
 
 impl Fields {
-    /// A code alone.
+    /// Returns the fields of an instruction that uses its code alone.
     fn plain(code: u16) -> Fields
         ensures { result ≡ record { code = code; jt = 0; jf = 0; k = 0 } }
     {
         Fields::with_k(code, 0)
     }
 
-    /// A code with its operand.
+    /// Returns the fields of an instruction with an operand.
     fn with_k(code: u16, k: u32) -> Fields
         ensures { result ≡ record { code = code; jt = 0; jf = 0; k = k } }
     {
@@ -86,7 +86,7 @@ impl Fields {
         }
     }
 
-    /// The fields of arithmetic.
+    /// Returns the fields of arithmetic.
     fn of_arithmetic(op: Op, by: By) -> Fields
         ensures code { result.code ≡ code_of (Instr.Alu op by) }
         ensures jt { result.jt ≡ 0 }
@@ -99,7 +99,7 @@ impl Fields {
         }
     }
 
-    /// The fields of a branch.
+    /// Returns the fields of a branch.
     fn of_branch(test: Test, by: By, jt: u8, jf: u8) -> Fields
         ensures code { result.code ≡ code_of (Instr.Branch test by jt jf) }
         ensures jt { result.jt ≡ jt }
@@ -113,7 +113,7 @@ impl Fields {
         Fields { code, jt, jf, k }
     }
 
-    /// The fields of an instruction, by the instruction table.
+    /// Returns the fields of an instruction, by the instruction table.
     fn of(instr: Instr) -> Fields
         ensures code { result.code ≡ code_of instr }
         ensures jt { result.jt ≡ unwrap_or (jt_of instr) 0 }
@@ -144,7 +144,7 @@ impl Fields {
     }
 }
 
-/// The eight octets that spell an instruction, with 0 in the fields that it doesn't use.
+/// Returns the eight octets that spell an instruction, with 0 in the fields that it does not use.
 pub fn encode_one(instr: Instr) -> [u8; 8]
     ensures spells { Spells result instr }
     ensures unused { UnusedAreZero result instr }
@@ -157,7 +157,7 @@ pub fn encode_one(instr: Instr) -> [u8; 8]
     octets
 }
 
-/// Why a code wasn't written.
+/// The error of the encoder.
 #[derive(Clone, Copy, Debug, PartialEq, Eq, Error)]
 pub enum EncodeFault {
     /// Memory ran out.
@@ -165,12 +165,12 @@ pub enum EncodeFault {
     NoMemory,
 }
 
-/// The octets that spell a code, eight octets an instruction. Fields that an instruction doesn't use
+/// Returns the octets that spell a code, eight octets an instruction. Fields that an instruction does not use
 /// are 0.
 ///
 /// # Errors
 ///
-/// `NoMemory` where memory was refused.
+/// `NoMemory` after an allocation failure.
 pub fn encode(alloc: Global, code: &[Instr]) -> Result<Vec<u8>, EncodeFault>
     ensures spells { IfOk result (λ octets. SpellsPlainly octets.items code.now) }
     ensures octets { IfOk result (λ octets. octets.items ≡ code_octets code.now) }

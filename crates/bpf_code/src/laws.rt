@@ -18,7 +18,7 @@ pub fn octets_spell_one_code()
         SpellsCode octets one → SpellsCode octets other → one ≡ other }
 {}
 
-/// Octets spell a code, or they have a fault that isn't want of memory.
+/// Octets spell a code, or they have a fault that is not an allocation failure.
 pub fn octets_spell_a_code_or_are_faulty()
     ensures { (octets : List ℕ) → ((code : List Instr) × SpellsCode octets code)
         ⊎ ((fault : TheFault) × (fault ≢ DecodeFault.NoMemory) × IsFaultOf octets fault) }
@@ -30,21 +30,21 @@ pub fn plain_octets_spell_their_code()
         → SpellsCode octets code × ((other : List Instr) → SpellsCode octets other → other ≡ code) }
 {}
 
-/// Octets that spell a code have no fault but want of memory.
+/// Octets that spell a code have no fault except an allocation failure.
 pub fn octets_of_a_code_have_no_fault()
     ensures { (octets : List ℕ) (code : List Instr) (fault : TheFault) → SpellsCode octets code
         → fault ≢ DecodeFault.NoMemory → ¬ IsFaultOf octets fault }
 {}
 
-/// Octets have at most one fault that isn't want of memory.
+/// Octets have at most one fault that is not an allocation failure.
 pub fn octets_have_one_fault()
     ensures { (octets : List ℕ) (one other : TheFault)
         → one ≢ DecodeFault.NoMemory → other ≢ DecodeFault.NoMemory
         → IsFaultOf octets one → IsFaultOf octets other → one ≡ other }
 {}
 
-/// The octets that `encode` writes for a code spell it, with 0 in the fields that an instruction doesn't
-/// use, where each instruction fits the fields that it uses.
+/// The octets that `encode` writes for a code spell it, with 0 in the fields that an instruction does not use, if
+/// each instruction fits the fields that it uses.
 pub fn written_octets_spell_their_code()
     ensures { (code : List Instr) → ((place : ℕ) (i : Instr) → StandsAt code place i → FitsFields i)
         → SpellsPlainly (code_octets code) code }
