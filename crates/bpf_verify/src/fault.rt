@@ -1,12 +1,12 @@
-//! Why a code is no program.
+//! The faults of a code that is no program.
 
 use bpf_code::Instr;
 use thiserror::Error;
 
-/// The part of the check that fails first. Places count instructions from 0.
+/// The first fault of a code. Places count instructions from 0.
 ///
-/// Faults are tried in the order of their numbers, but for 3 to 6, which the first instruction that
-/// is not sound by itself decides together.
+/// The check tries the faults in the order of their numbers, except 3 to 6: of these, the first instruction that has
+/// one decides.
 #[derive(Clone, Copy, Debug, PartialEq, Eq, Error)]
 pub enum Fault {
     /// There is no instruction.
@@ -15,7 +15,7 @@ pub enum Fault {
     /// There are more than 4096 instructions.
     #[error("2 TooLong")]
     TooLong,
-    /// The instruction at this place names a scratch word beyond the sixteen.
+    /// The instruction at this place uses a scratch word other than the sixteen.
     #[error("3 BadScratch {at}")]
     BadScratch {
         /// The place of the instruction.
@@ -33,16 +33,16 @@ pub enum Fault {
         /// The place of the shift.
         at: usize,
     },
-    /// The jump at this place has a target that is no place of the code.
+    /// The jump at this place leads outside the code.
     #[error("6 JumpOutside {at}")]
     JumpOutside {
         /// The place of the jump.
         at: usize,
     },
-    /// The last instruction is no return.
+    /// The last instruction is not a return.
     #[error("7 NoReturn")]
     NoReturn,
-    /// Some path ends at this place, which reads a scratch word that the path has not stored.
+    /// The instruction at this place reads a scratch word that some path to it does not store.
     #[error("8 Unwritten {at} {word}")]
     Unwritten {
         /// The place of the read.
@@ -52,12 +52,12 @@ pub enum Fault {
     },
 }
 
-/// A code that the check refused, handed back with its fault.
+/// A code that the check refused, with its fault.
 #[derive(Debug, Drop, Error)]
 #[error("{fault}")]
 pub struct Refused {
-    /// The code as it was passed.
+    /// The code, unchanged.
     pub code: Vec<Instr>,
-    /// Why it was refused.
+    /// Its first fault.
     pub fault: Fault,
 }

@@ -1,4 +1,4 @@
-//! Laws over the definitions of the check. Each is the contract of a function that does nothing.
+//! Laws of the definitions of the check. Each is the contract of a function that does nothing.
 
 ghost use Rattle.std.specs.Prelude.{◌≡◌, ℕ, ◌↔◌, ◌⊎◌, List, [], ◌∷◌, ◌++◌, reverse};
 ghost use Rattle.bpf_code.specs.declared.instr.Instr.{Instr};
@@ -15,20 +15,20 @@ pub fn paths_are_walks()
         → IsPath code passed place ↔ IsWalk code (reverse passed ++ place ∷ []) }
 {}
 
-/// Every path to a read has passed a store of its word exactly where, of every list of places that
-/// begins at 0, goes from successor to successor and ends in a read, an earlier place stores the word.
+/// Every path to a read passes a store of its word if and only if, in every list of places that begins at 0, goes
+/// from successor to successor and ends in a read, an earlier place stores the word.
 pub fn written_on_paths_is_written_on_walks()
     ensures { (code : List Instr)
         → ((place : ℕ) → IsWrittenAt code place) ↔ IsWrittenOnEveryWalk code }
 {}
 
-/// Of two faults that come first in a code, both are the same.
+/// Two faults that come first in a code are the same.
 pub fn one_fault_comes_first()
     ensures { (code : List Instr) (one other : Fault)
         → FailsFirst code one → FailsFirst code other → one ≡ other }
 {}
 
-/// A code is accepted exactly where no fault comes first.
+/// A code is accepted if and only if no fault comes first.
 pub fn accepted_without_fault()
     ensures { (code : List Instr) → IsAccepted code ↔ ((fault : Fault) → ¬ FailsFirst code fault) }
 {}

@@ -1,7 +1,7 @@
-//! Which scratch words are written on every path to a place.
+//! The scratch words that every path to a place stores.
 //!
-//! Each place has a mask of the words that every path to it stores, all of them as long as no path is
-//! known. Jumps go forward, so at the visit of a place its mask has met every path to it.
+//! Each place has a mask of the words that every path to it stores; without a known path the mask has all words.
+//! Jumps go forward, so when the check comes to a place, its mask accounts for every path to it.
 
 ghost use Rattle.std.specs.Prelude.{◌≡◌, ◌≢◌, ℕ, ◌+◌, ◌<◌, ◌≤◌, ◌↔◌, length, min, slice_index, IfSome, IfNone, Some};
 ghost use Rattle.std.specs.Int.{bit_at};
@@ -11,10 +11,10 @@ ghost use Rattle.bpf_code.specs.Scratch.{ReadsWord, StoresWord};
 use crate::verifier::MOST_INSTRUCTIONS;
 use bpf_code::Instr;
 
-/// One place more than a program has, so that behind each there is another.
+/// One place more than a program has, so that each place has a next one.
 pub(crate) const MASK_PLACES: usize = MOST_INSTRUCTIONS + 1;
 
-/// The word that an instruction reads and a mask lacks.
+/// Returns the word that an instruction reads and a mask lacks.
 pub(crate) fn unwritten_word(instr: Instr, mask: u16) -> Option<u32>
     requires { (word : ℕ) → ReadsWord instr word → word < 16 }
     ensures none { IfNone result ((word : ℕ) → ReadsWord instr word → bit_at mask word ≡ 1) }
@@ -26,7 +26,7 @@ pub(crate) fn unwritten_word(instr: Instr, mask: u16) -> Option<u32>
     }
 }
 
-/// A mask with the word that an instruction stores.
+/// Returns a mask with the word that an instruction stores.
 pub(crate) fn with_stored(instr: Instr, mask: u16) -> u16
     requires { (word : ℕ) → StoresWord instr word → word < 16 }
     ensures stored { (word : ℕ) → StoresWord instr word → bit_at result word ≡ 1 }
@@ -38,8 +38,8 @@ pub(crate) fn with_stored(instr: Instr, mask: u16) -> u16
     }
 }
 
-/// Hands the mask behind an instruction on to its successors, of which a return has none, and answers the
-/// mask that the place behind it then has, since to read what was only just written takes a processor long.
+/// Hands the mask after an instruction to its successors; a return has none. Returns the new mask of the next
+/// place, since a processor is slow to read what it has just written.
 pub(crate) fn pass_on(written: &mut [u16], at: usize, instr: Instr, mask: u16) -> u16
     requires size { length written.old ≡ MASK_PLACES }
     requires place { at < MOST_INSTRUCTIONS }
@@ -70,8 +70,8 @@ pub(crate) fn pass_on(written: &mut [u16], at: usize, instr: Instr, mask: u16) -
     }
 }
 
-/// Leaves the place behind so many skipped instructions the words that a further path to it stores too,
-/// and answers them.
+/// Keeps, at the place after this many skipped instructions, the words that one more path to it stores too. Returns
+/// them.
 fn narrow(written: &mut [u16], at: usize, skipped: u32, mask: u16) -> u16
     requires size { length written.old ≡ MASK_PLACES }
     requires within { at + 1 + skipped ≤ MOST_INSTRUCTIONS }
@@ -88,7 +88,7 @@ fn narrow(written: &mut [u16], at: usize, skipped: u32, mask: u16) -> u16
     narrowed
 }
 
-/// The scratch word that an instruction reads.
+/// Returns the scratch word that an instruction reads.
 fn word_read(instr: Instr) -> Option<u32>
     ensures { (word : ℕ) → ReadsWord instr word ↔ (result ≡ Some word) }
 {
@@ -98,7 +98,7 @@ fn word_read(instr: Instr) -> Option<u32>
     }
 }
 
-/// The scratch word that an instruction stores.
+/// Returns the scratch word that an instruction stores.
 fn word_stored(instr: Instr) -> Option<u32>
     ensures { (word : ℕ) → StoresWord instr word ↔ (result ≡ Some word) }
 {

@@ -1,4 +1,4 @@
-//! What is asked of each instruction by itself.
+//! The checks of each instruction by itself.
 
 ghost use Rattle.std.specs.Prelude.{◌+◌, ◌<◌, ◌≤◌, ◌↔◌, length, IsTrue, IfSome, IfNone};
 ghost use Rattle.bpf_verify.specs.Accepted.{IsSized, IsSound};
@@ -7,10 +7,10 @@ ghost use Rattle.bpf_verify.specs.Faults.{FailsFirst, IsFaultOf, IsSoundBelow};
 use crate::fault::Fault;
 use bpf_code::{By, Instr, Op};
 
-/// How many scratch words the machine has.
+/// The number of scratch words of the machine.
 const SCRATCH_WORDS: u32 = 16;
 
-/// The fault of the first instruction that is not sound, if there is one.
+/// Returns the fault of the first instruction that is not sound, if there is one.
 pub(crate) fn first_unsound(code: &[Instr]) -> Option<Fault>
     requires { IsSized code.now }
     ensures none { IfNone result (IsSoundBelow code.now (length code.now)) }
@@ -24,7 +24,7 @@ pub(crate) fn first_unsound(code: &[Instr]) -> Option<Fault>
     None
 }
 
-/// What an instruction breaks by itself, at a place of a code of so many instructions.
+/// Returns the fault that an instruction has by itself, at a place of a code of this many instructions.
 pub(crate) fn fault_of(instr: Instr, at: usize, size: usize) -> Option<Fault>
     requires { at < size }
     ensures none { IfNone result (IsSound size at instr) }
@@ -53,7 +53,7 @@ pub(crate) fn fault_of(instr: Instr, at: usize, size: usize) -> Option<Fault>
     }
 }
 
-/// Whether a jump over so many instructions leads to no place of the code.
+/// Returns whether a jump over this many instructions leads outside the code.
 fn is_outside(skipped: u32, at: usize, size: usize) -> bool
     requires { at < size }
     ensures { IsTrue result ↔ (size ≤ at + 1 + skipped) }

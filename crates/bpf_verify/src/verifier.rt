@@ -12,14 +12,14 @@ use crate::scratch::{MASK_PLACES, pass_on, unwritten_word, with_stored};
 use crate::soundness::{fault_of, first_unsound};
 use bpf_code::Instr;
 
-/// How many instructions a program has at most.
+/// The largest number of instructions of a program.
 pub const MOST_INSTRUCTIONS: usize = 4096;
 
-/// Checks a code, in one pass over its instructions and without taking memory.
+/// Checks a code, in one pass over its instructions and without an allocation.
 ///
 /// # Errors
 ///
-/// The code, unchanged, with the [`Fault`] that comes first by the order of the rules.
+/// The code, unchanged, with the [`Fault`] that comes first.
 pub fn verify(code: Vec<Instr>) -> Result<Program, Refused>
     ensures accepted { IsOk result ↔ IsAccepted code.items }
     ensures program { IfOk result (λ program. program ≡ code.items) }
@@ -32,7 +32,7 @@ pub fn verify(code: Vec<Instr>) -> Result<Program, Refused>
     }
 }
 
-/// The fault that comes first, if the code has one.
+/// Returns the fault that comes first, if the code has one.
 fn first_fault(code: &[Instr]) -> Option<Fault>
     ensures none { IfNone result (IsAccepted code.now) }
     ensures some { IfSome result (FailsFirst code.now) }
@@ -46,9 +46,9 @@ fn first_fault(code: &[Instr]) -> Option<Fault>
     first_in_order(code)
 }
 
-/// The fault that comes first of a code of a lawful size, if it has one. What an instruction breaks by itself
-/// and what it reads unwritten are looked for in one pass, so that a processor does one beside the other.
-/// It is called, so that the room of its masks, 8 KiB of stack, is given back before a program is laid out.
+/// Returns the fault that comes first in a code of 1 to 4096 instructions, if it has one. One pass looks for the
+/// faults of each instruction by itself and for reads of unwritten words, so that a processor does both at a time.
+/// The function is not inlined, so that the 8 KiB of its masks are free again before a program is laid out.
 #[inline(never)]
 fn first_in_order(code: &[Instr]) -> Option<Fault>
     requires { IsSized code.now }
@@ -74,8 +74,8 @@ fn first_in_order(code: &[Instr]) -> Option<Fault>
     }
 }
 
-/// The fault that comes first of a code whose first unwritten read is known: that, unless an instruction
-/// breaks something by itself, or the last is no return.
+/// Returns the fault that comes first in a code whose first unwritten read is known: that read, unless an
+/// instruction has a fault by itself, or the last is not a return.
 #[inline(never)]
 fn unwritten_or_earlier(code: &[Instr], at: usize, word: u32) -> Fault
     requires sized { IsSized code.now }
@@ -92,7 +92,7 @@ fn unwritten_or_earlier(code: &[Instr], at: usize, word: u32) -> Fault
     Fault::Unwritten { at, word }
 }
 
-/// Whether an instruction ends the program.
+/// Returns whether an instruction ends the program.
 fn is_return(instr: Instr) -> bool
     ensures { IsTrue result ↔ IsReturn instr }
 {
