@@ -6,7 +6,7 @@
 #include <time.h>
 #include "upc.h"
 
-enum { CONNECTIONS = 256, CELLS = 4096, ROUNDS = 280, ROUNDS_A_CUT = 25 };
+enum { CONNECTIONS = 256, CELLS = 4096, JOURNAL = 4096, ROUNDS = 280, ROUNDS_A_CUT = 25 };
 
 static uint8_t cells[CELLS][UPC_CELL_OCTETS], came[CELLS][UPC_CELL_OCTETS];
 
@@ -37,7 +37,7 @@ static uint32_t make_card(upc_card *card, upc_fault *fault)
 {
 	static const uint8_t program[] = {0x00, 0x30, 0, 0, 0, 0, 0, 3, 0x00, 0x45, 0, 1, 0, 0, 0, 8,
 	                                  0x00, 0x06, 0, 0, 0, 0, 0, 1, 0x00, 0x06, 0, 0, 0, 0, 0, 2};
-	const upc_shape shape = {UPC_UNI, 4, CONNECTIONS, 1, 4096};
+	const upc_shape shape = {UPC_UNI, 4, CONNECTIONS, 1, JOURNAL};
 	const uint64_t gap = 3 * CONNECTIONS;
 	const upc_contract contracts[] = {{UPC_VBR3, gap * 2 + 1, gap * 2, gap * 5 + 1, gap * 5},
 	                                  {UPC_VBR3, gap * 2 + 2, gap * 3, gap * 6 + 1, gap * 2}};
@@ -73,11 +73,12 @@ static double measure(upc_card *card, uint64_t moment, unsigned long *passed)
 
 static uint32_t cut_all(upc_card *card, upc_fault *fault)
 {
+	static upc_entry room[JOURNAL];
 	upc_journal journal;
 	uint16_t channel;
 
 	for (channel = 0; channel < CONNECTIONS; channel++)
-		if (upc_card_cut(card, 1, channel, &journal, fault) != 0)
+		if (upc_card_cut(card, 1, channel, room, JOURNAL, &journal, fault) != 0)
 			return fault->number;
 	return 0;
 }

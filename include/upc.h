@@ -4,9 +4,9 @@
  * A call that refuses writes nothing else. What each call answers is proved (crates/upc_c/README.md), as long as its
  * caller keeps this, which nothing checks:
  *
- *  - No pointer is null, also where the length beside it is 0. Each points to memory of its type, aligned for it, and
- *    octets to as many as their length says, at most PTRDIFF_MAX. The call may read them, and write where the pointer
- *    is to no const.
+ *  - No pointer is null, also where the length beside it is 0. Each points to memory of its type, aligned for it; octets,
+ *    contracts and entries to as many as the length beside them says, which take at most PTRDIFF_MAX octets. The call may
+ *    read them, and write where the pointer is to no const.
  *  - What a call may write to is lent to that argument alone: it overlaps none of the others, and no other thread reads
  *    or writes it before the call returns. What it may only read nobody changes before that.
  *  - Calls that the list below marks with "memory" take it by malloc and realloc and give it back by free, all of one
@@ -59,7 +59,7 @@ enum upc_kind {
 
 enum upc_call {
 	UPC_NO_MEMORY = 1,     /* malloc or realloc returned null */
-	UPC_NO_ROOM = 2,       /* the room is too small; place: how many octets are needed */
+	UPC_NO_ROOM = 2,       /* the room is too small; place: how many octets or entries are needed */
 	UPC_UNKNOWN_KIND = 3,  /* the contract is of none of the four kinds */
 	UPC_LATE_LEVELS = 4,   /* the levels are above UPC_LAST_LEVEL */
 	UPC_UNKNOWN_SIDE = 5,  /* the side is none of enum upc_side */
@@ -217,7 +217,16 @@ typedef struct upc_counts {
 	uint64_t refused;
 } upc_counts;
 
-/* What a release or a cut returns of a connection's journal. */
+/* A judged cell of a journal. */
+typedef struct upc_entry {
+	uint64_t moment;  /* when the cell came, in ticks */
+	upc_id program;   /* the program that gave the value */
+	uint32_t value;   /* what the program gave: the number of a contract, from 1, or any other, which names none */
+	uint32_t clp;     /* its cell loss priority before it was judged, 0 or 1 */
+	uint32_t verdict; /* one of enum upc_verdict */
+} upc_entry;
+
+/* What a release or a cut returns of a connection's journal beside its entries. */
 typedef struct upc_journal {
 	size_t cells;      /* the cells judged since the last cut, or since the connection was set up */
 	upc_counts before; /* the counts of its line before the first of them */
@@ -252,13 +261,25 @@ uint32_t upc_card_setup(upc_card *card, uint16_t path, uint16_t channel, const u
 uint32_t upc_card_reload(upc_card *card, uint16_t path, uint16_t channel, const upc_id *program, upc_id *earlier,
                          upc_fault *fault);
 
-/* Ends a connection, and tells of its last journal. It takes no memory.
+/* Tells how many cells the journal of a connection has: as many entries a release or a cut writes. It takes no memory.
  * Faults: UPC_NO_CARD, UPC_LARGE_PATH, then desk 2 NoConnection. */
-uint32_t upc_card_release(upc_card *card, uint16_t path, uint16_t channel, upc_journal *journal, upc_fault *fault);
+uint32_t upc_card_journal(upc_card *card, uint16_t path, uint16_t channel, size_t *cells, upc_fault *fault);
 
-/* Empties a connection's journal, and tells of it. The buckets and the last moment stay.
+/* Tells the counts of a connection's line. It takes no memory.
  * Faults: UPC_NO_CARD, UPC_LARGE_PATH, then desk 2 NoConnection. */
-uint32_t upc_card_cut(upc_card *card, uint16_t path, uint16_t channel, upc_journal *journal, upc_fault *fault);
+uint32_t upc_card_counts(upc_card *card, uint16_t path, uint16_t channel, upc_counts *counts, upc_fault *fault);
+
+/* Ends a connection, and hands out its last journal: its cells, the earliest first, become the first entries of the room,
+ * of which the others stay as they were, and *journal tells how many they are. It takes no memory. A room of length 0 is
+ * enough for an empty journal. Where the room is too small the connection goes on, and the fault's place tells how many
+ * entries are needed. Faults: UPC_NO_CARD, UPC_LARGE_PATH, then desk 2 NoConnection, then UPC_NO_ROOM. */
+uint32_t upc_card_release(upc_card *card, uint16_t path, uint16_t channel, upc_entry *room, size_t room_length,
+                          upc_journal *journal, upc_fault *fault);
+
+/* Hands out a connection's journal in the same way, and empties it. The connection goes on: its buckets and its last moment
+ * stay. Faults: UPC_NO_CARD, UPC_LARGE_PATH, then desk 2 NoConnection, then UPC_NO_ROOM. */
+uint32_t upc_card_cut(upc_card *card, uint16_t path, uint16_t channel, upc_entry *room, size_t room_length,
+                      upc_journal *journal, upc_fault *fault);
 
 /* Judges the cell that 52 octets are, which came at this moment, on the connection that its header names, and tells what
  * becomes of it. Where the verdict is UPC_TAG, the octets become the tagged cell. It takes no memory.

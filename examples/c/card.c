@@ -11,6 +11,7 @@ int main(void)
 	const upc_shape shape = {UPC_UNI, 1, 1, 1, 16};
 	const upc_contract contract = {UPC_VBR3, 5, 0, 20, 20};
 	upc_card card = {0, 0};
+	upc_entry room[16];
 	upc_journal journal;
 	upc_fault fault;
 	upc_id id;
@@ -41,7 +42,7 @@ int main(void)
 			printf(" %02x%02x%02x%02x", cell[0], cell[1], cell[2], cell[3]);
 		printf("\n");
 	}
-	if (upc_card_cut(&card, 1, 100, &journal, &fault) == 0)
+	if (upc_card_cut(&card, 1, 100, room, 16, &journal, &fault) == 0)
 		printf("cut 1/100 %lu %" PRIu64 " %" PRIu64 " %" PRIu64 " %" PRIu64 "\n", (unsigned long)journal.cells,
 		       journal.after.passed, journal.after.tagged, journal.after.discarded, journal.after.refused);
 	upc_card_free(&card);

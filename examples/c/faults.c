@@ -202,12 +202,37 @@ static void card_desk(upc_card *card, upc_id id, upc_contract it)
 	printf("reload: the same program %d\n", unread.slot == id.slot && unread.generation == id.generation);
 }
 
+/* The room of a journal of two cells, and one entry more. */
+static upc_entry room[3], room_before[3];
+
 static void tell_journal(const char *what, uint32_t number, const upc_journal *journal)
 {
-	tell(what, number, "", "", 0);
-	if (number == 0)
-		printf("%s: %lu cells, refused %lu to %lu\n", what, (unsigned long)journal->cells,
-		       (unsigned long)journal->before.refused, (unsigned long)journal->after.refused);
+	size_t k;
+
+	tell(what, number, room, room_before, sizeof room);
+	if (number != 0)
+		return;
+	printf("%s: %lu cells, refused %lu to %lu\n", what, (unsigned long)journal->cells, (unsigned long)journal->before.refused,
+	       (unsigned long)journal->after.refused);
+	for (k = 0; k < journal->cells; k++)
+		printf("%s: moment %lu program %u/%u value %u clp %u verdict %u\n", what, (unsigned long)room[k].moment,
+		       (unsigned)room[k].program.slot, (unsigned)room[k].program.generation, (unsigned)room[k].value,
+		       (unsigned)room[k].clp, (unsigned)room[k].verdict);
+	if (memcmp(room + k, room_before + k, sizeof room - k * sizeof *room) != 0)
+		printf("%s: it wrote after the entries\n", what);
+	memcpy(room, room_before, sizeof room);
+}
+
+/* What is told of a connection without a step. */
+static void inspect(const char *what, upc_card *card, uint16_t path, uint16_t channel)
+{
+	upc_counts counts = {7, 7, 7, 7}, unread = counts;
+	size_t cells = 77, unasked = 77;
+
+	tell(what, upc_card_journal(card, path, channel, &cells, &fault), &cells, &unasked, sizeof cells);
+	tell(what, upc_card_counts(card, path, channel, &counts, &fault), &counts, &unread, sizeof counts);
+	if (fault.number == 0)
+		printf("%s: %lu cells, refused %lu\n", what, (unsigned long)cells, (unsigned long)counts.refused);
 }
 
 /* The errors of a upc_card, in the order of a card's life. The program names contract 2, but there is only one. */
@@ -226,7 +251,11 @@ static void kept_card(void)
 	no_card("17 ports", UPC_UNI, 1, 4096, 17, 0);
 	no_card("large journal", UPC_UNI, 1, 1, 16, 65537);
 	upc_card_free(&card);
+	memset(room_before, 0xa5, sizeof room_before);
+	memcpy(room, room_before, sizeof room);
 	arrive("no card", &card, 1, 52, 0);
+	inspect("inspect no card", &card, 1, 1);
+	tell_journal("cut no card", upc_card_cut(&card, 1, 1, room, 3, &journal, &fault), &journal);
 	set_up("set up on no card", &card, 1, 1, id, cbr, 1);
 	tell("new card", upc_card_new(&shape, &card, &fault), "", "", 0);
 	tell("new card again", upc_card_new(&shape, &card, &fault), "", "", 0);
@@ -239,11 +268,17 @@ static void kept_card(void)
 	arrive("earlier cell", &card, 1, 52, 8);
 	arrive("second cell", &card, 1, 52, 9);
 	arrive("third cell", &card, 1, 52, 9);
-	tell_journal("cut elsewhere", upc_card_cut(&card, 1, 2, &journal, &fault), &journal);
-	tell_journal("cut", upc_card_cut(&card, 1, 1, &journal, &fault), &journal);
+	inspect("inspect elsewhere", &card, 1, 2);
+	inspect("inspect a large path", &card, 256, 1);
+	inspect("inspect", &card, 1, 1);
+	tell_journal("cut elsewhere", upc_card_cut(&card, 1, 2, room, 0, &journal, &fault), &journal);
+	tell_journal("cut into one entry", upc_card_cut(&card, 1, 1, room, 1, &journal, &fault), &journal);
+	tell_journal("release into none", upc_card_release(&card, 1, 1, room, 0, &journal, &fault), &journal);
+	tell_journal("cut", upc_card_cut(&card, 1, 1, room, 2, &journal, &fault), &journal);
+	tell_journal("cut an empty journal", upc_card_cut(&card, 1, 1, room, 0, &journal, &fault), &journal);
 	arrive("cell after the cut", &card, 1, 52, 9);
-	tell_journal("release on a large path", upc_card_release(&card, 256, 1, &journal, &fault), &journal);
-	tell_journal("release", upc_card_release(&card, 1, 1, &journal, &fault), &journal);
+	tell_journal("release on a large path", upc_card_release(&card, 256, 1, room, 3, &journal, &fault), &journal);
+	tell_journal("release", upc_card_release(&card, 1, 1, room, 3, &journal, &fault), &journal);
 	tell("retire", upc_card_retire(&card, &id, &fault), "", "", 0);
 	upc_card_free(&card);
 	arrive("card let go", &card, 1, 52, 0);

@@ -89,6 +89,7 @@ static uint32_t load(upc_fault *fault)
 static uint32_t set_up(upc_fault *fault)
 {
 	uint8_t cell[UPC_CELL_OCTETS] = {0, 0x10, 0x06, 0x40};
+	upc_entry entry;
 	upc_answer answer;
 	upc_journal journal;
 	upc_fault later;
@@ -98,15 +99,41 @@ static uint32_t set_up(upc_fault *fault)
 		return number;
 	if (upc_card_arrive(&card, cell, sizeof cell, 0, &answer, &later) != 0)
 		return 99;
-	return upc_card_release(&card, 1, 100, &journal, &later) == 0 && journal.cells == 1 ? 0 : 99;
+	return upc_card_release(&card, 1, 100, &entry, 1, &journal, &later) == 0 && journal.cells == 1 ? 0 : 99;
 }
 
-/* Empties the journal of a connection. */
+/* Has a cell judged on a connection and empties its journal. Where that is refused the cell is still there. */
 static uint32_t cut(upc_fault *fault)
 {
+	uint8_t cell[UPC_CELL_OCTETS] = {0, 0x10, 0x06, 0x50};
+	const upc_entry unwritten = {7, {7, 7}, 7, 7, 7};
+	upc_entry entry = unwritten;
+	upc_answer answer;
 	upc_journal journal;
+	upc_fault later;
+	size_t cells = 0;
+	uint32_t number;
 
-	return upc_card_cut(&card, 1, 101, &journal, fault);
+	if (upc_card_journal(&card, 1, 101, &cells, &later) != 0 ||
+	    (cells == 0 && upc_card_arrive(&card, cell, sizeof cell, 0, &answer, &later) != 0))
+		return 99;
+	number = upc_card_cut(&card, 1, 101, &entry, 1, &journal, fault);
+	if (upc_card_journal(&card, 1, 101, &cells, &later) != 0 || cells != (number != 0))
+		return 99;
+	return number == 0 || (entry.moment == 7 && entry.verdict == 7) ? number : 99;
+}
+
+/* Asks for what takes no memory: how many cells a journal has, and the counts of its line. */
+static uint32_t inspect(upc_fault *fault)
+{
+	upc_counts counts;
+	size_t cells = 7;
+	uint32_t number = upc_card_journal(&card, 1, 101, &cells, fault);
+
+	if (number != 0 || cells != 0 || requests != 0)
+		return 99;
+	number = upc_card_counts(&card, 1, 101, &counts, fault);
+	return number == 0 && counts.passed >= 1 && requests == 0 ? 0 : 99;
 }
 
 /* Makes the call with each request refused in turn, until none is. Returns whether each result was right. */
@@ -150,6 +177,8 @@ int main(void)
 	failed = !(try_call("upc_assemble", assemble) && try_call("upc_check", check) && try_call("upc_listing", list) &&
 	           try_call("upc_program_new", put_in) && try_call("upc_card_new", make_card) && try_call("upc_card_load", load) &&
 	           try_call("upc_card_setup", set_up) && try_call("upc_card_cut", cut));
+	requests = 0;
+	failed = failed || inspect(&fault) != 0;
 	upc_card_free(&card);
 	return failed;
 }

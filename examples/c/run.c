@@ -198,33 +198,42 @@ static void reload(unsigned path, unsigned channel, unsigned long name)
 		printf("reloaded %u/%u p%lu\n", path, channel, name);
 }
 
-static void print_journal(const char *word, unsigned path, unsigned channel, const upc_journal *journal)
+/* upc_card_release or upc_card_cut. */
+typedef uint32_t hand_out(upc_card *, uint16_t, uint16_t, upc_entry *, size_t, upc_journal *, upc_fault *);
+
+/* Room for so many entries. */
+static upc_entry *room_for(size_t cells)
 {
-	printf("%s %u/%u %lu %" PRIu64 " %" PRIu64 " %" PRIu64 " %" PRIu64 "\n", word, path, channel, (unsigned long)journal->cells,
-	       journal->after.passed - journal->before.passed, journal->after.tagged - journal->before.tagged,
-	       journal->after.discarded - journal->before.discarded, journal->after.refused - journal->before.refused);
+	upc_entry *room = (upc_entry *)malloc(cells > 0 ? cells * sizeof *room : 1);
+
+	if (room == NULL)
+		exit(3);
+	return room;
 }
 
-static void release(unsigned path, unsigned channel)
+/* Asks how many cells the journal has, has it handed out, and prints how many of them there are of each verdict. */
+static void print_journal(const char *word, unsigned path, unsigned channel, hand_out *call)
 {
+	unsigned long counts[4] = {0, 0, 0, 0};
+	size_t cells = 0, k;
 	upc_journal journal;
+	upc_entry *room;
 	upc_fault fault;
 
-	if (upc_card_release(&card, (uint16_t)path, (uint16_t)channel, &journal, &fault) != 0)
+	if (upc_card_journal(&card, (uint16_t)path, (uint16_t)channel, &cells, &fault) != 0) {
 		print_fault(&fault);
-	else
-		print_journal("released", path, channel, &journal);
-}
-
-static void cut(unsigned path, unsigned channel)
-{
-	upc_journal journal;
-	upc_fault fault;
-
-	if (upc_card_cut(&card, (uint16_t)path, (uint16_t)channel, &journal, &fault) != 0)
+		return;
+	}
+	room = room_for(cells);
+	if (call(&card, (uint16_t)path, (uint16_t)channel, room, cells, &journal, &fault) != 0)
 		print_fault(&fault);
-	else
-		print_journal("cut", path, channel, &journal);
+	else {
+		for (k = 0; k < journal.cells; k++)
+			counts[room[k].verdict]++;
+		printf("%s %u/%u %lu %lu %lu %lu %lu\n", word, path, channel, (unsigned long)journal.cells, counts[UPC_PASS],
+		       counts[UPC_TAG], counts[UPC_DISCARD], counts[UPC_REFUSE]);
+	}
+	free(room);
 }
 
 static void police(uint64_t moment, const char *digits)
@@ -273,9 +282,9 @@ static void obey(char *line)
 	else if (sscanf(line, "reload %u %u p%lu", &path, &channel, &name) == 3)
 		reload(path, channel, name);
 	else if (sscanf(line, "release %u %u", &path, &channel) == 2)
-		release(path, channel);
+		print_journal("released", path, channel, upc_card_release);
 	else if (sscanf(line, "cut %u %u", &path, &channel) == 2)
-		cut(path, channel);
+		print_journal("cut", path, channel, upc_card_cut);
 	else if (sscanf(line, "cell %" SCNu64 " %69999s", &moment, digits) == 2)
 		police(moment, digits);
 	else

@@ -3,6 +3,9 @@ mod CardArrivals
 mod CardBoxes
 mod CardSteps
 mod ContractLemmas
+mod EntryLemmas
+mod HandingOut
+mod LineLemmas
 mod Policing
 mod SettingUp
 mod Walks

@@ -29,6 +29,10 @@ use Rattle.upc_c.specs.declared.id.UpcId.{UpcId}
 abbrev pub id_of : UpcId → Id
 id_of given = record { slot = given.slot; generation = given.generation }
 
+-- The numbers of an id.
+abbrev pub told_id : Id → UpcId
+told_id id = record { slot = id.slot; generation = id.generation }
+
 -- Why the desk refuses, as a fault for C.
 abbrev pub told_desk : DeskFault → UpcFault
 told_desk desk.NoProgram = plain_fault 10 1 0

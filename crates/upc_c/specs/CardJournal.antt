@@ -1,27 +1,39 @@
 -- The journal of a connection, as C gets it.
-use Rattle.std.specs.Prelude.{◌≡◌, ℕ, length}
+use Rattle.std.specs.Prelude.{◌≡◌, ◌⊎◌, ◌<◌, ◌≤◌, ◌++◌, ℕ, if◌then◌else◌, List, length, drop, map}
+use Rattle.card_core.specs.declared.reply.Reply.{Reply}
 use Rattle.card_core.specs.declared.reply.Reply.TheVariants.{Released, Cut as CutOff}
+use Rattle.card_core.specs.declared.step.Step.{Step}
 use Rattle.card_core.specs.declared.step.Step.TheVariants.{Release, Cut}
 use Rattle.line_record.specs.Piece.{PieceView}
-use Rattle.line_record.specs.declared.tally.Tally.{Tally}
+use Rattle.line_record.specs.declared.entry.Entry.{Entry}
 use Rattle.upc_cell.specs.declared.vc.Vc.{Vc}
-use Rattle.upc_c.specs.CardDesk.{IsVc}
+use Rattle.upc_c.specs.CardDesk.{IsConnectionFault, IsVc, told_id}
 use Rattle.upc_c.specs.CardHandle.{Takes}
+use Rattle.upc_c.specs.CardInspection.{HasInJournal, counts_of}
+use Rattle.upc_c.specs.Faults.{no_room}
+use Rattle.upc_c.specs.Judging.{number_of}
 use Rattle.upc_c.specs.declared.card.UpcCard.{UpcCard}
-use Rattle.upc_c.specs.declared.journal.UpcCounts.{UpcCounts}
+use Rattle.upc_c.specs.declared.entry.UpcEntry.{UpcEntry}
+use Rattle.upc_c.specs.declared.fault.UpcFault.{UpcFault}
 use Rattle.upc_c.specs.declared.journal.UpcJournal.{UpcJournal}
 
--- The counts of these numbers.
-abbrev pub counts_of : Tally → UpcCounts
-counts_of tally = record {
-  passed = tally.passed;
-  tagged = tally.tagged;
-  discarded = tally.discarded;
-  refused = tally.refused;
+-- What C gets of a judged cell.
+abbrev pub told_entry : Entry → UpcEntry
+told_entry entry = record {
+  moment = entry.moment;
+  program = told_id entry.program;
+  value = entry.value;
+  clp = if entry.clp then 1 else 0;
+  verdict = number_of entry.verdict;
 }
 
--- What C gets of a journal that was handed out: how many cells it has, and the counts of its line before the first
--- and after the last of them.
+-- The entries fill the front of the room, in their order, and after them the room is as before.
+pub record AreWritten (entries : List Entry) (before after : List UpcEntry) : Type 0 where
+  pub fits : length entries ≤ length before
+  pub written : after ≡ map told_entry entries ++ drop (length entries) before
+
+-- What C gets of a journal besides: how many cells it has, and the counts of its line before the first and after
+-- the last of them.
 abbrev pub told_journal : PieceView → UpcJournal
 told_journal piece = record {
   cells = length piece.entries;
@@ -29,12 +41,32 @@ told_journal piece = record {
   after = counts_of piece.end.counts;
 }
 
--- The connection has ended, and C gets this of its last journal.
-abbrev pub IsReleased : UpcCard → UpcCard → ℕ → ℕ → UpcJournal → Type 0
-IsReleased before after path channel told = (vc : Vc) × IsVc path channel vc
-    × ((piece : PieceView) × Takes before after (Release vc) (Released piece) × (told ≡ told_journal piece))
+-- The card has taken the step on the connection of this path and channel, which handed out its journal: the room
+-- has its entries, and this is told of it.
+pub record IsHandedOut (before after : UpcCard) (path channel : ℕ) (step : Vc → Step) (reply : PieceView → Reply) (room written : List UpcEntry) (told : UpcJournal) : Type 0 where
+  pub vc : Vc
+  pub numbers : IsVc path channel vc
+  pub piece : PieceView
+  pub taken : Takes before after (step vc) (reply piece)
+  pub entries : AreWritten piece.entries room written
+  pub tells : told ≡ told_journal piece
 
--- The connection's journal was handed out, and C gets this of it.
-abbrev pub IsCut : UpcCard → UpcCard → ℕ → ℕ → UpcJournal → Type 0
-IsCut before after path channel told = (vc : Vc) × IsVc path channel vc
-    × ((piece : PieceView) × Takes before after (Cut vc) (CutOff piece) × (told ≡ told_journal piece))
+-- The connection has ended, and C gets its last journal.
+abbrev pub IsReleased : UpcCard → UpcCard → ℕ → ℕ → List UpcEntry → List UpcEntry → UpcJournal → Type 0
+IsReleased before after path channel room written told =
+    IsHandedOut before after path channel Release Released room written told
+
+-- The connection goes on with an empty journal, and C gets the one that it had.
+abbrev pub IsCut : UpcCard → UpcCard → ℕ → ℕ → List UpcEntry → List UpcEntry → UpcJournal → Type 0
+IsCut before after path channel room written told =
+    IsHandedOut before after path channel Cut CutOff room written told
+
+-- The journal of the connection has more cells than the room, and the fault tells how many.
+abbrev pub IsLongerThan : UpcCard → ℕ → ℕ → List UpcEntry → UpcFault → Type 0
+IsLongerThan card path channel room fault =
+    (cells : ℕ) × HasInJournal card path channel cells × (length room < cells) × (fault ≡ no_room cells)
+
+-- Why no journal was handed out: as for any step on a connection; or the room is too small.
+abbrev pub IsJournalFault : UpcCard → UpcCard → ℕ → ℕ → (Vc → Step) → List UpcEntry → UpcFault → Type 0
+IsJournalFault before after path channel step room fault =
+    IsConnectionFault before after path channel step fault ⊎ IsLongerThan before path channel room fault

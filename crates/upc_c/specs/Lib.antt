@@ -9,6 +9,7 @@ pub mod ProgramHandle
 pub mod CardHandle
 pub mod CardMaking
 pub mod CardDesk
-pub mod CardArrival
+pub mod CardInspection
 pub mod CardJournal
+pub mod CardArrival
 pub mod inner

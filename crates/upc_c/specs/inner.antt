@@ -1,4 +1,5 @@
--- What only the model of a type needs.
+-- What only proofs and the model of a type need.
 pub mod Hidden
-pub mod DeskReplies
 pub mod ReachedCore
+pub mod ToldLine
+pub mod HandOut

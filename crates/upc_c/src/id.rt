@@ -1,7 +1,7 @@
 //! The names of programs, as C has them.
 
 ghost use Rattle.std.specs.Prelude.{◌≡◌};
-ghost use Rattle.upc_c.specs.CardDesk.{id_of};
+ghost use Rattle.upc_c.specs.CardDesk.{id_of, told_id};
 
 use gen_arena::Id;
 
@@ -27,7 +27,8 @@ pub(crate) fn id_of(given: &UpcId) -> Id
 
 /// The numbers of an id.
 pub(crate) fn numbers_of(id: Id) -> UpcId
-    ensures { id ≡ id_of result }
+    ensures id { id ≡ id_of result }
+    ensures numbers { result ≡ told_id id }
 {
     UpcId {
         slot: id.slot,

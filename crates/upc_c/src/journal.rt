@@ -1,38 +1,30 @@
 //! Journals of connections that C cuts or ends.
 
-ghost use Rattle.std.specs.Prelude.{◌≡◌, ◌≢◌, ◌<◌, IfOk, IfErr, OnErr};
-ghost use Rattle.card_core.specs.declared.reply.Reply.TheVariants.{Released, Cut as CutOff};
+ghost use Rattle.std.specs.Prelude.{◌≡◌, ◌≢◌, ◌⊎◌, ◌<◌, ◌≤◌, length, IfOk, IfErr, OnErr, IfSome, IfNone};
+ghost use Rattle.card_core.specs.Agreement.{Follows};
+ghost use Rattle.card_core.specs.Kept.{RefusalKeeps};
 ghost use Rattle.card_core.specs.declared.step.Step.TheVariants.{Release, Cut};
-ghost use Rattle.upc_c.specs.CardDesk.{IsConnectionFault, IsDeskFault};
+ghost use Rattle.upc_c.specs.CardDesk.{IsDeskFault};
 ghost use Rattle.upc_c.specs.CardHandle.{Takes, card_in};
-ghost use Rattle.upc_c.specs.CardJournal.{IsCut, IsReleased, counts_of, told_journal};
+ghost use Rattle.upc_c.specs.CardJournal.{IsCut, IsHandedOut, IsJournalFault, IsReleased, told_journal};
 ghost use Rattle.upc_c.specs.Faults.{no_fault};
+ghost use Rattle.upc_c.specs.inner.HandOut.{IsLongerIn, IsLongerOn, IsShortIn, replied, reply_of, step_of};
+ghost use Rattle.upc_c.specs.inner.ReachedCore.{IsReached};
 
 use crate::card::UpcCard;
+use crate::counts::{UpcCounts, counts_of};
 use crate::desk_fault::{card_missing, told_desk};
-use crate::fault::{NO_FAULT, UpcFault, told};
+use crate::entry::{UpcEntry, write_entries};
+use crate::fault::{NO_FAULT, OF_THE_CALL, UpcFault, fault_at, told};
+use crate::inspecting::told_line;
 use crate::setting_up::vc_on;
-use crate::stepping::step_on;
-use card_core::{Reply, Step};
-use line_record::{Piece, Tally};
+use crate::stepping::{put_core, take_core};
+use card_core::{Core, DeskFault};
+use line_record::Piece;
 use std::alloc::Global;
 use upc_cell::Vc;
 
-/// How many cells of each verdict were judged on a line, on earlier connections too.
-#[repr(C)]
-#[derive(Clone, Copy, Debug)]
-pub struct UpcCounts {
-    /// Cells that conformed.
-    pub passed: u64,
-    /// Cells that were tagged.
-    pub tagged: u64,
-    /// Cells that were discarded.
-    pub discarded: u64,
-    /// Cells whose program named no contract.
-    pub refused: u64,
-}
-
-/// What C gets of a journal.
+/// What C gets of a journal beside its entries.
 #[repr(C)]
 #[derive(Clone, Copy, Debug)]
 pub struct UpcJournal {
@@ -44,19 +36,16 @@ pub struct UpcJournal {
     pub after: UpcCounts,
 }
 
-/// The counts as C has them.
-fn counts_of(tally: Tally) -> UpcCounts
-    ensures { result ≡ counts_of tally }
-{
-    UpcCounts {
-        passed: tally.passed,
-        tagged: tally.tagged,
-        discarded: tally.discarded,
-        refused: tally.refused,
-    }
+/// When a journal is handed out.
+#[derive(Clone, Copy)]
+pub(crate) enum HandOut {
+    /// The connection ends: the step `Release`.
+    AtEnd,
+    /// It goes on with an empty journal: the step `Cut`.
+    GoingOn,
 }
 
-/// What C gets of a journal that was handed out.
+/// What C gets of a journal that was handed out, beside its entries.
 fn told_journal(piece: &Piece) -> UpcJournal
     ensures { result ≡ told_journal piece.now }
 {
@@ -67,94 +56,154 @@ fn told_journal(piece: &Piece) -> UpcJournal
     }
 }
 
-/// Takes the step `Release`.
-fn release_on(alloc: Global, card: &mut UpcCard, vc: Vc) -> Result<Piece, UpcFault>
-    ensures released { IfOk result (λ piece. Takes card.old card.new (Release vc) (Released piece)) }
-    ensures refused { IfErr result (IsDeskFault card.old card.new (Release vc)) }
-    ensures left { OnErr result (card_in card.new ≡ card_in card.old) }
-    ensures numbered { IfErr result (λ fault. 0 < fault.number) }
+/// Takes the step.
+fn hand_out(core: &mut Core, vc: Vc, when: HandOut) -> Result<Piece, DeskFault>
+    ensures follows { Follows core.old (step_of when vc) (replied when result) core.new }
+    ensures unchanged { RefusalKeeps (replied when result) (step_of when vc) core.old core.new }
 {
-    match step_on(alloc, card, Step::Release(vc)) {
-        Some(Reply::Released(piece)) => Ok(piece),
-        Some(Reply::Refused(found)) => Err(told_desk(found)),
-        Some(_) => unreachable!(),
-        None => Err(card_missing()),
+    match when {
+        HandOut::AtEnd => core.release(vc),
+        HandOut::GoingOn => core.cut(vc),
     }
 }
 
-/// Takes the step `Cut`.
-fn cut_on(alloc: Global, card: &mut UpcCard, vc: Vc) -> Result<Piece, UpcFault>
-    ensures cut { IfOk result (λ piece. Takes card.old card.new (Cut vc) (CutOff piece)) }
-    ensures refused { IfErr result (IsDeskFault card.old card.new (Cut vc)) }
+/// Takes the step where the journal has at most `most` cells.
+fn hand_out_short(core: &mut Core, vc: Vc, when: HandOut, most: usize) -> Result<Piece, DeskFault>
+    requires reached { IsReached core.old }
+    requires short { IsShortIn core.old vc most }
+    ensures follows { Follows core.old (step_of when vc) (replied when result) core.new }
+    ensures unchanged { RefusalKeeps (replied when result) (step_of when vc) core.old core.new }
+    ensures reached { IsReached core.new }
+    ensures fits { IfOk result (λ piece. length piece.entries ≤ most) }
+{
+    hand_out(core, vc, when)
+}
+
+/// How many cells the connection's journal has, where that is more than `most`.
+fn too_many(core: &Core, vc: Vc, most: usize) -> Option<usize>
+    ensures longer { IfSome result (IsLongerIn core.now vc most) }
+    ensures fits { IfNone result (IsShortIn core.now vc most) }
+{
+    let Some(line) = told_line(core, vc) else {
+        return None;
+    };
+    if line.cells <= most {
+        return None;
+    }
+    Some(line.cells)
+}
+
+/// Takes the step on the card, where the journal has at most `most` cells.
+fn hand_out_on(
+    alloc: Global,
+    card: &mut UpcCard,
+    vc: Vc,
+    when: HandOut,
+    most: usize,
+) -> Result<Piece, UpcFault>
+    ensures handed { IfOk result (λ piece. Takes card.old card.new (step_of when vc) (reply_of when piece)) }
+    ensures fits { IfOk result (λ piece. length piece.entries ≤ most) }
+    ensures refused { IfErr result (λ fault.
+        IsDeskFault card.old card.new (step_of when vc) fault ⊎ IsLongerOn card.old vc most fault) }
     ensures left { OnErr result (card_in card.new ≡ card_in card.old) }
     ensures numbered { IfErr result (λ fault. 0 < fault.number) }
 {
-    match step_on(alloc, card, Step::Cut(vc)) {
-        Some(Reply::Cut(piece)) => Ok(piece),
-        Some(Reply::Refused(found)) => Err(told_desk(found)),
-        Some(_) => unreachable!(),
-        None => Err(card_missing()),
+    let Some(mut core) = take_core(alloc, card) else {
+        return Err(card_missing());
+    };
+    if let Some(cells) = too_many(&core, vc, most) {
+        put_core(card, core);
+        return Err(fault_at(OF_THE_CALL, 2, cells));
+    }
+    let handed = hand_out_short(&mut core, vc, when, most);
+    put_core(card, core);
+    match handed {
+        Ok(piece) => Ok(piece),
+        Err(found) => Err(told_desk(found)),
     }
 }
 
-/// Ends the connection on this path and channel, and tells of its last journal. Returns the fault's number,
-/// or 0.
+/// Hands out the journal of the connection on this path and channel into the room.
+fn hand_out_to(
+    alloc: Global,
+    card: &mut UpcCard,
+    path: u16,
+    channel: u16,
+    when: HandOut,
+    room: &mut [UpcEntry],
+    journal: &mut UpcJournal,
+) -> Result<(), UpcFault>
+    ensures handed { IfOk result (λ _. IsHandedOut card.old card.new path channel
+        (step_of when) (reply_of when) room.old room.new journal.new) }
+    ensures refused { IfErr result (IsJournalFault card.old card.new path channel (step_of when) room.old) }
+    ensures left { OnErr result (card_in card.new ≡ card_in card.old) }
+    ensures room_left { OnErr result (room.new ≡ room.old) }
+    ensures journal_left { OnErr result (journal.new ≡ journal.old) }
+    ensures numbered { IfErr result (λ fault. 0 < fault.number) }
+{
+    let vc = match vc_on(alloc, card, path, channel) {
+        Ok(vc) => vc,
+        Err(found) => return Err(found),
+    };
+    match hand_out_on(alloc, card, vc, when, room.len()) {
+        Ok(piece) => {
+            write_entries(room, piece.entries());
+            *journal = told_journal(&piece);
+            Ok(())
+        }
+        Err(found) => Err(found),
+    }
+}
+
+/// Ends the connection on this path and channel, writes the entries of its last journal to the front of the
+/// room, and tells the counts before and after them. Returns the fault's number, or 0.
 #[unsafe(no_mangle)]
 pub extern "C" fn upc_card_release(
     alloc: Global,
     card: &mut UpcCard,
     path: u16,
     channel: u16,
+    room: &mut [UpcEntry],
     journal: &mut UpcJournal,
     fault: &mut UpcFault,
 ) -> u32
     ensures number { result ≡ fault.new.number }
-    ensures released { result ≡ 0 → IsReleased card.old card.new path channel journal.new }
+    ensures released { result ≡ 0 → IsReleased card.old card.new path channel room.old room.new journal.new }
     ensures fine { result ≡ 0 → fault.new ≡ no_fault }
-    ensures refused { result ≢ 0 → IsConnectionFault card.old card.new path channel Release fault.new }
+    ensures refused { result ≢ 0 → IsJournalFault card.old card.new path channel Release room.old fault.new }
     ensures left { result ≢ 0 → card_in card.new ≡ card_in card.old }
+    ensures room_left { result ≢ 0 → room.new ≡ room.old }
     ensures journal_left { result ≢ 0 → journal.new ≡ journal.old }
 {
-    let vc = match vc_on(alloc, card, path, channel) {
-        Ok(vc) => vc,
-        Err(found) => return told(fault, found),
-    };
-    match release_on(alloc, card, vc) {
-        Ok(piece) => {
-            *journal = told_journal(&piece);
-            told(fault, NO_FAULT)
-        }
+    match hand_out_to(alloc, card, path, channel, HandOut::AtEnd, room, journal) {
+        Ok(()) => told(fault, NO_FAULT),
         Err(found) => told(fault, found),
     }
 }
 
-/// Empties the journal of the connection on this path and channel, and tells of it. The buckets and the last
-/// moment stay. Returns the fault's number, or 0.
+/// Empties the journal of the connection on this path and channel, writes its entries to the front of the
+/// room, and tells the counts before and after them. The buckets and the last moment stay. Returns the
+/// fault's number, or 0.
 #[unsafe(no_mangle)]
 pub extern "C" fn upc_card_cut(
     alloc: Global,
     card: &mut UpcCard,
     path: u16,
     channel: u16,
+    room: &mut [UpcEntry],
     journal: &mut UpcJournal,
     fault: &mut UpcFault,
 ) -> u32
     ensures number { result ≡ fault.new.number }
-    ensures cut { result ≡ 0 → IsCut card.old card.new path channel journal.new }
+    ensures cut { result ≡ 0 → IsCut card.old card.new path channel room.old room.new journal.new }
     ensures fine { result ≡ 0 → fault.new ≡ no_fault }
-    ensures refused { result ≢ 0 → IsConnectionFault card.old card.new path channel Cut fault.new }
+    ensures refused { result ≢ 0 → IsJournalFault card.old card.new path channel Cut room.old fault.new }
     ensures left { result ≢ 0 → card_in card.new ≡ card_in card.old }
+    ensures room_left { result ≢ 0 → room.new ≡ room.old }
     ensures journal_left { result ≢ 0 → journal.new ≡ journal.old }
 {
-    let vc = match vc_on(alloc, card, path, channel) {
-        Ok(vc) => vc,
-        Err(found) => return told(fault, found),
-    };
-    match cut_on(alloc, card, vc) {
-        Ok(piece) => {
-            *journal = told_journal(&piece);
-            told(fault, NO_FAULT)
-        }
+    match hand_out_to(alloc, card, path, channel, HandOut::GoingOn, room, journal) {
+        Ok(()) => told(fault, NO_FAULT),
         Err(found) => told(fault, found),
     }
 }

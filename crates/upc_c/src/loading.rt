@@ -12,9 +12,8 @@ use crate::desk_fault::{card_missing, told_desk};
 use crate::fault::{NO_FAULT, UpcFault, told};
 use crate::id::{UpcId, numbers_of};
 use crate::program::accepted;
-use crate::stepping::step_on;
+use crate::stepping::{put_core, take_core};
 use bpf_verify::Program;
-use card_core::{Reply, Step};
 use gen_arena::Id;
 use std::alloc::Global;
 
@@ -25,11 +24,17 @@ fn load_on(alloc: Global, card: &mut UpcCard, program: Program) -> Result<Id, Up
     ensures left { OnErr result (card_in card.new ≡ card_in card.old) }
     ensures numbered { IfErr result (λ fault. 0 < fault.number) }
 {
-    match step_on(alloc, card, Step::Load(program)) {
-        Some(Reply::Loaded(id)) => Ok(id),
-        Some(Reply::NotLoaded(found, _)) => Err(told_desk(found)),
-        Some(_) => unreachable!(),
-        None => Err(card_missing()),
+    let Some(mut core) = take_core(alloc, card) else {
+        return Err(card_missing());
+    };
+    let loaded = core.load(program);
+    put_core(card, core);
+    match loaded {
+        Ok(id) => Ok(id),
+        Err((found, program)) => {
+            drop(program);
+            Err(told_desk(found))
+        }
     }
 }
 

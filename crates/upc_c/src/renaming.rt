@@ -13,9 +13,8 @@ use crate::desk_fault::{card_missing, told_desk};
 use crate::fault::{NO_FAULT, UpcFault, told};
 use crate::id::{UpcId, id_of, numbers_of};
 use crate::setting_up::vc_on;
-use crate::stepping::step_on;
+use crate::stepping::{put_core, take_core};
 use bpf_verify::Program;
-use card_core::{Reply, Step};
 use gen_arena::Id;
 use std::alloc::Global;
 use upc_cell::Vc;
@@ -27,11 +26,14 @@ fn retire_on(alloc: Global, card: &mut UpcCard, id: Id) -> Result<Program, UpcFa
     ensures left { OnErr result (card_in card.new ≡ card_in card.old) }
     ensures numbered { IfErr result (λ fault. 0 < fault.number) }
 {
-    match step_on(alloc, card, Step::Retire(id)) {
-        Some(Reply::Retired(program)) => Ok(program),
-        Some(Reply::Refused(found)) => Err(told_desk(found)),
-        Some(_) => unreachable!(),
-        None => Err(card_missing()),
+    let Some(mut core) = take_core(alloc, card) else {
+        return Err(card_missing());
+    };
+    let retired = core.retire(id);
+    put_core(card, core);
+    match retired {
+        Ok(program) => Ok(program),
+        Err(found) => Err(told_desk(found)),
     }
 }
 
@@ -42,11 +44,14 @@ fn reload_on(alloc: Global, card: &mut UpcCard, vc: Vc, program: Id) -> Result<I
     ensures left { OnErr result (card_in card.new ≡ card_in card.old) }
     ensures numbered { IfErr result (λ fault. 0 < fault.number) }
 {
-    match step_on(alloc, card, Step::Reload { vc, program }) {
-        Some(Reply::Reloaded(id)) => Ok(id),
-        Some(Reply::Refused(found)) => Err(told_desk(found)),
-        Some(_) => unreachable!(),
-        None => Err(card_missing()),
+    let Some(mut core) = take_core(alloc, card) else {
+        return Err(card_missing());
+    };
+    let reloaded = core.reload(vc, program);
+    put_core(card, core);
+    match reloaded {
+        Ok(id) => Ok(id),
+        Err(found) => Err(told_desk(found)),
     }
 }
 

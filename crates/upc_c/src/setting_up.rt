@@ -13,8 +13,8 @@ use crate::contracts::contracts_of;
 use crate::desk_fault::{card_missing, told_desk};
 use crate::fault::{NO_FAULT, OF_THE_CALL, UpcFault, fault_at, told};
 use crate::id::{UpcId, id_of};
-use crate::stepping::{shape_on, step_on};
-use card_core::{Ask, Reply, Step};
+use crate::stepping::{put_core, shape_on, take_core};
+use card_core::Ask;
 use line_record::Owner;
 use std::alloc::Global;
 use upc_cell::Vc;
@@ -48,11 +48,14 @@ fn setup_on(alloc: Global, card: &mut UpcCard, ask: Ask) -> Result<Owner, UpcFau
     ensures left { IfErr result (λ fault. fault ≢ out_of_memory → card_in card.new ≡ card_in card.old) }
     ensures numbered { IfErr result (λ fault. 0 < fault.number) }
 {
-    match step_on(alloc, card, Step::Setup(ask)) {
-        Some(Reply::SetUp(owner)) => Ok(owner),
-        Some(Reply::NotSetUp(found, _)) => Err(told_desk(found)),
-        Some(_) => unreachable!(),
-        None => Err(card_missing()),
+    let Some(mut core) = take_core(alloc, card) else {
+        return Err(card_missing());
+    };
+    let set = core.setup(ask);
+    put_core(card, core);
+    match set {
+        Ok(owner) => Ok(owner),
+        Err((found, _)) => Err(told_desk(found)),
     }
 }
 

@@ -1,15 +1,12 @@
 //! The core of a card that C holds, taken out for a call and put back.
 
-ghost use Rattle.std.specs.Prelude.{◌≡◌, ◌≢◌, false, true, None, Some, IfNone, IfSome};
-ghost use Rattle.card_core.specs.Agreement.{Follows};
-ghost use Rattle.card_core.specs.Kept.{RefusalKeeps};
-ghost use Rattle.upc_c.specs.CardHandle.{IsShapeIn, Takes, card_in};
+ghost use Rattle.std.specs.Prelude.{◌≡◌, None, Some, IfNone, IfSome};
+ghost use Rattle.upc_c.specs.CardHandle.{IsShapeIn, card_in};
 ghost use Rattle.upc_c.specs.inner.ReachedCore.{IsReached};
-ghost use Rattle.upc_c.specs.inner.DeskReplies.{is_of_desk, is_reply_to};
 
 use crate::card::UpcCard;
 use crate::hidden::HiddenCard;
-use card_core::{Core, Reply, Shape, Step};
+use card_core::{Core, Shape};
 use std::alloc::Global;
 use std::mem::replace;
 
@@ -44,32 +41,6 @@ pub(crate) fn put_core(card: &mut UpcCard, core: Box<Core>)
         live: 1,
         inner: HiddenCard::of(core),
     };
-}
-
-/// Takes a step of the desk of a core that steps have led to.
-fn step_core(core: &mut Core, step: Step) -> Reply
-    requires reached { IsReached core.old }
-    requires desk { is_of_desk step ≡ true }
-    ensures follows { Follows core.old step result core.new }
-    ensures kept { RefusalKeeps result step core.old core.new }
-    ensures reached { IsReached core.new }
-    ensures fits { is_reply_to step result ≢ false }
-{
-    core.step(step)
-}
-
-/// Takes a step of the desk of the card, where there is one.
-pub(crate) fn step_on(alloc: Global, card: &mut UpcCard, step: Step) -> Option<Reply>
-    requires { is_of_desk step ≡ true }
-    ensures taken { IfSome result (Takes card.old card.new step) }
-    ensures fits { IfSome result (λ reply. is_reply_to step reply ≢ false) }
-    ensures none { IfNone result (card_in card.old ≡ None) }
-    ensures left { IfNone result (card.new ≡ card.old) }
-{
-    let mut core = take_core(alloc, card)?;
-    let reply = step_core(&mut core, step);
-    put_core(card, core);
-    Some(reply)
 }
 
 /// How large the card is, where there is one. The core goes out and in again.

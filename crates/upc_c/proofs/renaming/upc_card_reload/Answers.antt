@@ -13,7 +13,7 @@ returns-in-Ok-reload_on-clause-reloaded c = λ _. (
   c.in-Ok.vc,
   c.in-Ok.ensures.vc,
   subst (λ (program : Id). Takes c.args.card.now c.reload_on.new.card (Reload c.in-Ok.vc program) (Reloaded (id_of c.numbers_of.result))) c.id_of.ensures
-      (subst (λ (earlier : Id). Takes c.args.card.now c.reload_on.new.card (Reload c.in-Ok.vc c.id_of.result) (Reloaded earlier)) c.numbers_of.ensures
+      (subst (λ (earlier : Id). Takes c.args.card.now c.reload_on.new.card (Reload c.in-Ok.vc c.id_of.result) (Reloaded earlier)) c.numbers_of.ensures.id
       (takes-from c.args.card.now c.vc_on.new.card c.reload_on.new.card _ _ c.vc_on.ensures.kept c.in-Ok-reload_on.ensures.reloaded)),
 )
 

@@ -1,0 +1,37 @@
+-- The entries of a journal, written to the room one after another.
+use Rattle.std.proofs.Common.{◌≡◌, ℕ, ◌+◌, ◌<◌, ◌≤◌, List, [], ◌∷◌, ◌++◌, length, take, drop, map, set, get_or, refl, sym, ap, ◌∙◌, subst, arith, take-append-drop, take_all, length-set, drop-set-lt, le_of_eq}
+use Rattle.std.proofs.lemmas.Grind.{drop_more_same}
+use Rattle.std.proofs.lemmas.List.{map-append, take_more, take_more_set}
+use Rattle.line_record.specs.declared.entry.Entry.{Entry}
+use Rattle.upc_c.specs.CardJournal.{AreWritten, told_entry}
+use Rattle.upc_c.specs.declared.entry.UpcEntry.{UpcEntry}
+
+-- The first entries are at the front of the room, and after them it is as before.
+pub record WrittenOf (entries : List Entry) (before room : List UpcEntry) (count : ℕ) : Type 0 where
+  pub sized : length room ≡ length before
+  pub front : take count room ≡ map told_entry (take count entries)
+  pub rest : drop count room ≡ drop count before
+
+pub written-more : (entries : List Entry) (before room : List UpcEntry) (count : ℕ) (other : Entry) (told : UpcEntry)
+    → count < length entries → length entries ≤ length before → WrittenOf entries before room count
+    → told ≡ told_entry (get_or entries count other) → WrittenOf entries before (set room count told) (count + 1)
+written-more entries before room count other told below fits so_far is =
+    let within : count < length room = let sized = so_far.sized in omega arith in
+    let next : count < count + 1 = omega arith in
+    record {
+      sized = length-set room count told ∙ so_far.sized;
+      front = take_more_set room count told within ∙ ap (λ (xs : List UpcEntry). xs ++ told ∷ []) so_far.front
+          ∙ ap (λ (x : UpcEntry). map told_entry (take count entries) ++ x ∷ []) is
+          ∙ sym (map-append told_entry (take count entries) (get_or entries count other ∷ []))
+          ∙ ap (map told_entry) (sym (take_more entries count other below));
+      rest = drop-set-lt (count + 1) room count told next ∙ drop_more_same room before count so_far.rest;
+    }
+
+pub written-all : (entries : List Entry) (before room : List UpcEntry) (count : ℕ) → count ≡ length entries → length entries ≤ length before
+    → WrittenOf entries before room count → AreWritten entries before room
+written-all entries before room count all fits so_far = record {
+  fits = fits;
+  written = subst (λ (n : ℕ). room ≡ map told_entry entries ++ drop n before) all
+      (sym (take-append-drop count room) ∙ ap (λ (xs : List UpcEntry). xs ++ drop count room) (so_far.front ∙ ap (map told_entry) (take_all count entries (le_of_eq (sym all))))
+      ∙ ap (λ (xs : List UpcEntry). map told_entry entries ++ xs) so_far.rest);
+}

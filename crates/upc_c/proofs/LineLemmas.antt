@@ -1,0 +1,78 @@
+-- What the line of a connection tells of the worlds with which its core agrees.
+use Rattle.std.proofs.Common.{◌≡◌, ℕ, ◌<◌, ◌≤◌, Option, Some, None, length, refl, sym, ap, ◌∙◌, subst}
+use Rattle.std.specs.Prelude.{option_map, slice_get}
+use Rattle.card_core.specs.Agreement.{CoreView, CoreAgrees, seating_of}
+use Rattle.card_core.specs.Inspection.{line_at, line_of_seating}
+use Rattle.card_core.specs.World.{World, Connection, connection_in, handed_cells, kept_cells}
+use Rattle.line_record.proofs.Public.{each_cell_is_judged}
+use Rattle.line_record.specs.History.{empty_buckets}
+use Rattle.line_record.specs.Line.{LineView}
+use Rattle.upc_cell.specs.declared.vc.Vc.{Vc}
+use Rattle.upc_c.specs.CardInspection.{HasConnection}
+use Rattle.upc_c.specs.declared.inspecting.ToldLine.{ToldLine}
+use Rattle.upc_c.specs.inner.HandOut.{IsLongerIn, IsShortIn}
+use Rattle.upc_c.specs.inner.ToldLine.{IsMissingIn, IsToldOf, Tells}
+
+abbrev line-or : Option LineView → LineView → LineView
+line-or None other = other
+line-or (Some line) other = line
+
+abbrev connection-or : Option Connection → Connection → Connection
+connection-or None other = other
+connection-or (Some connection) other = connection
+
+-- The directory has what the world has.
+line-of : (core : CoreView) (world : World) (vc : Vc) (found : Option Connection) → CoreAgrees core world
+    → connection_in world.connections vc ≡ found → line_at core vc ≡ line_of_seating core.lines (option_map seating_of found)
+line-of core world vc found agrees is = ap (line_of_seating core.lines) (agrees.seatings.seatings vc ∙ ap (option_map seating_of) is)
+
+tells-by : (core : CoreView) (world : World) (vc : Vc) (line : LineView) (told : ToldLine) (found : Option Connection)
+    → CoreAgrees core world → connection_in world.connections vc ≡ found → line_at core vc ≡ Some line
+    → told.cells ≡ length line.entries → told.counts ≡ line.state.counts → HasConnection world vc (Tells told world)
+tells-by core world vc line told None agrees is at cells counts =
+    let no : None ≡ Some line = sym (line-of core world vc None agrees is) ∙ at in cc
+tells-by core world vc line told (Some connection) agrees is at cells counts =
+    let here : slice_get core.lines connection.line ≡ Some line = sym (line-of core world vc (Some connection) agrees is) ∙ at in
+    let serving = agrees.lines.serving vc connection is in
+    let same : serving.0 ≡ line = ap (λ l. line-or l line) (sym serving.1 ∙ here) in
+    let judged = (each_cell_is_judged connection.contracts empty_buckets (handed_cells connection) (kept_cells connection)).0 in (
+      connection,
+      is,
+      record {
+        cells = sym judged ∙ ap length (sym serving.2.entries) ∙ ap (λ (l : LineView). length l.entries) same ∙ sym cells;
+        counts = counts ∙ agrees.lines.counts connection.line line here;
+      },
+    )
+
+pub told-of : (core : CoreView) (vc : Vc) (line : LineView) (told : ToldLine) → line_at core vc ≡ Some line
+    → told.cells ≡ length line.entries → told.counts ≡ line.state.counts → IsToldOf core vc told
+told-of core vc line told at cells counts = λ world agrees.
+    tells-by core world vc line told (connection_in world.connections vc) agrees refl at cells counts
+
+missing-by : (core : CoreView) (world : World) (vc : Vc) (found : Option Connection) → CoreAgrees core world
+    → connection_in world.connections vc ≡ found → line_at core vc ≡ None → connection_in world.connections vc ≡ None
+missing-by core world vc None agrees is at = is
+missing-by core world vc (Some connection) agrees is at =
+    let serving = agrees.lines.serving vc connection is in
+    let no : Some serving.0 ≡ None = sym serving.1 ∙ sym (line-of core world vc (Some connection) agrees is) ∙ at in cc
+
+pub missing-in : (core : CoreView) (vc : Vc) → line_at core vc ≡ None → IsMissingIn core vc
+missing-in core vc at = λ world agrees. missing-by core world vc (connection_in world.connections vc) agrees refl at
+
+-- A journal that isn't there has no cell.
+pub short-missing : (core : CoreView) (vc : Vc) (most : ℕ) → IsMissingIn core vc → IsShortIn core vc most
+short-missing core vc most none = record {
+  few = λ world agrees connection found. let no : None ≡ Some connection = sym (none world agrees) ∙ found in cc;
+}
+
+pub short-told : (core : CoreView) (vc : Vc) (most : ℕ) (told : ToldLine) → IsToldOf core vc told → told.cells ≤ most → IsShortIn core vc most
+short-told core vc most told tells few = record {
+  few = λ world agrees connection found.
+      let it = tells world agrees in
+      let same : it.0 ≡ connection = ap (λ c. connection-or c connection) (sym it.1 ∙ found) in
+      subst (λ (n : ℕ). n ≤ most) (sym it.2.cells ∙ ap (λ (c : Connection). length (kept_cells c)) same) few;
+}
+
+pub longer-told : (core : CoreView) (vc : Vc) (most : ℕ) (told : ToldLine) → IsToldOf core vc told → most < told.cells
+    → IsLongerIn core vc most told.cells
+longer-told core vc most told tells more = (more, λ world agrees. let it = tells world agrees in (it.0, it.1, it.2.cells))

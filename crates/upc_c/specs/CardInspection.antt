@@ -1,0 +1,61 @@
+-- What a card tells of a connection without a step.
+use Rattle.std.specs.Prelude.{◌≡◌, ◌⊎◌, ℕ, length, Some, None}
+use Rattle.card_core.specs.Agreement.{CoreView, CoreAgrees}
+use Rattle.card_core.specs.World.{World, Connection, connection_in, kept_cells}
+use Rattle.card_core.specs.declared.fault.DeskFault.TheVariants.{NoConnection}
+use Rattle.line_record.specs.Tally.{tally_of}
+use Rattle.line_record.specs.declared.tally.Tally.{Tally}
+use Rattle.upc_cell.specs.declared.vc.Vc.{Vc}
+use Rattle.upc_c.specs.CardDesk.{HasNoPath, IsVc, path_too_large, told_desk}
+use Rattle.upc_c.specs.CardHandle.{card_in, card_missing}
+use Rattle.upc_c.specs.declared.card.UpcCard.{UpcCard}
+use Rattle.upc_c.specs.declared.counts.UpcCounts.{UpcCounts}
+use Rattle.upc_c.specs.declared.fault.UpcFault.{UpcFault}
+
+-- The counts of these numbers.
+abbrev pub counts_of : Tally → UpcCounts
+counts_of tally = record {
+  passed = tally.passed;
+  tagged = tally.tagged;
+  discarded = tally.discarded;
+  refused = tally.refused;
+}
+
+-- The world has this connection, and this is so of it.
+abbrev pub HasConnection : World → Vc → (Connection → Type 0) → Type 0
+HasConnection world vc IsSo =
+    (connection : Connection) × (connection_in world.connections vc ≡ Some connection) × IsSo connection
+
+-- The card has the connection of this path and channel, and this is so of it in each world with which the card's
+-- core agrees.
+pub record OfConnection (card : UpcCard) (path channel : ℕ) (IsSo : World → Connection → Type 0) : Type 0 where
+  pub vc : Vc
+  pub numbers : IsVc path channel vc
+  pub core : CoreView
+  pub had : card_in card ≡ Some core
+  pub so : (world : World) → CoreAgrees core world → HasConnection world vc (IsSo world)
+
+-- The connection's journal has this many cells: those that were judged since the last cut.
+abbrev pub HasInJournal : UpcCard → ℕ → ℕ → ℕ → Type 0
+HasInJournal card path channel cells =
+    OfConnection card path channel (λ world connection. length (kept_cells connection) ≡ cells)
+
+-- The connection's line has these counts: those of all verdicts that were ever given on it.
+abbrev pub HasCounted : UpcCard → ℕ → ℕ → UpcCounts → Type 0
+HasCounted card path channel counts =
+    OfConnection card path channel (λ world connection. counts ≡ counts_of (tally_of (world.judged connection.line)))
+
+-- The card has no connection of this path and channel.
+pub record IsMissing (card : UpcCard) (path channel : ℕ) : Type 0 where
+  pub vc : Vc
+  pub numbers : IsVc path channel vc
+  pub core : CoreView
+  pub had : card_in card ≡ Some core
+  pub none : (world : World) → CoreAgrees core world → connection_in world.connections vc ≡ None
+
+-- Why nothing can be told of the connection: there is no card, or no such path on it, or no such connection.
+abbrev pub IsLookUpFault : UpcCard → ℕ → ℕ → UpcFault → Type 0
+IsLookUpFault card path channel fault =
+    ((card_in card ≡ None) × (fault ≡ card_missing))
+    ⊎ (HasNoPath card path × (fault ≡ path_too_large))
+    ⊎ (IsMissing card path channel × (fault ≡ told_desk NoConnection))

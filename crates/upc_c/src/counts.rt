@@ -1,0 +1,32 @@
+//! The counts of a line, as C gets them.
+
+ghost use Rattle.std.specs.Prelude.{◌≡◌};
+ghost use Rattle.upc_c.specs.CardInspection.{counts_of};
+
+use line_record::Tally;
+
+/// How many cells of each verdict were judged on a line, on earlier connections too.
+#[repr(C)]
+#[derive(Clone, Copy, Debug)]
+pub struct UpcCounts {
+    /// Cells that conformed.
+    pub passed: u64,
+    /// Cells that were tagged.
+    pub tagged: u64,
+    /// Cells that were discarded.
+    pub discarded: u64,
+    /// Cells whose program named no contract.
+    pub refused: u64,
+}
+
+/// The counts as C has them.
+pub(crate) fn counts_of(tally: Tally) -> UpcCounts
+    ensures { result ≡ counts_of tally }
+{
+    UpcCounts {
+        passed: tally.passed,
+        tagged: tally.tagged,
+        discarded: tally.discarded,
+        refused: tally.refused,
+    }
+}

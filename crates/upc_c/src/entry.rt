@@ -1,0 +1,48 @@
+//! The cells of a journal, as C gets them.
+
+ghost use Rattle.std.specs.Prelude.{◌≡◌, ◌≤◌, length};
+ghost use Rattle.upc_c.specs.CardJournal.{AreWritten, told_entry};
+
+use crate::id::{UpcId, numbers_of};
+use crate::meter::number_of;
+use line_record::Entry;
+
+/// A judged cell of a journal.
+#[repr(C)]
+#[derive(Clone, Copy, Debug)]
+pub struct UpcEntry {
+    /// When the cell came, in ticks.
+    pub moment: u64,
+    /// The program that gave the value.
+    pub program: UpcId,
+    /// What the program gave: the number of a contract, from 1, or any other, which names none.
+    pub value: u32,
+    /// Its cell loss priority before it was judged, 0 or 1.
+    pub clp: u32,
+    /// 0 for a cell that passes, 1 for one that was tagged, 2 for one that is discarded, 3 for one that is
+    /// refused.
+    pub verdict: u32,
+}
+
+/// The entry as C has it.
+fn told_entry(entry: &Entry) -> UpcEntry
+    ensures { result ≡ told_entry entry.now }
+{
+    UpcEntry {
+        moment: entry.moment,
+        program: numbers_of(entry.program),
+        value: entry.value,
+        clp: u32::from(entry.clp),
+        verdict: number_of(entry.verdict),
+    }
+}
+
+/// Writes the entries to the front of the room.
+pub(crate) fn write_entries(room: &mut [UpcEntry], entries: &[Entry])
+    requires { length entries.now ≤ length room.old }
+    ensures { AreWritten entries.now room.old room.new }
+{
+    for (place, entry) in entries.iter().enumerate() {
+        room[place] = told_entry(entry);
+    }
+}

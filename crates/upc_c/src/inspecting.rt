@@ -1,0 +1,117 @@
+//! What a card that C holds tells of a connection without a step.
+
+ghost use Rattle.std.specs.Prelude.{◌≡◌, ◌≢◌, ◌<◌, IfNone, IfSome, IfErr, IfOk};
+ghost use Rattle.upc_c.specs.CardHandle.{card_in};
+ghost use Rattle.upc_c.specs.CardInspection.{HasCounted, HasInJournal, IsLookUpFault};
+ghost use Rattle.upc_c.specs.Faults.{no_fault};
+ghost use Rattle.upc_c.specs.inner.ToldLine.{IsMissingIn, IsTold, IsToldOf};
+
+use crate::card::UpcCard;
+use crate::counts::{UpcCounts, counts_of};
+use crate::desk_fault::{card_missing, told_desk};
+use crate::fault::{NO_FAULT, UpcFault, told};
+use crate::setting_up::vc_on;
+use crate::stepping::{put_core, take_core};
+use card_core::{Core, DeskFault};
+use line_record::Tally;
+use std::alloc::Global;
+use upc_cell::Vc;
+
+/// What is told of the line that serves a connection.
+#[derive(Clone, Copy)]
+pub(crate) struct ToldLine {
+    /// How many cells its journal has.
+    pub(crate) cells: usize,
+    /// The verdicts on all cells that were ever judged on it.
+    pub(crate) counts: Tally,
+}
+
+/// The line that serves the connection, where there is one.
+pub(crate) fn told_line(core: &Core, vc: Vc) -> Option<ToldLine>
+    ensures told { IfSome result (IsToldOf core.now vc) }
+    ensures none { IfNone result (IsMissingIn core.now vc) }
+{
+    match core.line_of(vc) {
+        Some(line) => Some(ToldLine {
+            cells: line.entries().len(),
+            counts: line.counts(),
+        }),
+        None => None,
+    }
+}
+
+/// The line of this path and channel.
+fn line_on(alloc: Global, card: &mut UpcCard, path: u16, channel: u16) -> Result<ToldLine, UpcFault>
+    ensures told { IfOk result (IsTold card.old path channel) }
+    ensures fault { IfErr result (IsLookUpFault card.old path channel) }
+    ensures kept { card_in card.new ≡ card_in card.old }
+    ensures numbered { IfErr result (λ fault. 0 < fault.number) }
+{
+    let vc = match vc_on(alloc, card, path, channel) {
+        Ok(vc) => vc,
+        Err(found) => return Err(found),
+    };
+    let Some(core) = take_core(alloc, card) else {
+        return Err(card_missing());
+    };
+    let line = told_line(&core, vc);
+    put_core(card, core);
+    match line {
+        Some(line) => Ok(line),
+        None => Err(told_desk(DeskFault::NoConnection)),
+    }
+}
+
+/// Tells how many cells the journal of the connection on this path and channel has: so many entries a cut or
+/// a release hands out. Returns the fault's number, or 0.
+#[unsafe(no_mangle)]
+pub extern "C" fn upc_card_journal(
+    alloc: Global,
+    card: &mut UpcCard,
+    path: u16,
+    channel: u16,
+    cells: &mut usize,
+    fault: &mut UpcFault,
+) -> u32
+    ensures number { result ≡ fault.new.number }
+    ensures cells { result ≡ 0 → HasInJournal card.old path channel cells.new }
+    ensures fine { result ≡ 0 → fault.new ≡ no_fault }
+    ensures refused { result ≢ 0 → IsLookUpFault card.old path channel fault.new }
+    ensures kept { card_in card.new ≡ card_in card.old }
+    ensures left { result ≢ 0 → cells.new ≡ cells.old }
+{
+    match line_on(alloc, card, path, channel) {
+        Ok(line) => {
+            *cells = line.cells;
+            told(fault, NO_FAULT)
+        }
+        Err(found) => told(fault, found),
+    }
+}
+
+/// Tells the counts of the line that serves the connection on this path and channel. Returns the fault's
+/// number, or 0.
+#[unsafe(no_mangle)]
+pub extern "C" fn upc_card_counts(
+    alloc: Global,
+    card: &mut UpcCard,
+    path: u16,
+    channel: u16,
+    counts: &mut UpcCounts,
+    fault: &mut UpcFault,
+) -> u32
+    ensures number { result ≡ fault.new.number }
+    ensures counts { result ≡ 0 → HasCounted card.old path channel counts.new }
+    ensures fine { result ≡ 0 → fault.new ≡ no_fault }
+    ensures refused { result ≢ 0 → IsLookUpFault card.old path channel fault.new }
+    ensures kept { card_in card.new ≡ card_in card.old }
+    ensures left { result ≢ 0 → counts.new ≡ counts.old }
+{
+    match line_on(alloc, card, path, channel) {
+        Ok(line) => {
+            *counts = counts_of(line.counts);
+            told(fault, NO_FAULT)
+        }
+        Err(found) => told(fault, found),
+    }
+}

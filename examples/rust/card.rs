@@ -1,0 +1,123 @@
+//! A safe wrapper of the library's card, and its use: rustc alone builds it.
+//!
+//!     rustc -L FOLDER -l static=upc examples/rust/card.rs
+
+use std::marker::PhantomData;
+use std::ptr::null_mut;
+
+/// The structs of `include/upc.h`, with the same fields in the same order.
+#[repr(C)]
+#[derive(Clone, Copy, Debug, Default)]
+pub struct Fault { kind: u32, number: u32, place: usize, word: u32, code: u32 }
+
+#[repr(C)]
+pub struct Shape { pub side: u32, pub programs: u64, pub lines: u64, pub ports: u64, pub journal: u64 }
+
+#[repr(C)]
+#[derive(Clone, Copy, Debug, Default)]
+pub struct Id { slot: u16, generation: u32 }
+
+#[repr(C)]
+pub struct Contract { pub kind: u32, pub peak: [u64; 2], pub sustained: [u64; 2] }
+
+#[repr(C)]
+#[derive(Clone, Copy, Debug, Default)]
+pub struct Answer { pub verdict: u32, pub value: u32, pub number: u64, pub moment: u64, pub program: Id, pub line: u16 }
+
+#[repr(C)]
+#[derive(Clone, Copy, Debug, Default)]
+pub struct Entry { pub moment: u64, pub program: Id, pub value: u32, pub clp: u32, pub verdict: u32 }
+
+#[repr(C)]
+#[derive(Clone, Copy, Debug, Default)]
+pub struct Counts { pub passed: u64, pub tagged: u64, pub discarded: u64, pub refused: u64 }
+
+#[repr(C)]
+#[derive(Clone, Copy, Debug, Default)]
+struct Journal { cells: usize, before: Counts, after: Counts }
+
+#[repr(C)]
+struct Held { live: u32, at: *mut () }
+
+extern "C" {
+    fn upc_card_new(shape: &Shape, card: &mut Held, fault: &mut Fault) -> u32;
+    fn upc_card_free(card: &mut Held);
+    fn upc_card_load(card: &mut Held, octets: *const u8, length: usize, id: &mut Id, fault: &mut Fault) -> u32;
+    fn upc_card_setup(card: &mut Held, path: u16, channel: u16, id: &Id, contracts: *const Contract, count: usize, fault: &mut Fault) -> u32;
+    fn upc_card_arrive(card: &mut Held, octets: *mut u8, length: usize, moment: u64, answer: &mut Answer, fault: &mut Fault) -> u32;
+    fn upc_card_journal(card: &mut Held, path: u16, channel: u16, cells: &mut usize, fault: &mut Fault) -> u32;
+    fn upc_card_counts(card: &mut Held, path: u16, channel: u16, counts: &mut Counts, fault: &mut Fault) -> u32;
+    fn upc_card_cut(card: &mut Held, path: u16, channel: u16, room: *mut Entry, length: usize, journal: &mut Journal, fault: &mut Fault) -> u32;
+}
+
+/// A card. It is dropped once, has no copy, and stays with its thread: a raw pointer is neither `Send` nor `Sync`.
+pub struct Card { held: Held, own_thread: PhantomData<*mut ()> }
+
+/// Makes a call that fills a value, or a fault where it returns another number than 0.
+fn ask<T: Default>(call: impl FnOnce(&mut T, &mut Fault) -> u32) -> Result<T, Fault> {
+    let (mut value, mut fault) = (T::default(), Fault::default());
+    if call(&mut value, &mut fault) == 0 { Ok(value) } else { Err(fault) }
+}
+
+/// References are never null, slices are as long as they say, and a `&mut` is lent to nobody else: no call asks for more.
+impl Card {
+    pub fn new(shape: &Shape) -> Result<Card, Fault> {
+        let mut card = Card { held: Held { live: 0, at: null_mut() }, own_thread: PhantomData };
+        ask(|_: &mut (), fault| unsafe { upc_card_new(shape, &mut card.held, fault) })?;
+        Ok(card)
+    }
+
+    pub fn load(&mut self, program: &[u8]) -> Result<Id, Fault> {
+        ask(|id, fault| unsafe { upc_card_load(&mut self.held, program.as_ptr(), program.len(), id, fault) })
+    }
+
+    pub fn set_up(&mut self, path: u16, channel: u16, program: Id, contracts: &[Contract]) -> Result<(), Fault> {
+        let (first, count) = (contracts.as_ptr(), contracts.len());
+        ask(|_: &mut (), fault| unsafe { upc_card_setup(&mut self.held, path, channel, &program, first, count, fault) })
+    }
+
+    pub fn arrive(&mut self, cell: &mut [u8; 52], moment: u64) -> Result<Answer, Fault> {
+        ask(|answer, fault| unsafe { upc_card_arrive(&mut self.held, cell.as_mut_ptr(), cell.len(), moment, answer, fault) })
+    }
+
+    pub fn counts(&mut self, path: u16, channel: u16) -> Result<Counts, Fault> {
+        ask(|counts, fault| unsafe { upc_card_counts(&mut self.held, path, channel, counts, fault) })
+    }
+
+    /// Empties the connection's journal, and returns its cells.
+    pub fn cut(&mut self, path: u16, channel: u16) -> Result<Vec<Entry>, Fault> {
+        let cells = ask(|cells, fault| unsafe { upc_card_journal(&mut self.held, path, channel, cells, fault) })?;
+        let mut room = vec![Entry::default(); cells];
+        ask(|it, fault| unsafe { upc_card_cut(&mut self.held, path, channel, room.as_mut_ptr(), cells, it, fault) })
+            .map(|_: Journal| room)
+    }
+}
+
+impl Drop for Card {
+    fn drop(&mut self) {
+        unsafe { upc_card_free(&mut self.held) }
+    }
+}
+
+fn police() -> Result<(), Fault> {
+    let mut card = Card::new(&Shape { side: 0, programs: 1, lines: 1, ports: 1, journal: 16 })?;
+    let program = card.load(&[0, 6, 0, 0, 0, 0, 0, 1])?;
+    card.set_up(1, 100, program, &[Contract { kind: 4, peak: [5, 0], sustained: [20, 20] }])?;
+    for moment in [0, 5, 10, 12, 20] {
+        let mut cell = [0; 52];
+        cell[..4].copy_from_slice(&[0x00, 0x10, 0x06, 0x40]);
+        println!("{} {}", card.arrive(&mut cell, moment)?.verdict, cell[3] & 1);
+    }
+    println!("{:?}", card.counts(1, 100)?);
+    for entry in card.cut(1, 100)? {
+        println!("{} {} {}", entry.moment, entry.value, entry.verdict);
+    }
+    println!("{} {}", card.cut(1, 100)?.len(), card.cut(1, 101).unwrap_err().number);
+    Ok(())
+}
+
+fn main() {
+    if let Err(fault) = police() {
+        println!("{fault:?}");
+    }
+}
