@@ -7,47 +7,48 @@ use Rattle.std.proofs.lemmas.List.Elements.{All-head, All-tail}
 use Rattle.std.proofs.lemmas.Nat.{mod_below}
 use Rattle.std.proofs.lemmas.Option.{slice_get-map, slice_get_read}
 use Rattle.text_io.specs.Words.{words_of}
+use Rattle.upc_run.specs.CommonLine.{IsCommonLine}
+use Rattle.upc_run.proofs.Public.{common-command, common-words}
 use Rattle.upc_cell.specs.Connection.{vc_of}
 use Rattle.upc_cell.specs.declared.side.Side.{Side}
 use Rattle.upc_ports.specs.declared.cell_line.CellLine.{CellLine}
 use Rattle.upc_ports.specs.declared.cell_line.CellLine.TheVariants.{Comes, IsFaulty}
 use Rattle.upc_ports.specs.declared.dealing.Answerer.{Answerer}
 use Rattle.upc_ports.specs.declared.dealing.Answerer.TheVariants.{Port}
-use Rattle.upc_ports.specs.declared.dealing.DealtCell.{DealtCell}
-use Rattle.upc_ports.specs.inner.Dealing.{IsOneLine, text_of, AreLinesOf, is_cell_line, from_first_cell, port_of, unanswered, Dealt, DealsAll, DealsCell, DealsCellLine, DealsDeskLine, DealsFound, DealsLine}
+use Rattle.upc_ports.specs.inner.Dealing.{IsOneLine, text_of, AreLinesOf, is_cell_line, from_first_cell, port_of, Dealt, DealsAll, DealsCell, DealsCellLine, DealsDeskLine, DealsFound, DealsLine}
 
 -- A cell was put after the others of the port of its connection.
-pub cell_dealt : (side : Side) (moment : ℕ) (cell : List ℕ) (order : List Answerer) (desk : List (List ℕ)) (V : Type 0) (v : V → List DealtCell)
+pub cell_dealt : (side : Side) (cell line : List ℕ) (order : List Answerer) (desk : List (List ℕ)) (V : Type 0) (v : V → List (List ℕ))
     (all : List V) (ports number : ℕ) (own next : V) → ports ≡ length all → 0 < ports → number ≡ port_of (vc_of side cell) ports
-    → own ≡ get_or all number own → v next ≡ v own ++ unanswered moment cell ∷ []
-    → DealsCell side moment cell (record { order = order; desk = desk; arrivals = map v all })
+    → own ≡ get_or all number own → v next ≡ v own ++ line ∷ []
+    → DealsCell side cell line (record { order = order; desk = desk; arrivals = map v all })
     (record { order = order ++ Port number (length (v own)) ∷ []; desk = desk; arrivals = map v (slice_set all number next) })
-cell_dealt side moment cell order desk V v all ports number own next sized some is read grown =
+cell_dealt side cell line order desk V v all ports number own next sized some is read grown =
     let below : number < ports = subst (λ n. n < ports) (sym is) (mod_below _ ports some) in
     let same : number ≡ port_of (vc_of side cell) (length (map v all)) =
     is ∙ ap (λ n. port_of (vc_of side cell) n) (sized ∙ sym (length-map all v)) in
     let there : slice_get (map v all) number ≡ Some (v own) =
     slice_get-map v all number ∙ ap (option_map v) (slice_get_read all ports number own sized below read) in
-    let D : ℕ → List (List DealtCell) → Dealt =
+    let D : ℕ → List (List (List ℕ)) → Dealt =
     λ place xs. record { order = order ++ Port place (length (v own)) ∷ []; desk = desk; arrivals = xs } in
-    let put : map v (slice_set all number next) ≡ slice_set (map v all) number (v own ++ unanswered moment cell ∷ []) =
+    let put : map v (slice_set all number next) ≡ slice_set (map v all) number (v own ++ line ∷ []) =
     map-set v all number next ∙ ap (slice_set (map v all) number) grown in
     record {
       own = v own;
       there = subst (λ n. slice_get (map v all) n ≡ Some (v own)) same there;
-      dealt = ap (D number) put ∙ ap (λ n. D n (slice_set (map v all) n (v own ++ unanswered moment cell ∷ []))) same;
+      dealt = ap (D number) put ∙ ap (λ n. D n (slice_set (map v all) n (v own ++ line ∷ []))) same;
     }
 
 -- A cell line leaves as many ports as there were.
-found_keeps : (side : Side) (found : CellLine) (before after : Dealt) → DealsFound side found before after
+found_keeps : (side : Side) (line : List ℕ) (found : CellLine) (before after : Dealt) → DealsFound side line found before after
     → length after.arrivals ≡ length before.arrivals
-found_keeps side (Comes moment cell) before after deals =
+found_keeps side line (Comes moment cell) before after deals =
     ap (λ (d : Dealt). length d.arrivals) deals.dealt ∙ length-set before.arrivals _ _
-found_keeps side (IsFaulty fault) before after deals = ap (λ (d : Dealt). length d.arrivals) deals
+found_keeps side line (IsFaulty fault) before after deals = ap (λ (d : Dealt). length d.arrivals) deals
 
 pub cell_line_keeps : (side : Side) (line : List ℕ) (before after : Dealt) → DealsCellLine side line before after
     → length after.arrivals ≡ length before.arrivals
-cell_line_keeps side line before after deals = found_keeps side deals.found before after deals.dealt
+cell_line_keeps side line before after deals = found_keeps side line deals.found before after deals.dealt
 
 -- A line is dealt as its first word asks.
 pub is_cell_lines : (side : Side) (line : List ℕ) (before after : Dealt) → is_cell_line (words_of line) ≡ true
@@ -59,6 +60,25 @@ pub is_desks : (side : Side) (line : List ℕ) (before after : Dealt) → is_cel
     → DealsDeskLine line before after → DealsLine side line before after
 is_desks side line before after is deals =
     subst (λ b. MatchBool b (DealsCellLine side line before after) (DealsDeskLine line before after)) (sym is) deals
+
+-- Any line leaves as many ports as there were.
+keeps_by : (is : Bool) (side : Side) (line : List ℕ) (before after : Dealt)
+    → MatchBool is (DealsCellLine side line before after) (DealsDeskLine line before after) → length after.arrivals ≡ length before.arrivals
+keeps_by true side line before after deals = cell_line_keeps side line before after deals
+keeps_by false side line before after deals = ap (λ (d : Dealt). length d.arrivals) deals
+
+pub line_keeps : (side : Side) (line : List ℕ) (before after : Dealt) → DealsLine side line before after
+    → length after.arrivals ≡ length before.arrivals
+line_keeps side line before after deals = keeps_by (is_cell_line (words_of line)) side line before after deals
+
+-- A line of the common form is a cell line, which brings its cell.
+pub common_dealt : (side : Side) (line : List ℕ) (moment : ℕ) (cell : List ℕ) (before after : Dealt) → IsCommonLine line moment cell
+    → DealsCell side cell line before after → DealsLine side line before after
+common_dealt side line moment cell before after is deals =
+    let words = common-words line moment cell is in
+    let found = common-command side line moment cell is in
+    is_cell_lines side line before after (ap is_cell_line words.2)
+    (record { found = Comes moment cell; brings = (found.0, found.1, found.2); dealt = deals })
 
 -- The octets before the first line feed of a text have none.
 abbrev pub NoneBefore : List ℕ → List ℕ → Type 0

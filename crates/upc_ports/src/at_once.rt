@@ -1,27 +1,52 @@
 //! The ports and the desk of a card at work at the same time, a thread for each port.
 
 use crate::busy_ports::BusyPort;
-use crate::dealing::DealtCell;
+use crate::cell_line::{CellLine, read_cell_line};
 use crate::script_desk::ScriptDesk;
-use crate::told::told_of;
+use crate::told::{ToldCell, told_cell};
 use port_card::{Card, Gate, Ledgers, PortSeat};
 use std::alloc::{AllocError, Global};
 use std::sync::Wait;
 use std::thread::{self, Threads};
+use upc_cell::Side;
 
-/// Lets the cells of a port arrive, one after another.
+/// Lets the cell of a line arrive, and returns what is kept of it and its answer; none of a line that brings no cell, as
+/// no port is dealt.
+fn arrive_from<S: Ledgers, G: Gate, R: Wait>(
+    rt: &R,
+    alloc: Global,
+    card: &Card<S>,
+    seat: &mut PortSeat<S>,
+    side: Side,
+    line: &[u8],
+    gate: &G,
+) -> Result<Option<ToldCell>, AllocError> {
+    match read_cell_line(alloc, side, line)? {
+        CellLine::Comes(moment, cell) => {
+            let answer = card.arrive(rt, seat, &cell, moment, gate);
+            Ok(Some(told_cell(&cell, &answer)))
+        }
+        CellLine::IsFaulty(_) => Ok(None),
+    }
+}
+
+/// Lets the cells of a port's lines arrive, one after another.
 fn at_port<S: Ledgers, G: Gate, R: Wait>(
     rt: &R,
+    alloc: Global,
     card: &Card<S>,
     mut seat: PortSeat<S>,
-    mut arrivals: Vec<DealtCell>,
+    side: Side,
+    lines: Vec<&[u8]>,
     gate: &G,
-) -> BusyPort<S> {
-    for arrival in arrivals.iter_mut() {
-        let answer = card.arrive(rt, &mut seat, &arrival.cell, arrival.moment, gate);
-        arrival.told = told_of(&answer);
+) -> Result<BusyPort<S>, AllocError> {
+    let mut arrivals = Vec::with_capacity(alloc, lines.len())?;
+    for line in &lines {
+        if let Some(told) = arrive_from(rt, alloc, card, &mut seat, side, line, gate)? {
+            arrivals.push(told)?;
+        }
     }
-    BusyPort { seat, arrivals }
+    Ok(BusyPort { seat, arrivals })
 }
 
 /// Answers the desk's lines, one after another; each has a text of its own.
@@ -40,7 +65,7 @@ fn at_desk<S: Ledgers, R: Wait>(
     Ok(told)
 }
 
-/// Runs each port on a thread of its own, with the cells that come to it, and the desk on this one. Returns the ports
+/// Runs each port on a thread of its own, with the lines of its cells, and the desk on this one. Returns the ports
 /// with what their cells were answered, and what the desk's lines were.
 ///
 /// # Errors
@@ -53,15 +78,16 @@ pub fn run_at_once<S: Ledgers + Send + Sync, G: Gate + Sync, R: Threads + Wait +
     card: &Card<S>,
     gate: &G,
     seats: Vec<PortSeat<S>>,
-    arrivals: Vec<Vec<DealtCell>>,
+    arrivals: Vec<Vec<&[u8]>>,
     desk: &mut ScriptDesk<S>,
     lines: &[&[u8]],
 ) -> Result<(Vec<BusyPort<S>>, Vec<Vec<u8>>), AllocError> {
+    let side = desk.side;
     thread::scope(thread::scope_env(), rt, |scope| {
         let mut running = Vec::new(alloc);
         let mut whole = true;
         for (seat, own) in seats.into_iter().zip(arrivals) {
-            match scope.spawn(move || at_port(rt, card, seat, own, gate)) {
+            match scope.spawn(move || at_port(rt, alloc, card, seat, side, own, gate)) {
                 Ok(handle) => {
                     if running.push(handle).is_err() {
                         whole = false;
@@ -77,8 +103,13 @@ pub fn run_at_once<S: Ledgers + Send + Sync, G: Gate + Sync, R: Threads + Wait +
         };
         let mut ended = Vec::new(alloc);
         for handle in running {
-            if ended.push(handle.join(rt)).is_err() {
-                whole = false;
+            match handle.join(rt) {
+                Ok(port) => {
+                    if ended.push(port).is_err() {
+                        whole = false;
+                    }
+                }
+                Err(_) => whole = false,
             }
         }
         match told {

@@ -2,15 +2,15 @@
 
 ghost use Rattle.std.specs.Prelude.{◌≡◌, IfOk, map};
 
-use crate::dealing::DealtCell;
+use crate::told::ToldCell;
 use port_card::{Ledgers, PortSeat};
 use std::alloc::{AllocError, Global};
 
-/// The seat of a port with its cells, in the script's order.
+/// The seat of a port with its cells that were answered, in the script's order.
 #[derive(Drop)]
 pub struct BusyPort<S: Ledgers> {
     pub seat: PortSeat<S>,
-    pub arrivals: Vec<DealtCell>,
+    pub arrivals: Vec<ToldCell>,
 }
 
 /// The seats, without their cells.

@@ -8,7 +8,7 @@ ghost use Rattle.upc_ports.specs.inner.InOrder.{fault_text};
 
 use std::alloc::{AllocError, Global};
 use upc_cell::{Cell, Side};
-use upc_run::{Command, read_command};
+use upc_run::{Command, read_cell, read_command};
 use upc_words::{CellWord, add_bad_hex, add_bad_line, add_wrong_length, cell_of_word};
 
 /// Why a cell line brings no cell.
@@ -31,8 +31,9 @@ pub enum CellLine {
     IsFaulty(CellLineFault),
 }
 
-/// Reads a line whose first word is that of a cell line.
-pub fn read_cell_line(alloc: Global, side: Side, line: &[u8]) -> Result<CellLine, AllocError>
+/// Reads a cell line by its words.
+#[inline(never)]
+pub fn read_by_words(alloc: Global, side: Side, line: &[u8]) -> Result<CellLine, AllocError>
     ensures { IfOk result (IsCellLine (command_of side (words_of line.now))) }
 {
     let Some(Command::Cell(moment, word)) = read_command(side, line) else {
@@ -42,6 +43,17 @@ pub fn read_cell_line(alloc: Global, side: Side, line: &[u8]) -> Result<CellLine
         CellWord::OfCell(cell) => Ok(CellLine::Comes(moment, cell)),
         CellWord::OfOthers(count) => Ok(CellLine::IsFaulty(CellLineFault::WrongLength(count))),
         CellWord::NoDigits => Ok(CellLine::IsFaulty(CellLineFault::BadHex)),
+    }
+}
+
+/// Reads a line whose first word is that of a cell line. The common form is read at once.
+#[inline(always)]
+pub fn read_cell_line(alloc: Global, side: Side, line: &[u8]) -> Result<CellLine, AllocError>
+    ensures { IfOk result (IsCellLine (command_of side (words_of line.now))) }
+{
+    match read_cell(line) {
+        Some(arrival) => Ok(CellLine::Comes(arrival.moment, arrival.cell)),
+        None => read_by_words(alloc, side, line),
     }
 }
 

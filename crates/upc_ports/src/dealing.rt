@@ -1,28 +1,16 @@
 //! The lines of a script from its first cell line on, dealt to the ports and the desk that answer them.
 
 ghost use Rattle.std.specs.Prelude.{◌≡◌, ◌<◌, ℕ, List, IfOk, OnOk, length, map};
-ghost use Rattle.upc_ports.specs.inner.Dealing.{port_of, dealt, none_dealt, AreLinesOf, DealsAll, DealsCell, DealsCellLine, DealsDeskLine};
+ghost use Rattle.upc_ports.specs.inner.Dealing.{port_of, dealt, none_dealt, AreLinesOf, DealsAll, DealsCell, DealsCellLine, DealsDeskLine, DealsLine};
 
-use crate::cell_line::{CellLine, CellLineFault, read_cell_line};
+use crate::cell_line::{CellLine, CellLineFault, read_by_words};
 use crate::script_lines::{first_line, is_cell_line};
-use card_core::{Judgement, Unjudged};
-use line_record::LineFault;
 use std::alloc::{AllocError, Global};
 use upc_cell::{Cell, Side, Vc};
 use upc_run::read_cell;
 
 /// How many channels a path has.
 const CHANNELS: usize = 65536;
-
-/// A cell that enters a port, and the answer to it: an allocation failure, until there is one.
-#[derive(Clone, Copy)]
-pub struct DealtCell {
-    /// In ticks.
-    pub moment: u64,
-    pub cell: Cell,
-    /// All of the answer but the cell as it leaves, which would take the room of a cell once more.
-    pub told: Result<Judgement, Unjudged>,
-}
 
 /// Who answers a line, and as which of his lines, from 0.
 #[derive(Clone, Copy)]
@@ -42,8 +30,9 @@ pub struct Deal<'a> {
     pub order: Vec<Answerer>,
     /// The lines of the desk, in the script's order.
     pub desk: Vec<&'a [u8]>,
-    /// The cells of each port, by its number, in the script's order.
-    pub arrivals: Vec<Vec<DealtCell>>,
+    /// The lines of each port's cells, by its number, in the script's order. The port reads them again: a line takes
+    /// less memory than its cell.
+    pub arrivals: Vec<Vec<&'a [u8]>>,
 }
 
 /// The number of the port that a cell of this connection comes to, of so many.
@@ -56,7 +45,7 @@ fn port_of(vc: Vc, ports: usize) -> usize
 
 impl<'a> Deal<'a> {
     ghost use Rattle.std.specs.Prelude.{◌≡◌, ◌<◌, IfOk, OnOk, length};
-    ghost use Rattle.upc_ports.specs.inner.Dealing.{dealt, none_dealt, DealsCell, DealsCellLine, DealsDeskLine};
+    ghost use Rattle.upc_ports.specs.inner.Dealing.{dealt, none_dealt, DealsCell, DealsCellLine, DealsDeskLine, DealsLine};
 
     /// No line yet, for this number of ports.
     fn new(alloc: Global, ports: usize) -> Result<Deal<'a>, AllocError>
@@ -73,19 +62,16 @@ impl<'a> Deal<'a> {
         })
     }
 
-    /// Deals a cell to its port.
-    fn deal_cell(&mut self, side: Side, moment: u64, cell: Cell) -> Result<(), AllocError>
+    /// Deals the line of this cell to the cell's port.
+    #[inline(always)]
+    fn deal_cell(&mut self, side: Side, cell: &Cell, line: &'a [u8]) -> Result<(), AllocError>
         requires { 0 < length self.old.arrivals.items }
-        ensures { OnOk result (DealsCell side moment cell (dealt self.old) (dealt self.new)) }
+        ensures { OnOk result (DealsCell side cell.now line.now (dealt self.old) (dealt self.new)) }
     {
         let number = port_of(cell.vc_at(side), self.arrivals.len());
         let own = &mut self.arrivals[number];
         let place = own.len();
-        own.push(DealtCell {
-            moment,
-            cell,
-            told: Err(Unjudged::Refused(LineFault::NoMemory)),
-        })?;
+        own.push(line)?;
         self.order.push(Answerer::Port(number, place))?;
         Ok(())
     }
@@ -100,20 +86,38 @@ impl<'a> Deal<'a> {
         Ok(())
     }
 
-    /// Deals a line whose first word is that of a cell line. The common form is read at once.
-    fn deal_cell_line(&mut self, alloc: Global, side: Side, line: &[u8]) -> Result<(), AllocError>
+    /// Deals a line whose first word is that of a cell line, by its words.
+    #[inline(never)]
+    fn deal_cell_line(
+        &mut self,
+        alloc: Global,
+        side: Side,
+        line: &'a [u8],
+    ) -> Result<(), AllocError>
         requires { 0 < length self.old.arrivals.items }
         ensures { OnOk result (DealsCellLine side line.now (dealt self.old) (dealt self.new)) }
     {
-        if let Some(arrival) = read_cell(line) {
-            return self.deal_cell(side, arrival.moment, arrival.cell);
-        }
-        match read_cell_line(alloc, side, line)? {
-            CellLine::Comes(moment, cell) => self.deal_cell(side, moment, cell),
+        match read_by_words(alloc, side, line)? {
+            CellLine::Comes(_, cell) => self.deal_cell(side, &cell, line),
             CellLine::IsFaulty(fault) => {
                 self.order.push(Answerer::Fault(fault))?;
                 Ok(())
             }
+        }
+    }
+
+    /// Deals a line. That of a cell in the common form is read at once, without a look for its words.
+    #[inline(always)]
+    fn deal_line(&mut self, alloc: Global, side: Side, line: &'a [u8]) -> Result<(), AllocError>
+        requires { 0 < length self.old.arrivals.items }
+        ensures { OnOk result (DealsLine side line.now (dealt self.old) (dealt self.new)) }
+    {
+        if let Some(arrival) = read_cell(line) {
+            self.deal_cell(side, &arrival.cell, line)
+        } else if is_cell_line(line) {
+            self.deal_cell_line(alloc, side, line)
+        } else {
+            self.deal_desk_line(line)
         }
     }
 }
@@ -133,11 +137,7 @@ pub fn deal_lines(
     let mut deal = Deal::new(alloc, ports)?;
     let mut rest = lines;
     while let Some((line, later)) = first_line(rest) {
-        if is_cell_line(line) {
-            deal.deal_cell_line(alloc, side, line)?;
-        } else {
-            deal.deal_desk_line(line)?;
-        }
+        deal.deal_line(alloc, side, line)?;
         rest = later;
     }
     Ok(deal)

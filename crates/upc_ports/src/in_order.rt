@@ -5,13 +5,14 @@ ghost use Rattle.std.specs.Option.{option_copied};
 ghost use Rattle.text_io.specs.Devices.{Adds};
 ghost use Rattle.upc_ports.specs.inner.InOrder.{AllTell, Tells, cell_at, given_text};
 ghost use Rattle.upc_run.specs.AddsSome.{AddsSome};
-ghost use Rattle.card_core.specs.Sections.{answer_to};
 ghost use Rattle.upc_run.specs.Replies.{answer_text};
 ghost use Rattle.upc_cell.specs.Connection.{vc_of};
+ghost use Rattle.upc_ports.specs.inner.Told.{answer_kept, shown_cell};
 
 use crate::busy_ports::BusyPort;
 use crate::cell_line::add_cell_line_fault;
-use crate::dealing::{Answerer, DealtCell};
+use crate::dealing::Answerer;
+use crate::told::{ToldCell, judgement_of, shown_cell};
 use port_card::Ledgers;
 use std::alloc::AllocError;
 use upc_cell::Side;
@@ -22,18 +23,19 @@ use upc_run::{Names, add_judged, add_unjudged};
 fn add_arrival(
     side: Side,
     names: &Names,
-    arrival: &DealtCell,
+    arrival: &ToldCell,
     answers: &mut Vec<u8>,
 ) -> Result<(), AllocError>
     ensures { OnOk result (AddsSome
-        (answer_text names.now (vc_of side arrival.now.cell) (answer_to arrival.now.cell arrival.now.told))
+        (answer_text names.now (vc_of side (shown_cell arrival.now.header)) (answer_kept (shown_cell arrival.now.header) arrival.now.told))
         answers.old.items answers.new.items) }
 {
-    let vc = arrival.cell.vc_at(side);
+    let cell = shown_cell(&arrival.header);
+    let vc = cell.vc_at(side);
     match &arrival.told {
-        Ok(judged) => {
-            let number = names.number_of(judged.program) as u64;
-            add_judged(answers, number, vc, &arrival.cell, judged)
+        Ok(ruling) => {
+            let number = names.number_of(ruling.program) as u64;
+            add_judged(answers, number, vc, &cell, &judgement_of(ruling))
         }
         Err(reason) => add_unjudged(answers, vc, *reason),
     }
@@ -41,7 +43,7 @@ fn add_arrival(
 
 /// The cell at this place among those of the port of this number, if there is one.
 #[tactic(auto, using(crate::proofs::InOrderLemmas::get_mapped))]
-fn cell_in<S: Ledgers>(ports: &[BusyPort<S>], number: usize, place: usize) -> Option<&DealtCell>
+fn cell_in<S: Ledgers>(ports: &[BusyPort<S>], number: usize, place: usize) -> Option<&ToldCell>
     ensures { option_copied result
         ≡ cell_at (slice_get (map (λ port. port.arrivals.items) ports.now) number) place }
 {

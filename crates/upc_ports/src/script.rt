@@ -1,14 +1,26 @@
 //! The script of `upc ports`, which is read whole before anything of it is run.
 
 ghost use Rattle.std.specs.Prelude.{◌≡◌};
+ghost use Rattle.text_io.specs.Words.{is_silent, words_of};
 ghost use Rattle.upc_ports.specs.PortsText.{unread};
 
 use card_core::Shape;
 use std::alloc::{AllocError, Global};
-use text_io::{Done, LineWords, Machine, Turn, line_words};
+use text_io::{Done, Machine, Turn};
 use upc_cell::Side;
-use upc_run::{add_no_card, add_shape_fault, read_card};
+use upc_run::{add_no_card, add_shape_fault, after_command, asking_word, read_card};
 use upc_words::add_too_long;
+
+/// Whether the line has no words or is a remark. That of a cell mostly needs no look for its words.
+#[inline(always)]
+fn is_silent(line: &[u8]) -> bool
+    ensures { result ≡ is_silent (words_of line.now) }
+{
+    match after_command(line) {
+        Some(_) => false,
+        None => asking_word(line).is_none(),
+    }
+}
 
 /// What was read of a script.
 #[derive(Drop)]
@@ -53,9 +65,8 @@ impl Machine for Script {
     ghost rules = { reading_rules };
 
     fn answer(&mut self, line: &[u8], answers: &mut Vec<u8>) -> Result<Turn, AllocError> {
-        match line_words(line) {
-            LineWords::Silent => return Ok(Turn::GoesOn),
-            LineWords::One(_) | LineWords::Several => {}
+        if is_silent(line) {
+            return Ok(Turn::GoesOn);
         }
         if self.is_open {
             self.lines.extend_from_slice(line)?;

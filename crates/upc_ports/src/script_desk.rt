@@ -8,7 +8,7 @@ use std::sync::Wait;
 use upc_cell::{Side, Vc};
 use upc_run::{
     Command, Names, Wanted, add_cut, add_desk_fault, add_gcra_fault, add_loaded,
-    add_no_such_program, add_released, add_reloaded, add_retired, add_set, contracts_of,
+    add_no_such_program, add_released, add_reloaded, add_retired, add_set, contracts, contracts_of,
     read_command,
 };
 use upc_words::{add_bad_hex, add_bad_line, octets_of_word, read_program};
@@ -152,9 +152,10 @@ impl<S: Ledgers> ScriptDesk<S> {
         match &command {
             Command::Load(digits) => self.load(rt, card, digits, answers),
             Command::Retire(number) => self.retire(rt, card, *number, answers),
-            Command::Setup(vc, number, wanted) => {
-                self.setup(rt, card, *vc, *number, wanted, answers)
-            }
+            Command::Setup(vc, number, words) => match contracts(words) {
+                Some(wanted) => self.setup(rt, card, *vc, *number, &wanted, answers),
+                None => add_bad_line(answers),
+            },
             Command::Reload(vc, number) => self.reload(rt, card, *vc, *number, answers),
             Command::Release(vc) => self.release(rt, card, *vc, answers),
             Command::Cut(vc) => self.cut(rt, card, *vc, answers),

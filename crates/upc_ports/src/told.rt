@@ -1,31 +1,46 @@
-//! What is kept of the answer to a cell.
+//! What is kept of a cell that was answered: as much as the answer's line tells.
 
 ghost use Rattle.std.specs.Prelude.{◌≡◌};
-ghost use Rattle.upc_ports.specs.inner.Told.{told_of};
+ghost use Rattle.upc_ports.specs.inner.Told.{judgement_of, ruled, shown_cell, told_cell};
 
 use card_core::{Answer, Judgement, Unjudged};
+use gen_arena::Id;
+use leaky::Verdict;
 use line_record::LineFault;
+use upc_cell::{CELL_OCTETS, Cell};
 
-/// All of an answer but the cell as it leaves, which the verdict and the cell that came tell.
-pub fn told_of(answer: &Answer) -> Result<Judgement, Unjudged>
-    ensures { result ≡ told_of answer.now }
+/// What the line of a judged cell tells, beside its header.
+#[derive(Clone, Copy)]
+pub struct Ruling {
+    /// The program that gave the number of the contract.
+    pub program: Id,
+    /// The number that it gave.
+    pub value: u32,
+    pub verdict: Verdict,
+}
+
+/// A cell that was answered.
+#[derive(Clone, Copy)]
+pub struct ToldCell {
+    /// Octets 0 to 3 of the cell that came.
+    pub header: [u8; 4],
+    pub told: Result<Ruling, Unjudged>,
+}
+
+/// What the answer tells: the ruling on a judged cell, or why it isn't judged.
+fn ruled(answer: &Answer) -> Result<Ruling, Unjudged>
+    ensures { result ≡ ruled answer.now }
 {
     Err(match *answer {
         Answer::Judged {
-            line,
-            number,
-            moment,
             value,
             program,
             verdict,
-            cell: _,
+            ..
         } => {
-            return Ok(Judgement {
-                number,
-                moment,
+            return Ok(Ruling {
                 program,
                 value,
-                line,
                 verdict,
             });
         }
@@ -37,4 +52,41 @@ pub fn told_of(answer: &Answer) -> Result<Judgement, Unjudged>
         Answer::JournalFull => Unjudged::Refused(LineFault::Full),
         Answer::NoMemory => Unjudged::Refused(LineFault::NoMemory),
     })
+}
+
+/// What is kept of this cell and its answer.
+pub fn told_cell(cell: &Cell, answer: &Answer) -> ToldCell
+    ensures { result ≡ told_cell cell.now answer.now }
+{
+    let octets = cell.bytes();
+    ToldCell {
+        header: [octets[0], octets[1], octets[2], octets[3]],
+        told: ruled(answer),
+    }
+}
+
+/// A cell of this header, whose payload is zeros.
+pub fn shown_cell(header: &[u8; 4]) -> Cell
+    ensures { result ≡ shown_cell header.now }
+{
+    let mut octets = [0; CELL_OCTETS];
+    octets[0] = header[0];
+    octets[1] = header[1];
+    octets[2] = header[2];
+    octets[3] = header[3];
+    Cell::from(octets)
+}
+
+/// The judgement that tells as much, and nothing else.
+pub fn judgement_of(ruling: &Ruling) -> Judgement
+    ensures { result ≡ judgement_of ruling.now }
+{
+    Judgement {
+        number: 0,
+        moment: 0,
+        program: ruling.program,
+        value: ruling.value,
+        line: 0,
+        verdict: ruling.verdict,
+    }
 }

@@ -24,7 +24,7 @@ use Rattle.upc_run.specs.Replies.{program_named, reply_text}
 use Rattle.upc_run.specs.RunText.{Asks, Card, CommandLine, LoadsOctets, Obeys, Refuses, Takes, TakesNamed, id_loaded}
 use Rattle.upc_run.specs.ScriptCommands.{Command, command_of, load, setup}
 use Rattle.upc_run.specs.declared.script_words.Wanted.{Wanted}
-use Rattle.upc_run.specs.inner.Policing.{Held, Moves, MovesBy, ShowsCard}
+use Rattle.upc_run.specs.inner.Policing.{Held, Moves, MovesBy, ObeysSeen, ShowsCard}
 
 -- A command that is refused before a step is taken.
 pub moves-refused : (Goes : Card → List ℕ → Card → Type 0) (held : Held) (fault old new : List ℕ) → new ≡ old ++ fault
@@ -146,4 +146,18 @@ moves-line side words command held held' old new is spelled moves = (
       let here : command_of before.world.shape.side words ≡ Some command =
       ap (λ s. command_of s words) (sym (sym is ∙ ap (λ s. s.side) shows.agrees.shape)) ∙ spelled in
       (on.0, on.1, subst (λ (found : Option Command). MatchOption found (Refuses bad_line before moves.0 on.0) (λ read. Obeys before read moves.0 on.0)) (sym here) on.2),
+)
+
+-- The same of a command whose contracts are still words.
+pub moves-seen : (side : Side) (words : List (List ℕ)) (seen : Option Command) (held held' : Held) (old new : List ℕ) → held.core.shape.side ≡ side
+    → seen ≡ command_of side words → Moves (λ before. ObeysSeen before seen) held held' old new
+    → Moves (λ before. CommandLine before words) held held' old new
+moves-seen side words seen held held' old new is spelled moves = (
+  moves.0,
+  moves.1,
+  λ before led shows.
+      let on = moves.2 before led shows in
+      let here : seen ≡ command_of before.world.shape.side words =
+      spelled ∙ ap (λ s. command_of s words) (sym is ∙ ap (λ s. s.side) shows.agrees.shape) in
+      (on.0, on.1, subst (λ (found : Option Command). MatchOption found (Refuses bad_line before moves.0 on.0) (λ read. Obeys before read moves.0 on.0)) here on.2),
 )

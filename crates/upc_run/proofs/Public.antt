@@ -1,13 +1,14 @@
 -- What the crates above may use in their proofs.
-use Rattle.std.proofs.Common.{◌≡◌, ◌∙◌, ℕ, List, Option, Some, ap}
+use Rattle.std.proofs.Common.{◌≡◌, ◌∙◌, ℕ, false, List, [], ◌∷◌, ◌++◌, Option, Some, ap, codes}
 use Rattle.std.specs.Option.{option_map}
-use Rattle.text_io.specs.Words.{words_of}
+use Rattle.text_io.specs.Words.{is_silent, words_of}
 use Rattle.upc_words.specs.CellWord.{IsCellWord}
 use Rattle.upc_words.specs.declared.hexadecimal.CellWord.TheVariants.{OfCell}
 use Rattle.upc_cell.specs.declared.side.Side.{Side}
 use Rattle.upc_run.specs.CommonLine.{IsCommonLine}
 use Rattle.upc_run.specs.ScriptCommands.{cell, command_of}
 use Rattle.upc_run.proofs.SpelledCellLemmas.{cell-line}
+use Rattle.upc_run.proofs.SpelledCellLemmas as spelled
 use Rattle.text_io.specs.declared.ending.Done.{Done}
 use Rattle.upc_run.specs.RunText.{IsRunText}
 use Rattle.upc_run.proofs.one_script.OneScript as run
@@ -20,6 +21,17 @@ some-run_text = run.some-run_text
 pub one-run_text : (octets one other : List ℕ) (ends other_ends : Done) → IsRunText octets one ends → IsRunText octets other other_ends
     → (one ≡ other) × (ends ≡ other_ends)
 one-run_text = run.one-run_text
+
+-- A line that begins as that of a cell does asks for something.
+pub command-asks : (line rest : List ℕ) → line ≡ codes "cell " ++ rest → is_silent (words_of line) ≡ false
+command-asks = spelled.command-asks
+
+-- A line of the common form has three words, of which the first is that of a cell.
+pub common-words : (line : List ℕ) (moment : ℕ) (here : List ℕ) → IsCommonLine line moment here
+    → (number : List ℕ) × (word : List ℕ) × (words_of line ≡ codes "cell" ∷ number ∷ word ∷ [])
+common-words line moment here is =
+    let spells = cell-line line is.0 is.1 moment here is.2 is.3 is.4 in
+    (spells.0, spells.1, spells.2)
 
 -- A line of the common form is the command that brings its cell, on a card of either side.
 pub common-command : (side : Side) (line : List ℕ) (moment : ℕ) (here : List ℕ) → IsCommonLine line moment here

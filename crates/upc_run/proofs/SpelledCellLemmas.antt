@@ -56,6 +56,11 @@ command-visible (suc (suc zero)) below = refl
 command-visible (suc (suc (suc zero))) below = refl
 command-visible (suc (suc (suc (suc k)))) below = absurd (omega arith)
 
+-- A line that begins as that of a cell does asks for something.
+pub command-asks : (line rest : List ℕ) → line ≡ codes "cell " ++ rest → is_silent (words_of line) ≡ false
+command-asks line rest is =
+    ap (λ octets. is_silent (words_of octets)) is ∙ ap is_silent (first-word (codes "cell") rest 32 (omega arith) command-visible refl)
+
 -- One space between the words.
 pub cell-line : (line number word : List ℕ) (moment : ℕ) (here : List ℕ) → line ≡ codes "cell " ++ (number ++ 32 ∷ word)
     → number_of number ≡ Some moment → IsCellWord word (OfCell here) → SpellsCell line moment here

@@ -1,14 +1,22 @@
 -- A command of the code, as the definitions have it.
-use Rattle.upc_run.specs.ScriptCommands.{Command, load, retire, setup, reload, release, cut, cell}
+use Rattle.std.specs.Prelude.{ℕ, List, Option, Some, option_map}
+use Rattle.text_io.specs.Words.{words_of}
+use Rattle.upc_cell.specs.declared.vc.Vc.{Vc}
+use Rattle.upc_run.specs.ScriptCommands.{Command, load, retire, setup, reload, release, cut, cell, contracts_of}
 use Rattle.upc_run.specs.declared.commands.Command.{Command as Coded}
 use Rattle.upc_run.specs.declared.commands.Command.TheVariants as coded
 
--- Its words without what the code knows of where they stand.
-abbrev pub command_seen : Coded → Command
-command_seen (coded.Load digits) = load digits.now
-command_seen (coded.Retire number) = retire number
-command_seen (coded.Setup vc number wanted) = setup vc number wanted.items
-command_seen (coded.Reload vc number) = reload vc number
-command_seen (coded.Release vc) = release vc
-command_seen (coded.Cut vc) = cut vc
-command_seen (coded.Cell moment digits) = cell moment digits.now
+-- A setup under the contracts that these octets spell, a word each; none where they have no lawful form.
+abbrev pub setup_seen : Vc → ℕ → List ℕ → Option Command
+setup_seen vc number octets = option_map (λ wanted. setup vc number wanted) (contracts_of (words_of octets))
+
+-- Its words without what the code knows of where they stand. The code leaves the contracts of a setup as words; where
+-- these have no lawful form, it is no command.
+abbrev pub command_seen : Coded → Option Command
+command_seen (coded.Load digits) = Some (load digits.now)
+command_seen (coded.Retire number) = Some (retire number)
+command_seen (coded.Setup vc number words) = setup_seen vc number words.now
+command_seen (coded.Reload vc number) = Some (reload vc number)
+command_seen (coded.Release vc) = Some (release vc)
+command_seen (coded.Cut vc) = Some (cut vc)
+command_seen (coded.Cell moment digits) = Some (cell moment digits.now)

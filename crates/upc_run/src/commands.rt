@@ -1,10 +1,11 @@
 //! The commands of a script, read from the words of a line.
 
-ghost use Rattle.std.specs.Prelude.{◌≡◌, option_map};
+ghost use Rattle.std.specs.Prelude.{◌≡◌, ◌∷◌, true, false, option_map, IfSome, IfNone};
+ghost use Rattle.std.specs.Option.{option_and_then};
 ghost use Rattle.upc_run.specs.ScriptCommands.{cell_of_words, command_of, contracts_of, cut_of, load_of, only_vc, release_of, reload_of, retire_of, setup_of};
 ghost use Rattle.upc_run.specs.CommandSeen.{command_seen};
 ghost use Rattle.upc_run.specs.inner.OnlyWord.{only_of};
-ghost use Rattle.text_io.specs.Words.{words_of};
+ghost use Rattle.text_io.specs.Words.{is_silent, words_of};
 
 use crate::script_words::{Wanted, connection, contract, number, program};
 use arrayvec::ArrayVec;
@@ -12,15 +13,16 @@ use text_io::first_word;
 use upc_cell::{Side, Vc};
 
 /// What a line asks of the card. Programs are named by number, from 1. The octets of a program and of a
-/// cell are still a word, whose faults come after those of all other words.
+/// cell are still a word, whose faults come after those of all other words. The contracts of a setup are still
+/// words: whoever obeys the command reads them by [`contracts`], so that no other command has room for them.
 #[derive(Drop)]
 pub enum Command<'a> {
     /// A program is put in.
     Load(&'a [u8]),
     /// A program is taken out.
     Retire(u64),
-    /// A connection is set up, under one to four contracts.
-    Setup(Vc, u64, ArrayVec<Wanted, 4>),
+    /// A connection is set up, under the contracts of these words.
+    Setup(Vc, u64, &'a [u8]),
     /// A connection gets another program.
     Reload(Vc, u64),
     /// A connection ends.
@@ -46,7 +48,7 @@ fn only_word(line: &[u8]) -> Option<&[u8]>
 
 /// `retire pN`, behind its first word.
 fn retire(line: &[u8]) -> Option<Command<'_>>
-    ensures { option_map command_seen result ≡ retire_of (words_of line.now) }
+    ensures { option_and_then command_seen result ≡ retire_of (words_of line.now) }
 {
     let Some(word) = only_word(line) else {
         return None;
@@ -59,7 +61,7 @@ fn retire(line: &[u8]) -> Option<Command<'_>>
 
 /// `load HEX`, behind its first word.
 fn load(line: &[u8]) -> Option<Command<'_>>
-    ensures { option_map command_seen result ≡ load_of (words_of line.now) }
+    ensures { option_and_then command_seen result ≡ load_of (words_of line.now) }
 {
     match only_word(line) {
         Some(digits) => Some(Command::Load(digits)),
@@ -69,7 +71,7 @@ fn load(line: &[u8]) -> Option<Command<'_>>
 
 /// `cell MOMENT HEX`, behind its first word.
 fn cell(line: &[u8]) -> Option<Command<'_>>
-    ensures { option_map command_seen result ≡ cell_of_words (words_of line.now) }
+    ensures { option_and_then command_seen result ≡ cell_of_words (words_of line.now) }
 {
     let Some((moment, rest)) = first_word(line) else {
         return None;
@@ -85,7 +87,7 @@ fn cell(line: &[u8]) -> Option<Command<'_>>
 
 /// `reload VPI VCI pN`, behind its first word.
 fn reload(side: Side, line: &[u8]) -> Option<Command<'_>>
-    ensures { option_map command_seen result ≡ reload_of side (words_of line.now) }
+    ensures { option_and_then command_seen result ≡ reload_of side (words_of line.now) }
 {
     let Some((path, rest)) = first_word(line) else {
         return None;
@@ -120,7 +122,7 @@ fn only_connection(side: Side, line: &[u8]) -> Option<Vc>
 
 /// `release VPI VCI`, behind its first word.
 fn release(side: Side, line: &[u8]) -> Option<Command<'_>>
-    ensures { option_map command_seen result ≡ release_of side (words_of line.now) }
+    ensures { option_and_then command_seen result ≡ release_of side (words_of line.now) }
 {
     match only_connection(side, line) {
         Some(vc) => Some(Command::Release(vc)),
@@ -130,7 +132,7 @@ fn release(side: Side, line: &[u8]) -> Option<Command<'_>>
 
 /// `cut VPI VCI`, behind its first word.
 fn cut(side: Side, line: &[u8]) -> Option<Command<'_>>
-    ensures { option_map command_seen result ≡ cut_of side (words_of line.now) }
+    ensures { option_and_then command_seen result ≡ cut_of side (words_of line.now) }
 {
     match only_connection(side, line) {
         Some(vc) => Some(Command::Cut(vc)),
@@ -138,8 +140,8 @@ fn cut(side: Side, line: &[u8]) -> Option<Command<'_>>
     }
 }
 
-/// One to four contracts, a word each.
-fn contracts(line: &[u8]) -> Option<ArrayVec<Wanted, 4>>
+/// One to four contracts, a word each. Without them a setup has no lawful form.
+pub fn contracts(line: &[u8]) -> Option<ArrayVec<Wanted, 4>>
     ensures { option_map (λ wanted. wanted.items) result ≡ contracts_of (words_of line.now) }
 {
     let mut wanted = ArrayVec::new();
@@ -162,7 +164,7 @@ fn contracts(line: &[u8]) -> Option<ArrayVec<Wanted, 4>>
 
 /// `setup VPI VCI pN CONTRACT ..`, behind its first word.
 fn setup(side: Side, line: &[u8]) -> Option<Command<'_>>
-    ensures { option_map command_seen result ≡ setup_of side (words_of line.now) }
+    ensures { option_and_then command_seen result ≡ setup_of side (words_of line.now) }
 {
     let Some((path, rest)) = first_word(line) else {
         return None;
@@ -176,22 +178,17 @@ fn setup(side: Side, line: &[u8]) -> Option<Command<'_>>
     let Some(vc) = connection(side, path, channel) else {
         return None;
     };
-    let Some(number) = program(name) else {
-        return None;
-    };
-    match contracts(rest) {
-        Some(wanted) => Some(Command::Setup(vc, number, wanted)),
+    match program(name) {
+        Some(number) => Some(Command::Setup(vc, number, rest)),
         None => None,
     }
 }
 
-/// The command that a line's words spell on a card of this side; none where they have no lawful form.
-pub fn read_command(side: Side, line: &[u8]) -> Option<Command<'_>>
-    ensures { option_map command_seen result ≡ command_of side (words_of line.now) }
+/// The command that a word spells with those behind it, on a card of this side; none where they have no lawful form. A
+/// setup has one only if its contracts have.
+pub fn named_command<'a>(side: Side, name: &[u8], rest: &'a [u8]) -> Option<Command<'a>>
+    ensures { option_and_then command_seen result ≡ command_of side (name.now ∷ words_of rest.now) }
 {
-    let Some((name, rest)) = first_word(line) else {
-        return None;
-    };
     if name == b"cell".as_slice() {
         cell(rest)
     } else if name == b"load".as_slice() {
@@ -208,5 +205,31 @@ pub fn read_command(side: Side, line: &[u8]) -> Option<Command<'_>>
         cut(side, rest)
     } else {
         None
+    }
+}
+
+/// The command that a line's words spell, as [`named_command`] does.
+pub fn read_command(side: Side, line: &[u8]) -> Option<Command<'_>>
+    ensures { option_and_then command_seen result ≡ command_of side (words_of line.now) }
+{
+    match first_word(line) {
+        Some((name, rest)) => named_command(side, name, rest),
+        None => None,
+    }
+}
+
+/// The first word of a line that asks for something, and what is after it: none where the line has no words or is a
+/// remark.
+pub fn asking_word(line: &[u8]) -> Option<(&[u8], &[u8])>
+    ensures silent { IfNone result (is_silent (words_of line.now) ≡ true) }
+    ensures asks { IfSome result (λ found. is_silent (words_of line.now) ≡ false) }
+    ensures words { IfSome result (λ found. words_of line.now ≡ found.0.now ∷ words_of found.1.now) }
+{
+    let Some((name, rest)) = first_word(line) else {
+        return None;
+    };
+    match name {
+        [b'#', ..] => None,
+        _ => Some((name, rest)),
     }
 }

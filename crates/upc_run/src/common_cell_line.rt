@@ -15,9 +15,9 @@ pub struct Arrival {
     pub cell: Cell,
 }
 
-/// What stands behind the command of a cell and the space that ends it.
+/// What is after the command of a cell and the space that ends it.
 #[inline(always)]
-fn behind_command(line: &[u8]) -> Option<&[u8]>
+pub fn after_command(line: &[u8]) -> Option<&[u8]>
     ensures rest { IfSome result (λ rest. line.now ≡ codes "cell " ++ rest.now) }
     ensures none { IfNone result ((rest : List ℕ) → line.now ≡ codes "cell " ++ rest → ⊥) }
 {
@@ -50,7 +50,7 @@ pub fn read_cell(line: &[u8]) -> Option<Arrival>
     ensures cell { IfSome result (λ found. IsCommonLine line.now found.moment found.cell) }
     ensures none { IfNone result ((moment : ℕ) → (cell : List ℕ) → IsCommonLine line.now moment cell → ⊥) }
 {
-    let rest = behind_command(line)?;
+    let rest = after_command(line)?;
     let parts = match cut_before(rest, HEADER_DIGITS) {
         Some(parts) => parts,
         None => cut_before(rest, CELL_DIGITS)?,

@@ -21,8 +21,8 @@ pub use card_faults::{
     add_desk_fault, add_gcra_fault, add_no_card, add_no_such_program, add_shape_fault,
 };
 pub use card_line::read_card;
-pub use commands::{Command, read_command};
-pub use common_cell_line::{Arrival, read_cell};
+pub use commands::{Command, asking_word, contracts, read_command};
+pub use common_cell_line::{Arrival, after_command, read_cell};
 pub use names::Names;
 pub use rates::contracts_of;
 pub use replies::{

@@ -25,21 +25,49 @@ fn add_program(answers: &mut Vec<u8>, number: u64) -> Result<(), AllocError>
     add_number(answers, number)
 }
 
-/// Adds a connection's path and channel.
-#[tactic(auto, using(std::proofs::lemmas::List::append_assoc))]
-fn add_connection(answers: &mut Vec<u8>, vc: Vc) -> Result<(), AllocError>
-    ensures { OnOk result (answers.new.items ≡ answers.old.items ++ connection_name vc) }
-{
-    add_number(answers, u64::from(vc.vpi))?;
-    answers.push(b'/')?;
-    add_number(answers, u64::from(vc.vci))
-}
-
 /// Adds the answer to the line that opened a card.
 pub fn add_ready(answers: &mut Vec<u8>) -> Result<(), AllocError>
     ensures { OnOk result (answers.new.items ≡ answers.old.items ++ codes "ready\n") }
 {
     add_text(answers, b"ready\n")
+}
+
+/// Room for the answer to a command: a word and a blank of at most nine octets, two numbers of at most ten digits, five
+/// of at most twenty, and seven octets between them and at the end.
+const REPLY_ROOM: usize = 136;
+
+/// Puts a connection's path and channel.
+#[inline(always)]
+fn put_connection<const ROOM: usize>(text: &mut TextFromEnd<ROOM>, vc: Vc)
+    requires { 21 + length text.old ≤ ROOM }
+    ensures text { text.new ≡ connection_name vc ++ text.old }
+    ensures length { length text.new ≤ 21 + length text.old }
+{
+    text.put_short_number(u32::from(vc.vci));
+    text.put(b"/");
+    text.put_short_number(u32::from(vc.vpi));
+}
+
+/// Puts the name of the program of this number.
+#[inline(always)]
+fn put_program<const ROOM: usize>(text: &mut TextFromEnd<ROOM>, number: u64)
+    requires { 21 + length text.old ≤ ROOM }
+    ensures text { text.new ≡ program_name number ++ text.old }
+    ensures length { length text.new ≤ 21 + length text.old }
+{
+    text.put_number(number);
+    text.put(b"p");
+}
+
+/// Puts a number behind a blank.
+#[inline(always)]
+fn put_count(text: &mut TextFromEnd<REPLY_ROOM>, count: u64)
+    requires { length text.old ≤ 106 }
+    ensures text { text.new ≡ codes " " ++ decimal count ++ text.old }
+    ensures length { length text.new ≤ 21 + length text.old }
+{
+    text.put_number(count);
+    text.put(b" ");
 }
 
 /// Adds the answer to a program that was put in, whose name has this number, from 1.
@@ -72,10 +100,11 @@ pub fn add_set(answers: &mut Vec<u8>, vc: Vc) -> Result<(), AllocError>
     ensures { OnOk result
         (answers.new.items ≡ answers.old.items ++ line (codes "set " ++ connection_name vc)) }
 {
-    answers.extend_from_slice(b"set ")?;
-    add_connection(answers, vc)?;
-    answers.push(b'\n')?;
-    Ok(())
+    let mut text = TextFromEnd::<REPLY_ROOM>::new();
+    text.put(b"\n");
+    put_connection(&mut text, vc);
+    text.put(b"set ");
+    answers.extend_from_slice(text.as_slice())
 }
 
 /// Adds the answer to a connection that got the program whose name has this number.
@@ -84,12 +113,13 @@ pub fn add_reloaded(answers: &mut Vec<u8>, vc: Vc, number: u64) -> Result<(), Al
     ensures { OnOk result (answers.new.items ≡ answers.old.items
         ++ line (codes "reloaded " ++ connection_name vc ++ codes " " ++ program_name number)) }
 {
-    answers.extend_from_slice(b"reloaded ")?;
-    add_connection(answers, vc)?;
-    answers.push(b' ')?;
-    add_program(answers, number)?;
-    answers.push(b'\n')?;
-    Ok(())
+    let mut text = TextFromEnd::<REPLY_ROOM>::new();
+    text.put(b"\n");
+    put_program(&mut text, number);
+    text.put(b" ");
+    put_connection(&mut text, vc);
+    text.put(b"reloaded ");
+    answers.extend_from_slice(text.as_slice())
 }
 
 /// Adds a number behind a blank.
@@ -127,13 +157,19 @@ fn tally_within(piece: &Piece) -> Tally
     }
 }
 
-/// Adds the number of a piece's cells, and of those of each verdict.
+/// Puts the number of a piece's cells, and of those of each verdict.
 #[tactic(auto, using(std::proofs::lemmas::List::append_assoc))]
-fn add_piece(answers: &mut Vec<u8>, piece: &Piece) -> Result<(), AllocError>
-    ensures { OnOk result (answers.new.items ≡ answers.old.items ++ piece_text piece.now) }
+fn put_piece(text: &mut TextFromEnd<REPLY_ROOM>, piece: &Piece)
+    requires { length text.old ≤ 1 }
+    ensures text { text.new ≡ piece_text piece.now ++ text.old }
+    ensures length { length text.new ≤ 105 + length text.old }
 {
-    add_count(answers, piece.entries().len() as u64)?;
-    add_tally(answers, tally_within(piece))
+    let tally = tally_within(piece);
+    put_count(text, tally.refused);
+    put_count(text, tally.discarded);
+    put_count(text, tally.tagged);
+    put_count(text, tally.passed);
+    put_count(text, piece.entries().len() as u64);
 }
 
 /// Adds the answer to a connection that ended, whose last journal is this piece.
@@ -142,11 +178,12 @@ pub fn add_released(answers: &mut Vec<u8>, vc: Vc, piece: &Piece) -> Result<(), 
     ensures { OnOk result (answers.new.items ≡ answers.old.items
         ++ line (codes "released " ++ connection_name vc ++ piece_text piece.now)) }
 {
-    answers.extend_from_slice(b"released ")?;
-    add_connection(answers, vc)?;
-    add_piece(answers, piece)?;
-    answers.push(b'\n')?;
-    Ok(())
+    let mut text = TextFromEnd::<REPLY_ROOM>::new();
+    text.put(b"\n");
+    put_piece(&mut text, piece);
+    put_connection(&mut text, vc);
+    text.put(b"released ");
+    answers.extend_from_slice(text.as_slice())
 }
 
 /// Adds the answer to a connection whose journal was handed out as this piece.
@@ -155,11 +192,12 @@ pub fn add_cut(answers: &mut Vec<u8>, vc: Vc, piece: &Piece) -> Result<(), Alloc
     ensures { OnOk result (answers.new.items ≡ answers.old.items
         ++ line (codes "cut " ++ connection_name vc ++ piece_text piece.now)) }
 {
-    answers.extend_from_slice(b"cut ")?;
-    add_connection(answers, vc)?;
-    add_piece(answers, piece)?;
-    answers.push(b'\n')?;
-    Ok(())
+    let mut text = TextFromEnd::<REPLY_ROOM>::new();
+    text.put(b"\n");
+    put_piece(&mut text, piece);
+    put_connection(&mut text, vc);
+    text.put(b"cut ");
+    answers.extend_from_slice(text.as_slice())
 }
 
 /// Room for the answer to a cell: a verdict of at most eight octets, three numbers of at most ten digits and
@@ -169,6 +207,7 @@ const ANSWER_ROOM: usize = 72;
 /// Puts the connection that a cell came on, the program that named its contract, and the value that it
 /// gave.
 #[inline(always)]
+#[tactic(auto, using(std::proofs::lemmas::List::append_assoc))]
 fn put_judging(text: &mut TextFromEnd<ANSWER_ROOM>, vc: Vc, number: u64, value: u32)
     requires { length text.old ≤ 10 }
     ensures text { text.new ≡ judging_text vc number value ++ text.old }
@@ -176,11 +215,9 @@ fn put_judging(text: &mut TextFromEnd<ANSWER_ROOM>, vc: Vc, number: u64, value: 
 {
     text.put_short_number(value);
     text.put(b" ");
-    text.put_number(number);
-    text.put(b" p");
-    text.put_short_number(u32::from(vc.vci));
-    text.put(b"/");
-    text.put_short_number(u32::from(vc.vpi));
+    put_program(text, number);
+    text.put(b" ");
+    put_connection(text, vc);
 }
 
 /// Puts the header of a leaving cell.

@@ -1,7 +1,7 @@
 //! The card that a script has opened, and the commands that it obeys.
 
 use crate::card_faults::{add_desk_fault, add_gcra_fault, add_no_such_program};
-use crate::commands::{Command, read_command};
+use crate::commands::{Command, asking_word, contracts, named_command};
 use crate::common_cell_line::read_cell;
 use crate::names::Names;
 use crate::rates::contracts_of;
@@ -14,7 +14,6 @@ use bpf_verify::Program;
 use card_core::{Ask, CardFault, Core, Judgement, Shape, Unjudged};
 use std::alloc::{AllocError, Global};
 use std::marker::Model;
-use text_io::{LineWords, line_words};
 use upc_cell::{Cell, Side, Vc};
 use upc_words::{
     CellWord, add_bad_hex, add_bad_line, add_wrong_length, cell_of_word, octets_of_word,
@@ -41,15 +40,15 @@ impl Model for ScriptCard {
 
 // The functions of the desk are not inlined: the path of a cell would pay for their room on the stack.
 impl ScriptCard {
-    ghost use Rattle.std.specs.Prelude.{◌≡◌, ◌⊎◌, [], IfOk, IfErr, OnOk, MatchResult, None, Some, option_map};
+    ghost use Rattle.std.specs.Prelude.{◌≡◌, ◌⊎◌, ◌∷◌, [], IfOk, IfErr, OnOk, MatchResult, None, Some, option_map};
     ghost use Rattle.card_core.specs.Sections.{answer_to};
     ghost use Rattle.card_core.specs.Shapes.{shape_fault};
     ghost use Rattle.upc_run.specs.CardLine.{card_of};
     ghost use Rattle.upc_run.specs.ScriptCommands.{load, retire, setup, reload, release, cut, cell};
     ghost use Rattle.card_core.specs.declared.step.Step.TheVariants.{Load};
     ghost use Rattle.upc_run.specs.RunText.{Asks, CommandLine, LoadsOctets, Obeys, Polices, Takes, TakesNamed, new_card};
-    ghost use Rattle.upc_run.specs.CommandSeen.{command_seen};
-    ghost use Rattle.upc_run.specs.inner.Policing.{AnswersCell, Moves, SaysLine, ShowsCard};
+    ghost use Rattle.upc_run.specs.CommandSeen.{command_seen, setup_seen};
+    ghost use Rattle.upc_run.specs.inner.Policing.{AnswersCell, Moves, ObeysSeen, SaysLine, ShowsCard};
     ghost use Rattle.text_io.specs.Words.{words_of};
 
     /// A card of this shape, to which nothing has come.
@@ -158,6 +157,24 @@ impl ScriptCard {
         }
     }
 
+    /// Sets up a connection under the contracts of these words, if they have a lawful form.
+    #[inline(never)]
+    fn ask(
+        &mut self,
+        vc: Vc,
+        number: u64,
+        words: &[u8],
+        answers: &mut Vec<u8>,
+    ) -> Result<(), AllocError>
+        ensures { OnOk result (Moves (λ before. ObeysSeen before (setup_seen vc number words.now))
+            self.old self.new answers.old.items answers.new.items) }
+    {
+        let Some(wanted) = contracts(words) else {
+            return add_bad_line(answers);
+        };
+        self.setup(vc, number, &wanted, answers)
+    }
+
     /// Gives a connection another program.
     #[inline(never)]
     fn reload(&mut self, vc: Vc, number: u64, answers: &mut Vec<u8>) -> Result<(), AllocError>
@@ -250,31 +267,32 @@ impl ScriptCard {
         command: &Command<'_>,
         answers: &mut Vec<u8>,
     ) -> Result<(), AllocError>
-        ensures { OnOk result (Moves (λ before. Obeys before (command_seen command.now))
+        ensures { OnOk result (Moves (λ before. ObeysSeen before (command_seen command.now))
             self.old self.new answers.old.items answers.new.items) }
     {
         match command {
             Command::Cell(moment, word) => self.cell(alloc, *moment, word, answers),
             Command::Load(digits) => self.load(alloc, digits, answers),
             Command::Retire(number) => self.retire(*number, answers),
-            Command::Setup(vc, number, wanted) => self.setup(*vc, *number, wanted, answers),
+            Command::Setup(vc, number, words) => self.ask(*vc, *number, words, answers),
             Command::Reload(vc, number) => self.reload(*vc, *number, answers),
             Command::Release(vc) => self.release(*vc, answers),
             Command::Cut(vc) => self.cut(*vc, answers),
         }
     }
 
-    /// Answers a line with words.
+    /// Answers a line by its first word and what is after it.
     fn answer_command(
         &mut self,
         alloc: Global,
-        line: &[u8],
+        name: &[u8],
+        rest: &[u8],
         answers: &mut Vec<u8>,
     ) -> Result<(), AllocError>
-        ensures { OnOk result (Moves (λ before. CommandLine before (words_of line.now))
+        ensures { OnOk result (Moves (λ before. CommandLine before (name.now ∷ words_of rest.now))
             self.old self.new answers.old.items answers.new.items) }
     {
-        match read_command(self.core.shape().side, line) {
+        match named_command(self.core.shape().side, name, rest) {
             Some(command) => self.obey(alloc, &command, answers),
             None => add_bad_line(answers),
         }
@@ -290,9 +308,9 @@ impl ScriptCard {
     ) -> Result<(), AllocError>
         ensures { OnOk result (Moves (SaysLine line.now) self.old self.new answers.old.items answers.new.items) }
     {
-        match line_words(line) {
-            LineWords::Silent => Ok(()),
-            LineWords::One(_) | LineWords::Several => self.answer_command(alloc, line, answers),
+        match asking_word(line) {
+            Some((name, rest)) => self.answer_command(alloc, name, rest, answers),
+            None => Ok(()),
         }
     }
 

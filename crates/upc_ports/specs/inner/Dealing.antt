@@ -1,11 +1,9 @@
 -- Who answers which line of a script, from its first cell line on.
-use Rattle.std.specs.Prelude.{◌≡◌, ◌≢◌, ℕ, ◌+◌, ◌*◌, ◌%◌, ◌<◌, Bool, false, if◌then◌else◌, List, [], ◌∷◌, ◌++◌, All, Some, Err, MatchBool, codes, length, map, replicate, slice_get, slice_index, slice_set}
+use Rattle.std.specs.Prelude.{◌≡◌, ◌≢◌, ℕ, ◌+◌, ◌*◌, ◌%◌, ◌<◌, Bool, false, if◌then◌else◌, List, [], ◌∷◌, ◌++◌, All, Some, MatchBool, codes, length, map, replicate, slice_get, slice_index, slice_set}
 use Rattle.std.specs.Str.{bytes_eq}
 use Rattle.upc_cell.specs.Connection.{vc_of}
 use Rattle.upc_cell.specs.declared.side.Side.{Side}
 use Rattle.upc_cell.specs.declared.vc.Vc.{Vc}
-use Rattle.line_record.specs.declared.fault.LineFault.TheVariants.{NoMemory}
-use Rattle.card_core.specs.declared.answer.Unjudged.TheVariants.{Refused}
 use Rattle.text_io.specs.Words.{words_of}
 use Rattle.upc_run.specs.ScriptCommands.{command_of}
 use Rattle.upc_ports.specs.declared.cell_line.CellLine.{CellLine}
@@ -13,7 +11,6 @@ use Rattle.upc_ports.specs.declared.cell_line.CellLine.TheVariants.{Comes, IsFau
 use Rattle.upc_ports.specs.declared.dealing.Answerer.{Answerer}
 use Rattle.upc_ports.specs.declared.dealing.Answerer.TheVariants.{Port, Desk, Fault}
 use Rattle.upc_ports.specs.declared.dealing.Deal.{Deal}
-use Rattle.upc_ports.specs.declared.dealing.DealtCell.{DealtCell}
 use Rattle.upc_ports.specs.inner.CellLine.{IsCellLine}
 
 -- No octet of the line is a line feed.
@@ -48,11 +45,11 @@ channels = 65536
 abbrev pub port_of : Vc → ℕ → ℕ
 port_of vc ports = (vc.vpi * channels + vc.vci) % ports
 
--- What was dealt: who answers each line, in the script's order; the desk's lines; and each port's cells.
+-- What was dealt: who answers each line, in the script's order; the desk's lines; and the lines of each port's cells.
 pub record Dealt : Type 0 where
   pub order : List Answerer
   pub desk : List (List ℕ)
-  pub arrivals : List (List DealtCell)
+  pub arrivals : List (List (List ℕ))
 
 -- No line was dealt, for this number of ports.
 abbrev pub none_dealt : ℕ → Dealt
@@ -63,32 +60,28 @@ abbrev pub dealt : Deal → Dealt
 dealt deal = record {
   order = deal.order.items;
   desk = map (λ line. line.now) deal.desk.items;
-  arrivals = map (λ own. own.items) deal.arrivals.items;
+  arrivals = map (λ own. map (λ line. line.now) own.items) deal.arrivals.items;
 }
 
--- A cell that was not answered yet.
-abbrev pub unanswered : ℕ → List ℕ → DealtCell
-unanswered moment cell = record { moment = moment; cell = cell; told = Err (Refused NoMemory) }
-
--- A cell goes to the port of its connection, after that port's earlier cells.
-pub record DealsCell (side : Side) (moment : ℕ) (cell : List ℕ) (before after : Dealt) : Type 0 where
-  pub own : List DealtCell
+-- The line of a cell goes to the port of the cell's connection, after the lines of that port's earlier cells.
+pub record DealsCell (side : Side) (cell line : List ℕ) (before after : Dealt) : Type 0 where
+  pub own : List (List ℕ)
   pub there : slice_get before.arrivals (port_of (vc_of side cell) (length before.arrivals)) ≡ Some own
   pub dealt : after ≡ record before {
     order = before.order ++ Port (port_of (vc_of side cell) (length before.arrivals)) (length own) ∷ [];
-    arrivals = slice_set before.arrivals (port_of (vc_of side cell) (length before.arrivals)) (own ++ unanswered moment cell ∷ []);
+    arrivals = slice_set before.arrivals (port_of (vc_of side cell) (length before.arrivals)) (own ++ line ∷ []);
   }
 
 -- A cell line is a port's where it brings a cell, and nobody's where it has a fault.
-abbrev pub DealsFound : Side → CellLine → Dealt → Dealt → Type 0
-DealsFound side (Comes moment cell) before after = DealsCell side moment cell before after
-DealsFound side (IsFaulty fault) before after = after ≡ record before { order = before.order ++ Fault fault ∷ [] }
+abbrev pub DealsFound : Side → List ℕ → CellLine → Dealt → Dealt → Type 0
+DealsFound side line (Comes moment cell) before after = DealsCell side cell line before after
+DealsFound side line (IsFaulty fault) before after = after ≡ record before { order = before.order ++ Fault fault ∷ [] }
 
 -- What a cell line brings is dealt.
 pub record DealsCellLine (side : Side) (line : List ℕ) (before after : Dealt) : Type 0 where
   pub found : CellLine
   pub brings : IsCellLine (command_of side (words_of line)) found
-  pub dealt : DealsFound side found before after
+  pub dealt : DealsFound side line found before after
 
 -- Any other line is the desk's next.
 abbrev pub DealsDeskLine : List ℕ → Dealt → Dealt → Type 0

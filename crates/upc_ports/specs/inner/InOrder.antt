@@ -4,13 +4,13 @@ use Rattle.gen_arena.specs.declared.id.Id.{Id}
 use Rattle.upc_cell.specs.Connection.{vc_of}
 use Rattle.upc_cell.specs.declared.side.Side.{Side}
 use Rattle.upc_words.specs.FaultLines.{bad_line, bad_hex, wrong_length}
-use Rattle.card_core.specs.Sections.{answer_to}
 use Rattle.upc_run.specs.Replies.{answer_text}
 use Rattle.upc_ports.specs.declared.cell_line.CellLineFault.{CellLineFault}
 use Rattle.upc_ports.specs.declared.cell_line.CellLineFault.TheVariants.{BadLine, BadHex, WrongLength}
 use Rattle.upc_ports.specs.declared.dealing.Answerer.{Answerer}
 use Rattle.upc_ports.specs.declared.dealing.Answerer.TheVariants.{Port, Desk, Fault}
-use Rattle.upc_ports.specs.declared.dealing.DealtCell.{DealtCell}
+use Rattle.upc_ports.specs.declared.told.ToldCell.{ToldCell}
+use Rattle.upc_ports.specs.inner.Told.{answer_kept, shown_cell}
 
 -- What is printed of a cell line that brings no cell.
 abbrev pub fault_text : CellLineFault → List ℕ
@@ -19,14 +19,15 @@ fault_text BadHex = bad_hex
 fault_text (WrongLength count) = wrong_length count
 
 -- The cell at this place among a port's own.
-abbrev pub cell_at : Option (List DealtCell) → ℕ → Option DealtCell
+abbrev pub cell_at : Option (List ToldCell) → ℕ → Option ToldCell
 cell_at None place = None
 cell_at (Some own) place = slice_get own place
 
 -- The text is that of the cell's answer; nothing is printed where there is no such cell.
-abbrev pub TellsCell : Side → List Id → Option DealtCell → List ℕ → Type 0
+abbrev pub TellsCell : Side → List Id → Option ToldCell → List ℕ → Type 0
 TellsCell side names None text = text ≡ []
-TellsCell side names (Some arrival) text = answer_text names (vc_of side arrival.cell) (answer_to arrival.cell arrival.told) ≡ Some text
+TellsCell side names (Some arrival) text =
+    answer_text names (vc_of side (shown_cell arrival.header)) (answer_kept (shown_cell arrival.header) arrival.told) ≡ Some text
 
 -- The text that the desk gave, if it gave one.
 abbrev pub given_text : Option (List ℕ) → List ℕ
@@ -34,13 +35,13 @@ given_text None = []
 given_text (Some text) = text
 
 -- What one answerer tells, of cells that came to ports and of texts that the desk gave.
-abbrev pub Tells : Side → List Id → List (List DealtCell) → List (List ℕ) → Answerer → List ℕ → Type 0
+abbrev pub Tells : Side → List Id → List (List ToldCell) → List (List ℕ) → Answerer → List ℕ → Type 0
 Tells side names arrivals told (Port number place) text = TellsCell side names (cell_at (slice_get arrivals number) place) text
 Tells side names arrivals told (Desk number) text = text ≡ given_text (slice_get told number)
 Tells side names arrivals told (Fault fault) text = text ≡ fault_text fault
 
 -- What all answerers tell: the text of each, one after another, and nothing else.
-abbrev pub AllTell : Side → List Id → List (List DealtCell) → List (List ℕ) → List Answerer → List ℕ → Type 0
+abbrev pub AllTell : Side → List Id → List (List ToldCell) → List (List ℕ) → List Answerer → List ℕ → Type 0
 AllTell side names arrivals told [] text = text ≡ []
 AllTell side names arrivals told (answerer ∷ order) text = (here : List ℕ) × (more : List ℕ) × (text ≡ here ++ more)
     × Tells side names arrivals told answerer here × AllTell side names arrivals told order more

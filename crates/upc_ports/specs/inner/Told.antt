@@ -1,26 +1,50 @@
--- What is kept of the answer to a cell: all but the cell as it leaves.
-use Rattle.std.specs.Prelude.{Result, Ok, Err}
+-- What is kept of a cell that was answered: its header, and as much of the answer as its line tells.
+use Rattle.std.specs.Prelude.{ℕ, List, [], ◌∷◌, replicate, slice_index, Result, Ok, Err}
 use Rattle.line_record.specs.declared.fault.LineFault.TheVariants.{TooLate, Back, Full, NoMemory as LineNoMemory}
+use Rattle.card_core.specs.Sections.{answer_to}
 use Rattle.card_core.specs.declared.answer.Answer.{Answer}
 use Rattle.card_core.specs.declared.answer.Answer.TheVariants.{Judged, NoConnection, Released, Stale, MomentTooLate, MomentBack, JournalFull, NoMemory}
 use Rattle.card_core.specs.declared.answer.Judgement.{Judgement}
 use Rattle.card_core.specs.declared.answer.Unjudged.{Unjudged}
 use Rattle.card_core.specs.declared.answer.Unjudged.TheVariants as unjudged
+use Rattle.upc_ports.specs.declared.told.Ruling.{Ruling}
+use Rattle.upc_ports.specs.declared.told.ToldCell.{ToldCell}
 
--- What is kept of this answer.
-abbrev pub told_of : Answer → Result Judgement Unjudged
-told_of (Judged line number moment value program verdict leaving) = Ok (record {
-  number = number;
-  moment = moment;
-  program = program;
-  value = value;
-  line = line;
-  verdict = verdict;
-})
-told_of NoConnection = Err unjudged.NoConnection
-told_of Released = Err unjudged.Released
-told_of Stale = Err unjudged.Stale
-told_of MomentTooLate = Err (unjudged.Refused TooLate)
-told_of (MomentBack last) = Err (unjudged.Refused (Back last))
-told_of JournalFull = Err (unjudged.Refused Full)
-told_of NoMemory = Err (unjudged.Refused LineNoMemory)
+-- The ruling on a judged cell, or why the cell isn't judged.
+abbrev pub ruled : Answer → Result Ruling Unjudged
+ruled (Judged line number moment value program verdict leaving) = Ok (record { program = program; value = value; verdict = verdict })
+ruled NoConnection = Err unjudged.NoConnection
+ruled Released = Err unjudged.Released
+ruled Stale = Err unjudged.Stale
+ruled MomentTooLate = Err (unjudged.Refused TooLate)
+ruled (MomentBack last) = Err (unjudged.Refused (Back last))
+ruled JournalFull = Err (unjudged.Refused Full)
+ruled NoMemory = Err (unjudged.Refused LineNoMemory)
+
+-- Octets 0 to 3 of a cell.
+abbrev pub header_of : List ℕ → List ℕ
+header_of cell = slice_index cell 0 ∷ slice_index cell 1 ∷ slice_index cell 2 ∷ slice_index cell 3 ∷ []
+
+-- What is kept of a cell and its answer.
+abbrev pub told_cell : List ℕ → Answer → ToldCell
+told_cell cell answer = record { header = header_of cell; told = ruled answer }
+
+-- A cell of this header, whose payload is zeros: no answer tells a payload.
+abbrev pub shown_cell : List ℕ → List ℕ
+shown_cell header = slice_index header 0 ∷ slice_index header 1 ∷ slice_index header 2 ∷ slice_index header 3 ∷ replicate 48 0
+
+-- The judgement that tells as much as a ruling, and nothing else.
+abbrev pub judgement_of : Ruling → Judgement
+judgement_of ruling = record {
+  number = 0;
+  moment = 0;
+  program = ruling.program;
+  value = ruling.value;
+  line = 0;
+  verdict = ruling.verdict;
+}
+
+-- The answer that tells as much as what was kept of a cell, of a cell with its header.
+abbrev pub answer_kept : List ℕ → Result Ruling Unjudged → Answer
+answer_kept cell (Ok ruling) = answer_to cell (Ok (judgement_of ruling))
+answer_kept cell (Err reason) = answer_to cell (Err reason)

@@ -1,10 +1,12 @@
 -- A card as the code keeps it, and what its answers say of the cards that it shows.
-use Rattle.std.specs.Prelude.{◌≡◌, ℕ, List, ◌++◌, Option, Some, None}
+use Rattle.std.specs.Prelude.{◌≡◌, ℕ, List, ◌++◌, Option, Some, None, MatchOption}
 use Rattle.gen_arena.specs.declared.id.Id.{Id}
 use Rattle.card_core.specs.Agreement.{CoreAgrees, CoreView}
 use Rattle.card_core.specs.World.{World}
 use Rattle.card_core.specs.declared.answer.Answer.{Answer}
-use Rattle.upc_run.specs.RunText.{Arrives, Card, IsLed, OpeningLine, RunSteps, RunWorld}
+use Rattle.upc_words.specs.FaultLines.{bad_line}
+use Rattle.upc_run.specs.RunText.{Arrives, Card, IsLed, Obeys, OpeningLine, Refuses, RunSteps, RunWorld}
+use Rattle.upc_run.specs.ScriptCommands.{Command}
 
 -- The core, and the ids of the programs in the order of their names.
 pub record Held : Type 0 where
@@ -26,6 +28,10 @@ ShowsRun _ _ = ⊥
 abbrev pub MovesBy : (Card → List ℕ → Card → Type 0) → Held → List ℕ → Held → Type 0
 MovesBy Goes held text held' = (before : Card) → IsLed before → ShowsCard held before
     → (after : Card) × ShowsCard held' after × Goes before text after
+
+-- The command is obeyed, where there is one; else the line has no lawful form.
+abbrev pub ObeysSeen : Card → Option Command → List ℕ → Card → Type 0
+ObeysSeen before seen text after = MatchOption seen (Refuses bad_line before text after) (λ command. Obeys before command text after)
 
 -- Answers grew by such a text.
 abbrev pub Moves : (Card → List ℕ → Card → Type 0) → Held → Held → List ℕ → List ℕ → Type 0

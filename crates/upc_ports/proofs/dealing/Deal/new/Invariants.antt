@@ -3,4 +3,4 @@ use Rattle.std.proofs.Common.{◌≡◌, [], map, replicate, vec_len}
 use Rattle.upc_ports.proofs.dealing.Deal.new.Given as goal
 
 abbrev pub invariant-loop : goal.invariant-loop
-invariant-loop l = (vec_len l.arrivals ≡ l.counter) × (map (λ own. own.items) l.arrivals.items ≡ replicate l.counter [])
+invariant-loop l = (vec_len l.arrivals ≡ l.counter) × (map (λ own. map (λ line. line.now) own.items) l.arrivals.items ≡ replicate l.counter [])

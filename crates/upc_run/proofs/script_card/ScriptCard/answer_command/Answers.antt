@@ -1,12 +1,12 @@
--- The command that the line spells is obeyed.
-use Rattle.std.proofs.Common.{◌∙◌, ap, sym}
+-- The command that the words spell is obeyed.
+use Rattle.std.proofs.Common.{◌∷◌, ap, sym, ◌∙◌}
 use Rattle.text_io.specs.Words.{words_of}
 use Rattle.upc_run.specs.CommandSeen.{command_seen}
-use Rattle.upc_run.proofs.MovesLemmas.{moves-line, on-ok}
+use Rattle.upc_run.proofs.MovesLemmas.{moves-seen, on-ok}
 use Rattle.upc_run.proofs.script_card.ScriptCard.answer_command.Goals as goal
 
 pub returns-in-Some : goal.returns-in-Some
 returns-in-Some c =
     on-ok c.obey.result c.obey.ensures (λ moves.
-    moves-line c.shape.result.side (words_of c.args.line.now) (command_seen c.in-Some.command) c.args.self.now c.obey.new.self _ _
-    (ap (λ held. held.core.shape.side) (sym c.self.view_is) ∙ ap (λ shape. shape.side) (sym c.shape.ensures)) (sym c.in-Some.ensures) moves)
+    moves-seen c.shape.result.side (c.args.name.now ∷ words_of c.args.rest.now) (command_seen c.in-Some.command) c.args.self.now c.obey.new.self _ _
+    (ap (λ held. held.core.shape.side) (sym c.self.view_is) ∙ ap (λ shape. shape.side) (sym c.shape.ensures)) c.in-Some.ensures moves)

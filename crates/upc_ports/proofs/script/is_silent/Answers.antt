@@ -1,0 +1,7 @@
+-- A line that begins as that of a cell does has words.
+use Rattle.std.proofs.Common.{sym}
+use Rattle.upc_run.proofs.Public.{command-asks}
+use Rattle.upc_ports.proofs.script.is_silent.Goals as goal
+
+pub returns-in-Some : goal.returns-in-Some
+returns-in-Some c = sym (command-asks c.args.line.now c.in-Some.field-0.now c.in-Some.ensures.rest)
