@@ -11,7 +11,7 @@ use Rattle.card_core.specs.declared.step.Step.TheVariants.{Enter, Pick, Judge}
 use Rattle.card_shelf.specs.Logs.{CardsGoOnByTheirArrivals}
 
 -- Runs join.
-run-append : (before middle after : World) (one other : List Event) → Run before one middle → Run middle other after
+pub run-append : (before middle after : World) (one other : List Event) → Run before one middle → Run middle other after
     → Run before (one ++ other) after
 run-append before middle after [] other is run = subst (λ (w : World). Run w other after) is run
 run-append before middle after (event ∷ later) other steps run =

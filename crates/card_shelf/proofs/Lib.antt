@@ -7,3 +7,6 @@ pub mod Weaving
 pub mod CardLemmas
 pub mod RunningLemmas
 pub mod GoingOn
+pub mod Ways
+pub mod WayAlike
+pub mod Beside

@@ -1,8 +1,14 @@
 //! Laws over what a shelf does. These functions do nothing: the contract of each is a law.
 
 ghost use Rattle.card_shelf.specs.Logs.{CardsGoOnByTheirArrivals};
+ghost use Rattle.card_shelf.specs.OneCard.{ShelvesTellAsOneCard};
 
 /// A card that has answered arrivals has gone on by their steps, which its log has gained.
 pub fn cards_go_on_by_their_arrivals()
     ensures { CardsGoOnByTheirArrivals }
+{}
+
+/// What is policed one arrival after another, each by its card, is told as one card with all connections tells it.
+pub fn shelves_tell_as_one_card()
+    ensures { ShelvesTellAsOneCard }
 {}

@@ -45,6 +45,7 @@ impl Shelf {
     ghost use Rattle.card_shelf.specs.inner.Rest.{IsOfDesk};
     ghost use Rattle.card_shelf.specs.Policing.{PolicesAll};
     ghost use Rattle.card_shelf.specs.Own.{EachServes};
+    ghost use Rattle.card_shelf.specs.OneCard.{TellsAsOneCard};
 
     /// A shelf of this number of cards, each of this shape and without programs and connections.
     ///
@@ -189,6 +190,27 @@ impl Shelf {
     ///
     /// Where memory is refused, and then nothing has changed.
     pub fn police<R: Threads + Sync>(
+        &mut self,
+        rt: &R,
+        alloc: Global,
+        arrivals: &[Arrival],
+        threads: usize,
+    ) -> Result<Vec<Told>, AllocError>
+        ensures policed { IfOk result (λ told.
+            PolicesAll self.old.shape.side self.old.cards arrivals.now told.items self.new.cards) }
+        ensures each { IfOk result (λ told.
+            EachServes self.old.shape.side self.old.cards arrivals.now told.items self.new.cards) }
+        ensures as_one { IfOk result (λ told.
+            TellsAsOneCard self.old.shape self.old.cards arrivals.now told.items self.new.cards) }
+        ensures one_each { IfOk result (λ told. length told.items ≡ length arrivals.now) }
+        ensures shape { self.new.shape ≡ self.old.shape }
+        ensures unchanged { OnErr result (self.new ≡ self.old) }
+    {
+        self.police_cards(rt, alloc, arrivals, threads)
+    }
+
+    /// The policing. That a shelf tells what one card tells follows from what this promises, and [`Shelf::police`] says it.
+    fn police_cards<R: Threads + Sync>(
         &mut self,
         rt: &R,
         alloc: Global,
