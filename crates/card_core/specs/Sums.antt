@@ -1,5 +1,5 @@
 -- The sums of the counts of lines.
-use Rattle.std.specs.Prelude.{List}
+use Rattle.std.specs.Prelude.{ℕ, ◌≤◌, List}
 use Rattle.std.specs.List.{sum_by}
 use Rattle.line_record.specs.Line.{LineView}
 use Rattle.card_core.specs.declared.sums.Totals.{Totals}
@@ -12,3 +12,10 @@ totals_of lines = record {
   discarded = sum_by (λ line. line.state.counts.discarded) lines;
   refused = sum_by (λ line. line.state.counts.refused) lines;
 }
+
+-- Each sum is at most this number.
+pub record AreAtMost (totals : Totals) (most : ℕ) : Type 0 where
+  pub passed : totals.passed ≤ most
+  pub tagged : totals.tagged ≤ most
+  pub discarded : totals.discarded ≤ most
+  pub refused : totals.refused ≤ most

@@ -11,9 +11,9 @@ use line_record::Line;
 use upc_cell::Vc;
 
 impl Core {
-    ghost use Rattle.std.specs.Prelude.{◌≡◌, ◌≤◌, length, option_copied};
+    ghost use Rattle.std.specs.Prelude.{◌≡◌, ◌^◌, option_copied};
     ghost use Rattle.gen_arena.specs.Live.{live_value};
-    ghost use Rattle.card_core.specs.Sums.{totals_of};
+    ghost use Rattle.card_core.specs.Sums.{totals_of, AreAtMost};
     ghost use Rattle.card_core.specs.Inspection.{line_at, load_fault_of, IsRetireFault};
 
     /// The line that serves a connection, so that its counts, its journal and its contracts can be read. None
@@ -35,7 +35,7 @@ impl Core {
     /// For each verdict the sum of what the lines have counted since the card was made.
     pub fn totals(&self) -> Totals
         ensures sums { result ≡ totals_of self.now.lines }
-        ensures lines { length self.now.lines ≤ 4096 }
+        ensures bounded { AreAtMost result (2 ^ 76) }
     {
         totals_of(&self.lines)
     }

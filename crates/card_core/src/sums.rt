@@ -1,7 +1,7 @@
 //! The sums of the counts of a card's lines.
 
 ghost use Rattle.std.specs.Prelude.{◌≡◌, ◌+◌, ◌*◌, ◌^◌, ◌<◌, ◌≤◌, length};
-ghost use Rattle.card_core.specs.Sums.{totals_of};
+ghost use Rattle.card_core.specs.Sums.{totals_of, AreAtMost};
 
 use line_record::{Line, Tally};
 
@@ -18,7 +18,8 @@ pub struct Totals {
 /// The sums over these lines.
 pub(crate) fn totals_of(lines: &[Line]) -> Totals
     requires { length lines.now ≤ 4096 }
-    ensures { result ≡ totals_of lines.now }
+    ensures sums { result ≡ totals_of lines.now }
+    ensures bounded { AreAtMost result (2 ^ 76) }
 {
     let mut passed = 0u128;
     let mut tagged = 0u128;

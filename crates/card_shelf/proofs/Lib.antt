@@ -10,3 +10,4 @@ pub mod GoingOn
 pub mod Ways
 pub mod WayAlike
 pub mod Beside
+pub mod SameActs

@@ -12,7 +12,7 @@ use Rattle.card_core.specs.declared.answer.Unjudged.{Unjudged}
 use Rattle.card_core.specs.declared.shape.Shape.{Shape}
 use Rattle.card_isolation.specs.Isolation.{account_of}
 use Rattle.card_isolation.specs.Outcome.{outcome_of}
-use Rattle.card_isolation.specs.OwnEvents.{codes_after}
+use Rattle.card_isolation.specs.OwnEvents.{acts_of, codes_after}
 use Rattle.card_shelf.specs.declared.arrival.Arrival.{Arrival}
 use Rattle.card_shelf.specs.Dealing.{card_of, card_for}
 use Rattle.card_shelf.specs.Own.{ServesAll}
@@ -88,3 +88,17 @@ TellsAsOneCard shape old arrivals told new = (one : Shape) (log : List Event) (l
 abbrev pub ShelvesTellAsOneCard : Type 0
 ShelvesTellAsOneCard = (shape : Shape) (old new : List CoreView) (arrivals : List Arrival) (told : List (Result Judgement Unjudged))
     → PolicesAll shape.side old arrivals told new → TellsAsOneCard shape old arrivals told new
+
+-- A card lies beside a shelf as soon as the same was done for each connection, in the same order: for that connection of the one
+-- card, and on the card of the shelf that serves it. The same has then come of it.
+abbrev pub TheSameActsSuffice : Type 0
+TheSameActsSuffice = (one shape : Shape) (log : List Event) (logs : List (List Event)) (card : CoreView) (cards : List CoreView)
+    → one.side ≡ shape.side → one.journal ≡ shape.journal
+    → length log ≤ 2 ^ 62
+    → ((number : ℕ) (own : List Event) → slice_get logs number ≡ Some own → length own ≤ 2 ^ 62)
+    → IsLogOf one log card → length logs ≡ length cards
+    → ((number : ℕ) (own : List Event) (core : CoreView) → slice_get logs number ≡ Some own → slice_get cards number ≡ Some core
+    → IsLogOf shape own core)
+    → ((vc : Vc) (own : List Event) → slice_get logs (card_of vc (length logs)) ≡ Some own
+    → acts_of (account_of one.side vc log) ≡ acts_of (account_of shape.side vc own))
+    → IsBeside one log card shape logs cards

@@ -1,7 +1,7 @@
 //! Laws over what a shelf does. These functions do nothing: the contract of each is a law.
 
 ghost use Rattle.card_shelf.specs.Logs.{CardsGoOnByTheirArrivals};
-ghost use Rattle.card_shelf.specs.OneCard.{ShelvesTellAsOneCard};
+ghost use Rattle.card_shelf.specs.OneCard.{ShelvesTellAsOneCard, TheSameActsSuffice};
 
 /// A card that has answered arrivals has gone on by their steps, which its log has gained.
 pub fn cards_go_on_by_their_arrivals()
@@ -11,4 +11,9 @@ pub fn cards_go_on_by_their_arrivals()
 /// What is policed one arrival after another, each by its card, is told as one card with all connections tells it.
 pub fn shelves_tell_as_one_card()
     ensures { ShelvesTellAsOneCard }
+{}
+
+/// Where the same was done for each connection, in the same order, a card lies beside a shelf.
+pub fn the_same_acts_suffice()
+    ensures { TheSameActsSuffice }
 {}

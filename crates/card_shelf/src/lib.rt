@@ -10,6 +10,7 @@ mod gathering;
 pub mod laws;
 mod running;
 mod shelf;
+mod sums;
 
 pub use arrival::{Arrival, Told};
 pub use fault::ShelfFault;

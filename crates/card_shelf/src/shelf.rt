@@ -7,8 +7,9 @@ use crate::card::Card;
 use crate::dealing::card_of;
 use crate::fault::ShelfFault;
 use crate::running::{police_all, step_on};
+use crate::sums::totals_of;
 use bpf_verify::Program;
-use card_core::{Ask, CardFault, Core, Reply, Shape, Step};
+use card_core::{Ask, CardFault, Core, Reply, Shape, Step, Totals};
 use gen_arena::Id;
 use std::alloc::{AllocError, Global};
 use std::marker::Model;
@@ -46,6 +47,7 @@ impl Shelf {
     ghost use Rattle.card_shelf.specs.Policing.{PolicesAll};
     ghost use Rattle.card_shelf.specs.Own.{EachServes};
     ghost use Rattle.card_shelf.specs.OneCard.{TellsAsOneCard};
+    ghost use Rattle.card_shelf.specs.Sums.{totals_of_cards};
 
     /// A shelf of this number of cards, each of this shape and without programs and connections.
     ///
@@ -87,6 +89,13 @@ impl Shelf {
         ensures { result ≡ length self.now.cards }
     {
         self.cards.len()
+    }
+
+    /// For each verdict the sum of what the lines of all cards have counted since the shelf was made.
+    pub fn totals(&self) -> Totals
+        ensures { result ≡ totals_of_cards self.now.cards }
+    {
+        totals_of(&self.cards)
     }
 
     /// The number, from 0, of the card that serves a virtual connection.
