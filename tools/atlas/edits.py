@@ -28,7 +28,8 @@ class Edit:
         self.function = self.function or self.changed
 
     def tried(self):
-        """Returns why the edit can't be applied, or nothing, and the function that its first pair changes."""
+        """Returns why the edit can't be applied, or nothing, and the function that it changes first. A pair that changes spaces alone
+        only makes the old text of a later pair unique."""
         texts, changed = {}, None
         if not self.pairs:
             return "it changes nothing", ""
@@ -40,7 +41,7 @@ class Edit:
                 return f"there is no {file}", changed or ""
             if text.count(old) != 1:
                 return f"its old text is in {file} {text.count(old)} times, and not once", changed or ""
-            if changed is None:
+            if changed is None and old.replace(" ", "") != new.replace(" ", ""):
                 changed = function_at(self.crate, file, text, text.find(old) + len(os.path.commonprefix([old, new])))
             texts[path] = text.replace(old, new)
         return "", changed or ""
