@@ -1,5 +1,5 @@
-//! Tests of the parts of a card: buckets, the arena, lines with their journals, and whole cards step by step. They
-//! call only public items. The tests have their own crate because a crate with tests is proved twice.
+//! Tests of whole cards, step by step. They call only public items. The tests have their own crate because a crate with tests is
+//! proved twice.
 #![tactic(auto)]
 
 #[cfg(test)]

@@ -1,6 +1,3 @@
-//! One module for each crate.
+//! Tests of `card_core`.
 
-mod arena;
-mod buckets;
 mod cards;
-mod lines;

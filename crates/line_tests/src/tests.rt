@@ -1,0 +1,5 @@
+//! One module for each crate.
+
+mod arena;
+mod buckets;
+mod lines;
