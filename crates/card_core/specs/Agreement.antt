@@ -38,7 +38,7 @@ pub record StoreAgrees (shape : Shape) (slots : List (Slot (List Instr))) (given
   pub generations : (slot : ℕ) → generation_at slots slot ≡ times_given given slot
   pub values : (id : Id) → live_value slots id ≡ code_in live id
 
--- Where the directory has the connection.
+-- The seating of the connection in the directory.
 abbrev pub seating_of : Connection → Seating
 seating_of connection = record {
   line = connection.line;
@@ -53,7 +53,7 @@ pub record SeatingsAgree (shape : Shape) (directory : DirectoryView) (connection
   pub used_up : directory.used ≡ used
   pub seatings : (vc : Vc) → seating_at directory vc ≡ option_map seating_of (connection_in connections vc)
 
--- Who holds the line of a connection.
+-- The owner of the line of a connection.
 abbrev pub owner_of : Vc → Connection → Owner
 owner_of vc connection = record { vc = vc; incarnation = connection.incarnation }
 

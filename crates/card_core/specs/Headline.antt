@@ -82,7 +82,7 @@ named_after vc program _ _ = program
 abbrev pub program_named : Vc → Id → List Event → Id
 program_named vc first log = fold (λ program event. named_after vc program event.reply event.step) first log
 
--- The judged cell of which the reply tells, if it tells of one.
+-- The judged cell of the reply, if it has one.
 abbrev pub judged_in : Reply → Option JudgedView
 judged_in (Answered answer) = told answer
 judged_in _ = None
@@ -127,7 +127,7 @@ entering port cell moment = record { step = Enter port cell moment; reply = Ente
 abbrev pub picking : ℕ → Event
 picking port = record { step = Pick port; reply = Picked }
 
--- The event in which the cell of the port was judged, with all that is told of it.
+-- The event in which the cell of the port was judged, with its answer.
 abbrev pub judging : ℕ → JudgedView → Event
 judging port judged = record {
   step = Judge port;
@@ -179,7 +179,7 @@ abbrev pub IsLiveThrough : List Event → List Event → Id → List Instr → T
 IsLiveThrough log further id code =
     (so_far rest : List Event) → further ≡ so_far ++ rest → IsLive (log ++ so_far) id code
 
--- What is promised of a cell that was judged at this port, on a card of this shape, after these events.
+-- The promise for a cell that was judged at this port, on a card of this shape, after these events.
 pub record IsPromised (shape : Shape) (before : List Event) (port : ℕ) (judged : JudgedView) : Type 0 where
   -- The port's latest move was that its cell was picked.
   pub at_pick : List Event
