@@ -186,8 +186,8 @@ pub record IsPromised (shape : Shape) (before : List Event) (port : ℕ) (judged
   pub since : List Event
   pub cut : before ≡ at_pick ++ picking port ∷ since
   pub alone : Never (moves port) since
-  -- Before that, this cell entered the port at the moment that is told; it leaves tagged where the
-  -- verdict is Tag, and else as it came.
+  -- Before that, this cell entered the port at the moment in the answer; it leaves tagged if the
+  -- verdict is Tag, otherwise unchanged.
   pub came : List ℕ
   pub arrived : HasEntered at_pick port came judged.moment
   pub left : judged.cell ≡ cell_after judged.verdict came
@@ -201,7 +201,7 @@ pub record IsPromised (shape : Shape) (before : List Event) (port : ℕ) (judged
   pub until : List Event
   pub pick : standing ≡ until ++ picking port ∷ since
   -- The program is the one that the connection named when the cell was picked: one accepted code, live
-  -- from there to the judgement, whose value on the cell is the one that is told.
+  -- from there to the judgement, whose value on the cell is the one in the answer.
   pub named : judged.program ≡ program_named vc ask.program until
   pub code : List Instr
   pub accepted : IsAccepted code
@@ -217,12 +217,12 @@ pub record IsPromised (shape : Shape) (before : List Event) (port : ℕ) (judged
   -- The moment is at most 2^62.
   pub in_time : judged.moment ≤ 2 ^ 62
   -- The verdict is that of the contract whose number is the value, from the buckets that the history left
-  -- in it; it is Refuse where there is no such contract.
+  -- in it; it is Refuse if there is no such contract.
   pub decided : judged.verdict ≡ verdict_after ask.contracts.items empty_buckets history (named_cell came judged.moment judged.program judged.value)
   -- The number counts the verdicts of this kind on the line, this one included.
   pub counted : judged.number ≡ number_with (verdicts_on judged.line before) judged.verdict
 
--- The headline: wherever a log has a cell that was judged, what is promised of it holds.
+-- The headline: the promise holds for each judged cell of a log.
 abbrev pub EachJudgedCellIsPromised : Type 0
 EachJudgedCellIsPromised = (shape : Shape) (before after : List Event) (port : ℕ) (judged : JudgedView)
     → IsLog shape (before ++ judging port judged ∷ after)

@@ -112,9 +112,9 @@ abbrev pub SomeAnswersNeverCome : Type 0
 SomeAnswersNeverCome = (shape : Shape) (before after : List Event) (event : Event)
     → IsLog shape (before ++ event ∷ after) → AnswersAsItMay event
 
--- What the log has of a connection: it was set up as this was asked, with this incarnation, and was
--- neither released nor set up again since; its program is the one that was named last; and its history is what was judged since,
--- on its virtual connection and on its line alike.
+-- What the log has of a connection: it was set up by this request, with this incarnation, and was neither
+-- released nor set up again since; its program is the one that was named last; its history is the list of the
+-- cells that were judged since on its virtual connection, which are also those that were judged on its line.
 pub record IsAsTold (shape : Shape) (log : List Event) (vc : Vc) (connection : Connection) : Type 0 where
   pub ask : Ask
   pub since : List Event

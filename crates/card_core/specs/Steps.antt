@@ -174,7 +174,7 @@ pub record Reloads (before : World) (vc : Vc) (program : Id) (reply : Reply) (af
     connections = with_connection before.connections vc (record connection { program = program });
   }
 
--- A piece of a connection's record: the cells that no cut has handed out, with their verdicts, and
+-- A piece of a connection's record: the cells that no cut has returned, with their verdicts, and
 -- the states before and after them. The counts at its end are those of all verdicts ever given on the
 -- line; the counts at its start and those of its entries are together as many.
 pub record IsPieceOf (world : World) (vc : Vc) (connection : Connection) (piece : PieceView) : Type 0 where
@@ -195,7 +195,7 @@ pub record Releases (before : World) (vc : Vc) (reply : Reply) (after : World) :
   pub answer : reply ≡ Released piece
   pub world : after ≡ record before { connections = without_connection before.connections vc }
 
--- Cut: the cells of the connection's history count as handed out, and the reply has the piece.
+-- Cut: the cells of the connection's history count as returned, and the reply has the piece.
 pub record Cuts (before : World) (vc : Vc) (reply : Reply) (after : World) : Type 0 where
   pub connection : Connection
   pub found : connection_in before.connections vc ≡ Some connection

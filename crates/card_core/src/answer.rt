@@ -25,7 +25,7 @@ pub enum Answer {
         /// The program that gave it.
         program: Id,
         verdict: Verdict,
-        /// The leaving cell: tagged where the verdict is Tag, else as it came.
+        /// The leaving cell: tagged if the verdict is Tag, otherwise unchanged.
         cell: Cell,
     },
     /// The cell belongs to no connection.
@@ -63,7 +63,7 @@ pub struct Judgement {
     pub verdict: Verdict,
 }
 
-/// Why a cell that arrived isn't judged. It is small, where an [`Answer`] has room for a cell.
+/// Why a cell that arrived isn't judged. It is small; an [`Answer`] has room for a cell.
 #[derive(Clone, Copy, Debug, PartialEq, Eq)]
 pub enum Unjudged {
     /// The cell belongs to no connection.

@@ -54,8 +54,8 @@ impl Core {
         None
     }
 
-    /// Why the program of this id can't be taken out now: `Busy` where a port has a cell, then `NoProgram`
-    /// where the id isn't live, then `InUse` where some connection names it. None exactly where
+    /// Returns why the program of this id can't be taken out now: `Busy` if a port has a cell, then `NoProgram`
+    /// if the id isn't live, then `InUse` if some connection names it. None if and only if
     /// [`Core::retire`] would succeed.
     pub fn retire_fault(&self, id: Id) -> Option<DeskFault>
         ensures { IsRetireFault self.now id result }

@@ -42,8 +42,7 @@ pub enum Reply {
     Refused(DeskFault),
 }
 
-/// What the core answers to a step of a port, which is all that a cell asks for: it is small, where a reply
-/// may hold a program.
+/// The reply of the core to a step of a port. It is small; a [`Reply`] has room for a program.
 #[derive(Clone, Copy, Debug)]
 pub enum PortReply {
     /// The port has the cell.
@@ -56,7 +55,7 @@ pub enum PortReply {
     Answered(Answer),
 }
 
-/// The reply that a port's reply is.
+/// The same reply, as a [`Reply`].
 pub(crate) fn whole(reply: PortReply) -> Reply
     ensures { result ≡ reply_of reply }
 {

@@ -29,7 +29,7 @@ seen entry = record {
 }
 
 -- It was done; a program of this code was named before; a piece with these contracts and entries was
--- handed out; the cell, which came at this moment, was judged with this value by a program of this code,
+-- returned; the cell, which came at this moment, was judged with this value by a program of this code,
 -- with this verdict, and leaves so; or the cell was answered this, and was not judged.
 pub data Outcome : Type 0 where
   done : Outcome
