@@ -59,8 +59,8 @@ owner_of vc connection = record { vc = vc; incarnation = connection.incarnation 
 
 -- The line, on which these verdicts were given, serves the connection under its contracts; its journal
 -- has the cells that no cut has returned, with their verdicts; its first state is that after the cells that
--- cuts returned, its last state that after all cells; and the counts at the journal's beginning and those of its entries
--- are together the counts of these verdicts.
+-- cuts returned, its last state that after all cells; and the counts at the journal's beginning and those of its
+-- entries are together the counts of these verdicts.
 pub record Serves (line : LineView) (vc : Vc) (connection : Connection) (verdicts : List Verdict) : Type 0 where
   pub owner : line.owner ≡ Some (owner_of vc connection)
   pub contracts : line.contracts ≡ connection.contracts

@@ -35,7 +35,7 @@ pub fn steps_have_replies()
     ensures { StepsHaveReplies }
 {}
 
-/// No answer is `Stale`, and `NoMemory` is an answer only to a Setup or a Cut.
+/// No reply is `Stale`, and `NoMemory` is a reply only to a Setup or a Cut.
 pub fn some_answers_never_come()
     ensures { SomeAnswersNeverCome }
 {}
