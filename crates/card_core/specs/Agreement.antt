@@ -38,7 +38,7 @@ pub record StoreAgrees (shape : Shape) (slots : List (Slot (List Instr))) (given
   pub generations : (slot : ℕ) → generation_at slots slot ≡ times_given given slot
   pub values : (id : Id) → live_value slots id ≡ code_in live id
 
--- Where the directory has the connection.
+-- The seating of the connection in the directory.
 abbrev pub seating_of : Connection → Seating
 seating_of connection = record {
   line = connection.line;
@@ -53,14 +53,14 @@ pub record SeatingsAgree (shape : Shape) (directory : DirectoryView) (connection
   pub used_up : directory.used ≡ used
   pub seatings : (vc : Vc) → seating_at directory vc ≡ option_map seating_of (connection_in connections vc)
 
--- Who holds the line of a connection.
+-- The owner of the line of a connection.
 abbrev pub owner_of : Vc → Connection → Owner
 owner_of vc connection = record { vc = vc; incarnation = connection.incarnation }
 
 -- The line, on which these verdicts were given, serves the connection under its contracts; its journal
--- has the cells that no cut has handed out, with their verdicts; its states are those after the cells
--- that were handed out and after all; and the counts at the journal's beginning and those of its entries
--- are together the counts of these verdicts.
+-- has the cells that no cut has returned, with their verdicts; its first state is that after the cells that
+-- cuts returned, its last state that after all cells; and the counts at the journal's beginning and those of its
+-- entries are together the counts of these verdicts.
 pub record Serves (line : LineView) (vc : Vc) (connection : Connection) (verdicts : List Verdict) : Type 0 where
   pub owner : line.owner ≡ Some (owner_of vc connection)
   pub contracts : line.contracts ≡ connection.contracts

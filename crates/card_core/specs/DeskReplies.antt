@@ -1,4 +1,4 @@
--- The replies to the steps of the desk, by what the call of each returns.
+-- The replies to the steps of the desk, for the result of each call.
 use Rattle.std.specs.Prelude.{List, Result, Ok, Err}
 use Rattle.bpf_code.specs.declared.instr.Instr.{Instr}
 use Rattle.gen_arena.specs.declared.id.Id.{Id}
@@ -19,7 +19,7 @@ abbrev pub retire_reply : Result (List Instr) DeskFault → Reply
 retire_reply (Ok program) = Retired program
 retire_reply (Err fault) = Refused fault
 
--- The reply to Setup: the owner of the line, or the fault with what was asked.
+-- The reply to Setup: the owner of the line, or the fault with the request.
 abbrev pub setup_reply : Result Owner (DeskFault × Ask) → Reply
 setup_reply (Ok owner) = SetUp owner
 setup_reply (Err refused) = NotSetUp refused.0 refused.1

@@ -82,7 +82,7 @@ named_after vc program _ _ = program
 abbrev pub program_named : Vc → Id → List Event → Id
 program_named vc first log = fold (λ program event. named_after vc program event.reply event.step) first log
 
--- The judged cell of which the reply tells, if it tells of one.
+-- The judged cell of the reply, if it has one.
 abbrev pub judged_in : Reply → Option JudgedView
 judged_in (Answered answer) = told answer
 judged_in _ = None
@@ -127,7 +127,7 @@ entering port cell moment = record { step = Enter port cell moment; reply = Ente
 abbrev pub picking : ℕ → Event
 picking port = record { step = Pick port; reply = Picked }
 
--- The event in which the cell of the port was judged, with all that is told of it.
+-- The event in which the cell of the port was judged, with its answer.
 abbrev pub judging : ℕ → JudgedView → Event
 judging port judged = record {
   step = Judge port;
@@ -179,15 +179,15 @@ abbrev pub IsLiveThrough : List Event → List Event → Id → List Instr → T
 IsLiveThrough log further id code =
     (so_far rest : List Event) → further ≡ so_far ++ rest → IsLive (log ++ so_far) id code
 
--- What is promised of a cell that was judged at this port, on a card of this shape, after these events.
+-- The promise for a cell that was judged at this port, on a card of this shape, after these events.
 pub record IsPromised (shape : Shape) (before : List Event) (port : ℕ) (judged : JudgedView) : Type 0 where
   -- The port's latest move was that its cell was picked.
   pub at_pick : List Event
   pub since : List Event
   pub cut : before ≡ at_pick ++ picking port ∷ since
   pub alone : Never (moves port) since
-  -- Before that, this cell entered the port at the moment that is told; it leaves tagged where the
-  -- verdict is Tag, and else as it came.
+  -- Before that, this cell entered the port at the moment in the answer; it leaves tagged if the
+  -- verdict is Tag, otherwise unchanged.
   pub came : List ℕ
   pub arrived : HasEntered at_pick port came judged.moment
   pub left : judged.cell ≡ cell_after judged.verdict came
@@ -201,7 +201,7 @@ pub record IsPromised (shape : Shape) (before : List Event) (port : ℕ) (judged
   pub until : List Event
   pub pick : standing ≡ until ++ picking port ∷ since
   -- The program is the one that the connection named when the cell was picked: one accepted code, live
-  -- from there to the judgement, whose value on the cell is the one that is told.
+  -- from there to the judgement, whose value on the cell is the one in the answer.
   pub named : judged.program ≡ program_named vc ask.program until
   pub code : List Instr
   pub accepted : IsAccepted code
@@ -217,12 +217,12 @@ pub record IsPromised (shape : Shape) (before : List Event) (port : ℕ) (judged
   -- The moment is at most 2^62.
   pub in_time : judged.moment ≤ 2 ^ 62
   -- The verdict is that of the contract whose number is the value, from the buckets that the history left
-  -- in it; it is Refuse where there is no such contract.
+  -- in it; it is Refuse if there is no such contract.
   pub decided : judged.verdict ≡ verdict_after ask.contracts.items empty_buckets history (named_cell came judged.moment judged.program judged.value)
   -- The number counts the verdicts of this kind on the line, this one included.
   pub counted : judged.number ≡ number_with (verdicts_on judged.line before) judged.verdict
 
--- The headline: wherever a log has a cell that was judged, what is promised of it holds.
+-- The headline: the promise holds for each judged cell of a log.
 abbrev pub EachJudgedCellIsPromised : Type 0
 EachJudgedCellIsPromised = (shape : Shape) (before after : List Event) (port : ℕ) (judged : JudgedView)
     → IsLog shape (before ++ judging port judged ∷ after)

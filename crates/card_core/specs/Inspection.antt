@@ -1,4 +1,4 @@
--- What a core tells of itself without a step: the line of a connection, and why a program can't be put in or
+-- Reads of a core without a step: the line of a connection, and why a program can't be put in or
 -- taken out now.
 use Rattle.std.specs.Prelude.{◌≡◌, ◌≢◌, ◌==◌, Bool, true, false, not, if◌then◌else◌, List, Option, Some, None, slice_get}
 use Rattle.std.specs.List.{list_all}
@@ -38,7 +38,7 @@ load_fault_of core =
     else None
 
 -- Why the program of this id can't be taken out now, if there is a reason: some port has a cell; the id isn't
--- live; some connection names it. Each is the reason only where none before it is.
+-- live; some connection names it. Each is the reason only if none before it holds.
 abbrev pub IsRetireFault : CoreView → Id → Option DeskFault → Type 0
 IsRetireFault core id None = (has_cell core ≡ false) × IsLive core.store id × (¬ IsNamed core.directory id)
 IsRetireFault core id (Some Busy) = has_cell core ≡ true

@@ -1,4 +1,4 @@
--- What is told of a judged cell.
+-- The answer to a judged cell.
 use Rattle.std.specs.Prelude.{ℕ, List, Option, Some, None}
 use Rattle.gen_arena.specs.declared.id.Id.{Id}
 use Rattle.leaky.specs.declared.verdict.Verdict.{Verdict}
@@ -16,7 +16,7 @@ pub record JudgedView : Type 0 where
   pub verdict : Verdict
   pub cell : List ℕ
 
--- What an answer tells of a judged cell, where it is that one was judged.
+-- The judged cell of an answer, if the answer is that a cell was judged.
 abbrev pub told : Answer → Option JudgedView
 told (Judged line number moment value program verdict cell) = Some (record {
   line = line;

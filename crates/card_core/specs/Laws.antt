@@ -1,4 +1,4 @@
--- What holds of every world that a log leads to.
+-- Laws of every world that a log leads to.
 use Rattle.std.specs.Prelude.{◌≡◌, ℕ, Bool, true, false, ⊤, List, [], ◌∷◌, ◌++◌, Some, IsSome, slice_get}
 use Rattle.upc_cell.specs.declared.vc.Vc.{Vc}
 use Rattle.bpf_code.specs.declared.instr.Instr.{Instr}
@@ -32,11 +32,11 @@ pub record NamesLivePrograms (world : World) : Type 0 where
   pub ports : (port : ℕ) (picking : Picking) → slice_get world.ports port ≡ Some (picked picking)
       → IsSome (code_in world.live picking.program)
 
--- So it is in every world.
+-- This holds in every world that a log leads to.
 abbrev pub NamedProgramsAreLive : Type 0
 NamedProgramsAreLive = (shape : Shape) (log : List Event) (world : World) → Leads shape log world → NamesLivePrograms world
 
--- No id stands twice among the codes that were ever put in, and each of these codes is accepted.
+-- No id occurs twice among the codes that were ever put in, and each of these codes is accepted.
 pub record GivesEachIdOnce (world : World) : Type 0 where
   pub once : (place other : ℕ) (one another : Loading)
       → slice_get world.given place ≡ Some one → slice_get world.given other ≡ Some another
@@ -44,12 +44,11 @@ pub record GivesEachIdOnce (world : World) : Type 0 where
   pub accepted : (place : ℕ) (loading : Loading) → slice_get world.given place ≡ Some loading
       → IsAccepted loading.code
 
--- So it is in every world.
+-- This holds in every world that a log leads to.
 abbrev pub IdsAreGivenOnce : Type 0
 IdsAreGivenOnce = (shape : Shape) (log : List Event) (world : World) → Leads shape log world → GivesEachIdOnce world
 
--- An id names one code for good: whatever follows, the code that it was given stays the one that it
--- was given.
+-- The code that an id was given never changes, whatever events follow.
 abbrev pub IdsNameOneCode : Type 0
 IdsNameOneCode = (shape : Shape) (log further : List Event) (world later : World)
     → Leads shape log world → Run world further later
@@ -64,7 +63,7 @@ pub record KeepsConnectionsApart (world : World) : Type 0 where
       → connection_in world.connections one ≡ Some connection → connection_in world.connections other ≡ Some another
       → connection.incarnation ≡ another.incarnation → one ≡ other
 
--- So it is in every world.
+-- This holds in every world that a log leads to.
 abbrev pub ConnectionsAreApart : Type 0
 ConnectionsAreApart = (shape : Shape) (log : List Event) (world : World) → Leads shape log world → KeepsConnectionsApart world
 
@@ -78,7 +77,7 @@ ConnectionsBoundBursts = (shape : Shape) (log : List Event) (world : World) → 
     → (first span : ℕ)
     → IsBounded first span (peak_charges number (judged connection.contracts empty_buckets [] connection.history)) (peak_of contract)
 
--- The reply says that memory was refused.
+-- The reply reports an allocation failure.
 abbrev pub is_of_memory : Reply → Bool
 is_of_memory (Answered CellMemory) = true
 is_of_memory (NotLoaded NoMemory code) = true
@@ -91,31 +90,31 @@ abbrev pub LoadsAccepted : Step → Type 0
 LoadsAccepted (Load code) = IsAccepted code
 LoadsAccepted _ = ⊤
 
--- In every world each step has a reply that says nothing of memory: what was begun can be ended.
+-- In every world each step has a reply that reports no allocation failure.
 abbrev pub StepsHaveReplies : Type 0
 StepsHaveReplies = (shape : Shape) (log : List Event) (world : World) → Leads shape log world
     → (step : Step) → LoadsAccepted step
     → (reply : Reply) × (after : World) × WorldStep world step reply after × (is_of_memory reply ≡ false)
 
--- The step takes memory: that of the journal which a connection begins, or goes on with after a cut.
+-- The step may allocate: it is a Setup or a Cut.
 abbrev pub takes_memory : Step → Bool
 takes_memory (Setup ask) = true
 takes_memory (Cut vc) = true
 takes_memory _ = false
 
--- The reply isn't Stale, and it is NoMemory only where the step takes memory.
+-- The reply isn't Stale, and it is NoMemory only if the step may allocate.
 pub record AnswersAsItMay (event : Event) : Type 0 where
   pub never_stale : is_stale event.reply ≡ false
   pub memory : is_of_memory event.reply ≡ true → takes_memory event.step ≡ true
 
--- So it is with every event of a log: Stale never comes, and no cell is refused for want of memory.
+-- This holds for every event of a log: no reply is Stale, and none to a cell is NoMemory.
 abbrev pub SomeAnswersNeverCome : Type 0
 SomeAnswersNeverCome = (shape : Shape) (before after : List Event) (event : Event)
     → IsLog shape (before ++ event ∷ after) → AnswersAsItMay event
 
--- What the log tells of a connection: it was set up as this was asked, as so many-th among all, and has
--- stood since; its program is the one that was named last; and its history is what was judged since,
--- on its virtual connection and on its line alike.
+-- What the log has of a connection: it was set up by this request, with this incarnation, and was neither
+-- released nor set up again since; its program is the one that was named last; its history is the list of the
+-- cells that were judged since on its virtual connection, which are also those that were judged on its line.
 pub record IsAsTold (shape : Shape) (log : List Event) (vc : Vc) (connection : Connection) : Type 0 where
   pub ask : Ask
   pub since : List Event
@@ -126,15 +125,15 @@ pub record IsAsTold (shape : Shape) (log : List Event) (vc : Vc) (connection : C
   pub cells : connection.history ≡ cells_of shape vc since
   pub held : connection.history ≡ cells_on connection.line since
 
--- Each connection of the world that a log leads to is as the log tells, and each that the log has
--- stand is there.
+-- Each connection of the world that a log leads to is as the log says, and each connection of
+-- the log is in the world.
 pub record TellsConnections (shape : Shape) (log : List Event) (world : World) : Type 0 where
   pub told : (vc : Vc) (connection : Connection) → connection_in world.connections vc ≡ Some connection
       → IsAsTold shape log vc connection
   pub there : (vc : Vc) (ask : Ask) (since : List Event) → StandsSince log vc ask since
       → IsSome (connection_in world.connections vc)
 
--- So it is in every world.
+-- This holds in every world that a log leads to.
 abbrev pub ConnectionsAreAsTold : Type 0
 ConnectionsAreAsTold = (shape : Shape) (log : List Event) (world : World) → Leads shape log world
     → TellsConnections shape log world

@@ -1,6 +1,6 @@
--- The card in whole histories, what its steps do, what a log of them tells, and when a core agrees
--- with it. To be read in the order World, Refusals, Steps, Log, Agreement, Arrival, Headline;
--- Inspection and Sums have what a core tells without a step, Laws what holds beside the headline.
+-- The card with whole histories, its steps, its logs, and when a core agrees with it. Read in the order
+-- World, Refusals, Steps, Log, Agreement, Arrival, Headline;
+-- Inspection and Sums have the reads of a core without a step, Laws has the other laws beside the headline.
 pub mod World
 pub mod Refusals
 pub mod Steps

@@ -1,4 +1,4 @@
--- When a step is refused. The refusals of each step are tried in the order in which they stand.
+-- When a step is refused. The refusals of each step are tried in the order of the text.
 use Rattle.std.specs.Prelude.{ℕ, ◌^◌, ◌==◌, nat_lt, nat_le, not, if◌then◌else◌, length, Option, Some, None, is_some, is_none, option_map, slice_get}
 use Rattle.upc_cell.specs.declared.vc.Vc.{Vc}
 use Rattle.gen_arena.specs.declared.id.Id.{Id}
@@ -97,7 +97,7 @@ reload_fault world vc program =
 abbrev pub missing_fault : World → Vc → Option DeskFault
 missing_fault world vc = if is_none (connection_in world.connections vc) then Some NoConnection else None
 
--- What is answered to a step that is refused, and nothing where it isn't.
+-- The reply to a refused step, or none if the step isn't refused.
 abbrev pub refusal : World → Step → Option Reply
 refusal world (Enter port cell moment) = enter_refusal (slice_get world.ports port)
 refusal world (Pick port) = pick_refusal world (slice_get world.ports port)

@@ -1,4 +1,4 @@
--- What the locked sections do to the parts that they are lent.
+-- What the locked sections do to the parts that are passed to them.
 use Rattle.std.specs.Prelude.{◌≡◌, ◌≢◌, ℕ, ◌+◌, ◌^◌, ◌<◌, ◌==◌, ◌&&◌, ◌⊎◌, Bool, true, false, if◌then◌else◌, List, [], ◌∷◌, ◌++◌, length, Option, Some, None, option_map, IsSome, Result, Ok, Err}
 use Rattle.upc_cell.specs.declared.vc.Vc.{Vc}
 use Rattle.upc_cell.specs.Connection.{is_same_vc}
@@ -50,7 +50,7 @@ abbrev pub is_owned_by : Option Owner → Owner → Bool
 is_owned_by None owner = false
 is_owned_by (Some other) owner = is_same_vc other.vc owner.vc && (other.incarnation == owner.incarnation)
 
--- What a line's refusal is answered as.
+-- The answer for a line's refusal.
 abbrev pub answer_for : LineFault → Answer
 answer_for TooLate = MomentTooLate
 answer_for (Back last) = MomentBack last
@@ -78,14 +78,14 @@ pub record JudgesAt (old : LineView) (seating : Seating) (named : NamedView) (mo
   pub answered : answer ≡ Judged seating.line (count_of old.state.counts entry.verdict + 1)
       moment named.value named.program entry.verdict (cell_after entry.verdict named.cell)
 
--- What a cell that isn't judged is answered.
+-- The answer to a cell that isn't judged.
 abbrev pub unjudged_answer : Unjudged → Answer
 unjudged_answer unjudged.NoConnection = NoConnection
 unjudged_answer unjudged.Released = Released
 unjudged_answer unjudged.Stale = StaleAnswer
 unjudged_answer (unjudged.Refused fault) = answer_for fault
 
--- The answer to a cell of which this is told: it was judged, and leaves as its verdict says; or it wasn't, for
+-- The answer to a cell with this result: it was judged, and leaves as its verdict says; or it wasn't judged, for
 -- this reason.
 abbrev pub answer_to : List ℕ → Result Judgement Unjudged → Answer
 answer_to cell (Ok judgement) =
@@ -93,7 +93,7 @@ answer_to cell (Ok judgement) =
     (cell_after judgement.verdict cell)
 answer_to cell (Err reason) = unjudged_answer reason
 
--- What is asked may be set up on this line.
+-- The requested connection may be set up on this line.
 pub record Admits (store : List (Slot (List Instr))) (directory : DirectoryView) (ask : Ask) (line : ℕ) : Type 0 where
   pub live : IsLive store ask.program
   pub new : seating_at directory ask.vc ≡ None
@@ -104,7 +104,7 @@ pub record Admits (store : List (Slot (List Instr))) (directory : DirectoryView)
 
 -- Why it may not: the program isn't live; the virtual connection has a connection; there is no
 -- contract; each line is some connection's; the last incarnation was given. Each is the reason only
--- where none before it is.
+-- if none before it holds.
 abbrev pub IsUnfit : List (Slot (List Instr)) → DirectoryView → Ask → DeskFault → Type 0
 IsUnfit store directory ask NoProgram = live_value store ask.program ≡ None
 IsUnfit store directory ask Taken =
@@ -119,17 +119,17 @@ IsUnfit store directory ask Exhausted =
     × ((line : ℕ) × (line < directory.lines) × IsOpenLine directory line) × (directory.used ≡ 2 ^ 62)
 IsUnfit store directory ask _ = ⊥
 
--- Why a line that is lent for a setup is refused: it isn't free, or else its memory was.
+-- Why a setup on this line is refused: the line isn't free; or it is free, and an allocation failed.
 abbrev pub IsUnready : LineView → DeskFault → Type 0
 IsUnready line Stale = IsSome line.owner
 IsUnready line DeskNoMemory = line.owner ≡ None
 IsUnready line _ = ⊥
 
--- The line is as before; or it was free, and nothing has changed but that it is ready now.
+-- The line is unchanged; or it was free, and only became ready.
 abbrev pub MayBecomeReady : LineView → LineView → Type 0
 MayBecomeReady old new = (new ≡ old) ⊎ ((old.owner ≡ None) × (new ≡ record old { ready = true }))
 
--- Why a line that is lent for a cut is refused: it isn't this owner's, or else its memory was.
+-- Why a cut of this line is refused: the line isn't this owner's; or it is, and an allocation failed.
 abbrev pub IsUncut : LineView → Owner → DeskFault → Type 0
 IsUncut line owner Stale = line.owner ≢ Some owner
 IsUncut line owner DeskNoMemory = line.owner ≡ Some owner

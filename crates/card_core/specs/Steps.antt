@@ -1,4 +1,4 @@
--- What each step does where it isn't refused, and what a refusal leaves.
+-- The world after each step that isn't refused, and after a refusal.
 use Rattle.std.specs.Prelude.{◌≡◌, ℕ, ◌+◌, ◌<◌, ◌≤◌, ◌⊎◌, List, [], ◌∷◌, ◌++◌, length, Option, Some, None, MatchOption, IsTrue, slice_get, slice_set}
 use Rattle.upc_cell.specs.declared.vc.Vc.{Vc}
 use Rattle.upc_cell.specs.Tagged.{tagged_form}
@@ -31,7 +31,7 @@ use Rattle.card_core.specs.Refusals.{refusal}
 abbrev pub Gives : List Instr → List ℕ → ℕ → Type 0
 Gives code cell value = (steps : ℕ) × Value code cell value steps × (steps ≤ length code)
 
--- The leaving cell: tagged where the verdict is Tag, else as it came.
+-- The leaving cell: tagged if the verdict is Tag, otherwise unchanged.
 abbrev pub cell_after : Verdict → List ℕ → List ℕ
 cell_after Pass cell = cell
 cell_after Tag cell = tagged_form cell
@@ -61,7 +61,7 @@ pub record Enters (before : World) (port : ℕ) (cell : List ℕ) (moment : ℕ)
   pub answer : reply ≡ Entered
   pub world : after ≡ with_port before port (entered cell moment)
 
--- What is known of a cell once it was picked.
+-- The values that a pick keeps with its cell.
 abbrev pub picking_of : List ℕ → ℕ → Vc → Connection → ℕ → Picking
 picking_of cell moment vc connection value = record {
   cell = cell;
@@ -136,7 +136,7 @@ pub record Loads (before : World) (code : List Instr) (reply : Reply) (after : W
     live = record { id = id; code = code } ∷ before.live;
   }
 
--- Retire: the id isn't live any more, and its code is handed back.
+-- Retire: the id isn't live any more, and its code is returned.
 pub record Retires (before : World) (id : Id) (reply : Reply) (after : World) : Type 0 where
   pub code : List Instr
   pub was : code_in before.live id ≡ Some code
@@ -165,7 +165,7 @@ pub record SetsUp (before : World) (ask : Ask) (reply : Reply) (after : World) :
     used = before.used + 1;
   }
 
--- Reload: the connection names the new program, nothing else changes, and the old one is answered.
+-- Reload: the connection names the new program, nothing else changes, and the reply has the old one.
 pub record Reloads (before : World) (vc : Vc) (program : Id) (reply : Reply) (after : World) : Type 0 where
   pub connection : Connection
   pub found : connection_in before.connections vc ≡ Some connection
@@ -174,7 +174,7 @@ pub record Reloads (before : World) (vc : Vc) (program : Id) (reply : Reply) (af
     connections = with_connection before.connections vc (record connection { program = program });
   }
 
--- A piece of a connection's record: the cells that no cut has handed out, with their verdicts, and
+-- A piece of a connection's record: the cells that no cut has returned, with their verdicts, and
 -- the states before and after them. The counts at its end are those of all verdicts ever given on the
 -- line; the counts at its start and those of its entries are together as many.
 pub record IsPieceOf (world : World) (vc : Vc) (connection : Connection) (piece : PieceView) : Type 0 where
@@ -186,7 +186,7 @@ pub record IsPieceOf (world : World) (vc : Vc) (connection : Connection) (piece 
   pub counts : piece.end.counts ≡ tally_of (world.judged connection.line)
   pub together : tallied piece.start.counts piece.entries ≡ tally_of (world.judged connection.line)
 
--- Release: the connection is gone, and its last piece is answered. The line's verdicts stay.
+-- Release: the connection is gone, and the reply has its last piece. The line's verdicts stay.
 pub record Releases (before : World) (vc : Vc) (reply : Reply) (after : World) : Type 0 where
   pub connection : Connection
   pub found : connection_in before.connections vc ≡ Some connection
@@ -195,7 +195,7 @@ pub record Releases (before : World) (vc : Vc) (reply : Reply) (after : World) :
   pub answer : reply ≡ Released piece
   pub world : after ≡ record before { connections = without_connection before.connections vc }
 
--- Cut: the cells of the connection's history count as handed out, and a piece with them is answered.
+-- Cut: the cells of the connection's history count as returned, and the reply has the piece.
 pub record Cuts (before : World) (vc : Vc) (reply : Reply) (after : World) : Type 0 where
   pub connection : Connection
   pub found : connection_in before.connections vc ≡ Some connection
@@ -206,7 +206,7 @@ pub record Cuts (before : World) (vc : Vc) (reply : Reply) (after : World) : Typ
     connections = with_connection before.connections vc (record connection { handed = length connection.history });
   }
 
--- What a step does that isn't refused.
+-- The effect of a step that isn't refused.
 abbrev pub Succeeds : World → Step → Reply → World → Type 0
 Succeeds before (Enter port cell moment) reply after = Enters before port cell moment reply after
 Succeeds before (Pick port) reply after = Picks before port reply after
@@ -218,43 +218,43 @@ Succeeds before (Reload vc program) reply after = Reloads before vc program repl
 Succeeds before (Release vc) reply after = Releases before vc reply after
 Succeeds before (Cut vc) reply after = Cuts before vc reply after
 
--- What is answered to a step whose memory was refused: only Setup and Cut take any.
+-- The reply to a step after an allocation failure. Only Setup and Cut allocate.
 abbrev pub without_memory : Step → Option Reply
 without_memory (Setup ask) = Some (NotSetUp NoMemory ask)
 without_memory (Cut vc) = Some (Refused NoMemory)
 without_memory _ = None
 
--- A step finds no memory, and changes nothing.
+-- An allocation of the step fails, and nothing changes.
 pub record FindsNoMemory (before : World) (step : Step) (reply : Reply) (after : World) : Type 0 where
   pub answer : without_memory step ≡ Some reply
   pub world : after ≡ before
 
--- What a refused Pick leaves: a cell that had entered the port is answered, and the port is outside; a port
+-- After a refused Pick: a cell that had entered the port is answered, and the port is outside; a port
 -- in another state stays as it was.
 abbrev pub left_by_pick : World → ℕ → Option PortState → World
 left_by_pick before port (Some (entered cell moment)) = with_port before port outside
 left_by_pick before port _ = before
 
--- What a refused Judge leaves: a cell of the port that was picked is answered, and the port is outside; a
+-- After a refused Judge: a cell of the port that was picked is answered, and the port is outside; a
 -- port in another state stays as it was.
 abbrev pub left_by_judge : World → ℕ → Option PortState → World
 left_by_judge before port (Some (picked picking)) = with_port before port outside
 left_by_judge before port _ = before
 
--- What a refused step leaves: a Pick and a Judge by the state in which the port was, and every other step
--- the world as it was.
+-- The world after a refused step: after a Pick or a Judge it depends on the state of the port; after every other
+-- step it is unchanged.
 abbrev pub left_by : World → Step → World
 left_by before (Pick port) = left_by_pick before port (slice_get before.ports port)
 left_by before (Judge port) = left_by_judge before port (slice_get before.ports port)
 left_by before _ = before
 
--- A step is answered by this refusal.
+-- The reply to the step is this refusal.
 pub record IsRefused (before : World) (step : Step) (refused reply : Reply) (after : World) : Type 0 where
   pub answer : reply ≡ refused
   pub world : after ≡ left_by before step
 
--- From the world the step may lead with the reply to the other world. Where it has a reason to be
--- refused it is; where it has none it succeeds, or finds no memory.
+-- From the world the step may lead with the reply to the other world. If there is a reason to
+-- refuse it, it is refused; otherwise it succeeds, or an allocation fails.
 abbrev pub WorldStep : World → Step → Reply → World → Type 0
 WorldStep before step reply after = MatchOption (refusal before step)
     (Succeeds before step reply after ⊎ FindsNoMemory before step reply after)

@@ -38,7 +38,7 @@ times_given (loading ∷ later) slot =
 
 -- A connection since it was set up: the number of this setting up among all, its line, the program
 -- that names the contracts for its cells, the contracts, its judged cells, and how many of these
--- were handed out by cuts.
+-- were returned by cuts.
 pub record Connection : Type 0 where
   pub incarnation : ℕ
   pub line : ℕ
@@ -47,7 +47,7 @@ pub record Connection : Type 0 where
   pub history : List NamedCell
   pub handed : ℕ
 
--- The cells that were handed out.
+-- The cells that cuts returned.
 abbrev pub handed_cells : Connection → List NamedCell
 handed_cells connection = take connection.handed connection.history
 

@@ -1,4 +1,4 @@
-//! What becomes of a cell that arrived.
+//! The answers to a cell that arrived.
 
 ghost use Rattle.std.specs.Prelude.{◌≡◌};
 ghost use Rattle.card_core.specs.Sections.{answer_for, unjudged_answer};
@@ -8,7 +8,7 @@ use leaky::Verdict;
 use line_record::LineFault;
 use upc_cell::Cell;
 
-/// What becomes of a cell that arrived. Only `Judged` changes anything but the port.
+/// The answer to a cell that arrived. Only `Judged` changes anything but the port.
 #[derive(Clone, Copy, Debug, PartialEq, Eq)]
 pub enum Answer {
     /// The cell was judged.
@@ -25,7 +25,7 @@ pub enum Answer {
         /// The program that gave it.
         program: Id,
         verdict: Verdict,
-        /// The leaving cell: tagged where the verdict is Tag, else as it came.
+        /// The leaving cell: tagged if the verdict is Tag, otherwise unchanged.
         cell: Cell,
     },
     /// The cell belongs to no connection.
@@ -43,11 +43,11 @@ pub enum Answer {
     MomentTooLate,
     /// The connection's journal is full, or 2^62 cells were judged on the line.
     JournalFull,
-    /// The memory was refused. It is never answered, since no cell takes memory.
+    /// An allocation failed. This is never the answer to a cell.
     NoMemory,
 }
 
-/// What is told of a judged cell, but for the cell itself, which whoever lent it has.
+/// The answer to a judged cell, without the cell itself, which the caller has.
 #[derive(Clone, Copy, Debug, PartialEq, Eq)]
 pub struct Judgement {
     /// How many cells with this verdict were judged on the line, this one included.
@@ -63,7 +63,7 @@ pub struct Judgement {
     pub verdict: Verdict,
 }
 
-/// Why a cell that arrived isn't judged. It is small, where an [`Answer`] has room for a cell.
+/// Why a cell that arrived isn't judged. It is small; an [`Answer`] has room for a cell.
 #[derive(Clone, Copy, Debug, PartialEq, Eq)]
 pub enum Unjudged {
     /// The cell belongs to no connection.
@@ -77,7 +77,7 @@ pub enum Unjudged {
 }
 
 impl Unjudged {
-    /// What the cell is answered.
+    /// The answer to the cell.
     pub fn answer(self) -> Answer
         ensures { result ≡ unjudged_answer self }
     {
@@ -90,7 +90,7 @@ impl Unjudged {
     }
 }
 
-/// What a line's refusal is answered as.
+/// The answer for a line's refusal.
 fn refusal_of(fault: LineFault) -> Answer
     ensures { result ≡ answer_for fault }
 {

@@ -1,4 +1,4 @@
-//! The sections of the desk: what changes programs and connections, on the parts that are lent.
+//! The sections of the desk. They change programs and connections, on the parts that the caller passes.
 
 ghost use Rattle.std.specs.Prelude.{◌≡◌, ◌≢◌, ◌+◌, ◌<◌, ◌^◌, ◌↔◌, length, IsOk, IsErr, IsErrOf, IsSome, IfOk, IfErr, OnOk, OnErr, MatchResult, Some, None, false, []};
 ghost use Rattle.bpf_verify.specs.Accepted.{IsAccepted};
@@ -23,12 +23,12 @@ use gen_arena::Id;
 use line_record::{Directory, Line, Owner, Piece, Seating};
 use upc_cell::Vc;
 
-/// Puts a program into a free slot, under an id that was never given before. Which slot is taken is
-/// open. Takes no memory.
+/// Puts a program into a free slot, under an id that was never given before. Any free slot may be
+/// used. Doesn't allocate.
 ///
 /// # Errors
 ///
-/// `ProgramsFull` with the program, exactly where no slot is free.
+/// `ProgramsFull` with the program if and only if no slot is free.
 pub fn load(store: &mut Store, program: Program) -> Result<Id, (DeskFault, Program)>
     ensures loaded { IfOk result (λ id. Inserts store.old store.new id program) }
     ensures live { IfOk result (λ id. live_value store.new id ≡ Some program) }
@@ -40,7 +40,7 @@ pub fn load(store: &mut Store, program: Program) -> Result<Id, (DeskFault, Progr
     ensures unchanged { OnErr result (store.new ≡ store.old) }
     ensures past { KeepsPast store.old store.new }
 {
-    // That the code is accepted, as the contract says, is what this call promises.
+    // This call gives the fact that the code is accepted, which the contract says.
     let _ = program.code();
     match store.insert(program) {
         Ok(id) => Ok(id),
@@ -48,11 +48,11 @@ pub fn load(store: &mut Store, program: Program) -> Result<Id, (DeskFault, Progr
     }
 }
 
-/// Takes a program out that no connection names. Its id is never live again. Takes no memory.
+/// Takes out a program that no connection names. Its id is never live again. Doesn't allocate.
 ///
 /// # Errors
 ///
-/// `NoProgram` where the id isn't live, then `InUse` where some connection names it.
+/// `NoProgram` if the id isn't live, then `InUse` if some connection names it.
 pub fn retire(store: &mut Store, directory: &Directory, id: Id) -> Result<Program, DeskFault>
     ensures retired { IfOk result (λ program. Removes store.old store.new id program) }
     ensures no_program { IsErrOf result DeskFault.NoProgram ↔ (live_value store.old id ≡ None) }
@@ -71,14 +71,14 @@ pub fn retire(store: &mut Store, directory: &Directory, id: Id) -> Result<Progra
     store.remove(id).ok_or(DeskFault::NoProgram)
 }
 
-/// The number of a line on which what is asked may be set up. Which free line is answered is open.
-/// Takes no memory.
+/// Returns the number of a line on which this connection may be set up. It may be any free line.
+/// Doesn't allocate.
 ///
 /// # Errors
 ///
-/// `NoProgram` where the program isn't live, `Taken` where the virtual connection has a connection,
-/// `BadContracts` where there is no contract, `NoLine` where each line is some connection's, and
-/// `Exhausted` where the last incarnation was given: the first that holds.
+/// The first that holds: `NoProgram` if the program isn't live, `Taken` if the virtual connection is
+/// set up already, `BadContracts` if there is no contract, `NoLine` if no line is free, `Exhausted` if
+/// the last incarnation was given.
 pub fn admit(store: &Store, directory: &Directory, ask: &Ask) -> Result<u16, DeskFault>
     ensures { MatchResult result
         (λ line. Admits store.now directory.now ask.now line)
@@ -102,14 +102,14 @@ pub fn admit(store: &Store, directory: &Directory, ask: &Ask) -> Result<u16, Des
     Ok(line)
 }
 
-/// Sets a connection up on this line, which is to be free, as [`admit`] tells. All memory is taken
-/// before anything changes.
+/// Sets up a connection on this line. [`admit`] returns the number of a line that meets the
+/// preconditions. All allocations are made before the connection is set up.
 ///
 /// # Errors
 ///
-/// With what was asked: `Stale` where the line isn't free, and then nothing changes; then `NoMemory`
-/// where memory is refused. The line may then have got the room for its next journal, and all else is
-/// as before: a line that was ready is still ready.
+/// Each error returns the request. `Stale` if the line isn't free; nothing changes. Then `NoMemory`
+/// if an allocation fails. The line may then have the room for its next journal, and all else is
+/// unchanged: a line that was ready is still ready.
 pub fn setup(
     directory: &mut Directory,
     line: &mut Line,
@@ -122,7 +122,7 @@ pub fn setup(
     requires some { 0 < length ask.contracts.items }
     requires unworn { directory.old.used < 2 ^ 62 }
 
-    // The connection has its seating and its line, without a cell.
+    // After success the connection has its seating and its line, and no cell yet.
     ensures owner { IfOk result (λ owner.
         owner ≡ record { vc = ask.vc; incarnation = directory.old.used + 1 }) }
     ensures free { OnOk result (line.old.owner ≡ None) }
@@ -133,8 +133,8 @@ pub fn setup(
     ensures opened { IfOk result (λ owner. Opens line.old owner ask.contracts.items line.new) }
     ensures history { OnOk result (IsStateAfter ask.contracts.items [] line.new.state) }
 
-    // It is refused for one of two reasons. Stale changes nothing, and NoMemory nothing but that the
-    // line may be ready now.
+    // There are two errors. After Stale nothing changed. After NoMemory the line may be ready now, and
+    // nothing else changed.
     ensures refused { IfErr result (λ refused. IsUnready line.old refused.0) }
     ensures returned { IfErr result (λ refused. refused.1 ≡ ask) }
     ensures directory_unchanged { OnErr result (directory.new ≡ directory.old) }
@@ -163,12 +163,12 @@ pub fn setup(
     }
 }
 
-/// Gives a connection another program, and answers the one that it had. Its buckets and its journal
-/// stay. Takes no memory.
+/// Gives a connection another program, and returns the one that it had. Its buckets and its journal
+/// stay. Doesn't allocate.
 ///
 /// # Errors
 ///
-/// `NoProgram` where the program isn't live, then `NoConnection` where there is no connection.
+/// `NoProgram` if the program isn't live, then `NoConnection` if there is no connection.
 pub fn reload(
     store: &Store,
     directory: &mut Directory,
@@ -194,11 +194,12 @@ pub fn reload(
         .ok_or(DeskFault::NoConnection)
 }
 
-/// Ends a connection, on the line that the directory names for it. Takes no memory.
+/// Ends a connection on the line that the directory names for it, and returns its last journal. Doesn't
+/// allocate.
 ///
 /// # Errors
 ///
-/// `Stale`, exactly where the line doesn't serve this connection; nothing changes.
+/// `Stale` if and only if the line doesn't serve this connection; nothing changes.
 pub fn release(directory: &mut Directory, line: &mut Line, vc: Vc) -> Result<Piece, DeskFault>
     requires { IsSome (seating_at directory.old vc) }
     ensures served { (seating : Seating) → seating_at directory.old vc ≡ Some seating → MatchResult result
@@ -225,11 +226,11 @@ pub fn release(directory: &mut Directory, line: &mut Line, vc: Vc) -> Result<Pie
     Ok(line.close())
 }
 
-/// Hands out a connection's journal, and begins a new one. The room for the new one is taken first.
+/// Returns a connection's journal, and begins a new one. The new one is allocated first.
 ///
 /// # Errors
 ///
-/// `Stale` where the line doesn't serve this connection, then `NoMemory` where memory is refused;
+/// `Stale` if the line doesn't serve this connection, then `NoMemory` if an allocation fails;
 /// nothing changes.
 pub fn cut(line: &mut Line, vc: Vc, seating: &Seating) -> Result<Piece, DeskFault>
     ensures served { OnOk result (line.old.owner ≡ Some (holder vc seating.now)) }

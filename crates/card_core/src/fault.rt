@@ -31,7 +31,7 @@ pub enum DeskFault {
     /// There is no such connection.
     #[error("2 NoConnection")]
     NoConnection,
-    /// There is such a connection already.
+    /// The connection exists already.
     #[error("3 Taken")]
     Taken,
     /// Each line is some connection's.
@@ -55,7 +55,7 @@ pub enum DeskFault {
     /// The memory was refused.
     #[error("10 NoMemory")]
     NoMemory,
-    /// The line that was lent isn't the one that the directory names.
+    /// The line that was passed isn't the one that the directory names.
     #[error("11 Stale")]
     Stale,
 }

@@ -1,4 +1,4 @@
-//! What a core tells of itself without a step.
+//! Reads of a core, without a step.
 
 use crate::fault::DeskFault;
 use crate::picking::pick;
@@ -17,7 +17,7 @@ impl Core {
     ghost use Rattle.card_core.specs.Inspection.{line_at, load_fault_of, IsRetireFault};
 
     /// The line that serves a connection, so that its counts, its journal and its contracts can be read. None
-    /// exactly where there is no such connection.
+    /// if and only if there is no such connection.
     pub fn line_of(&self, vc: Vc) -> Option<&Line>
         ensures line { option_copied result ≡ line_at self.now vc }
     {
@@ -25,14 +25,14 @@ impl Core {
         Some(&self.lines[usize::from(seating.line)])
     }
 
-    /// The program of this id. None exactly where the id isn't live.
+    /// Returns the program of this id. None if and only if the id isn't live.
     pub fn program_of(&self, id: Id) -> Option<&Program>
         ensures program { option_copied result ≡ live_value self.now.store id }
     {
         self.store.get(id)
     }
 
-    /// For each verdict the sum of what the lines have counted since the card was made.
+    /// Returns for each verdict the sum of the counts of all lines since the card was made.
     pub fn totals(&self) -> Totals
         ensures sums { result ≡ totals_of self.now.lines }
         ensures bounded { AreAtMost result (2 ^ 76) }
@@ -40,8 +40,8 @@ impl Core {
         totals_of(&self.lines)
     }
 
-    /// Why no program can be put in now: `Busy` where a port has a cell, then `ProgramsFull` where no slot is
-    /// free. None exactly where [`Core::load`] would succeed.
+    /// Returns why no program can be put in now: `Busy` if a port has a cell, then `ProgramsFull` if no slot is
+    /// free. None if and only if [`Core::load`] would succeed.
     pub fn load_fault(&self) -> Option<DeskFault>
         ensures { result ≡ load_fault_of self.now }
     {
@@ -54,8 +54,8 @@ impl Core {
         None
     }
 
-    /// Why the program of this id can't be taken out now: `Busy` where a port has a cell, then `NoProgram`
-    /// where the id isn't live, then `InUse` where some connection names it. None exactly where
+    /// Returns why the program of this id can't be taken out now: `Busy` if a port has a cell, then `NoProgram`
+    /// if the id isn't live, then `InUse` if some connection names it. None if and only if
     /// [`Core::retire`] would succeed.
     pub fn retire_fault(&self, id: Id) -> Option<DeskFault>
         ensures { IsRetireFault self.now id result }

@@ -1,4 +1,4 @@
-//! The judging of a named cell, on the line that is lent.
+//! The judging of a named cell, on the line that the caller passes.
 
 ghost use Rattle.std.specs.Prelude.{◌≡◌, ◌≢◌, ◌+◌, ◌↔◌, IsTrue, IfSome, IfNone, IfOk, IfErr, OnErr, MatchOption, Some, None, Err};
 ghost use Rattle.line_record.specs.History.{IsNoNumber};
@@ -13,19 +13,19 @@ use leaky::Verdict;
 use line_record::{Line, Seating};
 use upc_cell::{Cell, Vc, same_vc};
 
-/// Judges a named cell on the line of its connection by the contract whose number was named. Takes
-/// no memory.
+/// Judges a named cell on the line of its connection by the contract whose number was named.
+/// Doesn't allocate.
 ///
-/// `Released` where the line doesn't serve the connection that was picked; then, as
-/// [`Line::judge`] refuses, `MomentTooLate`, `MomentBack` or `JournalFull`. The first that holds is
-/// answered, and nothing changes.
+/// `Released` if the line doesn't serve the connection that was picked; then `MomentTooLate`,
+/// `MomentBack` or `JournalFull`, as [`Line::judge`] refuses. The answer is the first that holds,
+/// and nothing changes.
 pub fn judge_at(line: &mut Line, vc: Vc, seating: &Seating, named: &Named, moment: u64) -> Answer
-    // It is judged exactly where there is no reason to refuse it.
+    // It is judged if and only if there is no reason to refuse it.
     ensures judged { MatchOption (judging_refusal line.old vc seating.now moment)
         (JudgesAt line.old seating.now named.now moment result line.new)
         (λ refused. (result ≡ refused) × (line.new ≡ line.old)) }
 
-    // What is told of a judged cell.
+    // The answer to a judged cell.
     ensures line { IfSome (told result) (λ judged. judged.line ≡ seating.now.line) }
     ensures number { IfSome (told result) (λ judged.
         judged.number ≡ count_of line.old.state.counts judged.verdict + 1) }
@@ -45,7 +45,7 @@ pub fn judge_at(line: &mut Line, vc: Vc, seating: &Seating, named: &Named, momen
         line.new.state.counts ≡ counted line.old.state.counts judged.verdict) }
     ensures unchanged { IfNone (told result) (line.new ≡ line.old) }
 
-    // Since it takes no memory, none lacks; and no program is looked up.
+    // The answer is never NoMemory and never Stale: nothing is allocated, and no program is looked up.
     ensures memory { result ≢ Answer.NoMemory }
     ensures program_live { result ≢ Answer.Stale }
     ensures connection { result ≢ Answer.NoConnection }
@@ -65,8 +65,8 @@ pub fn judge_at(line: &mut Line, vc: Vc, seating: &Seating, named: &Named, momen
     }
 }
 
-/// Judges a named cell as [`judge_at`] does, and tells all of it but the cell as it leaves, so that no cell is
-/// copied on the path of each.
+/// Judges a named cell as [`judge_at`] does, and returns the judgement without the leaving cell, so that no
+/// cell is copied.
 #[inline(always)]
 pub(crate) fn tell_at(
     line: &mut Line,
@@ -123,7 +123,7 @@ pub(crate) fn serves(line: &Line, vc: Vc, seating: &Seating) -> bool
     }
 }
 
-/// The cell as it leaves: tagged where the verdict is Tag, else as it came.
+/// Returns the cell as it leaves: tagged if the verdict is Tag, otherwise unchanged.
 fn leaving(verdict: Verdict, cell: &Cell) -> Cell
     ensures { result ≡ cell_after verdict cell.now }
 {

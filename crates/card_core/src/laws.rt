@@ -1,5 +1,5 @@
-//! Laws over the worlds and logs of a card. These functions do nothing: each stands for the law that
-//! is its contract.
+//! Laws over the worlds and logs of a card. These functions do nothing: the contract of each
+//! is a law.
 
 ghost use Rattle.card_core.specs.Headline.{EachJudgedCellIsPromised};
 ghost use Rattle.card_core.specs.Laws.{NamedProgramsAreLive, IdsAreGivenOnce, IdsNameOneCode, ConnectionsAreApart, ConnectionsBoundBursts, StepsHaveReplies, SomeAnswersNeverCome, ConnectionsAreAsTold, LogsBoundBursts, PromisesLeaveOneAnswer};
@@ -14,7 +14,7 @@ pub fn ids_are_given_once()
     ensures { IdsAreGivenOnce }
 {}
 
-/// The code that an id was given stays the one that it was given.
+/// The code of an id never changes.
 pub fn ids_name_one_code()
     ensures { IdsNameOneCode }
 {}
@@ -30,32 +30,32 @@ pub fn connections_bound_bursts()
     ensures { ConnectionsBoundBursts }
 {}
 
-/// Each step has a reply in every world, and none need be for want of memory.
+/// Each step has a reply in every world, one that reports no allocation failure.
 pub fn steps_have_replies()
     ensures { StepsHaveReplies }
 {}
 
-/// `Stale` never comes, and `NoMemory` only to a Setup or a Cut.
+/// No reply is `Stale`, and `NoMemory` is a reply only to a Setup or a Cut.
 pub fn some_answers_never_come()
     ensures { SomeAnswersNeverCome }
 {}
 
-/// The headline: wherever a log has a judged cell, what is promised of it holds.
+/// The headline: the promise holds for each judged cell of a log.
 pub fn each_judged_cell_is_promised()
     ensures { EachJudgedCellIsPromised }
 {}
 
-/// The headline leaves one answer to a judged cell, but for the line.
+/// For a judged cell of a given line, the headline allows one answer only.
 pub fn promises_leave_one_answer()
     ensures { PromisesLeaveOneAnswer }
 {}
 
-/// The connections are those of which the log tells, with what it tells of them.
+/// The connections are those of the log, with the program and the history that the log has of them.
 pub fn connections_are_as_told()
     ensures { ConnectionsAreAsTold }
 {}
 
-/// The burst bound of each contract's bucket 1, over the cells that the log tells of a connection.
+/// The burst bound of each contract's bucket 1, over the cells that the log has of a connection.
 pub fn logs_bound_bursts()
     ensures { LogsBoundBursts }
 {}

@@ -1,5 +1,5 @@
-//! The serial core of an ATM cell policer: the locked sections of the card, on whatever parts are
-//! lent, and the core that takes their steps one at a time.
+//! The serial core of an ATM cell policer: the locked sections of the card, on the parts that the caller
+//! passes, and the core that takes their steps one at a time.
 #![tactic(auto)]
 
 mod answer;

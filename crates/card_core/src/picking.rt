@@ -64,7 +64,7 @@ ghost use Rattle.gen_arena.specs.Live.{live_value, IsLive};
 ghost use Rattle.line_record.specs.Directory.{seating_at, IsDirectory};
 ghost use Rattle.card_core.specs.Sections.{IsNaming};
 
-/// Where the connection is, if there is one. Takes no memory.
+/// Returns the seating of the connection, if there is one. Doesn't allocate.
 #[inline]
 pub fn pick(directory: &Directory, vc: Vc) -> Option<Seating>
     ensures seating { result ≡ seating_at directory.now vc }
@@ -73,8 +73,8 @@ pub fn pick(directory: &Directory, vc: Vc) -> Option<Seating>
     directory.find(vc)
 }
 
-/// The contract that the program of this id names for the cell; none exactly where the id isn't
-/// live. Takes no memory.
+/// Runs the program of this id on the cell, and returns the value that it gives; none if and only if
+/// the id isn't live. Doesn't allocate.
 #[inline]
 pub fn name(store: &Store, program: Id, cell: &Cell) -> Option<Named>
     ensures live { IsSome result ↔ IsLive store.now program }

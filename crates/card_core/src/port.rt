@@ -1,4 +1,4 @@
-//! The ports of the core, and what state each is in.
+//! The ports of the core, and their states.
 
 ghost use Rattle.std.specs.Prelude.{◌≡◌, IfSome, replicate, slice_get, slice_set};
 ghost use Rattle.std.specs.List.{list_all};
@@ -25,7 +25,7 @@ pub(crate) struct Found {
     pub(crate) named: Named,
 }
 
-/// What a port has.
+/// The state of a port.
 #[derive(Clone, Copy, Debug)]
 pub(crate) enum Port {
     Outside,
@@ -50,7 +50,7 @@ pub(crate) fn is_idle_at(ports: &[Port], port: u8) -> bool
     }
 }
 
-/// The cell that entered the port of this number, where there is one.
+/// Returns the cell that entered the port of this number, if there is one.
 pub(crate) fn entered_at(ports: &[Port], port: u8) -> Option<Came>
     ensures { result ≡ came_in (slice_get ports.now port) }
 {
@@ -60,7 +60,7 @@ pub(crate) fn entered_at(ports: &[Port], port: u8) -> Option<Came>
     }
 }
 
-/// The cell of the port of this number that was picked, where there is one.
+/// Returns the picked cell of the port of this number, if there is one.
 pub(crate) fn picked_at(ports: &[Port], port: u8) -> Option<Found>
     ensures { result ≡ found_in (slice_get ports.now port) }
 {
@@ -70,7 +70,7 @@ pub(crate) fn picked_at(ports: &[Port], port: u8) -> Option<Found>
     }
 }
 
-/// Gives the port of this number, where there is one, another state.
+/// Sets the state of the port of this number, if there is such a port.
 pub(crate) fn move_port(ports: &mut Vec<Port>, port: u8, next: Port)
     ensures { ports.new.items ≡ slice_set ports.old.items port next }
 {
@@ -79,7 +79,7 @@ pub(crate) fn move_port(ports: &mut Vec<Port>, port: u8, next: Port)
     }
 }
 
-/// So many ports without a cell; none where the memory is refused.
+/// Makes this many ports without a cell; none if an allocation fails.
 pub(crate) fn outside_ports(alloc: Global, many: usize) -> Option<Vec<Port>>
     ensures { IfSome result (λ ports. ports.items ≡ replicate many Port.Outside) }
 {

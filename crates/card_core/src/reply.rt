@@ -1,4 +1,4 @@
-//! What the core answers to each step.
+//! The replies of the core.
 
 ghost use Rattle.std.specs.Prelude.{◌≡◌};
 ghost use Rattle.card_core.specs.PortReplies.{reply_of};
@@ -11,7 +11,7 @@ use bpf_verify::Program;
 use gen_arena::Id;
 use line_record::{Owner, Piece};
 
-/// What the core answers to a step.
+/// The reply of the core to a step.
 #[derive(Debug, Drop)]
 pub enum Reply {
     /// The port has the cell.
@@ -20,30 +20,29 @@ pub enum Reply {
     Picked,
     /// The step doesn't fit the state of its port, or there is no such port.
     NotNow,
-    /// What becomes of the port's cell.
+    /// The answer to the port's cell.
     Answered(Answer),
     /// The program is live under this id.
     Loaded(Id),
-    /// The program is handed back.
+    /// The program is returned.
     NotLoaded(DeskFault, Program),
     /// The program that was live.
     Retired(Program),
     /// The connection is set up, with a line of its own.
     SetUp(Owner),
-    /// What was asked is handed back.
+    /// The request is returned.
     NotSetUp(DeskFault, Ask),
     /// The program that the connection had before.
     Reloaded(Id),
     /// The last journal of the connection that ended.
     Released(Piece),
-    /// The journal that was handed out.
+    /// The journal that the cut returned.
     Cut(Piece),
     /// Nothing changed.
     Refused(DeskFault),
 }
 
-/// What the core answers to a step of a port, which is all that a cell asks for: it is small, where a reply
-/// may hold a program.
+/// The reply of the core to a step of a port. It is small; a [`Reply`] has room for a program.
 #[derive(Clone, Copy, Debug)]
 pub enum PortReply {
     /// The port has the cell.
@@ -52,11 +51,11 @@ pub enum PortReply {
     Picked,
     /// The step doesn't fit the state of its port, or there is no such port.
     NotNow,
-    /// What becomes of the port's cell.
+    /// The answer to the port's cell.
     Answered(Answer),
 }
 
-/// The reply that a port's reply is.
+/// The same reply, as a [`Reply`].
 pub(crate) fn whole(reply: PortReply) -> Reply
     ensures { result ≡ reply_of reply }
 {

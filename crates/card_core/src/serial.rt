@@ -69,7 +69,7 @@ impl Core {
     /// # Errors
     ///
     /// `Programs`, `Lines`, `Ports`, `Journal`: the first number of the shape that is out of its
-    /// limits. Then `NoMemory`, where memory is refused.
+    /// limits. Then `NoMemory` if an allocation fails.
     pub fn new(alloc: Global, shape: Shape) -> Result<Self, CardFault>
         ensures agrees { IfOk result (λ core. CoreAgrees core (opening_world shape)) }
         ensures refused { MatchResult result
@@ -101,26 +101,26 @@ impl Core {
         })
     }
 
-    /// How large the card is, and which header its cells have.
+    /// Returns the size of the card, and which header its cells have.
     pub fn shape(&self) -> Shape
         ensures { result ≡ self.now.shape }
     {
         self.shape
     }
 
-    /// Takes one step of a port or of the desk, and answers it.
+    /// Takes one step of a port or of the desk, and returns the reply.
     pub fn step(&mut self, step: Step) -> Reply
         ensures follows { Follows self.old step result self.new }
         ensures unchanged { RefusalKeeps result step self.old self.new }
 
-        // No cell takes memory, and what a pick found stays what it was found to be.
+        // The steps of a cell don't allocate, and a picked cell keeps the values that the pick found.
         ensures judged { (port : ℕ) → step ≡ Judge port → result ≢ Reply.Answered Answer.NoMemory }
         ensures fresh { IsNeverStale self.old result }
     {
         self.take(step)
     }
 
-    /// The step. That its reply is never stale follows from what this promises, and [`Core::step`] says it.
+    /// The step. The contract implies that its reply is never stale, and [`Core::step`] states that.
     fn take(&mut self, step: Step) -> Reply
         ensures follows { Follows self.old step result self.new }
         ensures unchanged { RefusalKeeps result step self.old self.new }
@@ -139,11 +139,11 @@ impl Core {
         }
     }
 
-    /// Takes the steps in their order. The room for the replies is taken first.
+    /// Takes the steps in their order. The room for the replies is allocated first.
     ///
     /// # Errors
     ///
-    /// The steps, with nothing done, where that room is refused.
+    /// Returns the steps, with nothing done, if that allocation fails.
     pub fn run(&mut self, alloc: Global, steps: Vec<Step>) -> Result<Vec<Reply>, Vec<Step>>
         ensures follows { IfOk result (λ replies.
             FollowsAll self.old steps.items replies.items self.new) }
@@ -207,10 +207,10 @@ impl Core {
         PortReply::Answered(answer)
     }
 
-    /// A cell comes to a port and goes its whole way: the steps `Enter`, `Pick` and `Judge`, of which the
-    /// pick or the judging answers it. Of a judged cell all is told but the cell as it leaves, which is what
-    /// was lent, or `Cell::tagged` of it where the verdict is Tag. None where the port has a cell or there is
-    /// no such port, and then nothing changes.
+    /// Takes all steps of a cell at a port: `Enter`, `Pick` and, if its connection is found, `Judge`. Returns
+    /// the last answer. The answer to a judged cell is without the leaving cell, which is the cell that was
+    /// passed, or `Cell::tagged` of it if the verdict is Tag. Returns none if the port has a cell or there is
+    /// no such port; then nothing changes.
     #[inline(always)]
     pub fn arrive(
         &mut self,
@@ -228,7 +228,7 @@ impl Core {
         if !is_idle_at(&self.ports, port) {
             return None;
         }
-        // The port is outside before and afterwards, and nobody looks at it in between.
+        // The port is outside before and afterwards, and nothing reads it in between.
         let side = self.shape.side;
         let picked = find_and_name(&self.store, &self.directory, side, cell, moment);
         match picked {
@@ -237,17 +237,17 @@ impl Core {
         }
     }
 
-    /// Puts a program in: the step `Load`. Programs come and go only while every port is outside, so that a
-    /// cell on its way is judged by programs that are there all the time.
+    /// Puts a program in: the step `Load`. Programs are put in and taken out only while every port is outside.
+    /// So no program is taken out while a cell is at a port.
     ///
     /// # Errors
     ///
-    /// `Busy` where a port has a cell, then `ProgramsFull` where no slot is free, with the program.
+    /// `Busy` if a port has a cell, then `ProgramsFull` if no slot is free. Each error returns the program.
     pub fn load(&mut self, program: Program) -> Result<Id, (DeskFault, Program)>
         ensures follows { Follows self.old (Load program) (load_reply result) self.new }
         ensures unchanged { RefusalKeeps (load_reply result) (Load program) self.old self.new }
 
-        // It is refused exactly where there is a fault, and then nothing changes and the program comes back.
+        // It is refused if and only if there is a fault. Then nothing changes, and the program is returned.
         ensures fault { MatchResult result
             (λ _. load_fault_of self.old ≡ None)
             (λ refused. load_fault_of self.old ≡ Some refused.0) }
@@ -261,17 +261,17 @@ impl Core {
         desk::load(&mut self.store, program)
     }
 
-    /// Takes a program out: the step `Retire`, to be taken while every port is outside, as `Load` is.
+    /// Takes a program out: the step `Retire`. Like `Load`, it needs every port to be outside.
     ///
     /// # Errors
     ///
-    /// `Busy` where a port has a cell, then `NoProgram` where the id isn't live, then `InUse` where some
+    /// `Busy` if a port has a cell, then `NoProgram` if the id isn't live, then `InUse` if some
     /// connection names it.
     pub fn retire(&mut self, id: Id) -> Result<Program, DeskFault>
         ensures follows { Follows self.old (Retire id) (retire_reply result) self.new }
         ensures unchanged { RefusalKeeps (retire_reply result) (Retire id) self.old self.new }
 
-        // It is refused exactly where there is a fault, and then nothing changes.
+        // It is refused if and only if there is a fault. Then nothing changes.
         ensures fault { MatchResult result
             (λ _. IsRetireFault self.old id None)
             (λ fault. IsRetireFault self.old id (Some fault)) }
@@ -284,12 +284,12 @@ impl Core {
         desk::retire(&mut self.store, &self.directory, id)
     }
 
-    /// Sets up a connection: the step `Setup`. What has no reason to be refused may still find no memory.
+    /// Sets up a connection: the step `Setup`. An allocation may fail even if nothing else is wrong.
     ///
     /// # Errors
     ///
-    /// `NoProgram`, `Taken`, `BadContracts`, `NoLine`, `Exhausted`: the first that holds (see [`desk::admit`]).
-    /// Then `NoMemory`, where memory is refused. What was asked is handed back.
+    /// The first that holds of `NoProgram`, `Taken`, `BadContracts`, `NoLine`, `Exhausted` (see [`desk::admit`]).
+    /// Then `NoMemory` if an allocation fails. Each error returns the request.
     pub fn setup(&mut self, ask: Ask) -> Result<Owner, (DeskFault, Ask)>
         ensures follows { Follows self.old (Setup ask) (setup_reply result) self.new }
         ensures unchanged { RefusalKeeps (setup_reply result) (Setup ask) self.old self.new }
@@ -307,7 +307,7 @@ impl Core {
     ///
     /// # Errors
     ///
-    /// `NoProgram` where the id isn't live, then `NoConnection` where there is no such connection.
+    /// `NoProgram` if the id isn't live, then `NoConnection` if there is no such connection.
     pub fn reload(&mut self, vc: Vc, program: Id) -> Result<Id, DeskFault>
         ensures follows { Follows self.old (Reload vc program) (reload_reply result) self.new }
         ensures unchanged { RefusalKeeps (reload_reply result) (Reload vc program) self.old self.new }
@@ -320,7 +320,7 @@ impl Core {
     ///
     /// # Errors
     ///
-    /// `NoConnection` where there is no such connection.
+    /// `NoConnection` if there is no such connection.
     pub fn release(&mut self, vc: Vc) -> Result<Piece, DeskFault>
         ensures follows { Follows self.old (Release vc) (release_reply result) self.new }
         ensures unchanged { RefusalKeeps (release_reply result) (Release vc) self.old self.new }
@@ -332,11 +332,11 @@ impl Core {
         release_line(&mut self.directory, &mut self.lines, vc, &seating)
     }
 
-    /// Hands out a connection's journal: the step `Cut`.
+    /// Returns a connection's journal, and begins a new one: the step `Cut`.
     ///
     /// # Errors
     ///
-    /// `NoConnection` where there is no such connection, then `NoMemory`, where memory is refused.
+    /// `NoConnection` if there is no such connection, then `NoMemory` if an allocation fails.
     pub fn cut(&mut self, vc: Vc) -> Result<Piece, DeskFault>
         ensures follows { Follows self.old (Cut vc) (cut_reply result) self.new }
         ensures unchanged { RefusalKeeps (cut_reply result) (Cut vc) self.old self.new }
@@ -357,7 +357,7 @@ ghost use Rattle.line_record.specs.Directory.{seating_at, IsOpenLine};
 ghost use Rattle.upc_cell.specs.Connection.{vc_of};
 ghost use Rattle.card_core.specs.inner.Parts.{IsFound, IsMissed, ChangesLine, JudgesOrRefuses, SetsUpOrRefuses, ReleasesOrRefuses, CutsOrRefuses};
 
-/// So many free lines, with journals of so many entries.
+/// Makes `many` free lines, each with a journal of `journal` entries. None if an allocation fails.
 fn free_lines(alloc: Global, many: usize, journal: u32) -> Option<Vec<Line>>
     requires some { 1 ≤ journal }
     requires most { journal ≤ MOST_ENTRIES }
@@ -375,8 +375,8 @@ fn free_lines(alloc: Global, many: usize, journal: u32) -> Option<Vec<Line>>
     Some(lines)
 }
 
-/// Where the cell's connection is, and the contract that its program names for it.
-/// On the path of each cell, as is the next: called, they would hand the cell over by copies.
+/// Returns the seating of the cell's connection, and the value that its program gives for the cell.
+/// This function and the next are on the path of each cell. They are inlined, since a call would copy the cell.
 #[inline(always)]
 fn find_and_name(
     store: &Store,
@@ -405,7 +405,7 @@ fn find_and_name(
     })
 }
 
-/// Judges a picked cell on its line, which is one of these, and tells all of it but the cell as it leaves.
+/// Judges a picked cell on its line, which is one of these. Returns the judgement without the leaving cell.
 #[inline(always)]
 fn tell_line(lines: &mut Vec<Line>, found: &Found) -> Result<Judgement, Unjudged>
     requires { found.now.seating.line < length lines.old.items }
@@ -466,7 +466,7 @@ fn release_line(
     desk::release(directory, line, vc)
 }
 
-/// Hands out the journal of a connection's line.
+/// Returns the journal of a connection's line.
 fn cut_line(lines: &mut Vec<Line>, vc: Vc, seating: &Seating) -> Result<Piece, DeskFault>
     requires { seating.now.line < length lines.old.items }
     ensures { ChangesLine lines.old.items seating.now.line

@@ -1,4 +1,4 @@
-//! How large a card is, and the limits of that.
+//! The size of a card, and its limits.
 
 ghost use Rattle.std.specs.Prelude.{◌≡◌, IfNone};
 ghost use Rattle.card_core.specs.Shapes.{is_beyond, shape_fault, IsShape};
@@ -16,7 +16,7 @@ pub const MOST_LINES: u64 = 4096;
 /// How many ports a card has at most.
 pub const MOST_PORTS: u64 = 16;
 
-/// How large a card is.
+/// The size of a card.
 #[derive(Clone, Copy, Debug, PartialEq, Eq)]
 pub struct Shape {
     /// How many programs it holds at most, 1 to 1024.
@@ -32,7 +32,7 @@ pub struct Shape {
 }
 
 impl Shape {
-    /// The first number that is out of its limits, if there is one.
+    /// Returns the first number that is out of its limits, if any.
     pub fn fault(&self) -> Option<CardFault>
         ensures fault { result ≡ shape_fault self.now }
         ensures fits { IfNone result (IsShape self.now) }
@@ -41,7 +41,7 @@ impl Shape {
     }
 }
 
-/// The first number of the shape that is out of its limits.
+/// Returns the first number of the shape that is out of its limits, if any.
 pub(crate) fn refusal(shape: &Shape) -> Option<CardFault>
     ensures fault { result ≡ shape_fault shape.now }
     ensures fits { IfNone result (IsShape shape.now) }
@@ -59,7 +59,7 @@ pub(crate) fn refusal(shape: &Shape) -> Option<CardFault>
     }
 }
 
-/// Whether the number isn't 1 to this one.
+/// Whether the number is 0 or above `most`.
 fn is_beyond(number: u64, most: u64) -> bool
     ensures { result ≡ is_beyond number most }
 {

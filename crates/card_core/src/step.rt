@@ -5,8 +5,8 @@ use bpf_verify::Program;
 use gen_arena::Id;
 use upc_cell::{Cell, Vc};
 
-/// One step of the core. Each cell takes three steps at its port, between which any steps of other
-/// ports and of the desk may come.
+/// One step of the core. A cell takes up to three steps at its port. Steps of other ports and of the
+/// desk may come between them.
 #[derive(Debug, Drop)]
 pub enum Step {
     /// A cell comes to a port that is outside. From here to its judging no program is loaded or
@@ -41,6 +41,6 @@ pub enum Step {
     },
     /// A connection ends.
     Release(Vc),
-    /// A connection's journal is handed out, and a new one begins.
+    /// A connection's journal is returned, and a new one begins.
     Cut(Vc),
 }

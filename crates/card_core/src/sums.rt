@@ -5,8 +5,8 @@ ghost use Rattle.card_core.specs.Sums.{totals_of, AreAtMost};
 
 use line_record::{Line, Tally};
 
-/// How many cells got each verdict on several lines together. What a line counts fits 64 bits, and their sums
-/// may not.
+/// How many cells got each verdict on several lines together. The counts of one line fit 64 bits, and their
+/// sums may not.
 #[derive(Clone, Copy, Debug, PartialEq, Eq)]
 pub struct Totals {
     pub passed: u128,
@@ -15,7 +15,7 @@ pub struct Totals {
     pub refused: u128,
 }
 
-/// The sums over these lines.
+/// Returns the sums over these lines.
 pub(crate) fn totals_of(lines: &[Line]) -> Totals
     requires { length lines.now ≤ 4096 }
     ensures sums { result ≡ totals_of lines.now }

@@ -1,4 +1,4 @@
--- Isolation: what comes of a connection's own acts is decided by these alone.
+-- Isolation: the outcomes of a connection's own acts depend on these acts alone.
 use Rattle.std.specs.Prelude.{◌≡◌, ◌≤◌, ◌^◌, List, length}
 use Rattle.upc_cell.specs.declared.side.Side.{Side}
 use Rattle.upc_cell.specs.declared.vc.Vc.{Vc}
@@ -7,12 +7,12 @@ use Rattle.card_core.specs.Log.{Event, IsLog}
 use Rattle.card_isolation.specs.OwnEvents.{OwnEvent, own_events, acts_of}
 use Rattle.card_isolation.specs.ByArrival.{by_arrival}
 
--- What was done for the connection and what came of it, whichever ports its cells came to.
+-- The acts for the connection and their outcomes, without the ports of its cells.
 abbrev pub account_of : Side → Vc → List Event → List OwnEvent
 account_of side vc log = by_arrival (own_events side vc log)
 
--- Take two logs, of cards whose cells have the same header and whose journals hold as many entries. Where
--- the same was done for a virtual connection, in the same order, the same came of it, whatever else was
+-- Take two logs, of cards whose cells have the same header and whose journals hold as many entries. If
+-- the acts for a virtual connection are the same, in the same order, so are their outcomes, whatever else was
 -- done on either card: before it and in between, for other connections, at whichever ports, with as many
 -- lines and programs as there are. Neither log has more than 2^62 events: after 2^62 cells of a line a card
 -- answers that its journal is full.

@@ -1,5 +1,5 @@
 -- The events of a log that are one connection's own, and the law that nothing else in the log changes
--- what comes of them. To be read in the order Act, Outcome, OwnEvents, OwnCells, ByArrival,
+-- their outcomes. Read them in the order Act, Outcome, OwnEvents, OwnCells, ByArrival,
 -- Isolation, Restriction.
 pub mod Act
 pub mod Outcome

@@ -1,4 +1,4 @@
--- What comes of an act, but for what a card may choose or shares among all its connections: ids,
+-- The outcome of an act, without the values that a card may choose or shares among all its connections: ids,
 -- incarnations, line numbers, and the counts of a line. In place of an id there is the code that was put in
 -- under it.
 use Rattle.std.specs.Prelude.{ℕ, Bool, List, Option, map}
@@ -11,7 +11,7 @@ use Rattle.card_core.specs.declared.answer.Answer.{Answer}
 use Rattle.card_core.specs.declared.answer.Answer.TheVariants.{Judged}
 use Rattle.card_core.specs.World.{Loading, code_in}
 
--- An entry of a journal but for the id of its program: when the cell came, whether its CLP was 1, which
+-- An entry of a journal without the id of its program: when the cell came, whether its CLP was 1, which
 -- value its program gave, and its verdict.
 pub record SeenEntry : Type 0 where
   pub moment : ℕ
@@ -19,7 +19,7 @@ pub record SeenEntry : Type 0 where
   pub value : ℕ
   pub verdict : Verdict
 
--- What is seen of an entry.
+-- The entry without the id of its program.
 abbrev pub seen : Entry → SeenEntry
 seen entry = record {
   moment = entry.moment;
@@ -29,7 +29,7 @@ seen entry = record {
 }
 
 -- It was done; a program of this code was named before; a piece with these contracts and entries was
--- handed out; the cell, which came at this moment, was judged with this value by a program of this code,
+-- returned; the cell, which came at this moment, was judged with this value by a program of this code,
 -- with this verdict, and leaves so; or the cell was answered this, and was not judged.
 pub data Outcome : Type 0 where
   done : Outcome
@@ -38,12 +38,12 @@ pub data Outcome : Type 0 where
   was_judged : ℕ → ℕ → Option (List Instr) → Verdict → List ℕ → Outcome
   was_not_judged : Answer → Outcome
 
--- What comes of a cell that is answered this, where these codes were put in.
+-- The outcome of a cell with this answer, if these codes were put in.
 abbrev pub outcome_of : List Loading → Answer → Outcome
 outcome_of codes (Judged line number moment value program verdict cell) =
     was_judged moment value (code_in codes program) verdict cell
 outcome_of codes answer = was_not_judged answer
 
--- What comes of a cut or a release that hands out this piece.
+-- The outcome of a cut or a release that returns this piece.
 abbrev pub outcome_of_piece : PieceView → Outcome
 outcome_of_piece piece = handed_out piece.contracts (map seen piece.entries)

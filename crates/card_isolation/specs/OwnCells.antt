@@ -11,14 +11,14 @@ use Rattle.card_core.specs.Headline.{judged_cells}
 use Rattle.card_isolation.specs.Outcome.{Outcome, was_judged}
 use Rattle.card_isolation.specs.OwnEvents.{OwnEvent, own_events}
 
--- What the answer says of a judged cell, but for its line, the count of that line, and the id of its program.
+-- The answer to a judged cell, without its line, the count of that line, and the id of its program.
 pub record ToldCell : Type 0 where
   pub moment : ℕ
   pub value : ℕ
   pub verdict : Verdict
   pub cell : List ℕ
 
--- What an answer tells so.
+-- This part of an answer.
 abbrev pub told_cell : JudgedView → ToldCell
 told_cell judged = record {
   moment = judged.moment;

@@ -13,12 +13,12 @@ use Rattle.card_core.specs.Log.{Event}
 use Rattle.card_isolation.specs.Act.{Act, sets_up, reloads, releases, cuts, enters, looks_up, judges}
 use Rattle.card_isolation.specs.Outcome.{Outcome, done, named_before, outcome_of, outcome_of_piece}
 
--- What was done for the connection, and what came of it.
+-- An act for the connection, and its outcome.
 pub record OwnEvent : Type 0 where
   pub act : Act
   pub outcome : Outcome
 
--- What the reader of a log keeps in mind for a connection: the codes that were put in so far, the latest
+-- The notes of a reader of a log for a connection: the codes that were put in so far, the latest
 -- first, and which ports have a cell of the connection.
 pub record Notes : Type 0 where
   pub codes : List Loading
@@ -48,7 +48,7 @@ notes_after side vc notes event = record {
   has_own = λ port. has_own_after side vc port (notes.has_own port) event.reply event.step;
 }
 
--- This event, where it is the connection's.
+-- This event, if it is the connection's.
 abbrev pub own_where : Bool → Act → Outcome → Option OwnEvent
 own_where is_own act outcome = if is_own then Some (record { act = act; outcome = outcome }) else None
 

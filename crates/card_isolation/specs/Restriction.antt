@@ -36,7 +36,7 @@ pub record AreServedAlike (shape : Shape) (kept : Vc → Bool) (log : List Event
   pub only_kept : All (λ event. is_for_kept shape.side kept event.step ≡ true) restricted
   pub same : (vc : Vc) → kept vc ≡ true → own_events shape.side vc restricted ≡ own_events shape.side vc log
 
--- So it is with each set of virtual connections, after any log of at most 2^62 events: one log serves all that
+-- This holds for each set of virtual connections, after any log of at most 2^62 events: one log serves all that
 -- are kept.
 abbrev pub KeptConnectionsAreServedAlike : Type 0
 KeptConnectionsAreServedAlike = (shape : Shape) (log : List Event) (kept : Vc → Bool) → IsLog shape log
@@ -55,7 +55,7 @@ pub record IsServedAlone (shape : Shape) (vc : Vc) (log : List Event) : Type 0 w
   pub no_other : All (λ event. is_for_no_other shape.side vc event.step ≡ true) alone
   pub same : own_events shape.side vc alone ≡ own_events shape.side vc log
 
--- So it is with each virtual connection, after any log of at most 2^62 events.
+-- This holds for each virtual connection, after any log of at most 2^62 events.
 abbrev pub EachIsServedAsAlone : Type 0
 EachIsServedAsAlone = (shape : Shape) (log : List Event) (vc : Vc) → IsLog shape log → length log ≤ 2 ^ 62
     → IsServedAlone shape vc log

@@ -4,19 +4,19 @@ ghost use Rattle.card_isolation.specs.Isolation.{ConnectionsAreIsolated};
 ghost use Rattle.card_isolation.specs.OwnCells.{JudgedCellsAreOwn};
 ghost use Rattle.card_isolation.specs.Restriction.{EachIsServedAsAlone, KeptConnectionsAreServedAlike};
 
-/// What comes of a connection's cells, cuts and releases is decided by what was done for it alone.
+/// The outcomes of a connection's cells, cuts and releases depend only on what was done for it.
 pub fn connections_are_isolated()
     ensures { ConnectionsAreIsolated }
 {}
 
-/// After any log a card could as well have had one for a set of its connections alone, in which the same was
-/// done for each of them and the same came of it.
+/// For any log and any set of connections, the card may have a log for these connections alone, with the same
+/// acts and the same outcomes for each of them.
 pub fn kept_connections_are_served_alike()
     ensures { KeptConnectionsAreServedAlike }
 {}
 
-/// After any log a card could as well have had one without the other connections, in which the same was done
-/// for this one and the same came of it.
+/// For any log and any connection, the card may have a log without the other connections, with the same acts
+/// and the same outcomes for this one.
 pub fn each_is_served_as_alone()
     ensures { EachIsServedAsAlone }
 {}

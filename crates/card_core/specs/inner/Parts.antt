@@ -34,7 +34,7 @@ IsMissed store directory vc NoConnection = seating_at directory vc ≡ None
 IsMissed store directory vc Stale = (seating : Seating) × (seating_at directory vc ≡ Some seating) × (live_value store seating.program ≡ None)
 IsMissed store directory vc _ = ⊥
 
--- One line of these was lent to a section that did this to it, and all others are as before.
+-- A section did this to one of the lines, and all others are unchanged.
 pub record ChangesLine (old : List LineView) (number : ℕ) (Did : LineView → LineView → Type 0) (new : List LineView) : Type 0 where
   pub line : LineView
   pub there : slice_get old number ≡ Some line
@@ -63,7 +63,7 @@ pub record IsReleased (old new : DirectoryView) (vc : Vc) (piece : PieceView) (l
   pub used : new.used ≡ old.used
   pub freed : next ≡ free_line line.journal line.state.counts false
 
--- What was asked is set up on the line, or there is a reason to refuse it.
+-- The requested connection is set up on the line, or there is a reason to refuse it.
 abbrev pub SetsUpOrRefuses : DirectoryView → DirectoryView → ℕ → Ask → Result Owner (DeskFault × Ask) → LineView → LineView → Type 0
 SetsUpOrRefuses old new number ask result line next = MatchResult result
     (λ owner. IsSetUp old new number ask owner line next)
@@ -76,7 +76,7 @@ ReleasesOrRefuses old new vc seating result line next = MatchResult result
     (λ piece. IsReleased old new vc piece line next)
     (λ fault. (fault ≡ DeskStale) × (line.owner ≢ Some (holder vc seating)) × (new ≡ old) × (next ≡ line))
 
--- The line's journal is handed out, or there is a reason not to.
+-- The line's journal is returned, or there is a reason not to.
 abbrev pub CutsOrRefuses : Vc → Seating → Result PieceView DeskFault → LineView → LineView → Type 0
 CutsOrRefuses vc seating result line next = MatchResult result
     (λ piece. IsJournalOf line piece × (next ≡ record line { start = line.state; entries = [] }))

@@ -20,13 +20,13 @@ picking_of found = record {
   value = found.named.value;
 }
 
--- What a port is to the world.
+-- The state of a port in the world.
 abbrev pub state_of : Port → PortState
 state_of Outside = outside
 state_of (Entered came) = entered came.cell came.moment
 state_of (Picked found) = picked (picking_of found)
 
--- All ports.
+-- The states of all ports.
 abbrev pub states_of : List Port → List PortState
 states_of ports = map state_of ports
 
@@ -43,22 +43,22 @@ is_idle (Some Outside) = true
 is_idle (Some (Entered came)) = false
 is_idle (Some (Picked found)) = false
 
--- The cell that entered the port, where there is one.
+-- The cell that entered the port, if there is one.
 abbrev pub came_in : Option Port → Option Came
 came_in None = None
 came_in (Some Outside) = None
 came_in (Some (Entered came)) = Some came
 came_in (Some (Picked found)) = None
 
--- The cell of the port that was picked, where there is one.
+-- The cell of the port that was picked, if there is one.
 abbrev pub found_in : Option Port → Option Found
 found_in None = None
 found_in (Some Outside) = None
 found_in (Some (Entered came)) = None
 found_in (Some (Picked found)) = Some found
 
--- What every core keeps: the directory speaks of its lines, of which there are at most 4096, and so does each
--- picked cell.
+-- The invariant of a core: the directory is for as many lines as there are, at most 4096, and each picked cell has the
+-- number of one of them.
 pub record IsCore (directory : DirectoryView) (lines : List LineView) (ports : List Port) : Type 0 where
   pub sized : directory.lines ≡ length lines
   pub most : directory.lines ≤ 4096

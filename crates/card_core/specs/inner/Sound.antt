@@ -1,4 +1,4 @@
--- What every world keeps that a log leads to. Each step is proved to keep it, and the proofs of the
+-- An invariant of every world that a log leads to. Each step is proved to keep it, and the proofs of the
 -- core use it.
 use Rattle.std.specs.Prelude.{◌≡◌, ℕ, ◌^◌, ◌<◌, ◌≤◌, List, [], length, Some, IsSome, All, Contains, slice_get}
 use Rattle.upc_cell.specs.declared.vc.Vc.{Vc}
@@ -38,7 +38,7 @@ pub record SoundConnection (world : World) (connection : Connection) : Type 0 wh
   pub opening : Tally
   pub counted : tallied opening (judged connection.contracts empty_buckets [] connection.history) ≡ tally_of (world.judged connection.line)
 
--- The connections: each virtual connection stands once in their list, and no two share a line or an
+-- The connections: each virtual connection occurs at most once in their list, and no two share a line or an
 -- incarnation.
 pub record SoundConnections (world : World) : Type 0 where
   pub once : (here : Vc × Connection) → Contains world.connections here
@@ -63,7 +63,7 @@ pub record SoundPicking (world : World) (picking : Picking) : Type 0 where
   pub same_line : (connection : Connection) → connection_in world.connections picking.vc ≡ Some connection
       → connection.incarnation ≡ picking.incarnation → connection.line ≡ picking.line
 
--- What every world keeps that a log leads to.
+-- The invariant of every world that a log leads to.
 pub record IsSound (world : World) : Type 0 where
   pub programs : SoundPrograms world
   pub connections : SoundConnections world
@@ -72,6 +72,6 @@ pub record IsSound (world : World) : Type 0 where
   pub sized : length world.ports ≡ world.shape.ports
   pub used : world.used ≤ 2 ^ 62
 
--- Each step keeps it, so that every world that a log leads to has it.
+-- The invariant holds for every world that a log leads to.
 abbrev pub ReachedWorldsAreSound : Type 0
 ReachedWorldsAreSound = (shape : Shape) (log : List Event) (world : World) → Leads shape log world → IsSound world
