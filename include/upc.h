@@ -177,7 +177,7 @@ void upc_program_free(upc_program *program);
 /* ---- A card (memory) ---- */
 
 /* A card with programs and connections, which judges each cell on the connection that its header names; or none: all zeros
- * are none, as in `upc_card c = {0, 0};`. What is said of a upc_program holds of it: it is filled by these calls alone, has
+ * are none, as in `upc_card c = {0, 0};`. As with a upc_program, it is filled by these calls alone, has
  * no second copy, is let go before it is forgotten, and stays with the thread that made it. A card serves one caller. */
 typedef struct upc_card {
 	uint32_t live;
@@ -269,14 +269,14 @@ uint32_t upc_card_journal(upc_card *card, uint16_t path, uint16_t channel, size_
  * Faults: UPC_NO_CARD, UPC_LARGE_PATH, then desk 2 NoConnection. */
 uint32_t upc_card_counts(upc_card *card, uint16_t path, uint16_t channel, upc_counts *counts, upc_fault *fault);
 
-/* Ends a connection, and hands out its last journal: its cells, the earliest first, become the first entries of the room,
- * the others stay as they were, and *journal has their number. It doesn't allocate. A room of length 0 is
+/* Ends a connection, and returns its last journal: its cells, the earliest first, become the first entries of the room.
+ * Its other entries stay as they were, and *journal has their number. It doesn't allocate. A room of length 0 is
  * enough for an empty journal. Where the room is too small the connection goes on, and the fault's place is the number of
  * entries that are needed. Faults: UPC_NO_CARD, UPC_LARGE_PATH, then desk 2 NoConnection, then UPC_NO_ROOM. */
 uint32_t upc_card_release(upc_card *card, uint16_t path, uint16_t channel, upc_entry *room, size_t room_length,
                           upc_journal *journal, upc_fault *fault);
 
-/* Hands out a connection's journal in the same way, and empties it. The connection goes on: its buckets and its last moment
+/* Returns a connection's journal in the same way, and empties it. The connection goes on: its buckets and its last moment
  * stay. Faults: UPC_NO_CARD, UPC_LARGE_PATH, then desk 2 NoConnection, then UPC_NO_ROOM. */
 uint32_t upc_card_cut(upc_card *card, uint16_t path, uint16_t channel, upc_entry *room, size_t room_length,
                       upc_journal *journal, upc_fault *fault);

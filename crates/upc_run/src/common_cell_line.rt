@@ -27,7 +27,7 @@ pub fn after_command(line: &[u8]) -> Option<&[u8]>
     }
 }
 
-/// The text before a space, and the `count` octets after it; none if the text has no space there.
+/// The text before a space, and the last `count` octets, which follow it; none if there is no space before them.
 #[inline(always)]
 fn cut_before(text: &[u8], count: usize) -> Option<(&[u8], &[u8])>
     ensures parts { IfSome result (λ parts. (text.now ≡ parts.0.now ++ 32 ∷ parts.1.now) × (length parts.1.now ≡ count)) }
