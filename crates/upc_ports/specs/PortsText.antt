@@ -64,8 +64,8 @@ reading_rules = record { steps = ReadSteps; closes = λ reading. ReadCloses read
 abbrev pub IsReadingText : List ℕ → List ℕ → Done → Type 0
 IsReadingText octets text done = Prints reading_rules 0 unread (lines_of octets) text done
 
--- The text of a script that was run: what its lines were answered, of which no more is said here, and then what the
--- close of its card tells.
+-- The text of a script that was run: any text for the answers to its lines, then the closing text of its card. The
+-- answers are not specified here.
 pub record IsClosedText (text : List ℕ) (done : Done) : Type 0 where
   pub answers : List ℕ
   pub lines : List LineView

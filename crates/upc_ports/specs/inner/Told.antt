@@ -44,7 +44,7 @@ judgement_of ruling = record {
   verdict = ruling.verdict;
 }
 
--- The answer that tells as much as what was kept of a cell, of a cell with its header.
+-- The answer with what was kept of a cell's answer, for a cell with its header.
 abbrev pub answer_kept : List ℕ → Result Ruling Unjudged → Answer
 answer_kept cell (Ok ruling) = answer_to cell (Ok (judgement_of ruling))
 answer_kept cell (Err reason) = answer_to cell (Err reason)
