@@ -7,7 +7,7 @@
  *  - No pointer is null, also where the length beside it is 0. Each points to memory of its type, aligned for it; octets,
  *    contracts and entries to as many as the length beside them says, which take at most PTRDIFF_MAX octets. The call may
  *    read them, and write where the pointer is to no const.
- *  - What a call may write to is lent to that argument alone: it overlaps none of the others, and no other thread reads
+ *  - What a call may write to is borrowed by that argument alone: it overlaps none of the others, and no other thread reads
  *    or writes it before the call returns. What it may only read nobody changes before that.
  *  - Calls that the list below marks with "memory" take it by malloc and realloc and give it back by free, all of one
  *    allocator, whose blocks are aligned for every type of at most 16 octets. They are called from no signal handler, nor
@@ -167,7 +167,7 @@ typedef struct upc_program {
 uint32_t upc_program_new(const uint8_t *octets, size_t length, upc_program *program, upc_fault *fault);
 
 /* Runs the program on the cell that 52 octets are: *value becomes what it gave, and *steps how many instructions it began.
- * It takes no memory. Faults: cell 1 WrongLength, then UPC_NO_PROGRAM. */
+ * It doesn't allocate. Faults: cell 1 WrongLength, then UPC_NO_PROGRAM. */
 uint32_t upc_program_run(upc_program *program, const uint8_t *octets, size_t length, uint32_t *value, uint32_t *steps,
                          upc_fault *fault);
 
@@ -177,7 +177,7 @@ void upc_program_free(upc_program *program);
 /* ---- A card (memory) ---- */
 
 /* A card with programs and connections, which judges each cell on the connection that its header names; or none: all zeros
- * are none, as in `upc_card c = {0, 0};`. What is said of a upc_program holds of it: it is filled by these calls alone, has
+ * are none, as in `upc_card c = {0, 0};`. As with a upc_program, it is filled by these calls alone, has
  * no second copy, is let go before it is forgotten, and stays with the thread that made it. A card serves one caller. */
 typedef struct upc_card {
 	uint32_t live;
@@ -246,7 +246,7 @@ void upc_card_free(upc_card *card);
  * Faults: those of upc_check, then UPC_NO_CARD, then desk 6 ProgramsFull. */
 uint32_t upc_card_load(upc_card *card, const uint8_t *octets, size_t length, upc_id *id, upc_fault *fault);
 
-/* Takes a program out that no connection names. It takes no memory.
+/* Takes a program out that no connection names. It doesn't allocate.
  * Faults: UPC_NO_CARD, then desk 1 NoProgram, 5 InUse. */
 uint32_t upc_card_retire(upc_card *card, const upc_id *program, upc_fault *fault);
 
@@ -261,28 +261,28 @@ uint32_t upc_card_setup(upc_card *card, uint16_t path, uint16_t channel, const u
 uint32_t upc_card_reload(upc_card *card, uint16_t path, uint16_t channel, const upc_id *program, upc_id *earlier,
                          upc_fault *fault);
 
-/* Tells how many cells the journal of a connection has: as many entries a release or a cut writes. It takes no memory.
+/* Writes how many cells the journal of a connection has: as many entries a release or a cut writes. It doesn't allocate.
  * Faults: UPC_NO_CARD, UPC_LARGE_PATH, then desk 2 NoConnection. */
 uint32_t upc_card_journal(upc_card *card, uint16_t path, uint16_t channel, size_t *cells, upc_fault *fault);
 
-/* Tells the counts of a connection's line. It takes no memory.
+/* Writes the counts of a connection's line. It doesn't allocate.
  * Faults: UPC_NO_CARD, UPC_LARGE_PATH, then desk 2 NoConnection. */
 uint32_t upc_card_counts(upc_card *card, uint16_t path, uint16_t channel, upc_counts *counts, upc_fault *fault);
 
-/* Ends a connection, and hands out its last journal: its cells, the earliest first, become the first entries of the room,
- * of which the others stay as they were, and *journal tells how many they are. It takes no memory. A room of length 0 is
- * enough for an empty journal. Where the room is too small the connection goes on, and the fault's place tells how many
- * entries are needed. Faults: UPC_NO_CARD, UPC_LARGE_PATH, then desk 2 NoConnection, then UPC_NO_ROOM. */
+/* Ends a connection, and returns its last journal: its cells, the earliest first, become the first entries of the room.
+ * Its other entries stay as they were, and *journal has their number. It doesn't allocate. A room of length 0 is
+ * enough for an empty journal. Where the room is too small the connection goes on, and the fault's place is the number of
+ * entries that are needed. Faults: UPC_NO_CARD, UPC_LARGE_PATH, then desk 2 NoConnection, then UPC_NO_ROOM. */
 uint32_t upc_card_release(upc_card *card, uint16_t path, uint16_t channel, upc_entry *room, size_t room_length,
                           upc_journal *journal, upc_fault *fault);
 
-/* Hands out a connection's journal in the same way, and empties it. The connection goes on: its buckets and its last moment
+/* Returns a connection's journal in the same way, and empties it. The connection goes on: its buckets and its last moment
  * stay. Faults: UPC_NO_CARD, UPC_LARGE_PATH, then desk 2 NoConnection, then UPC_NO_ROOM. */
 uint32_t upc_card_cut(upc_card *card, uint16_t path, uint16_t channel, upc_entry *room, size_t room_length,
                       upc_journal *journal, upc_fault *fault);
 
-/* Judges the cell that 52 octets are, which came at this moment, on the connection that its header names, and tells what
- * becomes of it. Where the verdict is UPC_TAG, the octets become the tagged cell. It takes no memory.
+/* Judges the cell that 52 octets are, which came at this moment, on the connection that its header names, and writes
+ * its answer. If the verdict is UPC_TAG, the octets become the tagged cell. It doesn't allocate.
  * Faults: cell 1 WrongLength, then UPC_NO_CARD, then those of UPC_ARRIVE: 1, then 5, 4, 6. */
 uint32_t upc_card_arrive(upc_card *card, uint8_t *octets, size_t length, uint64_t moment, upc_answer *answer,
                          upc_fault *fault);

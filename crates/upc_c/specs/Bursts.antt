@@ -4,8 +4,8 @@ use Rattle.leaky.specs.Tolerance.{tolerance_of}
 use Rattle.upc_c.specs.Faults.{plain_fault}
 use Rattle.upc_c.specs.declared.fault.UpcFault.{UpcFault}
 
--- There is a tolerance: a burst has cells, the peak cell rate isn't the slower one, and so many ticks
--- are a limit.
+-- There is a tolerance: a burst has cells, the peak cell rate isn't the slower one, and the
+-- tolerance is at most 2^48 ticks.
 pub record HasTolerance (mbs ts tp : ℕ) : Type 0 where
   pub cells : 0 < mbs
   pub faster : tp ≤ ts

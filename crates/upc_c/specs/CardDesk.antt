@@ -54,7 +54,7 @@ reason_of (NotSetUp fault ask) = Some fault
 reason_of (Refused fault) = Some fault
 reason_of _ = None
 
--- The card has answered the step with a refusal, and the fault tells its reason.
+-- The card has answered the step with a refusal, and the fault has its reason.
 pub record Refuses (before after : UpcCard) (step : Step) (fault : UpcFault) : Type 0 where
   pub reply : Reply
   pub taken : Takes before after step reply

@@ -1,4 +1,4 @@
--- What a card tells of a connection without a step.
+-- What C can read of a connection on a card without a step.
 use Rattle.std.specs.Prelude.{◌≡◌, ◌⊎◌, ℕ, length, Some, None}
 use Rattle.card_core.specs.Agreement.{CoreView, CoreAgrees}
 use Rattle.card_core.specs.World.{World, Connection, connection_in, kept_cells}
@@ -53,7 +53,7 @@ pub record IsMissing (card : UpcCard) (path channel : ℕ) : Type 0 where
   pub had : card_in card ≡ Some core
   pub none : (world : World) → CoreAgrees core world → connection_in world.connections vc ≡ None
 
--- Why nothing can be told of the connection: there is no card, or no such path on it, or no such connection.
+-- Why nothing can be read of the connection: there is no card, or no such path on it, or no such connection.
 abbrev pub IsLookUpFault : UpcCard → ℕ → ℕ → UpcFault → Type 0
 IsLookUpFault card path channel fault =
     ((card_in card ≡ None) × (fault ≡ card_missing))

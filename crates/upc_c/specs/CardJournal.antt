@@ -41,8 +41,8 @@ told_journal piece = record {
   after = counts_of piece.end.counts;
 }
 
--- The card has taken the step on the connection of this path and channel, which handed out its journal: the room
--- has its entries, and this is told of it.
+-- The card has taken the step on the connection of this path and channel, which returned its journal: the room
+-- has its entries, and `told` the rest.
 pub record IsHandedOut (before after : UpcCard) (path channel : ℕ) (step : Vc → Step) (reply : PieceView → Reply) (room written : List UpcEntry) (told : UpcJournal) : Type 0 where
   pub vc : Vc
   pub numbers : IsVc path channel vc
@@ -61,12 +61,12 @@ abbrev pub IsCut : UpcCard → UpcCard → ℕ → ℕ → List UpcEntry → Lis
 IsCut before after path channel room written told =
     IsHandedOut before after path channel Cut CutOff room written told
 
--- The journal of the connection has more cells than the room, and the fault tells how many.
+-- The journal of the connection has more cells than the room, and the fault's place is their number.
 abbrev pub IsLongerThan : UpcCard → ℕ → ℕ → List UpcEntry → UpcFault → Type 0
 IsLongerThan card path channel room fault =
     (cells : ℕ) × HasInJournal card path channel cells × (length room < cells) × (fault ≡ no_room cells)
 
--- Why no journal was handed out: as for any step on a connection; or the room is too small.
+-- Why no journal was returned: as for any step on a connection; or the room is too small.
 abbrev pub IsJournalFault : UpcCard → UpcCard → ℕ → ℕ → (Vc → Step) → List UpcEntry → UpcFault → Type 0
 IsJournalFault before after path channel step room fault =
     IsConnectionFault before after path channel step fault ⊎ IsLongerThan before path channel room fault

@@ -1,4 +1,4 @@
--- What a call tells of a fault.
+-- The faults that calls return.
 use Rattle.std.specs.Prelude.{ℕ}
 use Rattle.upc_c.specs.declared.fault.UpcFault.{UpcFault}
 
@@ -30,7 +30,7 @@ unknown_side = plain_fault 1 5 0
 abbrev pub out_of_memory : UpcFault
 out_of_memory = plain_fault 1 1 0
 
--- The room is too small, and this number of octets is needed.
+-- The room is too small; `place` is the number of octets or entries that are needed.
 abbrev pub no_room : ℕ → UpcFault
 no_room needed = plain_fault 1 2 needed
 

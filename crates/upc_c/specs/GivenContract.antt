@@ -1,4 +1,4 @@
--- The contracts that C's numbers stand for.
+-- The contracts of C's numbers.
 use Rattle.std.specs.Prelude.{◌≡◌, ◌⊎◌, ◌^◌, ◌<◌, ◌≤◌, ℕ}
 use Rattle.leaky.specs.declared.gcra.Gcra.{Gcra}
 use Rattle.leaky.specs.declared.contract.Contract.{Contract}

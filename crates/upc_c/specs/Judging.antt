@@ -28,8 +28,8 @@ pub record Shows (levels : UpcLevels) (buckets : Buckets) : Type 0 where
   pub first : levels.first ≡ buckets.first.level + buckets.first.charged
   pub second : levels.second ≡ buckets.second.level + buckets.second.charged
 
--- For all buckets that the levels stand for and that were not charged after the moment, the verdict
--- is the contract's, and the new levels stand for the buckets after the cell.
+-- For all buckets that have these levels and that were not charged after the moment, the verdict
+-- is the contract's, and the new levels are those of the buckets after the cell.
 pub record IsJudged (contract : Contract) (levels : UpcLevels) (clp : Bool) (moment number : ℕ) (left : UpcLevels) : Type 0 where
   pub verdict : (buckets : Buckets) → Shows levels buckets → IsChargedBy buckets moment
       → number ≡ number_of (verdict_of contract buckets clp moment)

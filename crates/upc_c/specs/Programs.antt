@@ -17,13 +17,13 @@ use Rattle.upc_c.specs.Faults.{no_room}
 use Rattle.upc_c.specs.Telling.{told_asm, told_decode, told_list, told_verify}
 use Rattle.upc_c.specs.declared.fault.UpcFault.{UpcFault}
 
--- The text was written to the front of the room, and the number of its octets was told.
+-- The text was written to the front of the room, and `count` is the number of its octets.
 pub record IsWritten (text before after : List ℕ) (count : ℕ) : Type 0 where
   pub fits : length text ≤ length before
   pub written : after ≡ text ++ drop (length text) before
   pub counted : count ≡ length text
 
--- The text doesn't fit the room, and the fault tells how many octets are needed.
+-- The text doesn't fit the room, and the fault's place is the number of octets that are needed.
 abbrev pub IsNoRoom : List ℕ → List ℕ → UpcFault → Type 0
 IsNoRoom text room fault = (length room < length text) × (fault ≡ no_room (length text))
 

@@ -108,7 +108,7 @@ fn leave(octets: &mut [u8], cell: &Cell, verdict: Verdict)
 }
 
 /// Judges the cell that 52 octets are, which came at this moment, on the connection that its header names,
-/// and tells what becomes of it. Where the verdict is to tag it, the octets become the tagged cell. Returns
+/// and writes its answer. If the verdict is to tag it, the octets become the tagged cell. Returns
 /// the fault's number, or 0.
 #[unsafe(no_mangle)]
 pub extern "C" fn upc_card_arrive(

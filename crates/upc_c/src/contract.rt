@@ -39,7 +39,7 @@ fn rate_of(bucket: usize, increment: u64, limit: u64) -> Result<Gcra, UpcFault>
     }
 }
 
-/// The contract that the numbers stand for.
+/// The contract of these numbers.
 #[inline]
 pub(crate) fn contract_of(given: &UpcContract) -> Result<Contract, UpcFault>
     ensures contract { IfOk result (IsContract given.now) }

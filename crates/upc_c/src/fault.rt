@@ -69,7 +69,7 @@ pub(crate) fn fault_at(kind: u32, number: u32, place: usize) -> UpcFault
     }
 }
 
-/// Tells C the fault. Returns its number.
+/// Writes the fault for C, and returns its number.
 pub(crate) fn told(fault: &mut UpcFault, found: UpcFault) -> u32
     ensures told { fault.new ≡ found }
     ensures number { result ≡ found.number }

@@ -1,4 +1,4 @@
-//! What a card that C holds tells of a connection without a step.
+//! What C can read of a connection on a card without a step.
 
 ghost use Rattle.std.specs.Prelude.{◌≡◌, ◌≢◌, ◌<◌, IfNone, IfSome, IfErr, IfOk};
 ghost use Rattle.upc_c.specs.CardHandle.{card_in};
@@ -17,7 +17,7 @@ use line_record::Tally;
 use std::alloc::Global;
 use upc_cell::Vc;
 
-/// What is told of the line that serves a connection.
+/// What is read of the line that serves a connection.
 #[derive(Clone, Copy)]
 pub(crate) struct ToldLine {
     /// How many cells its journal has.
@@ -62,8 +62,8 @@ fn line_on(alloc: Global, card: &mut UpcCard, path: u16, channel: u16) -> Result
     }
 }
 
-/// Tells how many cells the journal of the connection on this path and channel has: so many entries a cut or
-/// a release hands out. Returns the fault's number, or 0.
+/// Writes how many cells the journal of the connection on this path and channel has. A cut or a release
+/// writes as many entries. Returns the fault's number, or 0.
 #[unsafe(no_mangle)]
 pub extern "C" fn upc_card_journal(
     alloc: Global,
@@ -89,7 +89,7 @@ pub extern "C" fn upc_card_journal(
     }
 }
 
-/// Tells the counts of the line that serves the connection on this path and channel. Returns the fault's
+/// Writes the counts of the line that serves the connection on this path and channel. Returns the fault's
 /// number, or 0.
 #[unsafe(no_mangle)]
 pub extern "C" fn upc_card_counts(

@@ -36,7 +36,7 @@ pub struct UpcJournal {
     pub after: UpcCounts,
 }
 
-/// When a journal is handed out.
+/// When a journal is returned.
 #[derive(Clone, Copy)]
 pub(crate) enum HandOut {
     /// The connection ends: the step `Release`.
@@ -45,7 +45,7 @@ pub(crate) enum HandOut {
     GoingOn,
 }
 
-/// What C gets of a journal that was handed out, beside its entries.
+/// What C gets of a journal that was returned, beside its entries.
 fn told_journal(piece: &Piece) -> UpcJournal
     ensures { result ≡ told_journal piece.now }
 {
@@ -123,7 +123,7 @@ fn hand_out_on(
     }
 }
 
-/// Hands out the journal of the connection on this path and channel into the room.
+/// Takes the step on this path and channel, and writes the journal's entries to the room.
 fn hand_out_to(
     alloc: Global,
     card: &mut UpcCard,
@@ -156,7 +156,7 @@ fn hand_out_to(
 }
 
 /// Ends the connection on this path and channel, writes the entries of its last journal to the front of the
-/// room, and tells the counts before and after them. Returns the fault's number, or 0.
+/// room, and writes the counts before and after them. Returns the fault's number, or 0.
 #[unsafe(no_mangle)]
 pub extern "C" fn upc_card_release(
     alloc: Global,
@@ -182,7 +182,7 @@ pub extern "C" fn upc_card_release(
 }
 
 /// Empties the journal of the connection on this path and channel, writes its entries to the front of the
-/// room, and tells the counts before and after them. The buckets and the last moment stay. Returns the
+/// room, and writes the counts before and after them. The buckets and the last moment stay. Returns the
 /// fault's number, or 0.
 #[unsafe(no_mangle)]
 pub extern "C" fn upc_card_cut(

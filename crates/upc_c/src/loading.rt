@@ -38,7 +38,7 @@ fn load_on(alloc: Global, card: &mut UpcCard, program: Program) -> Result<Id, Up
     }
 }
 
-/// Puts the program that octets spell into the card, and tells its id, which no other program ever has.
+/// Puts the program that octets spell into the card, and writes its id, which no other program ever has.
 /// Returns the fault's number, or 0.
 #[unsafe(no_mangle)]
 pub extern "C" fn upc_card_load(

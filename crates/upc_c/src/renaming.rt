@@ -75,7 +75,7 @@ pub extern "C" fn upc_card_retire(
     }
 }
 
-/// Gives the connection on this path and channel another program, and tells the one that it had. Its buckets
+/// Gives the connection on this path and channel another program, and writes the id of the one that it had. Its buckets
 /// and its journal stay. Returns the fault's number, or 0.
 #[unsafe(no_mangle)]
 pub extern "C" fn upc_card_reload(

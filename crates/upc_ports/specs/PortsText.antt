@@ -1,5 +1,5 @@
 -- The text of `upc ports`. The whole script is read before anything of it is run: its first line with words opens a
--- card, and each later one is kept. Where the script can't be run, the one line that tells why is the whole text.
+-- card, and each later one is kept. Where the script can't be run, one line with the fault is the whole text.
 use Rattle.std.specs.Prelude.{◌≡◌, ◌⊎◌, ℕ, Bool, true, false, List, [], ◌∷◌, ◌++◌, Option, Some, None, MatchOption, MatchBool}
 use Rattle.line_record.specs.Line.{LineView}
 use Rattle.card_core.specs.Shapes.{shape_fault}
@@ -64,8 +64,8 @@ reading_rules = record { steps = ReadSteps; closes = λ reading. ReadCloses read
 abbrev pub IsReadingText : List ℕ → List ℕ → Done → Type 0
 IsReadingText octets text done = Prints reading_rules 0 unread (lines_of octets) text done
 
--- The text of a script that was run: what its lines were answered, of which no more is said here, and then what the
--- close of its card tells.
+-- The text of a script that was run: any text for the answers to its lines, then the closing text of its card. The
+-- answers are not specified here.
 pub record IsClosedText (text : List ℕ) (done : Done) : Type 0 where
   pub answers : List ℕ
   pub lines : List LineView
@@ -73,7 +73,7 @@ pub record IsClosedText (text : List ℕ) (done : Done) : Type 0 where
   pub cut : text ≡ answers ++ closing_text lines uneven
   pub ends : done ≡ done_of uneven
 
--- The text of the octets of a whole script, as far as it is told, and how it ends. A script that can't be run has the
+-- The text of the octets of a whole script, as far as it is specified, and how it ends. A script that can't be run has the
 -- text of its reading, and is ended. One that is run has many: which answers cells and desk lines get where they meet is
 -- open.
 abbrev pub IsPortsText : List ℕ → List ℕ → Done → Type 0

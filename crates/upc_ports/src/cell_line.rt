@@ -18,7 +18,7 @@ pub enum CellLineFault {
     BadLine,
     /// Its cell isn't hexadecimal.
     BadHex,
-    /// Its cell has so many octets.
+    /// Its cell has this number of octets, and not 52.
     WrongLength(usize),
 }
 

@@ -1,4 +1,4 @@
-//! What the close of a card tells: the totals of the verdicts, or the first line that is uneven.
+//! The result of closing a card: the totals of the verdicts, or the first line that is uneven.
 
 ghost use Rattle.std.specs.Prelude.{◌≡◌, ◌++◌, OnOk};
 ghost use Rattle.upc_words.specs.FaultLines.{line};
@@ -22,7 +22,7 @@ fn add_totals(answers: &mut Vec<u8>, totals: Tally) -> Result<(), AllocError>
     Ok(())
 }
 
-/// Adds the answer to a card of which this line, from 0, counted otherwise than the seats did.
+/// Adds the fault of this line, from 0: its counts differ from those of the seats.
 #[tactic(auto, using(std::proofs::lemmas::List::append_assoc))]
 fn add_uneven(answers: &mut Vec<u8>, number: u16) -> Result<(), AllocError>
     ensures { OnOk result (answers.new.items ≡ answers.old.items ++ uneven_line number) }
@@ -44,7 +44,7 @@ pub fn add_closing(answers: &mut Vec<u8>, closing: &Closing) -> Result<(), Alloc
     }
 }
 
-/// How the run of a script ends whose card was closed so: a line that is uneven ends it early.
+/// How a script's run ends after this closing: `Ended` if a line is uneven, else `Whole`.
 pub fn done_after(closing: &Closing) -> Done
     ensures { result ≡ done_of closing.now.uneven }
 {

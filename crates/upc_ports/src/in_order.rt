@@ -50,7 +50,7 @@ fn cell_in<S: Ledgers>(ports: &[BusyPort<S>], number: usize, place: usize) -> Op
     ports.get(number)?.arrivals.get(place)
 }
 
-/// The text that the desk gave as the one of this number; empty where it gave none.
+/// The text that the desk gave as the one of this number; empty if it gave none.
 #[tactic(auto, using(crate::proofs::InOrderLemmas::get_mapped))]
 fn text_in(told: &[Vec<u8>], number: usize) -> &[u8]
     ensures { result.now ≡ given_text (slice_get (map (λ text. text.items) told.now) number) }
@@ -61,7 +61,7 @@ fn text_in(told: &[Vec<u8>], number: usize) -> &[u8]
     }
 }
 
-/// Adds what one answerer has to tell.
+/// Adds the text of one answerer.
 fn add_from<S: Ledgers>(
     side: Side,
     answerer: Answerer,

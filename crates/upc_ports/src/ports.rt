@@ -156,7 +156,7 @@ pub fn run_ports<R: Threads + Wait + Sync, I: Input, O: Output>(
     input: &mut I,
     output: &mut O,
 ) -> Result<Done, RunFault>
-    // What was written is the text of the whole input as far as it is told, or a beginning of it.
+    // What was written is the text of the whole input as far as it is specified, or a beginning of it.
     ensures text { I.is_known → O.is_known → IfOk result (λ done.
         Adds (λ text. IsPortsText (I.rest input.old) text done) (O.held output.old) (O.held output.new)) }
     ensures front { I.is_known → O.is_known → OnErr result
@@ -178,7 +178,7 @@ pub fn run_ports<R: Threads + Wait + Sync, I: Input, O: Output>(
 ///
 /// The lines before the first cell line are answered one by one. From there on each port lets its cells arrive,
 /// in the script's order, while the desk answers all other lines, in theirs. When all have ended, the
-/// answers are written in the script's order, and behind them the totals of the verdicts, over all lines
+/// answers are written in the script's order, and after them the totals of the verdicts, over all lines
 /// of the card for their whole life.
 ///
 /// # Errors
@@ -192,7 +192,7 @@ pub fn run_ports_with<G: Gate + Sync, R: Threads + Wait + Sync, I: Input, O: Out
     output: &mut O,
     gate: &G,
 ) -> Result<Done, RunFault>
-    // What was written is the text of the whole input as far as it is told, or a beginning of it.
+    // What was written is the text of the whole input as far as it is specified, or a beginning of it.
     ensures text { I.is_known → O.is_known → IfOk result (λ done.
         Adds (λ text. IsPortsText (I.rest input.old) text done) (O.held output.old) (O.held output.new)) }
     ensures front { I.is_known → O.is_known → OnErr result

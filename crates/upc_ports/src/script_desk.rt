@@ -124,7 +124,7 @@ impl<S: Ledgers> ScriptDesk<S> {
         }
     }
 
-    /// Hands out a connection's journal.
+    /// Answers with a connection's journal, and begins a new one.
     fn cut<R: Wait>(
         &mut self,
         rt: &R,

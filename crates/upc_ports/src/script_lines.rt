@@ -7,7 +7,7 @@ ghost use Rattle.upc_ports.specs.inner.Dealing.{is_cell_line};
 use memchr::memchr;
 use text_io::first_word;
 
-/// The first line of these, each of which ends by a line feed, and what stands behind it; none where there is no line.
+/// The first line without its line feed, and what is after that; none if there is no line feed.
 pub fn first_line(lines: &[u8]) -> Option<(&[u8], &[u8])>
     ensures cut { IfSome result (λ found. lines.now ≡ found.0.now ++ 10 ∷ found.1.now) }
     ensures before { IfSome result (λ found. (k : ℕ) → k < length found.0.now → slice_index lines.now k ≢ 10) }
@@ -20,7 +20,7 @@ pub fn first_line(lines: &[u8]) -> Option<(&[u8], &[u8])>
     }
 }
 
-/// Whether the line's first word is that of a cell line, whatever stands behind it.
+/// Whether the line's first word is that of a cell line, whatever follows it.
 pub fn is_cell_line(line: &[u8]) -> bool
     ensures { result ≡ is_cell_line (words_of line.now) }
 {

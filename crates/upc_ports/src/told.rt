@@ -1,4 +1,4 @@
-//! What is kept of a cell that was answered: as much as the answer's line tells.
+//! What is kept of a cell that was answered: what the answer's line shows.
 
 ghost use Rattle.std.specs.Prelude.{◌≡◌};
 ghost use Rattle.upc_ports.specs.inner.Told.{judgement_of, ruled, shown_cell, told_cell};
@@ -9,7 +9,7 @@ use leaky::Verdict;
 use line_record::LineFault;
 use upc_cell::{CELL_OCTETS, Cell};
 
-/// What the line of a judged cell tells, beside its header.
+/// What the line of a judged cell shows, beside its header.
 #[derive(Clone, Copy)]
 pub struct Ruling {
     /// The program that gave the number of the contract.
@@ -27,7 +27,7 @@ pub struct ToldCell {
     pub told: Result<Ruling, Unjudged>,
 }
 
-/// What the answer tells: the ruling on a judged cell, or why it isn't judged.
+/// What is kept of the answer: the ruling on a judged cell, or why it isn't judged.
 fn ruled(answer: &Answer) -> Result<Ruling, Unjudged>
     ensures { result ≡ ruled answer.now }
 {
@@ -77,7 +77,7 @@ pub fn shown_cell(header: &[u8; 4]) -> Cell
     Cell::from(octets)
 }
 
-/// The judgement that tells as much, and nothing else.
+/// The judgement with this ruling; its other numbers are 0.
 pub fn judgement_of(ruling: &Ruling) -> Judgement
     ensures { result ≡ judgement_of ruling.now }
 {

@@ -12,8 +12,8 @@ use Rattle.upc_words.specs.FaultLines.{line}
 abbrev pub no_card : List ℕ
 no_card = codes "fault script 2 NoCard\n"
 
--- The number and the name of what is out of its limits in a card's shape. Want of memory is no fault of a
--- shape, and is never printed.
+-- The number and the name of what is out of its limits in a card's shape. An allocation failure is no
+-- fault of a shape, and is never printed.
 abbrev pub shape_name : CardFault → List ℕ
 shape_name card.Programs = codes "1 Programs"
 shape_name card.Lines = codes "2 Lines"
@@ -29,7 +29,7 @@ shape_fault_line fault = line (codes "fault shape " ++ shape_name fault)
 abbrev pub gcra_fault : GcraFault → List ℕ
 gcra_fault fault = line (codes "fault gcra " ++ gcra_fault_text fault)
 
--- The number and the name of the desk's reason to refuse a command; want of memory has no line.
+-- The number and the name of the desk's reason to refuse a command; an allocation failure has no line.
 abbrev pub desk_name : DeskFault → Option (List ℕ)
 desk_name desk.NoProgram = Some (codes "1 NoProgram")
 desk_name desk.NoConnection = Some (codes "2 NoConnection")

@@ -33,14 +33,14 @@ abbrev pub sized_shape : List ℕ → List ℕ → List ℕ → List ℕ → Sid
 sized_shape programs lines ports journal side =
     with_both (shape_with side) (two_numbers programs lines) (two_numbers ports journal)
 
--- The shape that the words behind `card` ask for: without a fifth the cells are users'.
+-- The shape that the words after `card` ask for: without a fifth the cells are users'.
 abbrev pub shape_of : List (List ℕ) → Option Shape
 shape_of (programs ∷ lines ∷ ports ∷ journal ∷ []) = sized_shape programs lines ports journal Uni
 shape_of (programs ∷ lines ∷ ports ∷ journal ∷ side ∷ []) =
     option_and_then (sized_shape programs lines ports journal) (side_of side)
 shape_of _ = None
 
--- `card PROGRAMS LINES PORTS JOURNAL`, or with a side behind them.
+-- `card PROGRAMS LINES PORTS JOURNAL`, or the same and a side.
 abbrev pub card_of : List (List ℕ) → Option Shape
 card_of [] = None
 card_of (name ∷ words) = if bytes_eq name (codes "card") then shape_of words else None

@@ -10,7 +10,7 @@ use Rattle.upc_run.specs.declared.commands.Command.TheVariants as coded
 abbrev pub setup_seen : Vc → ℕ → List ℕ → Option Command
 setup_seen vc number octets = option_map (λ wanted. setup vc number wanted) (contracts_of (words_of octets))
 
--- Its words without what the code knows of where they stand. The code leaves the contracts of a setup as words; where
+-- The command without the places of its words. The code leaves the contracts of a setup as words; where
 -- these have no lawful form, it is no command.
 abbrev pub command_seen : Coded → Option Command
 command_seen (coded.Load digits) = Some (load digits.now)

@@ -17,7 +17,7 @@ use Rattle.upc_run.specs.ScriptCommands.{Command, load, retire, setup, reload, r
 use Rattle.upc_words.specs.FaultLines.{line}
 use Rattle.upc_run.specs.CardFaults.{arrive_fault, desk_fault}
 
--- A program's name is its number behind `p`.
+-- A program's name: `p` and its number.
 abbrev pub program_name : ℕ → List ℕ
 program_name number = codes "p" ++ decimal number
 
@@ -67,7 +67,7 @@ verdict_text Discard judging leaving = line (codes "discard " ++ judging)
 verdict_text Refuse judging leaving = line (codes "refuse " ++ judging)
 
 -- What is printed of a cell that came on this connection, where the program that named its contract has a
--- name of this number; want of memory has no line.
+-- name of this number; an allocation failure has no line.
 abbrev pub numbered_answer_text : ℕ → Vc → Answer → Option (List ℕ)
 numbered_answer_text name vc (answer.Judged number count moment value program verdict leaving) =
     Some (verdict_text verdict (judging_text vc name value) leaving)
@@ -89,8 +89,8 @@ number_of_judging names _ = 0
 abbrev pub answer_text : List Id → Vc → Answer → Option (List ℕ)
 answer_text names vc given = numbered_answer_text (number_of_judging names given) vc given
 
--- What is printed of the reply to a command of the desk, where so many programs were put in before; none
--- for want of memory, and for what is no reply to it.
+-- What is printed of the reply to a command of the desk, where `programs` programs were put in before; none
+-- for an allocation failure, and for what is no reply to the command.
 abbrev pub reply_text : Command → ℕ → Reply → Option (List ℕ)
 reply_text (load digits) programs (reply.Loaded id) = Some (line (codes "loaded " ++ program_name (suc programs)))
 reply_text (load digits) programs (reply.NotLoaded fault code) = desk_fault fault

@@ -57,8 +57,8 @@ ids_loaded log = flat_map (λ event. id_loaded event.reply) log
 abbrev pub Refuses : List ℕ → Card → List ℕ → Card → Type 0
 Refuses fault before text after = (text ≡ fault) × (after ≡ before)
 
--- The card takes the command as this step, and what is printed tells its reply. A reply that lacks memory
--- tells nothing, and so is no answer.
+-- The card takes the command as this step, and the text is that of its reply. A reply of an allocation
+-- failure has no text, and so is no answer.
 pub record Takes (before : Card) (command : Command) (step : Step) (text : List ℕ) (after : Card) : Type 0 where
   pub reply : Reply
   pub stepped : WorldStep before.world step reply after.world
@@ -107,7 +107,7 @@ abbrev pub Arrives : World → List ℕ → ℕ → Answer → World → Type 0
 Arrives before octets moment answer after =
     (entered : World) × WorldStep before (Enter 0 octets moment) Entered entered × IsAnswered entered answer after
 
--- A cell arrives, and what is printed tells its answer.
+-- A cell arrives, and the text is that of its answer.
 pub record Polices (before : Card) (moment : ℕ) (octets : List ℕ) (text : List ℕ) (after : Card) : Type 0 where
   pub answer : Answer
   pub arrived : Arrives before.world octets moment answer after.world
@@ -180,7 +180,7 @@ pub record IsLed (card : Card) : Type 0 where
   pub names : card.names ≡ ids_loaded log
   pub free : slice_get card.world.ports 0 ≡ Some outside
 
--- The cards that stand in a world are those that a log leads to.
+-- No card, or a card that a log leads to.
 abbrev pub IsSoundRun : RunWorld → Type 0
 IsSoundRun None = Unit {0}
 IsSoundRun (Some card) = IsLed card

@@ -35,7 +35,7 @@ contracts_of words = if nat_le 1 (length words) && nat_le (length words) 4 then 
 abbrev pub seat_of : Side → List ℕ → List ℕ → List ℕ → Option (Vc × ℕ)
 seat_of side path channel program = with_both (λ vc number. (vc, number)) (vc_named side path channel) (program_of program)
 
--- The connection and the program that are named, and the contracts behind them.
+-- The connection and the program that are named, and the contracts after them.
 abbrev pub setup_with : Vc × ℕ → List Wanted → Command
 setup_with seat wanted = setup seat.0 seat.1 wanted
 
@@ -55,7 +55,7 @@ reload_of side (path ∷ channel ∷ program ∷ []) =
     option_map reload_with (seat_of side path channel program)
 reload_of side _ = None
 
--- A connection that two words name, and nothing behind them.
+-- A connection that two words name, with no word after them.
 abbrev pub only_vc : Side → List (List ℕ) → Option Vc
 only_vc side (path ∷ channel ∷ []) = vc_named side path channel
 only_vc side _ = None

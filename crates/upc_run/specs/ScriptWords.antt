@@ -20,7 +20,7 @@ with_both join one other = option_and_then (λ first. option_map (join first) ot
 abbrev pub up_to : ℕ → ℕ → Option ℕ
 up_to most number = if nat_le number most then Some number else None
 
--- The number that digits spell behind digits of the value `high`, the highest first; none where an octet
+-- The number that digits spell after digits of the value `high`, the highest first; none where an octet
 -- is no digit.
 unfoldable pub spelled_behind : ℕ → List ℕ → Option ℕ
 spelled_behind high [] = Some high
@@ -40,7 +40,7 @@ number_of (octet ∷ octets) = option_and_then (up_to most_number) (spelled_behi
 abbrev pub number_up_to : ℕ → List ℕ → Option ℕ
 number_up_to most word = option_and_then (up_to most) (number_of word)
 
--- The number of a program's name: a number behind the letter `p` (112).
+-- The number of a program's name: the letter `p` (112) and a number.
 abbrev pub program_of : List ℕ → Option ℕ
 program_of [] = None
 program_of (letter ∷ digits) = if letter == 112 then number_of digits else None
@@ -58,7 +58,7 @@ connection_of path channel = record {
 abbrev pub vc_named : Side → List ℕ → List ℕ → Option Vc
 vc_named side path channel = with_both connection_of (number_up_to (last_vpi side) path) (number_up_to 65535 channel)
 
--- What stands before the first such mark, and what stands behind it; none where there is no mark.
+-- What is before the first `mark`, and what is after it; none if there is no `mark`.
 unfoldable pub cut_at : ℕ → List ℕ → Option (List ℕ × List ℕ)
 cut_at mark [] = None
 cut_at mark (octet ∷ octets) =

@@ -37,7 +37,7 @@ pub fn add_gcra_fault(answers: &mut Vec<u8>, fault: GcraFault) -> Result<(), All
 ///
 /// # Errors
 ///
-/// `AllocError` where memory was refused, here or to the card.
+/// `AllocError` if an allocation failed, here or for the card.
 pub fn add_shape_fault(answers: &mut Vec<u8>, fault: CardFault) -> Result<(), AllocError>
     ensures of_shape { OnOk result (fault ≢ CardFault.NoMemory) }
     ensures text { OnOk result (answers.new.items ≡ answers.old.items ++ shape_fault_line fault) }
@@ -55,7 +55,7 @@ pub fn add_shape_fault(answers: &mut Vec<u8>, fault: CardFault) -> Result<(), Al
 ///
 /// # Errors
 ///
-/// `AllocError` where memory was refused, here or to the desk.
+/// `AllocError` if an allocation failed, here or at the desk.
 pub fn add_desk_fault(answers: &mut Vec<u8>, fault: DeskFault) -> Result<(), AllocError>
     ensures { OnOk result (AddsSome (desk_fault fault) answers.old.items answers.new.items) }
 {

@@ -47,7 +47,7 @@ fn sized(programs: &[u8], lines: &[u8], ports: &[u8], journal: &[u8], side: Side
     })
 }
 
-/// The shape that the words behind `card` ask for.
+/// The shape that the words after `card` ask for.
 fn shape_behind(line: &[u8]) -> Option<Shape>
     ensures { result ≡ shape_of (words_of line.now) }
 {
@@ -75,7 +75,7 @@ fn shape_behind(line: &[u8]) -> Option<Shape>
     }
 }
 
-/// The shape that a line's words ask for; none where it is no line that opens a card.
+/// The shape that a line's words ask for; none if the line doesn't open a card.
 pub fn read_card(line: &[u8]) -> Option<Shape>
     ensures { result ≡ card_of (words_of line.now) }
 {

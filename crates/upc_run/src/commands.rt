@@ -27,7 +27,7 @@ pub enum Command<'a> {
     Reload(Vc, u64),
     /// A connection ends.
     Release(Vc),
-    /// A connection's journal is handed out.
+    /// A connection's journal is returned, and a new one begins.
     Cut(Vc),
     /// A cell comes at a moment.
     Cell(u64, &'a [u8]),
@@ -46,7 +46,7 @@ fn only_word(line: &[u8]) -> Option<&[u8]>
     Some(word)
 }
 
-/// `retire pN`, behind its first word.
+/// `retire pN`, after its first word.
 fn retire(line: &[u8]) -> Option<Command<'_>>
     ensures { option_and_then command_seen result ≡ retire_of (words_of line.now) }
 {
@@ -59,7 +59,7 @@ fn retire(line: &[u8]) -> Option<Command<'_>>
     }
 }
 
-/// `load HEX`, behind its first word.
+/// `load HEX`, after its first word.
 fn load(line: &[u8]) -> Option<Command<'_>>
     ensures { option_and_then command_seen result ≡ load_of (words_of line.now) }
 {
@@ -69,7 +69,7 @@ fn load(line: &[u8]) -> Option<Command<'_>>
     }
 }
 
-/// `cell MOMENT HEX`, behind its first word.
+/// `cell MOMENT HEX`, after its first word.
 fn cell(line: &[u8]) -> Option<Command<'_>>
     ensures { option_and_then command_seen result ≡ cell_of_words (words_of line.now) }
 {
@@ -85,7 +85,7 @@ fn cell(line: &[u8]) -> Option<Command<'_>>
     }
 }
 
-/// `reload VPI VCI pN`, behind its first word.
+/// `reload VPI VCI pN`, after its first word.
 fn reload(side: Side, line: &[u8]) -> Option<Command<'_>>
     ensures { option_and_then command_seen result ≡ reload_of side (words_of line.now) }
 {
@@ -107,7 +107,7 @@ fn reload(side: Side, line: &[u8]) -> Option<Command<'_>>
     }
 }
 
-/// The two words of a connection that stand alone.
+/// The connection that a line of exactly two words names.
 fn only_connection(side: Side, line: &[u8]) -> Option<Vc>
     ensures { result ≡ only_vc side (words_of line.now) }
 {
@@ -120,7 +120,7 @@ fn only_connection(side: Side, line: &[u8]) -> Option<Vc>
     connection(side, path, channel)
 }
 
-/// `release VPI VCI`, behind its first word.
+/// `release VPI VCI`, after its first word.
 fn release(side: Side, line: &[u8]) -> Option<Command<'_>>
     ensures { option_and_then command_seen result ≡ release_of side (words_of line.now) }
 {
@@ -130,7 +130,7 @@ fn release(side: Side, line: &[u8]) -> Option<Command<'_>>
     }
 }
 
-/// `cut VPI VCI`, behind its first word.
+/// `cut VPI VCI`, after its first word.
 fn cut(side: Side, line: &[u8]) -> Option<Command<'_>>
     ensures { option_and_then command_seen result ≡ cut_of side (words_of line.now) }
 {
@@ -140,7 +140,7 @@ fn cut(side: Side, line: &[u8]) -> Option<Command<'_>>
     }
 }
 
-/// One to four contracts, a word each. Without them a setup has no lawful form.
+/// One to four contracts, one word each; none if a word is no contract or their number is another.
 pub fn contracts(line: &[u8]) -> Option<ArrayVec<Wanted, 4>>
     ensures { option_map (λ wanted. wanted.items) result ≡ contracts_of (words_of line.now) }
 {
@@ -162,7 +162,7 @@ pub fn contracts(line: &[u8]) -> Option<ArrayVec<Wanted, 4>>
     Some(wanted)
 }
 
-/// `setup VPI VCI pN CONTRACT ..`, behind its first word.
+/// `setup VPI VCI pN CONTRACT ..`, after its first word.
 fn setup(side: Side, line: &[u8]) -> Option<Command<'_>>
     ensures { option_and_then command_seen result ≡ setup_of side (words_of line.now) }
 {
@@ -184,8 +184,8 @@ fn setup(side: Side, line: &[u8]) -> Option<Command<'_>>
     }
 }
 
-/// The command that a word spells with those behind it, on a card of this side; none where they have no lawful form. A
-/// setup has one only if its contracts have.
+/// The command that a word and the words after it spell on a card of this side; none if they have no lawful form. The
+/// words of a setup's contracts are not read here.
 pub fn named_command<'a>(side: Side, name: &[u8], rest: &'a [u8]) -> Option<Command<'a>>
     ensures { option_and_then command_seen result ≡ command_of side (name.now ∷ words_of rest.now) }
 {

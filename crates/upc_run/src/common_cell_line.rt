@@ -27,7 +27,7 @@ pub fn after_command(line: &[u8]) -> Option<&[u8]>
     }
 }
 
-/// The last octets of a text, so many of them, and what stands before the space in front of them.
+/// The text before a space, and the last `count` octets, which follow it; none if there is no space before them.
 #[inline(always)]
 fn cut_before(text: &[u8], count: usize) -> Option<(&[u8], &[u8])>
     ensures parts { IfSome result (λ parts. (text.now ≡ parts.0.now ++ 32 ∷ parts.1.now) × (length parts.1.now ≡ count)) }
@@ -43,8 +43,8 @@ fn cut_before(text: &[u8], count: usize) -> Option<(&[u8], &[u8])>
     }
 }
 
-/// The cell of a line of the common form: none where the line has another form. No digit is a space, so the place
-/// of the last space tells how long the word is.
+/// The cell of a line of the common form: none if the line has another form. No digit is a space, so the place
+/// of the last space gives the length of the word.
 #[inline(always)]
 pub fn read_cell(line: &[u8]) -> Option<Arrival>
     ensures cell { IfSome result (λ found. IsCommonLine line.now found.moment found.cell) }

@@ -5,8 +5,8 @@ ghost use Rattle.text_io.specs.declared.ending.Done.{Done as TheDone};
 ghost use Rattle.upc_run.specs.RunText.{IsRunText};
 
 /// A script has one text of `run`, although a card may choose to which slot a program comes, and to which line a
-/// connection. Neither is told; and within the lines that an input may have, no slot is given up for having
-/// been given too often, and no line is full, so that the choice can't show in a refusal either.
+/// connection. No answer shows either choice. Within the lines that an input may have, no slot runs out of
+/// generations and no line is full, so no refusal shows the choice either.
 pub fn a_script_has_one_text()
     ensures { (octets : List ℕ) (one other : List ℕ) (ends other_ends : TheDone)
         → IsRunText octets one ends → IsRunText octets other other_ends

@@ -1,7 +1,7 @@
 //! The dialogue with a card: `run`, which answers the lines of a script by what a card replies to its desk's commands
 //! and its cells.
 //!
-//! What other dialogues with a card need stands here too: the line that opens a card, commands, the names of programs,
+//! What other dialogues with a card need is here too: the line that opens a card, commands, the names of programs,
 //! and the answers.
 #![tactic(auto)]
 

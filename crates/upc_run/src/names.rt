@@ -30,7 +30,7 @@ impl Names {
     ghost use Rattle.std.specs.Prelude.{◌≡◌, ◌∷◌, ◌++◌, [], length, IfOk, OnOk};
     ghost use Rattle.upc_run.specs.Replies.{number_of_program, program_named};
 
-    /// No names yet, of programs in so many slots.
+    /// No names yet, for programs in `slots` slots.
     pub fn new(alloc: Global, slots: usize) -> Result<Names, AllocError>
         ensures { IfOk result (λ names. names ≡ []) }
     {

@@ -16,7 +16,7 @@ fn bucket(rate: Rate) -> Result<Gcra, GcraFault>
     Gcra::new(rate.increment, rate.limit)
 }
 
-/// The buckets of two rates, of which the fault of the first is told.
+/// The buckets of two rates, or the fault of the first faulty one.
 fn two_buckets(peak: Rate, sustained: Rate) -> Result<(Gcra, Gcra), GcraFault>
     ensures peak { IfOk result (λ both. IsRate peak both.0) }
     ensures sustained { IfOk result (λ both. IsRate sustained both.1) }

@@ -59,7 +59,7 @@ fn put_program<const ROOM: usize>(text: &mut TextFromEnd<ROOM>, number: u64)
     text.put(b"p");
 }
 
-/// Puts a number behind a blank.
+/// Puts a blank and a number.
 #[inline(always)]
 fn put_count(text: &mut TextFromEnd<REPLY_ROOM>, count: u64)
     requires { length text.old ≤ 106 }
@@ -122,7 +122,7 @@ pub fn add_reloaded(answers: &mut Vec<u8>, vc: Vc, number: u64) -> Result<(), Al
     answers.extend_from_slice(text.as_slice())
 }
 
-/// Adds a number behind a blank.
+/// Adds a blank and a number.
 #[tactic(auto, using(std::proofs::lemmas::List::append_assoc))]
 fn add_count(answers: &mut Vec<u8>, count: u64) -> Result<(), AllocError>
     ensures { OnOk result (answers.new.items ≡ answers.old.items ++ (codes " " ++ decimal count)) }
@@ -131,7 +131,7 @@ fn add_count(answers: &mut Vec<u8>, count: u64) -> Result<(), AllocError>
     add_number(answers, count)
 }
 
-/// Adds the counts of each verdict, each behind a blank.
+/// Adds the counts of each verdict, each after a blank.
 #[tactic(auto, using(std::proofs::lemmas::List::append_assoc))]
 pub fn add_tally(answers: &mut Vec<u8>, tally: Tally) -> Result<(), AllocError>
     ensures { OnOk result (answers.new.items ≡ answers.old.items ++ tally_text tally) }
@@ -142,7 +142,7 @@ pub fn add_tally(answers: &mut Vec<u8>, tally: Tally) -> Result<(), AllocError>
     add_count(answers, tally.refused)
 }
 
-/// How many cells of a piece got each verdict: what its end counts beyond its start. No entry is looked at.
+/// How many cells of a piece got each verdict: what its end counts beyond its start. It reads no entry.
 fn tally_within(piece: &Piece) -> Tally
     ensures { result ≡ tally_of (map (λ entry. entry.verdict) piece.now.entries) }
 {
@@ -186,7 +186,7 @@ pub fn add_released(answers: &mut Vec<u8>, vc: Vc, piece: &Piece) -> Result<(), 
     answers.extend_from_slice(text.as_slice())
 }
 
-/// Adds the answer to a connection whose journal was handed out as this piece.
+/// Adds the answer to a connection whose journal was returned as this piece.
 #[tactic(auto, using(std::proofs::lemmas::List::append_assoc))]
 pub fn add_cut(answers: &mut Vec<u8>, vc: Vc, piece: &Piece) -> Result<(), AllocError>
     ensures { OnOk result (answers.new.items ≡ answers.old.items
@@ -201,7 +201,7 @@ pub fn add_cut(answers: &mut Vec<u8>, vc: Vc, piece: &Piece) -> Result<(), Alloc
 }
 
 /// Room for the answer to a cell: a verdict of at most eight octets, three numbers of at most ten digits and
-/// one of at most twenty, eight digits of a header, and six octets between them and behind.
+/// one of at most twenty, eight digits of a header, and six octets between them and at the end.
 const ANSWER_ROOM: usize = 72;
 
 /// Puts the connection that a cell came on, the program that named its contract, and the value that it
@@ -293,7 +293,7 @@ fn add_moment_back(answers: &mut Vec<u8>, last: u64) -> Result<(), AllocError>
     Ok(())
 }
 
-/// Adds the answer to a cell that got this verdict and leaves so, where it leaves.
+/// Adds the answer to a cell that got this verdict, with the header of the leaving cell if it leaves.
 #[inline(always)]
 fn add_verdict(
     answers: &mut Vec<u8>,
@@ -343,7 +343,7 @@ fn add_told(
 ///
 /// # Errors
 ///
-/// `AllocError` where memory was refused.
+/// `AllocError` if an allocation failed.
 #[inline(always)]
 pub fn add_judged(
     answers: &mut Vec<u8>,
@@ -363,7 +363,7 @@ pub fn add_judged(
 ///
 /// # Errors
 ///
-/// `AllocError` where memory was refused, here or to the cell.
+/// `AllocError` if an allocation failed, here or for the cell.
 #[inline(never)]
 pub fn add_unjudged(answers: &mut Vec<u8>, vc: Vc, reason: Unjudged) -> Result<(), AllocError>
     ensures { OnOk result
@@ -377,7 +377,7 @@ pub fn add_unjudged(answers: &mut Vec<u8>, vc: Vc, reason: Unjudged) -> Result<(
 ///
 /// # Errors
 ///
-/// `AllocError` where memory was refused, here or to the cell.
+/// `AllocError` if an allocation failed, here or for the cell.
 #[inline(never)]
 pub fn add_answer(
     answers: &mut Vec<u8>,

@@ -17,8 +17,8 @@ use std::alloc::{AllocError, Global};
 use text_io::{Done, Input, LineWords, Machine, Output, RunFault, Turn, answer_lines, line_words};
 use upc_words::add_too_long;
 
-/// Opens the card that the first line with words asks for; none where it asks for none that there is, and
-/// then the line is answered by its fault.
+/// Opens the card that the first line with words asks for; none if it opens no card; then
+/// the answer is the line's fault.
 fn open(alloc: Global, line: &[u8], answers: &mut Vec<u8>) -> Result<Option<ScriptCard>, AllocError>
     ensures { IfOk result (λ card. OpensAs (words_of line.now) card answers.old.items answers.new.items) }
 {
@@ -51,8 +51,8 @@ impl Policing {
     ghost use Rattle.upc_run.specs.RunText.{run_rules};
     ghost use Rattle.upc_run.specs.inner.Policing.{ShowsRun};
 
-    /// Answers a line before there is a card. It stands apart from the lines behind it, since what a card
-    /// takes while it is made would be made room for at each of them.
+    /// Answers a line before there is a card. It is a function of its own, so that later lines don't
+    /// pay for the stack that making a card needs.
     #[inline(never)]
     fn answer_first(&mut self, line: &[u8], answers: &mut Vec<u8>) -> Result<Turn, AllocError>
         requires { self.old.card ≡ None }
@@ -113,7 +113,7 @@ impl Machine for Policing {
 ///
 /// # Errors
 ///
-/// `ReadFailed` and `WriteFailed` where that device failed, once; `NoMemory` where memory was refused.
+/// `ReadFailed` and `WriteFailed` if that device failed, once; `NoMemory` if an allocation failed.
 /// What was written is then a beginning of the text.
 pub fn run_script<I: Input, O: Output>(
     alloc: Global,

@@ -202,7 +202,7 @@ impl ScriptCard {
         }
     }
 
-    /// Hands out a connection's journal.
+    /// Returns a connection's journal and begins a new one.
     #[inline(never)]
     fn cut(&mut self, vc: Vc, answers: &mut Vec<u8>) -> Result<(), AllocError>
         ensures { OnOk result (Moves (λ before. Obeys before (cut vc))
@@ -214,8 +214,8 @@ impl ScriptCard {
         }
     }
 
-    /// What becomes of a cell, from its entering the port to its answer. It has none where the port isn't
-    /// free, as it is before every command.
+    /// Takes a cell through the port and returns its answer; none if the port isn't free. It is free
+    /// before every command.
     #[inline(always)]
     fn arrive(&mut self, cell: &Cell, moment: u64) -> Option<Result<Judgement, Unjudged>>
         ensures { AnswersCell self.old cell.now moment (option_map (λ told. answer_to cell.now told) result) self.new }

@@ -41,11 +41,11 @@ impl Default for Wanted {
     }
 }
 
-/// The greatest value that any digit may stand behind: with 9 it is 2^64 - 7.
+/// The greatest value to which any digit may be appended: with 9 it is 2^64 - 7.
 const MOST_BEFORE: u64 = 1844674407370955160;
 
-/// The value with one more digit behind it; none where the octet is no digit, or the value is above
-/// 2^64 - 1. Where the value was small enough before, it need not be tested afterwards.
+/// The value with one more digit appended; none if the octet is no digit or the new value is above
+/// 2^64 - 1. A small enough value needs no overflow test.
 #[inline(always)]
 fn shifted(value: u64, octet: u8) -> Option<u64>
     ensures { result ≡ with_digit value octet }
@@ -63,10 +63,10 @@ fn shifted(value: u64, octet: u8) -> Option<u64>
     }
 }
 
-/// So many digits spell no number that is too large.
+/// A number of at most this many digits is at most 2^64 - 1.
 const FEW_DIGITS: usize = 19;
 
-/// The value with one more digit behind it; none where the octet is no digit.
+/// The value with one more digit appended; none if the octet is no digit.
 #[inline(always)]
 fn appended(value: u64, octet: u8) -> Option<u64>
     requires { value ≤ MOST_BEFORE }
@@ -166,7 +166,7 @@ pub fn connection(side: Side, path: &[u8], channel: &[u8]) -> Option<Vc>
     }
 }
 
-/// What stands before the first such mark, and what stands behind it.
+/// What is before the first `mark`, and what is after it; none if there is none.
 fn cut(mark: u8, text: &[u8]) -> Option<(&[u8], &[u8])>
     ensures { option_map (λ parts. (parts.0.now, parts.1.now)) result ≡ cut_at mark text.now }
 {

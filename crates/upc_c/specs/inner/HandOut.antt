@@ -1,4 +1,4 @@
--- The two steps that hand out a connection's journal.
+-- The two steps that return a connection's journal.
 use Rattle.std.specs.Prelude.{◌≡◌, ◌⊎◌, ◌<◌, ◌≤◌, ℕ, Result, length, None, Some}
 use Rattle.card_core.specs.Agreement.{CoreView, CoreAgrees}
 use Rattle.card_core.specs.DeskReplies.{release_reply, cut_reply}
@@ -23,7 +23,7 @@ abbrev pub step_of : HandOut → Vc → Step
 step_of AtEnd vc = Release vc
 step_of GoingOn vc = Cut vc
 
--- Its reply that hands the journal out.
+-- Its reply with the journal.
 abbrev pub reply_of : HandOut → PieceView → Reply
 reply_of AtEnd piece = Released piece
 reply_of GoingOn piece = CutOff piece
@@ -43,7 +43,7 @@ pub record IsShortIn (core : CoreView) (vc : Vc) (most : ℕ) : Type 0 where
   pub few : (world : World) → CoreAgrees core world → (connection : Connection)
       → connection_in world.connections vc ≡ Some connection → length (kept_cells connection) ≤ most
 
--- The connection's journal on the card has more than `most` cells, and the fault tells how many.
+-- The connection's journal on the card has more than `most` cells, and the fault's place is their number.
 pub record IsLongerOn (card : UpcCard) (vc : Vc) (most : ℕ) (fault : UpcFault) : Type 0 where
   pub core : CoreView
   pub had : card_in card ≡ Some core

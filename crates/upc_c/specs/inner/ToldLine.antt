@@ -1,4 +1,4 @@
--- What is told of the line that serves a connection.
+-- What is read of the line that serves a connection.
 use Rattle.std.specs.Prelude.{◌≡◌, ℕ, length, None}
 use Rattle.card_core.specs.Agreement.{CoreView, CoreAgrees}
 use Rattle.card_core.specs.World.{World, Connection, connection_in, kept_cells}

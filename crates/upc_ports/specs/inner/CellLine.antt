@@ -8,7 +8,7 @@ use Rattle.upc_ports.specs.declared.cell_line.CellLine.{CellLine}
 use Rattle.upc_ports.specs.declared.cell_line.CellLine.TheVariants.{Comes, IsFaulty}
 use Rattle.upc_ports.specs.declared.cell_line.CellLineFault.TheVariants.{BadLine, BadHex, WrongLength}
 
--- The command brings, at this moment, a word that stands for this.
+-- The command brings, at this moment, a word that means this.
 abbrev pub Brings : Option Command → ℕ → CellWord → Type 0
 Brings command moment found = (digits : List ℕ) × (command ≡ Some (cell moment digits)) × IsCellWord digits found
 

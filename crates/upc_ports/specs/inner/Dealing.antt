@@ -41,7 +41,7 @@ from_first_cell (line ∷ lines) = if is_cell_line (words_of line) then line ∷
 abbrev pub channels : ℕ
 channels = 65536
 
--- The number of the port that a connection's cells come to, of so many: by its path and its channel.
+-- The number of the port that a connection's cells come to, where there are `ports` ports: by its path and its channel.
 abbrev pub port_of : Vc → ℕ → ℕ
 port_of vc ports = (vc.vpi * channels + vc.vci) % ports
 

@@ -34,13 +34,13 @@ abbrev pub given_text : Option (List ℕ) → List ℕ
 given_text None = []
 given_text (Some text) = text
 
--- What one answerer tells, of cells that came to ports and of texts that the desk gave.
+-- The text of one answerer, from cells that came to ports and of texts that the desk gave.
 abbrev pub Tells : Side → List Id → List (List ToldCell) → List (List ℕ) → Answerer → List ℕ → Type 0
 Tells side names arrivals told (Port number place) text = TellsCell side names (cell_at (slice_get arrivals number) place) text
 Tells side names arrivals told (Desk number) text = text ≡ given_text (slice_get told number)
 Tells side names arrivals told (Fault fault) text = text ≡ fault_text fault
 
--- What all answerers tell: the text of each, one after another, and nothing else.
+-- The text of all answerers: that of each, one after another, and nothing else.
 abbrev pub AllTell : Side → List Id → List (List ToldCell) → List (List ℕ) → List Answerer → List ℕ → Type 0
 AllTell side names arrivals told [] text = text ≡ []
 AllTell side names arrivals told (answerer ∷ order) text = (here : List ℕ) × (more : List ℕ) × (text ≡ here ++ more)

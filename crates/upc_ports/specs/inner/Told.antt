@@ -1,4 +1,4 @@
--- What is kept of a cell that was answered: its header, and as much of the answer as its line tells.
+-- What is kept of a cell that was answered: its header, and what its line shows of the answer.
 use Rattle.std.specs.Prelude.{ℕ, List, [], ◌∷◌, replicate, slice_index, Result, Ok, Err}
 use Rattle.line_record.specs.declared.fault.LineFault.TheVariants.{TooLate, Back, Full, NoMemory as LineNoMemory}
 use Rattle.card_core.specs.Sections.{answer_to}
@@ -29,11 +29,11 @@ header_of cell = slice_index cell 0 ∷ slice_index cell 1 ∷ slice_index cell 
 abbrev pub told_cell : List ℕ → Answer → ToldCell
 told_cell cell answer = record { header = header_of cell; told = ruled answer }
 
--- A cell of this header, whose payload is zeros: no answer tells a payload.
+-- A cell of this header, whose payload is zeros: no answer shows a payload.
 abbrev pub shown_cell : List ℕ → List ℕ
 shown_cell header = slice_index header 0 ∷ slice_index header 1 ∷ slice_index header 2 ∷ slice_index header 3 ∷ replicate 48 0
 
--- The judgement that tells as much as a ruling, and nothing else.
+-- The judgement with this ruling; its other numbers are 0.
 abbrev pub judgement_of : Ruling → Judgement
 judgement_of ruling = record {
   number = 0;
@@ -44,7 +44,7 @@ judgement_of ruling = record {
   verdict = ruling.verdict;
 }
 
--- The answer that tells as much as what was kept of a cell, of a cell with its header.
+-- The answer with what was kept of a cell's answer, for a cell with its header.
 abbrev pub answer_kept : List ℕ → Result Ruling Unjudged → Answer
 answer_kept cell (Ok ruling) = answer_to cell (Ok (judgement_of ruling))
 answer_kept cell (Err reason) = answer_to cell (Err reason)

@@ -1,4 +1,4 @@
--- What the card's steps lead to, as far as `run` has to know it: each reply that says nothing of memory has
+-- What the card's steps lead to, as far as `run` has to know it: each reply that is no allocation failure has
 -- a line, and port 0 is free again after each command.
 use Rattle.std.proofs.Common.{◌≡◌, ◌⊎◌, ℕ, inl, inr, true, false, List, ◌++◌, Option, Some, None, codes, decimal, option_map, refl, sym, ap, ◌∙◌, subst}
 use Rattle.std.specs.Option.{is_some}
@@ -34,7 +34,7 @@ text-there : (found : Option (List ℕ)) → is_some found ≡ true → Told fou
 text-there None e = let no : false ≡ true = e in cc
 text-there (Some text) e = (text, refl)
 
--- The reply says nothing of memory.
+-- The reply is no allocation failure.
 abbrev pub Spares : Reply → Type 0
 Spares reply = is_of_memory reply ≡ false
 

@@ -1,5 +1,5 @@
 -- The names of a script's programs, as the code keeps them: the ids in the order in which they were given,
--- and for each slot a number behind which no program of that slot has its name.
+-- and for each slot a number after which no program of that slot has its name.
 use Rattle.std.specs.Prelude.{◌≡◌, ◌≢◌, ℕ, ◌≤◌, List, length, Some, slice_get}
 use Rattle.gen_arena.specs.declared.id.Id.{Id}
 

@@ -33,7 +33,7 @@ MovesBy Goes held text held' = (before : Card) → IsLed before → ShowsCard he
 abbrev pub ObeysSeen : Card → Option Command → List ℕ → Card → Type 0
 ObeysSeen before seen text after = MatchOption seen (Refuses bad_line before text after) (λ command. Obeys before command text after)
 
--- Answers grew by such a text.
+-- The answers grew by a text that does so.
 abbrev pub Moves : (Card → List ℕ → Card → Type 0) → Held → Held → List ℕ → List ℕ → Type 0
 Moves Goes held held' old new = (text : List ℕ) × (new ≡ old ++ text) × MovesBy Goes held text held'
 
@@ -48,7 +48,7 @@ AnswersCell held octets moment given held' = (held'.names ≡ held.names) × ((b
 abbrev pub SaysLine : List ℕ → Card → List ℕ → Card → Type 0
 SaysLine line before text after = RunSteps (Some before) line text (Some (Some after))
 
--- What the first line with words has come to: a card that shows the new one, or the line's fault.
+-- The result of the first line with words: a card that shows the new one, or the line's fault.
 abbrev pub OpensAs : List (List ℕ) → Option Held → List ℕ → List ℕ → Type 0
 OpensAs words None old new = (text : List ℕ) × (new ≡ old ++ text) × OpeningLine words text None
 OpensAs words (Some held) old new =

@@ -55,7 +55,7 @@ cut-ports before after vc reply =
     desk-cases (Same before after) (λ fault. Refused fault) (missing_fault before vc) before after (Cut vc) reply
     (λ s. ap (λ w. w.ports) s.world) (λ l. ap (λ w. w.ports) l.world) (λ fault r. ap (λ w. w.ports) r.world)
 
--- What was put at place 0 stands there.
+-- What was put at place 0 is there.
 put-there : (states : List PortState) (old new : PortState) → slice_get states 0 ≡ Some old → slice_get (slice_set states 0 new) 0 ≡ Some new
 put-there [] old new e = cc
 put-there (state ∷ states) old new e = refl
@@ -73,7 +73,7 @@ enter-goes before after cell moment reply free step =
       | inr lacks ↦ let no = lacks.answer in cc
     ]
 
--- What a pick of the port comes to: an answer, with which the port is free again, or a picked cell.
+-- The result of a pick of the port: an answer, with which the port is free again, or a picked cell.
 abbrev pub PickComesTo : Reply → World → Type 0
 PickComesTo reply after =
     ((given : Answer) × (reply ≡ Answered given) × PortIs after outside)

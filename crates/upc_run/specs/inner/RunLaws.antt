@@ -1,5 +1,5 @@
 -- The laws of `run`: every line has an answer in every world that a run reaches, and leads to such a world.
--- They stand beside the definitions because the machine of `run` cites them as its laws.
+-- They are beside the definitions because the machine of `run` cites them as its laws.
 use Rattle.std.proofs.Common.{◌≡◌, ℕ, zero, suc, ◌^◌, ◌<◌, ◌==◌, ◌||◌, inl, inr, Bool, true, false, if◌then◌else◌, List, [], ◌∷◌, ◌++◌, Option, Some, None, length, codes, slice_get, nat_lt, refl, sym, ap, ◌∙◌, subst, arith}
 use Rattle.std.specs.Prelude.{replicate}
 use Rattle.std.proofs.lemmas.Bool.Decides.{nat_tests}
