@@ -20,12 +20,18 @@ class Found:
         self.kind, self.it, self.score = kind, it, score
 
 
+def stem(word):
+    """Returns a word without its ending, so that `divides` finds `division`."""
+    return re.sub(r"(ations?|ings?|sions?|ions?|ors?|ed|des|es|s|e)$", "", word) if len(word) > 4 else word
+
+
 def score_of(words, name, said):
     """Returns how well words fit a name and its sentence: nothing unless all are there; more where they are in the name."""
     name, said = words_of(name), words_of(said)
-    if not all(it in name or it in said for it in words):
+    stems = [stem(it) for it in words]
+    if not all(it in name or it in said for it in stems):
         return 0
-    return 1 + sum(3 * (it in name) for it in words)
+    return 1 + sum(3 * (it in name) for it in stems)
 
 
 def search(sources, words):
@@ -96,8 +102,10 @@ def about_function(sources, it):
 
 def about_definition(sources, it):
     """Returns what belongs to a definition: the public functions that promise it, and what turns and tests them."""
-    direct = [function for function in sources.promisers.get(it, []) if it in sources.cited_by(function)]
-    by = direct or sources.promisers.get(it, [])
+    promisers = sources.promisers.get(it, [])
+    direct = {function for function in promisers if it in sources.cited_by(function)}
+    # What has code to turn comes first, and what cites the definition itself before what reaches it by another.
+    by = sorted(promisers, key=lambda function: (function.is_law, function not in direct))
     tests = sorted({test.full for function in by[:3] for test in sources.tests_of(function)})
     edits = [edit.path for function in by[:3] for edit in sources.edits_of(function) + sources.edits_below(function)]
     clauses = [f"{function.full} {function.path}:{function.line}" for function in by]
@@ -130,7 +138,9 @@ def answer(sources, words, whole=False):
     """Returns the answer to a question."""
     found = search(sources, words)
     if not found:
-        return f"nothing has the words {' '.join(words)}\n"
+        fewer = [(len(search(sources, rest)), rest) for k in range(len(words)) if (rest := words[:k] + words[k + 1 :])]
+        tips = "".join(f"  {many} have {' '.join(rest)}\n" for many, rest in fewer if many)
+        return f"nothing has the words {' '.join(words)}\n{tips}"
     shown = found if whole else found[:MOST_SHOWN]
     lines = []
     for it in shown:
