@@ -75,22 +75,34 @@ fn load(shelf: &mut Shelf, number: usize, program: Program) -> Result<Id, Fail> 
     }
 }
 
-/// Sets up the connections of all headers, each with a program of its own card.
-fn open_all(alloc: Global, shelf: &mut Shelf) -> Result<(), Fail> {
+/// Puts a program that gives this value into every card, and returns its ids.
+fn load_all(alloc: Global, shelf: &mut Shelf, value: u32) -> Result<Vec<Id>, Fail> {
     let mut ids = Vec::new(alloc);
     for number in 0..shelf.cards() {
-        ids.push(load(shelf, number, constant(alloc, 1)?)?)?;
+        ids.push(load(shelf, number, constant(alloc, value)?)?)?;
     }
+    Ok(ids)
+}
+
+/// The id of a program, which every card has, on the card of this connection.
+fn id_for(shelf: &Shelf, ids: &[Id], vc: Vc) -> Result<Id, Fail> {
+    match ids.get(shelf.card_of(vc)) {
+        Some(id) => Ok(*id),
+        None => Err(Fail::from("no such card")),
+    }
+}
+
+/// Sets up the connections of all headers, each with a program of its own card, and returns the program's ids.
+fn open_all(alloc: Global, shelf: &mut Shelf) -> Result<Vec<Id>, Fail> {
+    let ids = load_all(alloc, shelf, 1)?;
     for header in &HEADERS {
         let vc = cell(header).vc();
-        let Some(program) = ids.get(shelf.card_of(vc)) else {
-            return Err(Fail::from("no such card"));
-        };
-        let Reply::SetUp(_) = shelf.setup(ask(vc, *program)?) else {
+        let program = id_for(shelf, &ids, vc)?;
+        let Reply::SetUp(_) = shelf.setup(ask(vc, program)?) else {
             return Err(Fail::from("not set up"));
         };
     }
-    Ok(())
+    Ok(ids)
 }
 
 /// One card with all these connections.
@@ -150,6 +162,183 @@ fn a_shelf_tells_what_one_card_tells(rt: HostRuntime) -> Result<(), Fail> {
             let theirs = alone.arrive(0, &arrival.cell, arrival.moment);
             assert_eq!(rt; theirs.map(|told| seen(&told)), Some(seen(ours)));
         }
+    }
+    Ok(())
+}
+
+/// A shelf with all connections, and the ids of its programs, which give 1 and 2.
+#[derive(Drop)]
+struct Ours {
+    shelf: Shelf,
+    ones: Vec<Id>,
+    twos: Vec<Id>,
+}
+
+/// One card with all connections, and the ids of its programs, which give 1 and 2.
+#[derive(Drop)]
+struct Theirs {
+    core: Core,
+    one: Id,
+    two: Id,
+}
+
+fn our_shelf(alloc: Global, cards: usize) -> Result<Ours, Fail> {
+    let mut shelf = Shelf::new(alloc, shape(), cards)?;
+    let ones = open_all(alloc, &mut shelf)?;
+    let twos = load_all(alloc, &mut shelf, 2)?;
+    Ok(Ours { shelf, ones, twos })
+}
+
+fn their_card(alloc: Global) -> Result<Theirs, Fail> {
+    let mut core = Core::new(alloc, shape())?;
+    let one = id_of(core.step(Step::Load(constant(alloc, 1)?)))?;
+    let two = id_of(core.step(Step::Load(constant(alloc, 2)?)))?;
+    for header in &HEADERS {
+        let Reply::SetUp(_) = core.step(Step::Setup(ask(cell(header).vc(), one)?)) else {
+            return Err(Fail::from("not set up"));
+        };
+    }
+    Ok(Theirs { core, one, two })
+}
+
+/// The next of a row of numbers without a pattern that arrivals would notice.
+fn next_number(state: u32) -> u32 {
+    state.wrapping_mul(1664525).wrapping_add(1013904223)
+}
+
+/// The arrival of this number: at a random connection or, seldom, at none, at this moment or up to two ticks earlier.
+fn random_arrival(number: u32, moment: u64) -> Arrival {
+    let header = HEADERS.get((number >> 16) as usize % 6).unwrap_or(&UNKNOWN);
+    Arrival {
+        cell: cell(header),
+        moment: moment.saturating_sub(u64::from(number >> 24) % 3),
+    }
+}
+
+/// Arrivals whose moments mostly go on and sometimes go back.
+fn random_arrivals(alloc: Global, batch: u32) -> Result<Vec<Arrival>, Fail> {
+    let mut all = Vec::new(alloc);
+    let mut state = batch.wrapping_mul(77);
+    let mut moment = u64::from(batch).wrapping_mul(80);
+    for _ in 0..24u32 {
+        state = next_number(state);
+        moment = moment.wrapping_add(u64::from(state >> 20) % 7);
+        all.push(random_arrival(state, moment))?;
+    }
+    Ok(all)
+}
+
+/// The part of an answer that one card with all the connections tells too.
+fn alike(told: &Told) -> Result<(Verdict, u64, u32), Unjudged> {
+    match told {
+        Ok(judgement) => Ok((judgement.verdict, judgement.moment, judgement.value)),
+        Err(reason) => Err(*reason),
+    }
+}
+
+/// Whether the card tells this of an arrival.
+fn tells(core: &mut Core, arrival: &Arrival, told: &Told) -> bool {
+    match core.arrive(0, &arrival.cell, arrival.moment) {
+        Some(theirs) => alike(&theirs) == alike(told),
+        None => false,
+    }
+}
+
+/// Whether the card tells this of the arrivals, and no more.
+fn tells_all(core: &mut Core, arrivals: &[Arrival], told: &[Told]) -> bool {
+    let mut all = arrivals.len() == told.len();
+    for (arrival, one) in arrivals.iter().zip(told) {
+        all = tells(core, arrival, one) && all;
+    }
+    all
+}
+
+/// A call of the desk.
+#[derive(Clone, Copy)]
+enum Call {
+    Setup,
+    ReloadTwo,
+    Cut,
+    Release,
+}
+
+/// What follows each batch: a call, and the place of its connection among the headers.
+const CALLS: [(Call, u8); 6] = [
+    (Call::ReloadTwo, 2),
+    (Call::Cut, 2),
+    (Call::Release, 2),
+    (Call::Setup, 2),
+    (Call::Cut, 0),
+    (Call::Release, 4),
+];
+
+/// The connection of the header at this place.
+fn vc_at(place: u8) -> Vc {
+    cell(HEADERS.get(usize::from(place)).unwrap_or(&UNKNOWN)).vc()
+}
+
+/// The shelf takes a call.
+fn our_reply(ours: &mut Ours, call: Call, vc: Vc) -> Result<Reply, Fail> {
+    let one = id_for(&ours.shelf, &ours.ones, vc)?;
+    let two = id_for(&ours.shelf, &ours.twos, vc)?;
+    Ok(match call {
+        Call::Setup => ours.shelf.setup(ask(vc, one)?),
+        Call::ReloadTwo => ours.shelf.reload(vc, two),
+        Call::Cut => ours.shelf.cut(vc),
+        Call::Release => ours.shelf.release(vc),
+    })
+}
+
+/// The card takes a call.
+fn their_reply(theirs: &mut Theirs, call: Call, vc: Vc) -> Result<Reply, Fail> {
+    let step = match call {
+        Call::Setup => Step::Setup(ask(vc, theirs.one)?),
+        Call::ReloadTwo => Step::Reload {
+            vc,
+            program: theirs.two,
+        },
+        Call::Cut => Step::Cut(vc),
+        Call::Release => Step::Release(vc),
+    };
+    Ok(theirs.core.step(step))
+}
+
+/// What is seen of a reply: how many entries a piece has that was handed out, or that the desk has done something else.
+fn outcome(reply: &Reply) -> Option<usize> {
+    match reply {
+        Reply::Cut(piece) | Reply::Released(piece) => Some(piece.entries().len()),
+        Reply::SetUp(_) | Reply::Reloaded(_) => Some(usize::MAX),
+        _ => None,
+    }
+}
+
+/// Whether both reply alike to a call, which neither refuses.
+fn reply_alike(ours: &mut Ours, theirs: &mut Theirs, call: Call, place: u8) -> Result<bool, Fail> {
+    let vc = vc_at(place);
+    let mine = outcome(&our_reply(ours, call, vc)?);
+    Ok(mine.is_some() && mine == outcome(&their_reply(theirs, call, vc)?))
+}
+
+#[test]
+fn batches_with_desk_calls_between_are_told_as_by_one_card(rt: HostRuntime) -> Result<(), Fail> {
+    for cards in [1, 2, 3, 16] {
+        let mut ours = our_shelf(rt.alloc(), cards)?;
+        let mut theirs = their_card(rt.alloc())?;
+        let mut batch = 0u32;
+        for (call, place) in CALLS {
+            let all = random_arrivals(rt.alloc(), batch)?;
+            let told = ours.shelf.police(&rt, rt.alloc(), &all, 4)?;
+            let same = tells_all(&mut theirs.core, &all, &told);
+            let replies = reply_alike(&mut ours, &mut theirs, call, place)?;
+            let sums = ours.shelf.totals() == theirs.core.totals();
+            assert_eq!(rt;
+                (cards, batch, same, replies, sums),
+                (cards, batch, true, true, true)
+            );
+            batch = batch.wrapping_add(1);
+        }
+        let totals = theirs.core.totals();
+        assert!(rt; totals.passed > 0 && totals.discarded > 0 && totals.refused > 0);
     }
     Ok(())
 }
