@@ -43,9 +43,9 @@ fn load_fault(cards: &[Card]) -> Option<(usize, DeskFault)>
     ensures some { IfSome result (λ first. IsFirstLoadFault (cores_of cards.now) first.0 first.1) }
     ensures none { IfNone result (EachHasRoom (cores_of cards.now)) }
 {
-    for number in 0..cards.len() {
-        if let Some(fault) = cards[number].core.load_fault() {
-            return Some((number, fault));
+    for first in 0..cards.len() {
+        if let Some(fault) = cards[first].core.load_fault() {
+            return Some((first, fault));
         }
     }
     None

@@ -34,9 +34,9 @@ fn retire_fault(cards: &[Card], ids: &[Id]) -> Option<(usize, DeskFault)>
     ensures some { IfSome result (λ first. IsFirstRetireFault (cores_of cards.now) ids.now first.0 first.1) }
     ensures none { IfNone result (EachMayRetire (cores_of cards.now) ids.now) }
 {
-    for number in 0..cards.len() {
-        if let Some(fault) = cards[number].core.retire_fault(ids[number]) {
-            return Some((number, fault));
+    for first in 0..cards.len() {
+        if let Some(fault) = cards[first].core.retire_fault(ids[first]) {
+            return Some((first, fault));
         }
     }
     None

@@ -199,7 +199,7 @@ impl Shelf {
         ensures unchanged { OnErr result (self.new ≡ self.old) }
         ensures shape { self.new.shape ≡ self.old.shape }
     {
-        if number >= self.cards.len() {
+        if number >= self.cards() {
             return Err(program);
         }
         Ok(self.take(number, Step::Load(program)))
@@ -214,7 +214,7 @@ impl Shelf {
         ensures unchanged { IfNone result (self.new ≡ self.old) }
         ensures shape { self.new.shape ≡ self.old.shape }
     {
-        if number >= self.cards.len() {
+        if number >= self.cards() {
             return None;
         }
         Some(self.take(number, Step::Retire(id)))
