@@ -11,3 +11,4 @@ pub mod Ways
 pub mod WayAlike
 pub mod Beside
 pub mod SameActs
+pub mod ProgramLemmas

@@ -1,5 +1,5 @@
 -- Where the same was done for each connection, a card lies beside a shelf.
-use Rattle.std.proofs.Common.{◌≡◌, ◌<◌, length, arith}
+use Rattle.std.proofs.Common.{◌<◌, length, arith}
 use Rattle.std.proofs.lemmas.Option.{slice_get_within}
 use Rattle.card_isolation.proofs.Isolated.{isolated}
 use Rattle.card_shelf.specs.Dealing.{card_of}

@@ -1,13 +1,17 @@
 //! One card of a shelf.
 
-ghost use Rattle.std.specs.Prelude.{◌≡◌, ◌<◌, All, OnOk, length};
+ghost use Rattle.std.specs.Prelude.{◌≡◌, ◌<◌, All, None, OnOk, length};
+ghost use Rattle.card_core.specs.Inspection.{load_fault_of, IsRetireFault};
 ghost use Rattle.card_shelf.specs.Own.{ServesAll};
+ghost use Rattle.card_shelf.specs.Programs.{LoadsOn, RetiresOn};
 ghost use Rattle.card_shelf.specs.inner.Cards.{IsReady};
 ghost use Rattle.card_shelf.specs.inner.Places.{picked};
 ghost use Rattle.card_shelf.specs.inner.Rest.{IsAtRest};
 
 use crate::arrival::{Arrival, Told};
+use bpf_verify::Program;
 use card_core::Core;
+use gen_arena::Id;
 use std::alloc::AllocError;
 
 /// A card of a shelf, with room for the answers to its arrivals. Nothing else on the shelf is reached from
@@ -42,6 +46,28 @@ impl Card {
                 unreachable!()
             };
             self.told.push_reserved(told);
+        }
+    }
+
+    /// Puts a program in, which there is no reason to refuse.
+    pub(crate) fn load(&mut self, program: Program) -> Id
+        requires free { load_fault_of self.old.core ≡ None }
+        ensures loaded { LoadsOn program result self.old.core self.new.core }
+    {
+        match self.core.load(program) {
+            Ok(id) => id,
+            Err(_) => unreachable!(),
+        }
+    }
+
+    /// Takes the program of this id out, which there is no reason to keep.
+    pub(crate) fn retire(&mut self, id: Id)
+        requires free { IsRetireFault self.old.core id None }
+        ensures retired { RetiresOn id self.old.core self.new.core }
+    {
+        match self.core.retire(id) {
+            Ok(_) => {}
+            Err(_) => unreachable!(),
         }
     }
 }

@@ -1,6 +1,6 @@
-//! Why a shelf can't be made.
+//! Why a shelf can't be made, and why a program is put in on no card or taken out of none.
 
-use card_core::CardFault;
+use card_core::{CardFault, DeskFault};
 use thiserror::Error;
 
 /// Why a shelf can't be made. It is printed as its number and its name, a card's fault as the card's.
@@ -12,4 +12,19 @@ pub enum ShelfFault {
     /// A card of this shape can't be made.
     #[error("{0}")]
     Card(CardFault),
+}
+
+/// Why a program was put in on no card, or taken out of none. It is printed as its number and its name, with the number of
+/// the card and its reason.
+#[derive(Clone, Copy, Debug, PartialEq, Eq, Error)]
+pub enum ProgramFault {
+    /// The memory was refused.
+    #[error("1 NoMemory")]
+    NoMemory,
+    /// The list has not one id for each card.
+    #[error("2 Ids")]
+    Ids,
+    /// The card of this number, from 0, is the first that has a reason to refuse, and this is its reason.
+    #[error("3 Card {0}: {1}")]
+    Card(usize, DeskFault),
 }

@@ -4,16 +4,19 @@
 
 mod arrival;
 mod card;
+mod copying;
 mod dealing;
 mod fault;
 mod gathering;
 pub mod laws;
+mod loading;
+mod retiring;
 mod running;
 mod shelf;
 mod sums;
 
 pub use arrival::{Arrival, Told};
-pub use fault::ShelfFault;
+pub use fault::{ProgramFault, ShelfFault};
 pub use shelf::{MOST_CARDS, Shelf};
 
 #[cfg(test)]

@@ -5,7 +5,9 @@ ghost use Rattle.std.specs.Prelude.{◌≡◌, ℕ};
 use crate::arrival::{Arrival, Told};
 use crate::card::Card;
 use crate::dealing::card_of;
-use crate::fault::ShelfFault;
+use crate::fault::{ProgramFault, ShelfFault};
+use crate::loading::load_all;
+use crate::retiring::retire_all;
 use crate::running::{police_all, step_on};
 use crate::sums::totals_of;
 use bpf_verify::Program;
@@ -38,7 +40,7 @@ impl Model for Shelf {
 }
 
 impl Shelf {
-    ghost use Rattle.std.specs.Prelude.{◌≡◌, ◌⊎◌, ◌<◌, ◌↔◌, ℕ, length, None, Some, Err, IsOk, IsSome, IfOk, IfErr, IfSome, IfNone, OnErr, MatchResult, slice_get};
+    ghost use Rattle.std.specs.Prelude.{◌≡◌, ◌⊎◌, ◌<◌, ◌↔◌, ℕ, length, None, Some, Err, IsOk, IsSome, IfOk, IfErr, IfSome, IfNone, OnOk, OnErr, MatchResult, slice_get};
     ghost use Rattle.card_core.specs.Agreement.{CoreAgrees};
     ghost use Rattle.card_core.specs.World.{opening_world};
     ghost use Rattle.card_shelf.specs.Dealing.{card_of};
@@ -47,6 +49,7 @@ impl Shelf {
     ghost use Rattle.card_shelf.specs.Policing.{PolicesAll};
     ghost use Rattle.card_shelf.specs.Own.{EachServes};
     ghost use Rattle.card_shelf.specs.OneCard.{TellsAsOneCard};
+    ghost use Rattle.card_shelf.specs.Programs.{LoadsEach, IsLoadRefusal, RetiresEach, IsRetireRefusal};
     ghost use Rattle.card_shelf.specs.Sums.{totals_of_cards};
 
     /// A shelf of this number of cards, each of this shape and without programs and connections.
@@ -146,6 +149,42 @@ impl Shelf {
         self.take(number, Step::Cut(vc))
     }
 
+    /// Puts a program in on every card: each takes the step `Load` with this code. The ids are in the order of the cards, and
+    /// the list of them names the program. Or it is put in on no card. All memory is taken before a card changes.
+    ///
+    /// # Errors
+    ///
+    /// With the program, and nothing has changed: `Card` with the first card that has a reason to refuse it, and the reason.
+    /// Then `NoMemory`, where memory is refused.
+    pub fn load(
+        &mut self,
+        alloc: Global,
+        program: Program,
+    ) -> Result<Vec<Id>, (ProgramFault, Program)>
+        ensures loaded { IfOk result (λ ids. LoadsEach self.old.cards program ids.items self.new.cards) }
+        ensures refused { IfErr result (λ refused. IsLoadRefusal self.old.cards refused.0) }
+        ensures returned { IfErr result (λ refused. refused.1 ≡ program) }
+        ensures unchanged { OnErr result (self.new ≡ self.old) }
+        ensures shape { self.new.shape ≡ self.old.shape }
+    {
+        load_all(alloc, self.cards.as_mut_slice(), program)
+    }
+
+    /// Takes a program out of every card: each takes the step `Retire` of the id at its place. Or it is taken out of no card.
+    ///
+    /// # Errors
+    ///
+    /// Nothing has changed: `Ids`, where there is not one id for each card. Then `Card` with the first card that has a reason
+    /// to keep the program of its id, and the reason.
+    pub fn retire(&mut self, ids: &[Id]) -> Result<(), ProgramFault>
+        ensures retired { OnOk result (RetiresEach self.old.cards ids.now self.new.cards) }
+        ensures refused { IfErr result (λ fault. IsRetireRefusal self.old.cards ids.now fault) }
+        ensures unchanged { OnErr result (self.new ≡ self.old) }
+        ensures shape { self.new.shape ≡ self.old.shape }
+    {
+        retire_all(self.cards.as_mut_slice(), ids)
+    }
+
     /// Puts a program into one card: the step `Load`, with its reply. The id that is answered is of that
     /// card alone, and only its connections can name it.
     ///
@@ -160,7 +199,7 @@ impl Shelf {
         ensures unchanged { OnErr result (self.new ≡ self.old) }
         ensures shape { self.new.shape ≡ self.old.shape }
     {
-        if number >= self.cards.len() {
+        if number >= self.cards() {
             return Err(program);
         }
         Ok(self.take(number, Step::Load(program)))
@@ -175,7 +214,7 @@ impl Shelf {
         ensures unchanged { IfNone result (self.new ≡ self.old) }
         ensures shape { self.new.shape ≡ self.old.shape }
     {
-        if number >= self.cards.len() {
+        if number >= self.cards() {
             return None;
         }
         Some(self.take(number, Step::Retire(id)))

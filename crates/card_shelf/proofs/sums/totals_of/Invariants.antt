@@ -1,5 +1,4 @@
 use Rattle.std.proofs.Common.{◌≡◌, ◌≤◌, ◌*◌, ◌^◌, take}
-use Rattle.card_core.specs.declared.sums.Totals.{Totals}
 use Rattle.card_shelf.specs.Sums.{totals_of_cards}
 use Rattle.card_shelf.specs.inner.Cards.{cores_of}
 use Rattle.card_shelf.proofs.sums.totals_of.Given as goal
