@@ -1,6 +1,6 @@
 //! A shelf beside one card, and each call once.
 
-use crate::{Arrival, Shelf, ShelfFault, Told};
+use crate::{Arrival, ProgramFault, Shelf, ShelfFault, Told};
 use arrayvec::ArrayVec;
 use bpf_code::Instr;
 use bpf_verify::{Program, verify};
@@ -395,5 +395,58 @@ fn a_shelf_has_1_to_64_cards_of_a_shape(rt: HostRuntime) -> Result<(), Fail> {
     let id = load(&mut shelf, 63, constant(alloc, 1)?)?;
     assert!(rt; shelf.retire_on(64, id).is_none());
     assert!(rt; matches!(shelf.retire_on(63, id), Some(Reply::Retired(_))));
+    Ok(())
+}
+
+/// Loads a program on every card, and returns its ids.
+fn load_on_all(alloc: Global, shelf: &mut Shelf) -> Result<Vec<Id>, Fail> {
+    match shelf.load(alloc, constant(alloc, 1)?) {
+        Ok(ids) => Ok(ids),
+        Err(_) => Err(Fail::from("not loaded")),
+    }
+}
+
+/// Sets up a connection under the program of these ids, and returns the number of its card.
+fn set_up_under(shelf: &mut Shelf, vc: Vc, ids: &[Id]) -> Result<usize, Fail> {
+    let card = shelf.card_of(vc);
+    let Some(id) = ids.get(card) else {
+        return Err(Fail::from("no such id"));
+    };
+    match shelf.setup(ask(vc, *id)?) {
+        Reply::SetUp(_) => Ok(card),
+        _ => Err(Fail::from("not set up")),
+    }
+}
+
+#[test]
+fn a_program_is_retired_from_every_card_or_from_none(rt: HostRuntime) -> Result<(), Fail> {
+    let mut shelf = Shelf::new(rt.alloc(), shape(), 3)?;
+    let ids = load_on_all(rt.alloc(), &mut shelf)?;
+    let vc = Vc::new(1, 100)?;
+    let card = set_up_under(&mut shelf, vc, &ids)?;
+    let in_use = shelf.retire(&ids);
+    assert_eq!(rt; in_use, Err(ProgramFault::Card(card, DeskFault::InUse)));
+    assert!(rt; matches!(shelf.release(vc), Reply::Released(_)));
+    assert_eq!(rt; shelf.retire(&[]), Err(ProgramFault::Ids));
+    assert_eq!(rt; shelf.retire(&ids), Ok(()));
+    let gone = shelf.retire(&ids);
+    assert_eq!(rt; gone, Err(ProgramFault::Card(0, DeskFault::NoProgram)));
+    Ok(())
+}
+
+#[test]
+fn a_full_card_keeps_a_program_off_every_card(rt: HostRuntime) -> Result<(), Fail> {
+    let mut shelf = Shelf::new(rt.alloc(), shape(), 3)?;
+    let ids = load_on_all(rt.alloc(), &mut shelf)?;
+    assert_eq!(rt; ids.len(), 3);
+    let last = load(&mut shelf, 2, constant(rt.alloc(), 1)?)?;
+    let Err((fault, program)) = shelf.load(rt.alloc(), constant(rt.alloc(), 1)?) else {
+        return Err(Fail::from("loaded"));
+    };
+    assert_eq!(rt; fault, ProgramFault::Card(2, DeskFault::ProgramsFull));
+    assert_eq!(rt; program.code().len(), 1);
+    assert!(rt; matches!(shelf.retire_on(2, last), Some(Reply::Retired(_))));
+    let others = load_on_all(rt.alloc(), &mut shelf)?;
+    assert_eq!(rt; others.len(), 3);
     Ok(())
 }
