@@ -10,7 +10,8 @@ use Rattle.card_core.specs.Inspection.{load_fault_of, IsRetireFault}
 use Rattle.card_core.specs.declared.reply.Reply.TheVariants.{Loaded, Retired}
 use Rattle.card_core.specs.declared.step.Step.TheVariants.{Load, Retire}
 use Rattle.card_shelf.specs.declared.card.Card.{Card}
-use Rattle.card_shelf.specs.Programs.{LoadsOn, LoadsEach, EachHasRoom, RetiresOn, RetiresEach, EachMayRetire}
+use Rattle.card_shelf.specs.Programs.{LoadsOn, LoadsEach, EachHasRoom, RetiresOn, RetiresEach}
+use Rattle.card_shelf.specs.inner.Retiring.{EachMayRetire}
 use Rattle.card_shelf.specs.inner.Cards.{cores_of, AreAtRest}
 use Rattle.card_shelf.proofs.CardLemmas.{core_in, core-at, card-of-core}
 use Rattle.card_shelf.proofs.Lists.{there}

@@ -57,11 +57,6 @@ pub record RetiresEach (old : List CoreView) (ids : List Id) (new : List CoreVie
   pub each : (number : ℕ) (card next : CoreView) (id : Id) → slice_get old number ≡ Some card
       → slice_get new number ≡ Some next → slice_get ids number ≡ Some id → RetiresOn id card next
 
--- No card has a reason to keep the program of the id at its place.
-abbrev pub EachMayRetire : List CoreView → List Id → Type 0
-EachMayRetire cards ids = (number : ℕ) (card : CoreView) (id : Id) → slice_get cards number ≡ Some card
-    → slice_get ids number ≡ Some id → IsRetireFault card id None
-
 -- The card of this number has this reason to keep the program of the id at its place, and no card before it has any.
 pub record IsFirstRetireFault (cards : List CoreView) (ids : List Id) (number : ℕ) (fault : DeskFault) : Type 0 where
   pub one_each : length ids ≡ length cards

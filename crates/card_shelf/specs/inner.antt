@@ -3,3 +3,4 @@ pub mod Rest
 pub mod Cards
 pub mod Places
 pub mod Gathered
+pub mod Retiring

@@ -2,7 +2,8 @@
 
 ghost use Rattle.std.specs.Prelude.{◌≡◌, ℕ, Some, None, IfOk, IfErr, OnErr, IfSome, IfNone, OnOk, length, slice_get};
 ghost use Rattle.card_core.specs.Inspection.{IsRetireFault};
-ghost use Rattle.card_shelf.specs.Programs.{RetiresOn, RetiresEach, EachMayRetire, IsFirstRetireFault, IsRetireRefusal};
+ghost use Rattle.card_shelf.specs.Programs.{RetiresOn, RetiresEach, IsFirstRetireFault, IsRetireRefusal};
+ghost use Rattle.card_shelf.specs.inner.Retiring.{EachMayRetire};
 ghost use Rattle.card_shelf.specs.inner.Cards.{cores_of, AreAtRest};
 
 use crate::card::Card;
