@@ -223,7 +223,7 @@ static void tell_journal(const char *what, uint32_t number, const upc_journal *j
 	memcpy(room, room_before, sizeof room);
 }
 
-/* What is told of a connection without a step. */
+/* What a card reports of a connection without a step. */
 static void inspect(const char *what, upc_card *card, uint16_t path, uint16_t channel)
 {
 	upc_counts counts = {7, 7, 7, 7}, unread = counts;

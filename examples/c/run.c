@@ -201,7 +201,7 @@ static void reload(unsigned path, unsigned channel, unsigned long name)
 /* upc_card_release or upc_card_cut. */
 typedef uint32_t hand_out(upc_card *, uint16_t, uint16_t, upc_entry *, size_t, upc_journal *, upc_fault *);
 
-/* Room for so many entries. */
+/* Room for this number of entries. */
 static upc_entry *room_for(size_t cells)
 {
 	upc_entry *room = (upc_entry *)malloc(cells > 0 ? cells * sizeof *room : 1);

@@ -6,62 +6,80 @@ from .files import files_below, text_of
 from .functions import HEAD, OWNER, type_of
 
 
+class Place:
+    """A function as a place of a change: its crate and module, its type with the trait, and its name."""
+
+    def __init__(self, crate, module, owner, has_arguments, name):
+        self.crate, self.module, self.owner, self.has_arguments, self.name = crate, module, owner, has_arguments, name
+
+    @property
+    def full(self):
+        """Returns the path with the file's module."""
+        return "::".join(it for it in (self.crate, self.module, self.owner, self.name) if it)
+
+    @property
+    def short(self):
+        """Returns the end of the path by which the prover finds the function: it puts a method under the module of its type."""
+        return f"{self.owner}::{self.name}" if self.owner else self.full
+
+
 class Edit:
-    """A wrong body: the texts that it changes, and the function that it turns, as the prover names it."""
+    """A wrong body: the texts that it changes, and the function that it turns."""
 
     def __init__(self, crate, path):
         self.crate, self.path, self.pairs = crate, path, []
         self.name, self.is_deep = os.path.basename(path).removesuffix(".edit"), "/must-fail-deep/" in path
-        self.function, file, old = "", "", ""
+        self.refused_at, file, old = "", "", ""
         for line in text_of(path).split("\n"):
             word, _, text = line.partition(":")
             text = text[1:] if text.startswith(" ") else text
             if word == "file":
                 file = text
             elif word == "refused at":
-                self.function = text.strip()
+                self.refused_at = text.strip()
             elif word == "old":
                 old = text
             elif word == "new":
                 self.pairs.append((file, old, text))
-        self.fault, self.changed = self.tried()
-        self.function = self.function or self.changed
+        self.fault, self.place = self.tried()
+        self.function = self.refused_at or (self.place.full if self.place else "")
 
     def tried(self):
-        """Returns why the edit can't be applied, or nothing, and the function that it changes first. A pair that changes spaces alone
-        only makes the old text of a later pair unique."""
-        texts, changed = {}, None
+        """Returns why the edit can't be applied, or nothing, and where it changes first. A pair that changes spaces alone only makes the
+        old text of a later pair unique."""
+        texts, place, is_found = {}, None, False
         if not self.pairs:
-            return "it changes nothing", ""
+            return "it changes nothing", None
         for file, old, new in self.pairs:
             path = f"crates/{self.crate}/{file}"
             try:
                 text = texts.get(path) or text_of(path)
             except OSError:
-                return f"there is no {file}", changed or ""
+                return f"there is no {file}", place
             if text.count(old) != 1:
-                return f"its old text is in {file} {text.count(old)} times, and not once", changed or ""
-            if changed is None and old.replace(" ", "") != new.replace(" ", ""):
-                changed = function_at(self.crate, file, text, text.find(old) + len(os.path.commonprefix([old, new])))
+                return f"its old text is in {file} {text.count(old)} times, and not once", place
+            if not is_found and old.replace(" ", "") != new.replace(" ", ""):
+                is_found, place = True, place_at(self.crate, file, text, text.find(old) + len(os.path.commonprefix([old, new])))
             texts[path] = text.replace(old, new)
-        return "", changed or ""
+        return "", place
 
 
-def function_at(crate, file, text, place):
-    """Returns the function at this place of a source file, as the prover names it, or nothing."""
-    before = text[:place].split("\n")
+def place_at(crate, file, text, at):
+    """Returns the function at this place of a source file, or None."""
+    before = text[:at].split("\n")
     heads = [(n, it) for n, it in enumerate(before) if HEAD.match(it)]
     if not file.startswith("src/") or not heads:
-        return ""
+        return None
     line, head = heads[-1]
-    module, name = file.removeprefix("src/").removesuffix(".rt").replace("/", "::"), HEAD.match(head)[3]
+    module = file.removeprefix("src/").removesuffix(".rt").replace("/", "::")
     module = "" if module in ("lib", "main") else module
     owner = ""
     if head.startswith(" "):
         owners = [n for n, it in enumerate(before[:line]) if OWNER.match(it)]
-        if owners:
-            owner = "".join(type_of(" ".join(before[owners[-1] : line]).partition("{")[0]))
-    return "::".join(it for it in (crate, module, owner, name) if it)
+        owner = " ".join(before[owners[-1] : line]).partition("{")[0] if owners else ""
+    type_, trait = type_of(owner)
+    has_arguments = bool(trait) and "<" in owner.partition(trait)[2].partition(" for ")[0]
+    return Place(crate, module, type_ + trait, has_arguments, HEAD.match(head)[3])
 
 
 def edits_of(crate):

@@ -1,5 +1,5 @@
--- A cell that comes to two cards, on which the same was done for its connection and the same came of it, is answered
--- alike, and it is so afterwards.
+-- If a cell arrives at two cards that have the same account of its connection, both answer it
+-- alike, and both have the same account of it afterwards.
 use Rattle.std.proofs.Common.{◌≡◌, ℕ, ◌+◌, ◌≤◌, ◌^◌, Bool, true, false, List, [], ◌∷◌, ◌++◌, length, Option, Some, None, refl, sym, ap, ◌∙◌, subst, arith}
 use Rattle.std.proofs.lemmas.List.{length-append, map-append}
 use Rattle.std.proofs.lemmas.Option.{same_Some}

@@ -35,7 +35,7 @@ pub record IsBeside (one : Shape) (log : List Event) (card : CoreView) (shape : 
   pub accounts : (vc : Vc) (own : List Event) → slice_get logs (card_of vc (length logs)) ≡ Some own
       → account_of one.side vc log ≡ account_of shape.side vc own
 
--- With the steps of so many arrivals the log has at most 2^62 events. After 2^62 cells of a line a card answers that
+-- With the steps of this number of arrivals the log has at most 2^62 events. After 2^62 cells of a line a card answers that
 -- its journal is full.
 abbrev pub HasTimeFor : ℕ → List Event → Type 0
 HasTimeFor arrivals log = length log + 3 * arrivals ≤ 2 ^ 62
@@ -84,7 +84,7 @@ TellsAsOneCard shape old arrivals told new = (one : Shape) (log : List Event) (l
     → ServesAll card arrivals answers next
     → StaysBeside one next shape new arrivals answers told
 
--- Whatever is policed one arrival after another, each by its card, is told as one card tells it.
+-- If each arrival is answered by its own card, one after another, the answers are those of one card with all the connections.
 abbrev pub ShelvesTellAsOneCard : Type 0
 ShelvesTellAsOneCard = (shape : Shape) (old new : List CoreView) (arrivals : List Arrival) (told : List (Result Judgement Unjudged))
     → PolicesAll shape.side old arrivals told new → TellsAsOneCard shape old arrivals told new

@@ -8,7 +8,8 @@ pub fn cards_go_on_by_their_arrivals()
     ensures { CardsGoOnByTheirArrivals }
 {}
 
-/// What is policed one arrival after another, each by its card, is told as one card with all connections tells it.
+/// If each arrival is answered by its own card, one after another, the answers are those of one card with all the
+/// connections.
 pub fn shelves_tell_as_one_card()
     ensures { ShelvesTellAsOneCard }
 {}

@@ -35,7 +35,7 @@ pub struct Deal<'a> {
     pub arrivals: Vec<Vec<&'a [u8]>>,
 }
 
-/// The number of the port that a cell of this connection comes to, where there are `ports` ports.
+/// The number of the port for cells of this connection, of `ports` ports.
 fn port_of(vc: Vc, ports: usize) -> usize
     requires { 0 < ports }
     ensures { result ≡ port_of vc ports }

@@ -1,7 +1,7 @@
 """The function that an edit turns is found by its place."""
 import unittest
 
-from atlas.edits import function_at
+from atlas.edits import place_at
 
 SOURCE = '''/// Opens.
 fn open() -> bool {
@@ -16,15 +16,15 @@ impl Door {
 '''
 
 
-class FunctionAt(unittest.TestCase):
+class PlaceAt(unittest.TestCase):
     def test_a_free_function(self):
-        self.assertEqual(function_at("doors", "src/door.rt", SOURCE, SOURCE.find("true")), "doors::door::open")
+        self.assertEqual(place_at("doors", "src/door.rt", SOURCE, SOURCE.find("true")).full, "doors::door::open")
 
     def test_a_method(self):
-        self.assertEqual(function_at("doors", "src/lib.rt", SOURCE, SOURCE.find("false")), "doors::Door::close")
+        self.assertEqual(place_at("doors", "src/lib.rt", SOURCE, SOURCE.find("false")).full, "doors::Door::close")
 
     def test_a_definition_is_no_function(self):
-        self.assertEqual(function_at("doors", "specs/Door.antt", SOURCE, 30), "")
+        self.assertIsNone(place_at("doors", "specs/Door.antt", SOURCE, 30))
 
 
 if __name__ == "__main__":

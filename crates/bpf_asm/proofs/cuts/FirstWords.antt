@@ -22,7 +22,7 @@ in_cons text rest token e = read_cons (without_comment text) (without_comment re
 in_mark : (first : ℕ) (rest : List ℕ) → is_word first ≡ false → (first == 59) ≡ false → is_blank first ≡ false → tokens_in (first ∷ rest) ≡ signed_behind (mark first) (tokens_in rest)
 in_mark first rest w e b = in_cons (first ∷ rest) rest (mark first) (line_mark (first ∷ rest) (omega arith) w e b)
 
--- The octet of a mark stands in front.
+-- The first octet is the mark's.
 pub mark_front : (octet : ℕ) (text : List ℕ) → is_mark octet ≡ true → 0 < length text → get_or text 0 0 ≡ octet → line_tokens text ≡ mark octet ∷ line_tokens (drop 1 text)
 mark_front octet [] m some e = absurd (omega arith)
 mark_front octet (first ∷ rest) m some e =
@@ -41,7 +41,7 @@ other_by octet first rest true e wi ei b n = word_no_cut (first ∷ rest) (omega
 other_by octet first rest false true wi ei b n = none_no_cut (first ∷ rest) (line_comment (first ∷ rest) (omega arith) ei) octet
 other_by octet first rest false false wi ei b n = rw (in_mark first rest wi ei b) (mark_behind first octet (tokens_in rest) (ne_eqb first octet n))
 
--- Where another octet stands in front, the mark is not cut.
+-- If the first octet is another one, the mark is not cut.
 pub other_front : (octet : ℕ) (text : List ℕ) → 0 < length text → is_blank (get_or text 0 0) ≡ false → (get_or text 0 0 ≡ octet → ⊥) → cut_mark octet (tokens_in text) ≡ None
 other_front octet [] some b n = absurd (omega arith)
 other_front octet (first ∷ rest) some b n = other_by octet first rest (is_word first) (first == 59) refl refl b n
@@ -58,7 +58,7 @@ no_word_by first rest false e w b = (
   rw (in_mark first rest w e b) (number_behind first (tokens_in rest)),
 )
 
--- Where no octet of a word stands in front, there is no word.
+-- If the first octet is none of a word, there is no word.
 pub no_word : (text : List ℕ) → 0 < length text → is_word (get_or text 0 0) ≡ false → is_blank (get_or text 0 0) ≡ false → HasNoWord (tokens_in text)
 no_word [] some w b = absurd (omega arith)
 no_word (first ∷ rest) some w b = no_word_by first rest (first == 59) refl w b

@@ -30,7 +30,7 @@ one_more octet rest count =
     let e : 1 + count ≡ suc count = omega arith in
     ap (λ (n : ℕ). take n (octet ∷ rest)) e
 
--- Any other octet stands before the comment.
+-- Any other octet is before the comment.
 pub apart_comment : (octet : ℕ) (rest : List ℕ) → (octet == 59) ≡ false → without_comment (octet ∷ rest) ≡ octet ∷ without_comment rest
 apart_comment octet rest h = rw h (one_more octet rest (position_or_len (λ o. o == 59) rest))
 
@@ -38,7 +38,7 @@ apart_comment octet rest h = rw h (one_more octet rest (position_or_len (λ o. o
 pub comment_first : (octet : ℕ) (rest : List ℕ) → (octet == 59) ≡ true → without_comment (octet ∷ rest) ≡ []
 comment_first octet rest h = rw h refl
 
--- A word stands before the comment.
+-- A word is before the comment.
 comment_word : (word rest : List ℕ) → all_word word ≡ true → without_comment (word ++ rest) ≡ word ++ without_comment rest
 comment_word [] rest w = refl
 comment_word (octet ∷ word) rest w =
