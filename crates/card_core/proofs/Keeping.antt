@@ -26,7 +26,8 @@ use Rattle.card_core.specs.Agreement.{CoreView}
 use Rattle.card_core.specs.Kept.{with_outside, KeepsButRoom, AnswerKeeps, SetupKeeps}
 use Rattle.card_core.specs.Sections.{judging_refusal, JudgesAt, IsUnready, MayBecomeReady}
 use Rattle.card_core.specs.inner.Parts.{ChangesLine, JudgesOrRefuses, SetsUpOrRefuses, ReleasesOrRefuses, CutsOrRefuses}
-use Rattle.card_core.proofs.LineLemmas.{set-again, get-set_same, get-set_other}
+use Rattle.gen_arena.proofs.Public.{slice_get-set_other}
+use Rattle.card_core.proofs.LineLemmas.{set-again, get-set_same}
 use Rattle.card_core.proofs.LookUps.{same_some}
 
 -- A core that has only its port outside is what any answer leaves.
@@ -96,7 +97,7 @@ room-alone old new number line next there ready same =
             same_some next after (sym (get-set_same old.lines number next line there)
             ∙ ap (slice_get (set old.lines number next)) (sym here) ∙ now) in
             subst (λ (l : LineView). MayBecomeReady l after) is_line (subst (MayBecomeReady line) is_next ready)
-        | inr apart ↦ inl (same_some after before (sym now ∙ get-set_other old.lines number k next apart ∙ was))
+        | inr apart ↦ inl (same_some after before (sym now ∙ slice_get-set_other old.lines number k next apart ∙ was))
       ];
     })
 

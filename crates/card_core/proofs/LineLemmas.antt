@@ -1,5 +1,5 @@
 -- The agreement of lines and of seatings with the connections, after one connection changed.
-use Rattle.std.proofs.Common.{◌≡◌, ◌≢◌, ℕ, zero, suc, ◌<◌, Bool, Some, None, List, [], ◌∷◌, length, set, refl, sym, ap, subst, ◌∙◌, inl, inr, arith}
+use Rattle.std.proofs.Common.{◌≡◌, ◌≢◌, ℕ, Bool, Some, None, List, set, refl, sym, ap, subst, ◌∙◌, inl, inr, arith}
 use Rattle.std.specs.Prelude.{slice_get, option_map}
 use Rattle.std.proofs.lemmas.Bool.{cases_eq}
 use Rattle.std.proofs.lemmas.List.{length-set, set-get_or}
@@ -14,24 +14,13 @@ use Rattle.line_record.specs.Tally.{tally_of}
 use Rattle.card_core.specs.declared.shape.Shape.{Shape}
 use Rattle.card_core.specs.World.{Connection, connection_in, without_connection, with_connection}
 use Rattle.card_core.specs.Agreement.{SeatingsAgree, LinesAgree, Serves, IsLineOf, seating_of, owner_of}
+use Rattle.gen_arena.proofs.Public.{slice_get-set_same, slice_get-set_other}
 use Rattle.card_core.proofs.LookUps.{same_some}
 use Rattle.card_core.proofs.ConnectionLemmas.{with-here, with-others, without-here, without-others}
 
 module _ {X : Type 0} where
-  set_there : (xs : List X) (k : ℕ) (x : X) → k < length xs → slice_get (set xs k x) k ≡ Some x
-  set_there [] k x within = absurd (omega arith)
-  set_there (y ∷ xs) zero x within = refl
-  set_there (y ∷ xs) (suc k) x within = set_there xs k x (omega arith)
-
   pub get-set_same : (xs : List X) (k : ℕ) (x y : X) → slice_get xs k ≡ Some y → slice_get (set xs k x) k ≡ Some x
-  get-set_same xs k x y at = set_there xs k x (slice_get_within xs k y at)
-
-  pub get-set_other : (xs : List X) (k j : ℕ) (x : X) → j ≢ k → slice_get (set xs k x) j ≡ slice_get xs j
-  get-set_other [] k j x apart = refl
-  get-set_other (y ∷ xs) zero zero x apart = absurd (apart refl)
-  get-set_other (y ∷ xs) zero (suc j) x apart = refl
-  get-set_other (y ∷ xs) (suc k) zero x apart = refl
-  get-set_other (y ∷ xs) (suc k) (suc j) x apart = get-set_other xs k j x (λ e. apart (ap suc e))
+  get-set_same xs k x y at = slice_get-set_same xs k x (slice_get_within xs k y at)
 
   -- What stands there, written again, changes nothing.
   pub set-again : (xs : List X) (k : ℕ) (x : X) → slice_get xs k ≡ Some x → set xs k x ≡ xs
@@ -56,7 +45,7 @@ module _ (shape : Shape) (lines : List LineView) (connections : List (Vc × Conn
         same_some next l (sym here ∙ subst (λ (n : ℕ). slice_get (set lines number next) n ≡ Some l) e at)
 
     was_there : (k : ℕ) (l : LineView) → slice_get (set lines number next) k ≡ Some l → k ≢ number → slice_get lines k ≡ Some l
-    was_there k l at apart = sym (get-set_other lines number k next apart) ∙ at
+    was_there k l at apart = sym (slice_get-set_other lines number k next apart) ∙ at
 
     journals-set : (k : ℕ) (l : LineView) → slice_get (set lines number next) k ≡ Some l → l.journal ≡ shape.journal
     journals-set k l at = elim (cases_eq k number) [
@@ -76,7 +65,7 @@ module _ (shape : Shape) (lines : List LineView) (connections : List (Vc × Conn
     serving-other vc connection found apart =
         let old = agrees.serving vc connection found in (
           old.0,
-          get-set_other lines number connection.line next apart ∙ old.1,
+          slice_get-set_other lines number connection.line next apart ∙ old.1,
           subst (λ (vs : List Verdict). Serves old.0 vc connection vs) (sym (change.others connection.line apart)) old.2,
         )
 

@@ -1,7 +1,6 @@
 -- What options, tests and lists have at a place.
-use Rattle.std.proofs.Common.{◌≡◌, ◌≢◌, ◌⊎◌, ℕ, suc, ◌<◌, Bool, true, false, cond, List, [], ◌∷◌, length, length-set, zero, set, replicate, Option, Some, None, IsSome, is_none, is_some, slice_get, option_map, refl, sym, ap, ◌∙◌, subst, inl, inr, arith}
-use Rattle.std.proofs.lemmas.Bool.{cases_eq}
-use Rattle.std.proofs.lemmas.Option.{same_Some, slice_get_within}
+use Rattle.std.proofs.Common.{◌≡◌, ℕ, suc, Bool, true, false, cond, zero, replicate, Option, Some, None, IsSome, is_none, is_some, slice_get, option_map, refl, sym, ap, subst, arith}
+use Rattle.std.proofs.lemmas.Option.{same_Some}
 
 pub same_some : {X : Type 0} (x y : X) → Some x ≡ Some y → x ≡ y
 same_some x y e = same_Some x y e
@@ -40,30 +39,6 @@ refused_by P false refused rest here later x e = later x e
 pub mapped : {X Y : Type 0} (f : X → Y) (o : Option X) (y : Y) → option_map f o ≡ Some y → (x : X) × (o ≡ Some x) × (y ≡ f x)
 mapped f None y e = absurd (cc)
 mapped f (Some x) y e = (x, refl, sym (same_some (f x) y e))
-
-module _ {X : Type 0} where
-  pub slice_get-set_same : (xs : List X) (k : ℕ) (x : X) → k < length xs → slice_get (set xs k x) k ≡ Some x
-  slice_get-set_same [] k x within = absurd (omega arith)
-  slice_get-set_same (y ∷ xs) zero x within = refl
-  slice_get-set_same (y ∷ xs) (suc k) x within = slice_get-set_same xs k x (omega arith)
-
-  pub slice_get-set_other : (xs : List X) (k j : ℕ) (x : X) → j ≢ k → slice_get (set xs k x) j ≡ slice_get xs j
-  slice_get-set_other [] k j x apart = refl
-  slice_get-set_other (y ∷ xs) zero zero x apart = absurd (apart refl)
-  slice_get-set_other (y ∷ xs) zero (suc j) x apart = refl
-  slice_get-set_other (y ∷ xs) (suc k) zero x apart = refl
-  slice_get-set_other (y ∷ xs) (suc k) (suc j) x apart = slice_get-set_other xs k j x (λ e. apart (ap suc e))
-
-  -- What a place has after a write is what was written there, or what it had.
-  pub slice_get-set : (xs : List X) (k j : ℕ) (x y : X) → slice_get (set xs k x) j ≡ Some y
-      → ((j ≡ k) × (x ≡ y)) ⊎ ((j ≢ k) × (slice_get xs j ≡ Some y))
-  slice_get-set xs k j x y e = elim (cases_eq j k) [
-    | inl same ↦
-        let at : slice_get (set xs k x) k ≡ Some y = subst (λ i. slice_get (set xs k x) i ≡ Some y) same e in
-        let within : k < length xs = omega (arith, slice_get_within (set xs k x) k y at, length-set xs k x) in
-        inl (same, same_some x y (sym (slice_get-set_same xs k x within) ∙ at))
-    | inr apart ↦ inr (apart, sym (slice_get-set_other xs k j x apart) ∙ e)
-  ]
 
 pub replicated : {X : Type 0} (n k : ℕ) (x y : X) → slice_get (replicate n x) k ≡ Some y → x ≡ y
 replicated zero k x y e = absurd (cc)

@@ -17,7 +17,7 @@ use Rattle.card_core.specs.declared.shape.Shape.{Shape}
 use Rattle.card_core.specs.World.{World, PortState, outside, entered, picked, with_port}
 use Rattle.card_core.specs.Refusals.{enter_refusal, pick_refusal, judge_refusal}
 use Rattle.card_core.specs.Agreement.{CoreView, CoreAgrees}
-use Rattle.card_core.proofs.LineLemmas.{get-set_other}
+use Rattle.gen_arena.proofs.Public.{slice_get-set_other}
 use Rattle.card_core.specs.inner.Ports.{state_of, states_of, picking_of, is_idle, came_in, found_in, IsCore}
 
 -- A core of these parts.
@@ -114,7 +114,7 @@ within-moved lines ports port next old new k found e = elim (cases_eq k port) [
     | inl there ↦ new found (ap found_in (sym there) ∙ subst (λ (n : ℕ). found_in (slice_get (set ports port next) n) ≡ Some found) same e)
     | inr past ↦ old k found (ap (λ (list : List Port). found_in (slice_get list k)) (sym past) ∙ e)
   ]
-  | inr apart ↦ old k found (ap found_in (sym (get-set_other ports port k next apart)) ∙ e)
+  | inr apart ↦ old k found (ap found_in (sym (slice_get-set_other ports port k next apart)) ∙ e)
 ]
 
 pub IsCore-moved : (old new : DirectoryView) (lines others : List LineView) (ports after : List Port) (port : ℕ) (next : Port)

@@ -10,7 +10,8 @@ use Rattle.line_record.specs.Tally.{tally_of}
 use Rattle.card_core.specs.declared.shape.Shape.{Shape}
 use Rattle.card_core.specs.World.{World, Loading, Connection, Picking, PortState, outside, entered, picked, code_in, connection_in, with_connection, opening_world, with_port}
 use Rattle.card_core.proofs.Sound.{SoundPrograms, SoundConnection, SoundPicking, IsSound}
-use Rattle.card_core.proofs.LookUps.{same_some, replicated, slice_get-set}
+use Rattle.gen_arena.proofs.Public.{slice_get-set}
+use Rattle.card_core.proofs.LookUps.{same_some, replicated}
 use Rattle.card_core.proofs.ConnectionLemmas.{ConnectionChanges, changes-with, IsOnce, once-with}
 
 pub opening-sound : (shape : Shape) → IsSound (opening_world shape)

@@ -18,7 +18,8 @@ use Rattle.card_core.specs.declared.shape.Shape.{Shape}
 use Rattle.card_core.specs.World.{World, Loading, code_in, without_code, times_given, is_open_slot, any_below}
 use Rattle.card_core.specs.Agreement.{StoreAgrees}
 use Rattle.card_core.proofs.CodeLemmas.{code-first, code-later, without_code-here, without_code-others, times-same}
-use Rattle.card_core.proofs.LineLemmas.{get-set_same, get-set_other}
+use Rattle.gen_arena.proofs.Public.{slice_get-set_other}
+use Rattle.card_core.proofs.LineLemmas.{get-set_same}
 
 or_right : (a b : Bool) → b ≡ true → (a || b) ≡ true
 or_right true b e = refl
@@ -187,7 +188,7 @@ module _ (shape : Shape) (store : List (Slot (List Instr))) (given live : List L
               subst (λ (n : ℕ). generation_at new n ≡ times_given (loading ∷ given) n) (sym same) (ap generation_or_zero here ∙ next)
           | inr apart ↦
               ap (λ (slots : List (Slot (List Instr))). generation_at slots slot) insert.after
-              ∙ ap generation_or_zero (get-set_other store id.slot slot (full_slot id.generation code) apart)
+              ∙ ap generation_or_zero (slice_get-set_other store id.slot slot (full_slot id.generation code) apart)
               ∙ agrees.generations slot ∙ sym (times-other loading given slot (λ e. apart (sym e)))
         ];
         values = λ other. elim (id_cases other id) [
@@ -217,7 +218,7 @@ module _ (shape : Shape) (store : List (Slot (List Instr))) (given live : List L
               (ap generation_or_zero here ∙ sym was ∙ agrees.generations id.slot)
           | inr apart ↦
               ap (λ (slots : List (Slot (List Instr))). generation_at slots slot) remove.after
-              ∙ ap generation_or_zero (get-set_other store id.slot slot (empty_slot id.generation) apart)
+              ∙ ap generation_or_zero (slice_get-set_other store id.slot slot (empty_slot id.generation) apart)
               ∙ agrees.generations slot
         ];
         values = λ other. elim (id_cases other id) [

@@ -17,7 +17,8 @@ use Rattle.card_core.specs.Steps.{Gives}
 use Rattle.card_core.specs.Headline.{loads, retires, changes, moves, named_after, judged_cells, verdicts_on, cells_on, cells_of, as_it_came}
 use Rattle.card_core.specs.Judged.{JudgedView}
 use Rattle.card_core.proofs.LogLemmas.{event_of}
-use Rattle.card_core.proofs.LookUps.{same_some, slice_get-set}
+use Rattle.gen_arena.proofs.Public.{slice_get-set}
+use Rattle.card_core.proofs.LookUps.{same_some}
 use Rattle.card_core.proofs.ConnectionLemmas.{with-here, with-others}
 
 -- What is told of the codes: nothing, or that one was put in, or that one was retired.

@@ -1,6 +1,6 @@
 -- Look-ups in a world's connections and codes, before and after a change of one.
-use Rattle.std.proofs.Common.{◌≡◌, ◌||◌, suc, ◌+◌, Bool, true, false, cond, List, [], ◌∷◌, Option, Some, None, IsSome, refl, sym, ap, ◌∙◌, subst, arith}
-use Rattle.std.specs.List.{list_any, Contains}
+use Rattle.std.proofs.Common.{◌≡◌, ◌+◌, Bool, true, false, cond, List, [], ◌∷◌, Option, Some, IsSome, refl, sym, ap, ◌∙◌, subst, arith}
+use Rattle.std.specs.List.{list_any}
 use Rattle.std.proofs.lemmas.Bool.{or_left, or_right}
 use Rattle.std.proofs.lemmas.Option.{same_Some}
 use Rattle.upc_cell.specs.declared.vc.Vc.{Vc}
@@ -12,22 +12,8 @@ use Rattle.gen_arena.specs.SameId.{is_same_id}
 use Rattle.gen_arena.proofs.Public.{id_same}
 use Rattle.card_core.specs.World.{World, Connection, code_in, times_given, connection_in, without_connection, with_connection}
 use Rattle.card_core.specs.inner.Sound.{IsSound}
-use Rattle.card_isolation.proofs.Basics.{there_is}
-
-connection-later : (vc other : Vc) (connection : Connection) (later : List (Vc × Connection)) → is_same_vc other vc ≡ false
-    → connection_in ((vc, connection) ∷ later) other ≡ connection_in later other
-connection-later vc other connection later e = ap (λ b. cond b (Some connection) (connection_in later other)) e
-
-pub without-here : (connections : List (Vc × Connection)) (vc : Vc) → connection_in (without_connection connections vc) vc ≡ None
-without-here [] vc = refl
-without-here (here ∷ later) vc =
-    let rest = without-here later vc in
-    let choice : (b : Bool) → is_same_vc vc here.0 ≡ b
-    → connection_in (cond b (without_connection later vc) (here ∷ without_connection later vc)) vc ≡ None = elim [
-      | true ↦ λ e. rest
-      | false ↦ λ e. connection-later here.0 vc here.1 (without_connection later vc) e ∙ rest
-    ] in
-    choice (is_same_vc vc here.0) refl
+use Rattle.card_core.proofs.ConnectionLemmas.{connection-later}
+use Rattle.card_core.proofs.LookUps.{there_is}
 
 pub without-others : (connections : List (Vc × Connection)) (vc other : Vc) → is_same_vc other vc ≡ false
     → connection_in (without_connection connections vc) other ≡ connection_in connections other
@@ -79,18 +65,6 @@ code-stays world id program code sound next live =
     choice (is_same_id program id) refl
 
 -- A connection that passes a test, where one does.
-pub tested-connection : (connections : List (Vc × Connection)) (test : (Vc × Connection) → Bool) → list_any test connections ≡ true
-    → (here : Vc × Connection) × Contains connections here × (test here ≡ true)
-tested-connection [] test e = absurd (cc)
-tested-connection (first ∷ later) test e =
-    let choice : (b : Bool) → test first ≡ b → (here : Vc × Connection) × Contains (first ∷ later) here × (test here ≡ true) = elim [
-      | true ↦ λ passes. (first, (0, omega arith, refl), passes)
-      | false ↦ λ fails.
-          let rest = tested-connection later test (sym (ap (λ b. b || list_any test later) fails) ∙ e) in
-          (rest.0, (suc rest.1.0, omega (arith, rest.1.1), rest.1.2), rest.2)
-    ] in
-    choice (test first) refl
-
 -- A connection that the test finds.
 pub connection-passes : (test : (Vc × Connection) → Bool) (connections : List (Vc × Connection)) (vc : Vc) (connection : Connection)
     → connection_in connections vc ≡ Some connection → ((other : Vc) → test (other, connection) ≡ true)

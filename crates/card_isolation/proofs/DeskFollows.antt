@@ -19,7 +19,7 @@ use Rattle.card_core.specs.Refusals.{refusal, load_fault, retire_fault, setup_fa
 use Rattle.card_core.specs.Steps.{Loads, Retires, SetsUp, Reloads, Cuts, Releases, new_connection, WorldStep}
 use Rattle.card_isolation.specs.Act.{sets_up, reloads, releases, cuts}
 use Rattle.card_isolation.specs.OwnEvents.{own_event}
-use Rattle.card_isolation.proofs.Basics.{passed_on, unmapped}
+use Rattle.card_core.proofs.LookUps.{passed_on, unmapped}
 use Rattle.card_isolation.proofs.Views.{notes_in}
 use Rattle.card_isolation.proofs.Unseen.{unseen-sets_up, unseen-reloads, unseen-cuts, unseen-releases}
 use Rattle.card_isolation.proofs.Shadow.{idle-too, found-too, unheld-too}

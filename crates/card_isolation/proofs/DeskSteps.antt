@@ -20,9 +20,11 @@ use Rattle.card_core.specs.inner.Sound.{IsSound}
 use Rattle.card_isolation.specs.Act.{sets_up, reloads, releases, cuts}
 use Rattle.card_isolation.specs.Outcome.{Outcome, seen, done, named_before, handed_out, outcome_of_piece}
 use Rattle.card_isolation.specs.OwnEvents.{own_where}
-use Rattle.card_isolation.proofs.Basics.{pointwise, passed_on, unmapped, is_missing}
+use Rattle.card_core.proofs.LookUps.{passed_on, unmapped, is_missing}
+use Rattle.card_isolation.proofs.Basics.{pointwise}
 use Rattle.card_isolation.proofs.Forgotten.{forgotten, seen_entries, entries-forgotten}
-use Rattle.card_isolation.proofs.Connections.{with-here, with-others, without-here, without-others, found-same, code-stays}
+use Rattle.card_core.proofs.ConnectionLemmas.{without-here}
+use Rattle.card_isolation.proofs.Connections.{with-here, with-others, without-others, found-same, code-stays}
 use Rattle.card_isolation.proofs.Alone.{Standing, Place, idle, came, looked, Alone, ended, code_alone, piece_alone, reloaded, cut_off, set_up}
 use Rattle.card_isolation.proofs.Views.{standing_of, is_current, place_of, alone_of, alone_in, Goes, Tells, no-more, same-alone, tells-at}
 

@@ -21,7 +21,8 @@ use Rattle.card_core.specs.Steps.{Judges, cell_after, cell_of_picking, with_cell
 use Rattle.card_isolation.specs.Act.{looks_up, judges}
 use Rattle.card_isolation.specs.Outcome.{Outcome, was_judged, was_not_judged, outcome_of}
 use Rattle.card_isolation.specs.OwnEvents.{own_where, notes_after}
-use Rattle.card_isolation.proofs.Basics.{pointwise, unmapped, mapped, with_at, with_at-same, seen-set}
+use Rattle.card_core.proofs.LookUps.{unmapped, mapped}
+use Rattle.card_isolation.proofs.Basics.{pointwise, with_at, with_at-same, seen-set}
 use Rattle.card_isolation.proofs.Forgotten.{forgotten, last-forgotten, verdict-forgotten}
 use Rattle.card_isolation.proofs.Connections.{with-here, with-others, found-same}
 use Rattle.card_isolation.proofs.Alone.{Standing, Place, idle, came, looked, Alone, LooksUp, found_alone, cell_alone, moment_refusal, refusal_alone, judged_alone, answered_alone, outcome_at, with_judged, kept_alone, judged_at, is_idle}

@@ -16,5 +16,4 @@ pub mod Follows
 pub mod DeskFollows
 pub mod Restricted
 pub mod ServedAlone
-pub mod TaggedCells
 pub mod OwnCellsLemmas

@@ -29,9 +29,9 @@ use Rattle.card_isolation.specs.OwnEvents.{OwnEvent, Notes, notes_after, own_eve
 use Rattle.card_isolation.specs.OwnCells.{ToldCell, told_cell, judged_outcome, judged_own, judged_on, JudgedCellsAreOwn}
 use Rattle.card_isolation.proofs.Views.{has_own_in, notes_in, Tells, same-notes}
 use Rattle.card_isolation.proofs.Steps.{HasJudgedFew, step-tells, enter-refused}
-use Rattle.card_isolation.proofs.Basics.{mapped}
+use Rattle.card_core.proofs.LookUps.{mapped}
 use Rattle.card_isolation.proofs.JudgeSteps.{no-connection, picking-plain}
-use Rattle.card_isolation.proofs.TaggedCells.{vc-after}
+use Rattle.card_core.proofs.CellLemmas.{vc-after}
 use Rattle.card_isolation.proofs.Isolated.{no-own}
 
 -- The judged cell of an event, if it is one and the connection's.

@@ -18,9 +18,10 @@ use Rattle.card_core.specs.Steps.{Enters, SetsUp, Reloads, Releases, Cuts, Succe
 use Rattle.card_isolation.specs.Act.{Act, sets_up, reloads, releases, cuts, enters, looks_up, judges}
 use Rattle.card_isolation.specs.Outcome.{Outcome, done, named_before, outcome_of, outcome_of_piece}
 use Rattle.card_isolation.specs.OwnEvents.{own_where, own_event}
-use Rattle.card_isolation.proofs.Basics.{mapped}
+use Rattle.card_core.proofs.LookUps.{mapped}
 use Rattle.card_isolation.proofs.Alone.{event_with}
-use Rattle.card_isolation.proofs.Connections.{with-here, with-others, without-here, without-others, found-same}
+use Rattle.card_core.proofs.ConnectionLemmas.{without-here}
+use Rattle.card_isolation.proofs.Connections.{with-here, with-others, without-others, found-same}
 use Rattle.card_isolation.proofs.Views.{has_own_in, notes_in}
 use Rattle.card_isolation.proofs.JudgeSteps.{no-connection}
 use Rattle.card_isolation.proofs.Unseen.{none-picked, none-judged}

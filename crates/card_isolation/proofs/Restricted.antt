@@ -16,7 +16,7 @@ use Rattle.card_core.specs.Steps.{Enters, Succeeds, FindsNoMemory, IsRefused, Wo
 use Rattle.card_core.proofs.Public.{step-replied}
 use Rattle.card_isolation.specs.Act.{enters, looks_up, judges}
 use Rattle.card_isolation.specs.OwnEvents.{own_event}
-use Rattle.card_isolation.proofs.Basics.{mapped}
+use Rattle.card_core.proofs.LookUps.{mapped}
 use Rattle.card_isolation.proofs.Views.{notes_in}
 use Rattle.card_isolation.proofs.PortSteps.{let_in}
 use Rattle.card_isolation.proofs.Steps.{enter-refused}

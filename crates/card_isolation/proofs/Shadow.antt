@@ -23,9 +23,11 @@ use Rattle.card_core.specs.World.{World, Loading, Connection, Picking, PortState
 use Rattle.card_core.specs.inner.Sound.{IsSound}
 use Rattle.card_isolation.specs.Act.{Act}
 use Rattle.card_isolation.specs.OwnEvents.{OwnEvent, own_event}
-use Rattle.card_isolation.proofs.Basics.{mapped, seen-set, with_at}
+use Rattle.card_core.proofs.LookUps.{mapped}
+use Rattle.card_isolation.proofs.Basics.{seen-set, with_at}
 use Rattle.card_isolation.proofs.Alone.{Place, idle, came, looked, Alone, Does, Next, outcome_alone, event_with, one-next, is_idle}
-use Rattle.card_isolation.proofs.Connections.{tested-connection, connection-passes}
+use Rattle.card_core.proofs.StoreSteps.{tested-connection}
+use Rattle.card_isolation.proofs.Connections.{connection-passes}
 use Rattle.card_isolation.proofs.Views.{is_current, place_of, has_own_in, alone_in, notes_in, Goes, Tells}
 
 -- What a connection holds of the card: its line, and its program.

@@ -12,7 +12,7 @@ use Rattle.card_core.specs.World.{World, PortState, outside, entered, picked}
 use Rattle.card_core.specs.Refusals.{refusal, enter_refusal, load_fault, retire_fault, setup_fault, reload_fault, missing_fault}
 use Rattle.card_core.specs.Steps.{Succeeds, FindsNoMemory, IsRefused, WorldStep}
 use Rattle.card_core.specs.inner.Sound.{IsSound}
-use Rattle.card_isolation.proofs.Basics.{mapped}
+use Rattle.card_core.proofs.LookUps.{mapped}
 use Rattle.card_isolation.proofs.Views.{Tells, no-more, tells-at}
 use Rattle.card_isolation.proofs.PortSteps.{tells-enters, tells-picks}
 use Rattle.card_isolation.proofs.JudgeSteps.{tells-judges, tells-judge_refused, tells-pick_refused}

@@ -15,7 +15,8 @@ use Rattle.gen_arena.specs.Insert.{Inserts}
 use Rattle.gen_arena.specs.Remove.{Removes}
 use Rattle.gen_arena.specs.Change.{Change, inserted, removed, nothing, Makes, Leads, given_ids}
 use Rattle.gen_arena.specs.declared.id.Id.{Id}
-use Rattle.gen_arena.proofs.SlotLemmas.{is_free-parts, IsArena-set, slice_get-set_same, slice_get-set_other, slot_of_live, generation_at-there}
+use Rattle.gen_arena.proofs.ListLemmas.{slice_get-set_same, slice_get-set_other}
+use Rattle.gen_arena.proofs.SlotLemmas.{is_free-parts, IsArena-set, slot_of_live, generation_at-there}
 use Rattle.gen_arena.proofs.PastLemmas.{Inserts-within, Inserts-past, Removes-past, Removes-is_past}
 
 module _ {T : Type 0} where

@@ -1,3 +1,4 @@
+pub mod ListLemmas
 pub mod SlotLemmas
 pub mod PastLemmas
 pub mod FreeLemmas

@@ -8,7 +8,8 @@ use Rattle.gen_arena.specs.Live.{live_value, value_under}
 use Rattle.gen_arena.specs.Insert.{Inserts}
 use Rattle.gen_arena.specs.Remove.{Removes}
 use Rattle.gen_arena.specs.declared.id.Id.{Id}
-use Rattle.gen_arena.proofs.SlotLemmas.{is_free-parts, slice_get-set_same, slice_get-set_other, slot_of_live, value_under-other, value_under-empty_slot}
+use Rattle.gen_arena.proofs.ListLemmas.{slice_get-set_same, slice_get-set_other}
+use Rattle.gen_arena.proofs.SlotLemmas.{is_free-parts, slot_of_live, value_under-other, value_under-empty_slot}
 use Rattle.gen_arena.proofs.PastLemmas.{Inserts-within, Removes-within}
 
 -- Different ids with the same slot have different generations.

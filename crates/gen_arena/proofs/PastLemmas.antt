@@ -9,7 +9,8 @@ use Rattle.gen_arena.specs.Past.{IsPast, KeepsPast}
 use Rattle.gen_arena.specs.Insert.{Inserts}
 use Rattle.gen_arena.specs.Remove.{Removes}
 use Rattle.gen_arena.specs.declared.id.Id.{Id}
-use Rattle.gen_arena.proofs.SlotLemmas.{slice_get-set_same, slice_get-set_other, slot_of_live, live_of_slot, value_under-other, value_under-empty_slot, generation_at-there}
+use Rattle.gen_arena.proofs.ListLemmas.{slice_get-set_same, slice_get-set_other}
+use Rattle.gen_arena.proofs.SlotLemmas.{slot_of_live, live_of_slot, value_under-other, value_under-empty_slot, generation_at-there}
 
 module _ {T : Type 0} where
   -- A write to one slot keeps an id past, if it does so when the slot is the id's.

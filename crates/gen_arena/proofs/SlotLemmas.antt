@@ -1,5 +1,5 @@
--- Lemmas on one slot, on a list of slots after a write, and on live ids.
-use Rattle.std.proofs.Common.{◌≡◌, ◌≢◌, ℕ, zero, suc, ◌<◌, ◌≤◌, ◌&&◌, Bool, true, false, cond, List, [], ◌∷◌, length, set, Option, Some, None, IsSome, is_none, nat_lt, refl, sym, ap, ◌∙◌, subst, inl, inr, arith}
+-- Lemmas on one slot, and on live ids.
+use Rattle.std.proofs.Common.{◌≡◌, ◌≢◌, ℕ, ◌<◌, ◌≤◌, ◌&&◌, Bool, true, false, cond, List, length, set, Option, Some, None, IsSome, is_none, nat_lt, refl, sym, ap, ◌∙◌, subst, inl, inr, arith}
 use Rattle.std.specs.Prelude.{slice_get, ◌==◌}
 use Rattle.std.proofs.lemmas.Bool.{cases_eq}
 use Rattle.std.proofs.lemmas.Bool.Decides.{Decides-eqb, nat_tests}
@@ -8,19 +8,7 @@ use Rattle.gen_arena.specs.Slot.{Slot, IsArena, greatest_generation, full_slot, 
 use Rattle.gen_arena.specs.Live.{live_value, value_under, IsLive}
 use Rattle.gen_arena.specs.Free.{is_free}
 use Rattle.gen_arena.specs.declared.id.Id.{Id}
-
-module _ {X : Type 0} where
-  pub slice_get-set_same : (xs : List X) (k : ℕ) (x : X) → k < length xs → slice_get (set xs k x) k ≡ Some x
-  slice_get-set_same [] k x within = absurd (omega arith)
-  slice_get-set_same (y ∷ xs) zero x within = refl
-  slice_get-set_same (y ∷ xs) (suc k) x within = slice_get-set_same xs k x (omega arith)
-
-  pub slice_get-set_other : (xs : List X) (k j : ℕ) (x : X) → j ≢ k → slice_get (set xs k x) j ≡ slice_get xs j
-  slice_get-set_other [] k j x apart = refl
-  slice_get-set_other (y ∷ xs) zero zero x apart = absurd (apart refl)
-  slice_get-set_other (y ∷ xs) zero (suc j) x apart = refl
-  slice_get-set_other (y ∷ xs) (suc k) zero x apart = refl
-  slice_get-set_other (y ∷ xs) (suc k) (suc j) x apart = slice_get-set_other xs k j x (λ e. apart (ap suc e))
+use Rattle.gen_arena.proofs.ListLemmas.{slice_get-set_same, slice_get-set_other}
 
 pub is_free-empty_slot : (T : Type 0) (generation : ℕ) → generation < greatest_generation → is_free {T = T} (empty_slot generation) ≡ true
 is_free-empty_slot T generation below = grind (arith, nat_tests)

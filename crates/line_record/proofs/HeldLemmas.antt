@@ -12,7 +12,8 @@ use Rattle.line_record.specs.inner.SeatingChanges.{ChangesAt}
 use Rattle.line_record.specs.Directory.{DirectoryView, seating_at, IsOpenLine, IsTakenLine}
 use Rattle.line_record.specs.inner.DirectoryFields.{directory_of}
 use Rattle.line_record.specs.inner.HeldLines.{KnowsLines}
-use Rattle.line_record.proofs.NumberLemmas.{slice_get-replicate, slice_get-set_same, slice_get-set_other}
+use Rattle.gen_arena.proofs.Public.{slice_get-set_same, slice_get-set_other}
+use Rattle.line_record.proofs.NumberLemmas.{slice_get-replicate}
 use Rattle.upc_cell.proofs.Public.{vc_cases}
 use Rattle.line_record.proofs.SeatingLemmas.{Suits, IsDirectory-changed, IsDirectory-moved}
 

@@ -3,6 +3,7 @@ use Rattle.std.proofs.Common.{◌≡◌, ◌≢◌, ℕ, zero, suc, ◌-◌, ◌
 use Rattle.std.specs.Prelude.{slice_get}
 use Rattle.std.proofs.lemmas.Bool.Decides.{nat_tests}
 use Rattle.std.proofs.lemmas.List.{length-replicate, get_or-replicate}
+use Rattle.gen_arena.proofs.Public.{slice_get-set_same, slice_get-set_other}
 use Rattle.std.proofs.lemmas.Option.{slice_get-get_or, slice_get_within, slice_get_past, get_or_from_slice_get}
 use Rattle.line_record.specs.History.{numbered, IsNoNumber}
 
@@ -11,18 +12,6 @@ module _ {X : Type 0} where
   slice_get-replicate n k x within =
       slice_get-get_or (replicate n x) k x (omega (arith, length-replicate n x))
       ∙ ap Some (get_or-replicate n k x x within)
-
-  pub slice_get-set_same : (xs : List X) (k : ℕ) (x : X) → k < length xs → slice_get (set xs k x) k ≡ Some x
-  slice_get-set_same [] k x within = absurd (omega arith)
-  slice_get-set_same (y ∷ xs) zero x within = refl
-  slice_get-set_same (y ∷ xs) (suc k) x within = slice_get-set_same xs k x (omega arith)
-
-  pub slice_get-set_other : (xs : List X) (k j : ℕ) (x : X) → j ≢ k → slice_get (set xs k x) j ≡ slice_get xs j
-  slice_get-set_other [] k j x apart = refl
-  slice_get-set_other (y ∷ xs) zero zero x apart = absurd (apart refl)
-  slice_get-set_other (y ∷ xs) zero (suc j) x apart = refl
-  slice_get-set_other (y ∷ xs) (suc k) zero x apart = refl
-  slice_get-set_other (y ∷ xs) (suc k) (suc j) x apart = slice_get-set_other xs k j x (λ e. apart (ap suc e))
 
   -- Numbers begin at 1.
   pub numbered-zero : (xs : List X) (n : ℕ) → n ≡ 0 → numbered xs n ≡ None

@@ -17,7 +17,8 @@ use Rattle.line_record.specs.inner.SeatingChanges.{ChangesAt}
 use Rattle.line_record.specs.Directory.{DirectoryView, seating_at, IsOpenLine, IsTakenLine, IsNamed, IsDirectory}
 use Rattle.line_record.specs.inner.DirectoryFields.{directory_of, KeepsDirectory}
 use Rattle.line_record.specs.inner.ProgramUses.{place_of, uses_of, with_uses, is_counted_at, CountsPrograms, CountsUses}
-use Rattle.line_record.proofs.NumberLemmas.{slice_get-replicate, slice_get-set_same, slice_get-set_other}
+use Rattle.gen_arena.proofs.Public.{slice_get-set_same, slice_get-set_other}
+use Rattle.line_record.proofs.NumberLemmas.{slice_get-replicate}
 use Rattle.line_record.proofs.HeldLemmas.{stays_taken, KnowsLines-new}
 
 -- A count, after one element of the list was replaced.

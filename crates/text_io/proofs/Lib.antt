@@ -6,4 +6,5 @@ pub mod PrintingLemmas
 pub mod DriverLemmas
 pub mod WordsLemmas
 pub mod AlikeLemmas
+pub mod SilentLines
 pub mod Public

@@ -9,6 +9,8 @@ use Rattle.text_io.specs.Words.{is_blank, words_of}
 use Rattle.text_io.proofs.PrintingLemmas as texts
 use Rattle.text_io.proofs.WordsLemmas as words
 use Rattle.text_io.specs.declared.ending.Done.{Done}
+-- Lines without words.
+pub use Rattle.text_io.proofs.SilentLines.{silent-or, silent-sound}
 
 -- Octets without a blank are one word.
 pub one-word : (line : List ℕ) → 0 < length line → ((k : ℕ) → k < length line → is_blank (get_or line k 0) ≡ false) → words_of line ≡ line ∷ []

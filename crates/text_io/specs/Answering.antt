@@ -1,6 +1,6 @@
 -- The answer of a machine to a line or to the end of the input. A machine doesn't have to store its world (the state
 -- that its rules are about). Instead it shows worlds, by a relation that only laws and contracts use.
-use Rattle.std.specs.Prelude.{◌≡◌, ℕ, List, ◌++◌, Some, None}
+use Rattle.std.specs.Prelude.{◌≡◌, ℕ, List, ◌++◌, Option, Some, None}
 use Rattle.text_io.specs.Printing.{Rules}
 use Rattle.text_io.specs.declared.ending.Done.{Done}
 use Rattle.text_io.specs.declared.machine.Turn.{Turn}
@@ -24,3 +24,7 @@ Answers rules shown line turn shown' old new =
 abbrev pub AnswersEnd : {World : Type 0} → Rules World → (World → Type 0) → Done → List ℕ → List ℕ → Type 0
 AnswersEnd rules shown done old new =
     (here : List ℕ) × (new ≡ old ++ here) × OfEach rules shown (λ before. rules.closes before here done)
+
+-- The answer is the line of an error, and the run ends.
+abbrev pub EndsBy : {World : Type 0} → List ℕ → List ℕ → Option World → Type 0
+EndsBy fault text next = (text ≡ fault) × (next ≡ None)

@@ -1,6 +1,7 @@
 -- What the reading of a script prints.
 use Rattle.std.proofs.Common.{◌≡◌, ℕ, ◌+◌, Bool, true, false, List, [], ◌∷◌, ◌++◌, Option, Some, None, refl, ap, sym, subst, ◌∙◌}
 use Rattle.std.specs.Prelude.{MatchOption, MatchBool}
+use Rattle.text_io.specs.Answering.{EndsBy}
 use Rattle.text_io.specs.Lines.{Line, said, lines_of}
 use Rattle.text_io.specs.Limits.{is_over}
 use Rattle.text_io.specs.Printing.{Prints}
@@ -11,7 +12,7 @@ use Rattle.card_core.specs.declared.fault.CardFault.{CardFault}
 use Rattle.card_core.specs.declared.shape.Shape.{Shape}
 use Rattle.upc_run.specs.CardLine.{card_of}
 use Rattle.upc_run.specs.CardFaults.{no_card, shape_fault_line}
-use Rattle.upc_ports.specs.PortsText.{Reading, unread, EndsBy, OpensOrEnds, ReadsWords, ReadSteps, ReadCloses, reading_rules, IsReadingText}
+use Rattle.upc_ports.specs.PortsText.{Reading, unread, OpensOrEnds, ReadsWords, ReadSteps, ReadCloses, reading_rules, IsReadingText}
 
 -- A line after which the reading goes on prints nothing.
 shaped-silent : (reading : Reading) (shape : Shape) (fault : Option CardFault) (text : List ℕ) (next : Option Reading) (world : Reading) → next ≡ Some world

@@ -1,10 +1,11 @@
 -- The text of `upc ports`. The whole script is read before anything of it is run: its first line with words opens a
 -- card, and each later one is kept. Where the script can't be run, one line with the fault is the whole text.
-use Rattle.std.specs.Prelude.{◌≡◌, ◌⊎◌, ℕ, Bool, true, false, List, [], ◌∷◌, ◌++◌, Option, Some, None, MatchOption, MatchBool}
+use Rattle.std.specs.Prelude.{◌≡◌, ◌⊎◌, ℕ, Bool, true, false, List, [], ◌∷◌, ◌++◌, Option, Some, MatchOption, MatchBool}
 use Rattle.line_record.specs.Line.{LineView}
 use Rattle.card_core.specs.Shapes.{shape_fault}
 use Rattle.card_core.specs.declared.shape.Shape.{Shape}
 use Rattle.upc_cell.specs.declared.side.Side.TheVariants.{Uni}
+use Rattle.text_io.specs.Answering.{EndsBy}
 use Rattle.text_io.specs.Lines.{lines_of}
 use Rattle.text_io.specs.Printing.{Rules, Prints}
 use Rattle.text_io.specs.Words.{words_of, is_silent}
@@ -24,10 +25,6 @@ pub record Reading : Type 0 where
 -- Nothing was read yet.
 abbrev pub unread : Reading
 unread = record { opened = false; shape = record { programs = 1; lines = 1; ports = 1; journal = 1; side = Uni }; kept = [] }
-
--- A fault of the line that opens the card ends the reading.
-abbrev pub EndsBy : List ℕ → List ℕ → Option Reading → Type 0
-EndsBy fault text next = (text ≡ fault) × (next ≡ None)
 
 -- The line opens a card of this shape, or the shape is out of its limits.
 abbrev pub OpensOrEnds : Reading → Shape → List ℕ → Option Reading → Type 0

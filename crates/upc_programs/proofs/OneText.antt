@@ -4,10 +4,11 @@ use Rattle.std.specs.Bool.{MatchBool}
 use Rattle.std.specs.Option.{MatchOption}
 use Rattle.bpf_code.specs.declared.instr.Instr.{Instr}
 use Rattle.bpf_interp.proofs.Public.{Value-unique}
+use Rattle.text_io.specs.Answering.{EndsBy}
 use Rattle.text_io.specs.Lines.{lines_of}
 use Rattle.text_io.specs.Printing.{IsFunctional}
 use Rattle.text_io.proofs.Public.{one-text, some-text}
-use Rattle.upc_programs.specs.Eval.{World, EndsBy, TellsReading, ReadsProgram, ProgramLine, TellsValue, RunsOn, CellLine, Asks, EvalSteps, EvalCloses, IsEvalText, eval_rules}
+use Rattle.upc_programs.specs.Eval.{World, TellsReading, ReadsProgram, ProgramLine, TellsValue, RunsOn, CellLine, Asks, EvalSteps, EvalCloses, IsEvalText, eval_rules}
 use Rattle.upc_words.specs.Program.{Reading, is_program, is_refused, ChecksAs, ReadsAs}
 use Rattle.upc_words.proofs.Public.{reads-once}
 use Rattle.upc_programs.specs.inner.EvalLaws.{eval-total}

@@ -4,6 +4,7 @@ use Rattle.std.specs.Prelude.{◌≡◌, ℕ, ◌==◌, List, [], ◌∷◌, ◌
 use Rattle.bpf_code.specs.declared.instr.Instr.{Instr}
 use Rattle.bpf_verify.specs.Accepted.{IsAccepted}
 use Rattle.bpf_interp.specs.Value.{Value}
+use Rattle.text_io.specs.Answering.{EndsBy}
 use Rattle.text_io.specs.Words.{words_of, is_silent}
 use Rattle.upc_words.specs.Hexadecimal.{octets_of, cell_of}
 use Rattle.upc_words.specs.FaultLines.{line, bad_line, bad_hex, no_program, too_long, wrong_length}
@@ -16,10 +17,6 @@ use Rattle.text_io.specs.declared.ending.Done.TheVariants.{Whole, Ended}
 -- None before the program line, then the code of the program.
 abbrev pub World : Type 0
 World = Option (List Instr)
-
--- An error in the program line: this text, and the run ends.
-abbrev pub EndsBy : List ℕ → List ℕ → Option World → Type 0
-EndsBy fault text next = (text ≡ fault) × (next ≡ None)
 
 -- The answer to a program is the number of its instructions, and the program is the next world. A refusal ends the
 -- run with its line.

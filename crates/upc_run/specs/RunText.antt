@@ -15,6 +15,7 @@ use Rattle.card_core.specs.declared.reply.Reply.TheVariants.{Entered, Picked, An
 use Rattle.card_core.specs.declared.shape.Shape.{Shape}
 use Rattle.card_core.specs.declared.step.Step.{Step}
 use Rattle.card_core.specs.declared.step.Step.TheVariants.{Enter, Pick, Judge, Load, Retire, Setup, Reload, Release, Cut}
+use Rattle.text_io.specs.Answering.{EndsBy}
 use Rattle.text_io.specs.Lines.{lines_of}
 use Rattle.text_io.specs.Printing.{Rules, Prints}
 use Rattle.text_io.specs.Words.{words_of, is_silent}
@@ -140,10 +141,6 @@ abbrev pub CommandLine : Card → List (List ℕ) → List ℕ → Card → Type
 CommandLine before words text after =
     MatchOption (command_of before.world.shape.side words) (Refuses bad_line before text after)
     (λ command. Obeys before command text after)
-
--- Without a card the run ends.
-abbrev pub EndsBy : List ℕ → List ℕ → Option RunWorld → Type 0
-EndsBy fault text next = (text ≡ fault) × (next ≡ None)
 
 -- A card of this shape is opened, or the shape is out of its limits.
 abbrev pub Opens : Shape → List ℕ → Option RunWorld → Type 0

@@ -1,15 +1,13 @@
 //! Machines over devices that move one octet a call and fail at a given call.
 
-mod devices;
 mod parity;
 
-use devices::{Catcher, Dropper};
 use parity::Parity;
 use std::alloc::Global;
 use std::test::Fail;
 use text_io::{
-    Done, Giving, Input, LineWords, RunFault, Taking, answer_lines, first_word, gather, give_all,
-    line_words,
+    Done, FaultyInput, FaultyOutput, Giving, Input, LineWords, RunFault, Taking, answer_lines,
+    first_word, gather, give_all, line_words,
 };
 
 /// Runs the machine over devices that fail after a number of successful calls. Returns how it ends, the output, and
@@ -20,8 +18,8 @@ fn run(
     takes: usize,
     gives: usize,
 ) -> (Result<Done, RunFault>, Vec<u8>, usize) {
-    let mut input = Dropper::new(octets, takes);
-    let mut output = Catcher::new(alloc, gives);
+    let mut input = FaultyInput::new(octets, takes);
+    let mut output = FaultyOutput::new(alloc, gives);
     let mut machine = Parity { even: true };
     let ended = answer_lines(alloc, &mut input, &mut output, &mut machine);
     (ended, output.held, input.octets.len())
@@ -88,7 +86,7 @@ fn an_input_over_its_limit_is_taken_up_to_one_octet_more(rt: HostRuntime) {
         (b"".as_slice(), 1, Ok(Some(0))),
         (b"".as_slice(), 0, Err(RunFault::ReadFailed)),
     ] {
-        let mut input = Dropper::new(octets, takes);
+        let mut input = FaultyInput::new(octets, takes);
         let gathered = gather(rt.alloc(), &mut input, 4);
         let sizes = gathered.map(|found| found.map(|octets| octets.len()));
         assert_eq!(rt; sizes, found);
@@ -140,7 +138,7 @@ fn words_are_parted_by_spaces_and_tabs_alone(rt: HostRuntime) {
 
 #[test]
 fn a_device_counts_its_failures(rt: HostRuntime) -> Result<(), Fail> {
-    let mut input = Dropper::new(b"a", 0);
+    let mut input = FaultyInput::new(b"a", 0);
     let mut room = [0; 4];
     assert!(rt; input.take(&mut room).is_err());
     assert!(rt; input.take(&mut room).is_err());

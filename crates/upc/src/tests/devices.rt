@@ -1,6 +1,4 @@
-//! Devices that move one octet a call and fail at a given call.
-
-ghost use Rattle.std.specs.Prelude.{◌≡◌, drop};
+//! Subcommands over devices that move one octet a call and fail at a given call.
 
 use crate::Choice;
 use crate::subcommand::run_subcommand;
@@ -9,7 +7,7 @@ use std::process::Abort;
 use std::sync::Wait;
 use std::test::Fail;
 use std::thread::Threads;
-use text_io::{Done, Failed, Input, Output, RunFault};
+use text_io::{Done, FaultyInput, FaultyOutput, RunFault};
 
 /// A subcommand, its input, and its output.
 #[derive(Clone, Copy)]
@@ -68,83 +66,6 @@ pub fn talks() -> [Talk; 4] {
     [PROGRAM, SOURCE, SCRIPT, PORTS]
 }
 
-/// Gives one octet a call, and fails after `calls` successful calls.
-#[derive(Drop)]
-pub struct Dropper<'a> {
-    octets: &'a [u8],
-    calls: usize,
-    failures: u64,
-}
-
-impl<'a> Dropper<'a> {
-    pub fn new(octets: &'a [u8], calls: usize) -> Dropper<'a> {
-        Dropper {
-            octets,
-            calls,
-            failures: 0,
-        }
-    }
-}
-
-impl Input for Dropper<'_> {
-    ghost is_known = { Unit {0} };
-
-    ghost rest = { λ dropper. dropper.octets.now };
-
-    ghost failures = { λ dropper. dropper.failures };
-
-    fn take(&mut self, room: &mut [u8]) -> Result<usize, Failed> {
-        if self.calls == 0 {
-            self.failures = self.failures.wrapping_add(1);
-            return Err(Failed);
-        }
-        self.calls -= 1;
-        let count = self.octets.len().min(room.len()).min(1);
-        let (front, behind) = self.octets.split_at(count);
-        room[..count].copy_from_slice(front);
-        self.octets = behind;
-        Ok(count)
-    }
-}
-
-/// Takes one octet a call, and fails after `calls` successful calls.
-#[derive(Drop)]
-pub struct Catcher {
-    pub held: Vec<u8>,
-    calls: usize,
-    failures: u64,
-}
-
-impl Catcher {
-    pub fn new(alloc: Global, calls: usize) -> Catcher {
-        Catcher {
-            held: Vec::new(alloc),
-            calls,
-            failures: 0,
-        }
-    }
-}
-
-impl Output for Catcher {
-    ghost is_known = { Unit {0} };
-
-    ghost held = { λ catcher. catcher.held.items };
-
-    ghost failures = { λ catcher. catcher.failures };
-
-    fn give(&mut self, octets: &[u8]) -> Result<usize, Failed> {
-        let [first, ..] = octets else {
-            return Ok(0);
-        };
-        if self.calls == 0 || self.held.push(*first).is_err() {
-            self.failures = self.failures.wrapping_add(1);
-            return Err(Failed);
-        }
-        self.calls -= 1;
-        Ok(1)
-    }
-}
-
 /// Runs a subcommand over such devices. Returns the result and the output.
 pub fn run_over<R: Threads + Wait + Sync>(
     rt: &R,
@@ -154,8 +75,8 @@ pub fn run_over<R: Threads + Wait + Sync>(
     takes: usize,
     gives: usize,
 ) -> (Result<Done, RunFault>, Vec<u8>) {
-    let mut input = Dropper::new(octets, takes);
-    let mut output = Catcher::new(alloc, gives);
+    let mut input = FaultyInput::new(octets, takes);
+    let mut output = FaultyOutput::new(alloc, gives);
     let ended = run_subcommand(rt, alloc, choice, &mut input, &mut output);
     (ended, output.held)
 }

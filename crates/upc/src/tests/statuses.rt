@@ -1,6 +1,5 @@
 //! The exit status, the output and the messages.
 
-use super::devices::{Catcher, Dropper};
 use crate::invocation::carry_out;
 use crate::{choose, status};
 use std::alloc::{AllocError, Global};
@@ -8,7 +7,7 @@ use std::process::Abort;
 use std::sync::Wait;
 use std::test::Fail;
 use std::thread::Threads;
-use text_io::{Done, RunFault};
+use text_io::{Done, FaultyInput, FaultyOutput, RunFault};
 
 /// The exit status, the output and the messages of a run.
 #[derive(Drop)]
@@ -31,9 +30,9 @@ fn run_words<R: Threads + Wait + Sync>(
     for word in line.split_whitespace() {
         words.push(String::from_str(alloc, word)?)?;
     }
-    let mut input = Dropper::new(octets, takes);
-    let mut output = Catcher::new(alloc, gives);
-    let mut errors = Catcher::new(alloc, 10000);
+    let mut input = FaultyInput::new(octets, takes);
+    let mut output = FaultyOutput::new(alloc, gives);
+    let mut errors = FaultyOutput::new(alloc, 10000);
     let chosen = choose(alloc, words);
     let status = carry_out(rt, alloc, chosen, &mut input, &mut output, &mut errors);
     Ok(Left {

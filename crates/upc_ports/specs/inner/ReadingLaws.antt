@@ -1,18 +1,19 @@
 -- The laws of the reading of `ports`: every line and the end of the input have an answer in every world.
 -- They are beside the definitions because the machine cites them as its laws.
 use Rattle.std.proofs.Common.{◌≡◌, ℕ, Bool, true, false, List, [], ◌∷◌, ◌++◌, Option, Some, None, refl}
-use Rattle.std.specs.Bool.{MatchBool}
 use Rattle.std.specs.Option.{MatchOption}
 use Rattle.card_core.specs.Shapes.{shape_fault}
 use Rattle.card_core.specs.declared.fault.CardFault.{CardFault}
 use Rattle.card_core.specs.declared.shape.Shape.{Shape}
+use Rattle.text_io.proofs.Public.{silent-or}
+use Rattle.text_io.specs.Answering.{EndsBy}
 use Rattle.text_io.specs.Printing.{IsTotal}
 use Rattle.text_io.specs.Words.{words_of, is_silent}
 use Rattle.text_io.specs.declared.ending.Done.{Done}
 use Rattle.text_io.specs.declared.ending.Done.TheVariants.{Whole, Ended}
 use Rattle.upc_run.specs.CardLine.{card_of}
 use Rattle.upc_run.specs.CardFaults.{no_card, shape_fault_line}
-use Rattle.upc_ports.specs.PortsText.{Reading, EndsBy, OpensOrEnds, ReadsWords, ReadCloses, reading_rules}
+use Rattle.upc_ports.specs.PortsText.{Reading, OpensOrEnds, ReadsWords, ReadCloses, reading_rules}
 
 shaped : (reading : Reading) (shape : Shape) (fault : Option CardFault) → (text : List ℕ) × (next : Option Reading)
     × MatchOption fault ((text ≡ []) × (next ≡ Some (record reading { opened = true; shape = shape }))) (λ f. EndsBy (shape_fault_line f) text next)
@@ -28,11 +29,6 @@ reads-words : (opened : Bool) (reading : Reading) (said : List ℕ) → (text : 
 reads-words false reading said = opened_by reading (card_of (words_of said))
 reads-words true reading said = ([], Some (record reading { kept = reading.kept ++ said ++ 10 ∷ [] }), (refl, refl))
 
-silent-or : (reading : Reading) (said : List ℕ) (b : Bool)
-    → (text : List ℕ) × (next : Option Reading) × MatchBool b ((text ≡ []) × (next ≡ Some reading)) (ReadsWords reading.opened reading said text next)
-silent-or reading said true = ([], Some reading, (refl, refl))
-silent-or reading said false = reads-words reading.opened reading said
-
 closes : (opened : Bool) → (text : List ℕ) × (done : Done) × ReadCloses opened text done
 closes false = (no_card, Ended, (refl, refl))
 closes true = ([], Whole, (refl, refl))
@@ -40,6 +36,7 @@ closes true = ([], Whole, (refl, refl))
 pub reading-total : IsTotal reading_rules
 reading-total = record {
   keeps = λ before line here after sound step. tt;
-  step = λ before line sound. silent-or before line (is_silent (words_of line));
+  step = λ before line sound.
+      silent-or (ReadsWords before.opened before line) before (is_silent (words_of line)) (reads-words before.opened before line);
   close = λ before sound. closes before.opened;
 }

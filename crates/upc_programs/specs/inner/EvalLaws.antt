@@ -6,11 +6,13 @@ use Rattle.std.specs.Option.{MatchOption}
 use Rattle.bpf_code.specs.declared.instr.Instr.{Instr}
 use Rattle.bpf_verify.specs.Accepted.{IsAccepted}
 use Rattle.bpf_interp.proofs.Public.{Value-some}
-use Rattle.upc_programs.specs.Eval.{World, EndsBy, TellsReading, ReadsProgram, ProgramLine, TellsValue, RunsOn, CellLine, Asks, EvalSteps, EvalCloses, IsSoundWorld, eval_rules}
-use Rattle.upc_words.specs.Program.{Reading, is_program, is_refused, ChecksAs, ReadsAs}
+use Rattle.upc_programs.specs.Eval.{World, TellsReading, ReadsProgram, ProgramLine, TellsValue, RunsOn, CellLine, Asks, EvalSteps, EvalCloses, IsSoundWorld, eval_rules}
+use Rattle.upc_words.specs.Program.{Reading, is_program, is_refused, ChecksAs}
 use Rattle.upc_words.proofs.Public.{reads-as}
-use Rattle.upc_words.specs.FaultLines.{line, bad_line, bad_hex, no_program, wrong_length, decode_fault, verify_fault}
+use Rattle.upc_words.specs.FaultLines.{line, bad_line, bad_hex, no_program, wrong_length}
 use Rattle.upc_words.specs.Hexadecimal.{octets_of, cell_of}
+use Rattle.text_io.proofs.Public.{silent-or, silent-sound}
+use Rattle.text_io.specs.Answering.{EndsBy}
 use Rattle.text_io.specs.Printing.{IsTotal}
 use Rattle.text_io.specs.Words.{words_of, is_silent}
 use Rattle.text_io.specs.declared.ending.Done.{Done}
@@ -57,13 +59,8 @@ asks : (world : World) → IsSoundWorld world → (words : List (List ℕ)) → 
 asks None sound words = program-line words
 asks (Some code) sound words = let told = cell-line code sound words in (told.0, Some (Some code), (told.1, refl))
 
-silent-or : (world : World) → IsSoundWorld world → (words : List (List ℕ)) (b : Bool)
-    → (text : List ℕ) × (next : Option World) × MatchBool b ((text ≡ []) × (next ≡ Some world)) (Asks world words text next)
-silent-or world sound words true = ([], Some world, (refl, refl))
-silent-or world sound words false = asks world sound words
-
 eval-can_step : (world : World) (said : List ℕ) → IsSoundWorld world → (text : List ℕ) × (next : Option World) × EvalSteps world said text next
-eval-can_step world said sound = silent-or world sound (words_of said) (is_silent (words_of said))
+eval-can_step world said sound = silent-or (Asks world (words_of said)) world (is_silent (words_of said)) (asks world sound (words_of said))
 
 eval-can_close : (world : World) → IsSoundWorld world → (text : List ℕ) × (done : Done) × EvalCloses world text done
 eval-can_close None sound = (no_program, Ended, (refl, refl))
@@ -98,13 +95,10 @@ asks-sound : (world after : World) (words : List (List ℕ)) (text : List ℕ) �
 asks-sound None after words text sound reads = line-sound words text after reads
 asks-sound (Some code) after words text sound told = let same : Some code ≡ after = let e = told.1 in cc in subst IsSoundWorld same sound
 
-silent-sound : (world after : World) (words : List (List ℕ)) (text : List ℕ) (b : Bool) → IsSoundWorld world
-    → MatchBool b ((text ≡ []) × (Some after ≡ Some world)) (Asks world words text (Some after)) → IsSoundWorld after
-silent-sound world after words text true sound same = let back : world ≡ after = let e = same.1 in cc in subst IsSoundWorld back sound
-silent-sound world after words text false sound asked = asks-sound world after words text sound asked
-
 eval-keeps_sound : (world : World) (said text : List ℕ) (after : World) → IsSoundWorld world → EvalSteps world said text (Some after) → IsSoundWorld after
-eval-keeps_sound world said text after sound steps = silent-sound world after (words_of said) text (is_silent (words_of said)) sound steps
+eval-keeps_sound world said text after sound steps =
+    silent-sound IsSoundWorld (Asks world (words_of said) text (Some after)) world after text (is_silent (words_of said)) sound
+    (asks-sound world after (words_of said) text sound) steps
 
 -- The rules of `eval` are total.
 pub eval-total : IsTotal eval_rules

@@ -7,6 +7,7 @@ use Rattle.card_core.specs.Shapes.{shape_fault}
 use Rattle.card_core.specs.declared.fault.CardFault.{CardFault}
 use Rattle.card_core.specs.declared.shape.Shape.{Shape}
 use Rattle.text_io.proofs.Public.{one-text_alike, some-text}
+use Rattle.text_io.specs.Answering.{EndsBy}
 use Rattle.text_io.specs.Limits.{most_input_lines}
 use Rattle.text_io.specs.Lines.{lines_of}
 use Rattle.text_io.specs.Words.{is_silent, words_of}
@@ -14,7 +15,7 @@ use Rattle.text_io.specs.declared.ending.Done.{Done}
 use Rattle.text_io.specs.inner.Alike.{KeepsAlike, LeadAlike}
 use Rattle.upc_run.specs.CardLine.{card_of}
 use Rattle.upc_run.specs.CardFaults.{no_card, shape_fault_line}
-use Rattle.upc_run.specs.RunText.{Card, CommandLine, EndsBy, IsLed, IsRunText, Opens, RunCloses, RunSteps, RunWorld, Tells, new_card, run_rules}
+use Rattle.upc_run.specs.RunText.{Card, CommandLine, IsLed, IsRunText, Opens, RunCloses, RunSteps, RunWorld, Tells, new_card, run_rules}
 use Rattle.upc_run.specs.inner.RunLaws.{run-total}
 use Rattle.upc_run.proofs.one_script.OneAnswer.{line-once}
 use Rattle.upc_run.proofs.one_script.Seen.{Seen, seen}

@@ -30,6 +30,8 @@ use Rattle.card_core.specs.declared.reply.Reply.TheVariants.{Answered, Entered, 
 use Rattle.card_core.specs.declared.shape.Shape.{Shape}
 use Rattle.card_core.specs.declared.step.Step.{Step}
 use Rattle.card_core.specs.declared.step.Step.TheVariants.{Enter, Pick, Judge, Load, Retire, Setup, Reload, Release, Cut}
+use Rattle.text_io.proofs.Public.{silent-or, silent-sound}
+use Rattle.text_io.specs.Answering.{EndsBy}
 use Rattle.text_io.specs.Printing.{IsTotal}
 use Rattle.text_io.specs.Words.{is_silent, words_of}
 use Rattle.text_io.specs.declared.ending.Done.{Done}
@@ -43,7 +45,7 @@ use Rattle.upc_words.specs.Hexadecimal.{octets_of, cell_of}
 use Rattle.upc_words.specs.Program.{Reading, is_program, is_refused, ReadsAs}
 use Rattle.upc_run.specs.Rates.{AreContracts, IsContract, IsRate, first_of_two, first_wanted_fault, rate_fault, wanted_fault}
 use Rattle.upc_run.specs.Replies.{program_named, reply_text}
-use Rattle.upc_run.specs.RunText.{Asks, Card, EndsBy, IsAnswered, IsLed, IsSoundRun, LoadsOctets, Obeys, Opens, Polices, PolicesOctets, Refuses, RunCloses, RunWorld, Takes, TakesNamed, TakesReading, Tells, id_loaded, ids_loaded, new_card, run_rules}
+use Rattle.upc_run.specs.RunText.{Asks, Card, IsAnswered, IsLed, IsSoundRun, LoadsOctets, Obeys, Opens, Polices, PolicesOctets, Refuses, RunCloses, RunWorld, Takes, TakesNamed, TakesReading, Tells, id_loaded, ids_loaded, new_card, run_rules}
 use Rattle.upc_run.specs.declared.script_words.Rate.{Rate}
 use Rattle.upc_run.specs.declared.script_words.Wanted.{Wanted}
 use Rattle.upc_run.specs.declared.script_words.Wanted.TheVariants as wanted
@@ -381,16 +383,6 @@ tells-sound (Some before) after words text led told =
     let same : after ≡ Some told.0 = let e = told.2 in cc in
     subst IsSoundRun (sym same) (line-led before told.0 text led (command_of before.world.shape.side words) told.1)
 
-silent-or : (world : RunWorld) → IsSoundRun world → (words : List (List ℕ)) (b : Bool)
-    → (text : List ℕ) × (next : Option RunWorld) × MatchBool b ((text ≡ []) × (next ≡ Some world)) (Tells world words text next)
-silent-or world sound words true = ([], Some world, (refl, refl))
-silent-or world sound words false = tells-some world sound words
-
-silent-sound : (world after : RunWorld) (words : List (List ℕ)) (text : List ℕ) (b : Bool) → IsSoundRun world
-    → MatchBool b ((text ≡ []) × (Some after ≡ Some world)) (Tells world words text (Some after)) → IsSoundRun after
-silent-sound world after words text true sound same = let back : world ≡ after = let e = same.1 in cc in subst IsSoundRun back sound
-silent-sound world after words text false sound told = tells-sound world after words text sound told
-
 close-some : (world : RunWorld) → IsSoundRun world → (text : List ℕ) × (done : Done) × RunCloses world text done
 close-some None sound = (no_card, Ended, (refl, refl))
 close-some (Some card) sound = ([], Whole, (refl, refl))
@@ -398,7 +390,9 @@ close-some (Some card) sound = ([], Whole, (refl, refl))
 -- The rules of `run` are total.
 pub run-total : IsTotal run_rules
 run-total = record {
-  keeps = λ world said text after sound steps. silent-sound world after (words_of said) text (is_silent (words_of said)) sound steps;
-  step = λ world said sound. silent-or world sound (words_of said) (is_silent (words_of said));
+  keeps = λ world said text after sound steps.
+      silent-sound IsSoundRun (Tells world (words_of said) text (Some after)) world after text (is_silent (words_of said)) sound
+      (tells-sound world after (words_of said) text sound) steps;
+  step = λ world said sound. silent-or (Tells world (words_of said)) world (is_silent (words_of said)) (tells-some world sound (words_of said));
   close = close-some;
 }
