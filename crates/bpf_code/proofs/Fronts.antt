@@ -57,7 +57,7 @@ IsFirstUnknown-place octets p q c d u v =
     let not_above : q < p → ⊥ = λ h. let e = u.before q h in v.unknown e.0 e.1 in
     omega arith
 
--- And so is the number there.
+-- The number there is unique too.
 pub IsFirstUnknown-code : (octets : List ℕ) (p q c d : ℕ) → IsFirstUnknown octets p c → IsFirstUnknown octets q d → c ≡ d
 IsFirstUnknown-code octets p q c d u v =
     let e = IsFirstUnknown-place octets p q c d u v in

@@ -1,4 +1,4 @@
--- Lemmas for proofs of other crates: the public laws, and what goes with them.
+-- Lemmas for proofs of other crates: the public laws, and facts about octets that spell a code.
 use Rattle.std.proofs.Common.{◌≡◌, ◌≢◌, ℕ, ◌+◌, ◌*◌, ◌≤◌, ◌⊎◌, List, length}
 use Rattle.bpf_code.proofs.OneFault as faults
 use Rattle.bpf_code.proofs.Spelled as spelled

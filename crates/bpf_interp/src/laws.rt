@@ -1,4 +1,4 @@
-//! Laws of the definitions: functions that do nothing, each for the sake of its contract.
+//! Laws of the definitions. Each function does nothing; its contract is the law.
 
 ghost use Rattle.std.specs.Prelude.{◌≡◌, ◌≤◌, ◌↔◌, ℕ, List, length};
 ghost use Rattle.bpf_code.specs.declared.instr.Instr.{Instr};
@@ -7,21 +7,20 @@ ghost use Rattle.bpf_interp.specs.State.{State};
 ghost use Rattle.bpf_interp.specs.Value.{Value};
 ghost use Rattle.bpf_verify.specs.Accepted.{IsAccepted};
 
-/// The value by steps is the value by a list of states.
+/// A code has a value on a packet, after a number of steps, if and only if there is a run with that value and number.
 pub fn a_value_is_the_end_of_a_run()
     ensures { (code : List Instr) (packet : List ℕ) (value steps : ℕ) →
         (((states : List State) × IsRun code packet states value steps) ↔ Value code packet value steps) }
 {}
 
-/// A code has at most one value on a packet, in one number of steps.
+/// A code has at most one value on a packet, after one number of steps.
 pub fn a_code_has_at_most_one_value()
     ensures { (code : List Instr) (packet : List ℕ) (one other one_steps other_steps : ℕ) →
         Value code packet one one_steps → Value code packet other other_steps →
         (one ≡ other) × (one_steps ≡ other_steps) }
 {}
 
-/// An accepted code has exactly one value on every packet, within as many steps as it has
-/// instructions.
+/// An accepted code has exactly one value on every packet, after at most as many steps as it has instructions.
 pub fn an_accepted_code_has_one_value()
     ensures { (code : List Instr) (packet : List ℕ) → IsAccepted code →
         (value steps : ℕ) × Value code packet value steps × (steps ≤ length code)

@@ -7,16 +7,16 @@ use bpf_code::Size;
 use byteorder::{BigEndian, ByteOrder};
 use upc_cell::CELL_OCTETS;
 
-/// The last offset at which a packet has four octets.
+/// The last offset from which a packet has four octets.
 const LAST_WORD: u64 = CELL_OCTETS as u64 - 4;
 
-/// The last offset at which a packet has two octets.
+/// The last offset from which a packet has two octets.
 const LAST_HALF: u64 = CELL_OCTETS as u64 - 2;
 
 /// The last offset at which a packet has an octet.
 const LAST_OCTET: u64 = CELL_OCTETS as u64 - 1;
 
-/// The big-endian number in the octets of the packet from an offset, where all of them lie in it.
+/// Returns the big-endian number in the octets of the packet from an offset, if the packet has all of them.
 #[inline(always)]
 pub(crate) fn load(packet: &[u8; CELL_OCTETS], offset: u64, size: Size) -> Option<u32>
     ensures { result ≡ number_at packet.now offset (octets_of size) }
@@ -28,7 +28,7 @@ pub(crate) fn load(packet: &[u8; CELL_OCTETS], offset: u64, size: Size) -> Optio
     }
 }
 
-/// The big-endian number in the four octets from an offset, where all of them lie in the packet.
+/// Returns the big-endian number in the four octets from an offset, if the packet has all of them.
 #[inline(always)]
 fn word(packet: &[u8; CELL_OCTETS], offset: u64) -> Option<u32>
     ensures { result ≡ number_at packet.now offset 4 }
@@ -40,7 +40,7 @@ fn word(packet: &[u8; CELL_OCTETS], offset: u64) -> Option<u32>
     }
 }
 
-/// The big-endian number in the two octets from an offset, where all of them lie in the packet.
+/// Returns the big-endian number in the two octets from an offset, if the packet has both.
 #[inline(always)]
 fn half(packet: &[u8; CELL_OCTETS], offset: u64) -> Option<u32>
     ensures { result ≡ number_at packet.now offset 2 }
@@ -52,7 +52,7 @@ fn half(packet: &[u8; CELL_OCTETS], offset: u64) -> Option<u32>
     }
 }
 
-/// The octet at an offset, where it lies in the packet.
+/// Returns the octet at an offset, if the packet has it.
 #[inline(always)]
 fn octet(packet: &[u8; CELL_OCTETS], offset: u64) -> Option<u32>
     ensures { result ≡ number_at packet.now offset 1 }

@@ -16,7 +16,7 @@ use Rattle.bpf_verify.proofs.Onward.{decide_leads, successor_forward}
 use Rattle.bpf_verify.proofs.Places.{any_here, any_later, any_none, any_split, one_stands}
 use Rattle.bpf_verify.proofs.Visit.{all_written}
 
--- Of a fact that each number below a bound has or lacks, the first number that has it, where there is one.
+-- If each number below a bound has a fact or lacks it, either some number is the first that has it or all lack it.
 first_below : (Has Lacks : ℕ → Type 0) (bound : ℕ) → ((n : ℕ) → n < bound → Has n ⊎ Lacks n)
     → ((n : ℕ) × Has n × ((m : ℕ) → m < n → Lacks m)) ⊎ ((n : ℕ) → n < bound → Lacks n)
 first_below Has Lacks zero decide = inr (λ n lt. absurd (omega arith))
@@ -42,11 +42,11 @@ sized_or_fault code =
       ]
     ]
 
--- What stands at the place has a fault.
+-- The instruction at this place has a fault.
 Breaks : List Instr → ℕ → Type 0
 Breaks code place = (fault : Fault) × ((i : Instr) × StandsAt code place i × IsFaultOf (length code) place i fault)
 
--- What stands at the place is sound.
+-- Each instruction at this place is sound.
 Holds : List Instr → ℕ → Type 0
 Holds code place = (i : Instr) → StandsAt code place i → IsSound (length code) place i
 
@@ -61,7 +61,7 @@ breaks_or_holds code place =
       ]
     ]
 
--- Each instruction is sound, or one of them breaks first.
+-- Each instruction is sound, or one is the first that isn't.
 sound_or_break : (code : List Instr) → IsSoundBelow code (length code) ⊎ ((place : ℕ) × (fault : Fault) × BreaksFirst code place fault)
 unfolding Breaks Holds
 sound_or_break code =
@@ -120,7 +120,7 @@ module _ (code : List Instr) (word : ℕ) where
         ]
       ]
 
-  -- Every path to a place behind the first comes through a place before it.
+  -- Every path to a place after the first passes an earlier place.
   covers-from_each : (place : ℕ) → 0 < place → ((earlier : ℕ) → earlier < place → CoversThrough place earlier) → Covers place
   unfolding Covers CoversThrough
   covers-from_each place behind each [] path = absurd (omega (arith, path, behind))
@@ -138,13 +138,13 @@ module _ (code : List Instr) (word : ℕ) where
         | inr each ↦ inr (covers-from_each (suc place) (omega arith) each)
       ]
 
--- The word that an instruction reads, where it reads one.
+-- The word that an instruction reads, if it reads one.
 reads_or_not : (i : Instr) → ((word : ℕ) × ReadsWord i word) ⊎ ((word : ℕ) → ReadsWord i word → ⊥)
 reads_or_not (LoadMem k) = inl (k, refl)
 reads_or_not (LdxMem k) = inl (k, refl)
 reads_or_not _ = inr (λ word h. h)
 
--- Some path to a place's read doesn't cover it, or each does.
+-- Some path to a place doesn't store a word that the place reads, or all paths store all such words.
 unwritten_or_written : (code : List Instr) (place : ℕ) → ((word : ℕ) × IsUnwrittenAt code place word) ⊎ IsWrittenAt code place
 unfolding Spares Covers
 unwritten_or_written code place =

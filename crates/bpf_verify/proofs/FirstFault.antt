@@ -1,4 +1,4 @@
--- Which fault of a code comes first: no two, and none exactly where the code is accepted.
+-- A code has at most one first fault, and none exactly if it is accepted.
 use Rattle.std.proofs.Common.{◌≡◌, ℕ, zero, suc, ◌+◌, ◌-◌, ◌<◌, ◌≤◌, ◌⊎◌, inl, inr, List, [], ◌∷◌, length, get_or, refl, sym, ap, subst, ◌∙◌, arith}
 use Rattle.std.proofs.lemmas.Bool.{cases_lt, cases_order}
 use Rattle.std.proofs.lemmas.Option.{slice_get_cases, slice_get_within, slice_get-get_or}
@@ -67,7 +67,7 @@ kind-from_target place (Jump k) target h = refl
 kind-from_target place (Branch test by jt jf) target h = refl
 kind-from_target place _ target h = absurd h
 
--- The instruction and its place tell its fault.
+-- The instruction and its place determine its fault.
 fault-from_kind : (size place : ℕ) (i : Instr) (fault : Fault) → IsFaultOf size place i fault → fault ≡ fault_of_kind (kind_of i) place
 fault-from_kind size place i (BadScratch at) h =
     ap BadScratch h.0 ∙ ap (λ kind. fault_of_kind kind place) (kind-from_word i h.1.0 h.1.1)
@@ -82,7 +82,7 @@ fault-from_kind size place i _ h = absurd h
 one_fault-of : (size place : ℕ) (i : Instr) (one other : Fault) → IsFaultOf size place i one → IsFaultOf size place i other → one ≡ other
 one_fault-of size place i one other p q = fault-from_kind size place i one p ∙ sym (fault-from_kind size place i other q)
 
--- The number of the part of the check that a fault stands for.
+-- The number of the part of the check that finds this fault.
 abbrev part_of : Fault → ℕ
 part_of Empty = 0
 part_of TooLong = 1
@@ -93,7 +93,7 @@ part_of (JumpOutside at) = 2
 part_of NoReturn = 3
 part_of (Unwritten at word) = 4
 
--- The code passes the part of this number.
+-- The code passes the part with this number.
 abbrev Passes : List Instr → ℕ → Type 0
 Passes code zero = 0 < length code
 Passes code (suc zero) = length code ≤ 4096
@@ -113,7 +113,7 @@ passes-from_sized code sized zero lt = sized.least
 passes-from_sized code sized (suc zero) lt = sized.most
 passes-from_sized code sized (suc (suc part)) lt = absurd (omega arith)
 
--- A code passes each part before the one that fails first.
+-- A code passes each part before the first that fails.
 passes_earlier : (code : List Instr) (fault : Fault) → FailsFirst code fault → (part : ℕ) → part < part_of fault → Passes code part
 passes_earlier code Empty fails part lt = absurd (omega arith)
 passes_earlier code TooLong fails zero lt = omega (arith, fails)
@@ -132,7 +132,7 @@ passes_earlier code (Unwritten at word) fails (suc (suc zero)) lt = fails.1
 passes_earlier code (Unwritten at word) fails (suc (suc (suc zero))) lt = fails.2
 passes_earlier code (Unwritten at word) fails (suc (suc (suc (suc part)))) lt = absurd (omega arith)
 
--- What breaks first isn't sound.
+-- An instruction with a fault isn't sound.
 broken : (code : List Instr) (at : ℕ) (fault : Fault) → BreaksFirst code at fault → IsSoundBelow code (length code) → ⊥
 broken code at fault breaks sound =
     let here = breaks.1 in
@@ -158,7 +158,7 @@ fails_part code (Unwritten at word) fails passes = unwritten code at word fails.
 pub refused-from_fault : (code : List Instr) (fault : Fault) → FailsFirst code fault → IsAccepted code → ⊥
 refused-from_fault code fault fails accepted = fails_part code fault fails (passes-from_accepted code accepted (part_of fault))
 
--- At one place alone an instruction breaks first, by one fault.
+-- The first instruction that isn't sound is at one place, and has one fault.
 one_break : (code : List Instr) (a b : ℕ) (one other : Fault) → BreaksFirst code a one → BreaksFirst code b other → one ≡ other
 one_break code a b one other p q =
     let at_a = p.1 in
@@ -181,7 +181,7 @@ one_read (LoadMem k) v w p q = p ∙ sym q
 one_read (LdxMem k) v w p q = p ∙ sym q
 one_read _ v w p q = absurd p
 
--- At one place alone a read is the first that some path doesn't cover, and it reads one word.
+-- The first read that some path doesn't cover is at one place, and it reads one word.
 one_unwritten : (code : List Instr) (a b v w : ℕ) → FailsFirst code (Unwritten a v) → FailsFirst code (Unwritten b w) → Unwritten a v ≡ Unwritten b w
 one_unwritten code a b v w p q =
     let at_a = p.4.0 in
@@ -198,7 +198,7 @@ one_unwritten code a b v w p q =
       ]
     ]
 
--- A fault of the second part is what an instruction breaks first.
+-- A fault of the second part is that of the first instruction that isn't sound.
 break_of_part : (code : List Instr) (fault : Fault) → 2 ≡ part_of fault → FailsFirst code fault → (at : ℕ) × BreaksFirst code at fault
 break_of_part code (BadScratch at) e fails = (at, fails.1)
 break_of_part code (ZeroDivisor at) e fails = (at, fails.1)
@@ -306,7 +306,7 @@ sound_or_fault size place (Branch test by jt jf) =
     ]
 sound_or_fault size place _ = inl (record { scratch = λ _ h. absurd (neither h); divisor = λ _ h. absurd h; shift = λ _ h. absurd h; targets = λ _ h. absurd h })
 
--- The fault of the first instruction that isn't sound comes first, in a code of lawful size.
+-- The fault of the first instruction that isn't sound is the first fault, in a code of valid size.
 pub fails-from_break : (code : List Instr) (at : ℕ) (fault : Fault) → IsSized code → BreaksFirst code at fault → FailsFirst code fault
 fails-from_break code at (BadScratch at') sized breaks =
     (sized, subst (λ place. BreaksFirst code place (BadScratch at')) (sym breaks.1.2.0) breaks)
@@ -333,7 +333,7 @@ decide_stores code word place =
       | inr past ↦ inr (λ h. omega (arith, past.0, slice_get_within code place h.0 h.1))
     ]
 
--- The last instruction of a code that has one.
+-- The last instruction of a code that isn't empty.
 pub last_stands : (code : List Instr) → 0 < length code → (i : Instr) × StandsAt code (length code - 1) i
 last_stands [] h = absurd (omega arith)
 last_stands (i ∷ code) h =

@@ -1,4 +1,4 @@
--- A path with the latest place first, and the same places in order.
+-- A path lists its places with the latest first; a walk lists the same places in order.
 use Rattle.std.proofs.Common.{◌≡◌, ℕ, ◌+◌, ◌<◌, inl, inr, List, [], ◌∷◌, ◌++◌, length, Some, Any, slice_get, refl, sym, ap, subst, ◌∙◌, arith, length-append, reverse}
 use Rattle.std.proofs.lemmas.List.{reverse-append}
 use Rattle.std.proofs.lemmas.Bool.{cases_lt}
@@ -9,7 +9,7 @@ use Rattle.bpf_verify.specs.Paths.{IsPath, IsWrittenAt, Stores}
 use Rattle.bpf_verify.specs.Walks.{IsWalk, IsWrittenOnEveryWalk}
 use Rattle.bpf_verify.proofs.Places.{slice_get-append_left, slice_get-append_last, any_split, any_append_left, any_append_last}
 
--- The places in the other order.
+-- The places in reverse order.
 in_order : List ℕ → List ℕ
 in_order [] = []
 in_order (x ∷ xs) = in_order xs ++ x ∷ []
@@ -30,7 +30,7 @@ any_in_order P [] h = h
 any_in_order P (x ∷ xs) h =
     elim (any_split P x xs h) [ inl p ↦ any_append_last P (in_order xs) x p | inr q ↦ any_append_left P (in_order xs) (x ∷ []) (any_in_order P xs q) ]
 
--- A walk goes on to a successor of its last place.
+-- A walk can be extended by a successor of its last place.
 walk_further : (code : List Instr) (xs : List ℕ) (a b : ℕ) → IsWalk code (xs ++ a ∷ []) → IsSuccessor code a b → IsWalk code ((xs ++ a ∷ []) ++ b ∷ [])
 walk_further code xs a b walk s =
     let n : length (xs ++ a ∷ []) ≡ length xs + 1 = length-append xs (a ∷ []) in
@@ -51,7 +51,7 @@ walk_further code xs a b walk s =
       ];
     }
 
--- The front of a walk is one, and its last step leads to a successor.
+-- A walk without its last place is a walk, and its last step leads to a successor.
 walk_before : (code : List Instr) (xs : List ℕ) (a b : ℕ) → IsWalk code ((xs ++ a ∷ []) ++ b ∷ []) → IsWalk code (xs ++ a ∷ []) × IsSuccessor code a b
 walk_before code xs a b walk =
     let n : length (xs ++ a ∷ []) ≡ length xs + 1 = length-append xs (a ∷ []) in (
@@ -97,7 +97,7 @@ pub walk_is_path : (code : List Instr) (passed : List ℕ) (place : ℕ) → IsW
 walk_is_path code passed place walk =
     path-from_walk code passed place (subst (λ l. IsWalk code (l ++ place ∷ [])) (sym (in_order-reverse passed)) walk)
 
--- The scratch check over paths says what the scratch check over walks says.
+-- The scratch check over paths is equivalent to the scratch check over walks.
 pub walks-from_paths : (code : List Instr) → ((place : ℕ) → IsWrittenAt code place) → IsWrittenOnEveryWalk code
 walks-from_paths code written earlier last word walk reads =
     let path : IsPath code (in_order earlier) last = path-from_walk code (in_order earlier) last (subst (λ l. IsWalk code (l ++ last ∷ [])) (sym (in_order-in_order earlier)) walk) in

@@ -1,4 +1,4 @@
--- What the masks of written words say while the code is passed through once.
+-- The masks of stored words, while the check goes through the code once.
 use Rattle.std.proofs.Common.{◌≡◌, ℕ, zero, suc, ◌+◌, ◌<◌, ◌⊎◌, inl, inr, min, List, [], ◌∷◌, length, get_or, Any, refl, ap, sym, ◌∙◌, subst, arith}
 use Rattle.std.specs.Int.{bit_at}
 use Rattle.std.proofs.lemmas.Bool.{cases_lt}
@@ -12,19 +12,20 @@ use Rattle.bpf_verify.specs.Paths.{IsPath, IsWrittenAt, Stores}
 use Rattle.bpf_verify.proofs.Onward.{decide_leads, decide_same, successor_forward}
 use Rattle.bpf_verify.proofs.Places.{any_here, any_later, any_none, any_split, one_stands}
 
--- The latest place of a path lies before the bound.
+-- The latest place of a path is before the bound.
 abbrev pub IsBefore : List ℕ → ℕ → Type 0
 IsBefore [] bound = Unit {0}
 IsBefore (latest ∷ passed) bound = latest < bound
 
--- The mask of each place has exactly the words that every path stores which comes from before the bound.
+-- The mask of each place has exactly the words that all paths to it store, of the paths whose latest place is before
+-- the bound.
 pub record AreWritten (code : List Instr) (masks : List ℕ) (bound : ℕ) : Type 0 where
   pub has : (place word : ℕ) → bit_at (get_or masks place 0) word ≡ 1
       → (passed : List ℕ) → IsPath code passed place → IsBefore passed bound → Any (Stores code word) passed
   pub lacks : (place word : ℕ) → place < length masks → word < 16 → bit_at (get_or masks place 0) word ≡ 0
       → (passed : List ℕ) × IsPath code passed place × IsBefore passed bound × (Any (Stores code word) passed → ⊥)
 
--- Every path comes from before the place that it reaches.
+-- The latest place of a path is before the place that it reaches.
 pub path_before : (code : List Instr) (passed : List ℕ) (place : ℕ) → IsPath code passed place → IsBefore passed place
 path_before code [] place path = tt
 path_before code (latest ∷ passed) place path = successor_forward code latest place path.1
@@ -33,7 +34,7 @@ before_more : (passed : List ℕ) (bound : ℕ) → IsBefore passed bound → Is
 before_more [] bound h = tt
 before_more (latest ∷ passed) bound h = omega (arith, h)
 
--- At first no path is known but the one that has passed nothing.
+-- Initially the only known path is the empty one.
 pub written-at_first : (code : List Instr) (masks : List ℕ) → get_or masks 0 0 ≡ 0
     → ((place : ℕ) → 0 < place → place < length masks → get_or masks place 0 ≡ 65535) → AreWritten code masks 0
 written-at_first code masks first rest = record {
@@ -54,7 +55,7 @@ decide_store (Store k) word = decide_same word k
 decide_store (StoreX k) word = decide_same word k
 decide_store _ word = inr (λ h. h)
 
--- The least of two bits is 1 where both are, and 0 where one is.
+-- The minimum of two bits is 1 if both are 1, and 0 if one is 0.
 least_one : (least a b : ℕ) → least ≡ min a b → a < 2 → b < 2 → least ≡ 1 → (a ≡ 1) × (b ≡ 1)
 least_one least a b is la lb one = (omega arith, omega arith)
 
@@ -62,7 +63,8 @@ least_zero : (least a b : ℕ) → least ≡ min a b → a < 2 → b < 2 → lea
 least_zero least zero b is la lb none = inl refl
 least_zero least (suc a) b is la lb none = inr (omega arith)
 
--- What one instruction does to the masks: its successors meet the mask behind it, all other places keep theirs.
+-- One instruction changes the masks: its successors keep what is also in the mask after it, and all other places keep
+-- theirs.
 pub record ArePassedOn (i : Instr) (place mask : ℕ) (old new : List ℕ) : Type 0 where
   pub stored : (word : ℕ) → StoresWord i word → bit_at mask word ≡ 1
   pub kept : (word : ℕ) → (StoresWord i word → ⊥) → bit_at mask word ≡ bit_at (get_or old place 0) word
@@ -73,7 +75,7 @@ pub record ArePassedOn (i : Instr) (place mask : ℕ) (old new : List ℕ) : Typ
 
 module _ (code : List Instr) (old new : List ℕ) (here mask : ℕ) (i : Instr) (stands : StandsAt code here i)
     (within : here < length old) (passes : ArePassedOn i here mask old new) (marks : AreWritten code old here) where
-  -- A word of the mask behind the instruction was stored on each path through the instruction.
+  -- Each path through the instruction stores each word of the mask after it.
   stored_through : (word : ℕ) → bit_at mask word ≡ 1 → (passed : List ℕ) → IsPath code passed here → Any (Stores code word) (here ∷ passed)
   stored_through word one passed path =
       elim (decide_store i word) [
@@ -81,7 +83,7 @@ module _ (code : List Instr) (old new : List ℕ) (here mask : ℕ) (i : Instr) 
         | inr keeps ↦ any_later (Stores code word) here passed (marks.has here word (sym (passes.kept word keeps) ∙ one) passed path (path_before code passed here path))
       ]
 
-  -- A word that the mask behind the instruction lacks wasn't stored on some path through the instruction.
+  -- Some path through the instruction doesn't store a word that the mask after it lacks.
   unstored_through : (word : ℕ) → word < 16 → bit_at mask word ≡ 0 → (passed : List ℕ) × IsPath code passed here × (Any (Stores code word) (here ∷ passed) → ⊥)
   unstored_through word lt none =
       elim (decide_store i word) [
@@ -105,7 +107,7 @@ module _ (code : List Instr) (old new : List ℕ) (here mask : ℕ) (i : Instr) 
   bits_zero next word leads none =
       least_zero (bit_at (get_or new next 0) word) (bit_at (get_or old next 0) word) (bit_at mask word) (passes.successors next word leads) (bit_at-lt (get_or old next 0) word) (bit_at-lt mask word) none
 
-  -- What a mask has now it had before.
+  -- A word that a mask has now was in it before.
   had : (place word : ℕ) → bit_at (get_or new place 0) word ≡ 1 → bit_at (get_or old place 0) word ≡ 1
   had place word one =
       elim (decide_leads here i place) [
@@ -149,7 +151,7 @@ module _ (code : List Instr) (old new : List ℕ) (here mask : ℕ) (i : Instr) 
   pub written_next : AreWritten code new (here + 1)
   written_next = record { has = has_next; lacks = lacks_next }
 
--- At the visit of a place its mask knows every path to it.
+-- When the check visits a place, its mask accounts for every path to it.
 pub written-from_mask : (code : List Instr) (masks : List ℕ) (here : ℕ) (i : Instr) → StandsAt code here i → AreWritten code masks here
     → ((word : ℕ) → ReadsWord i word → bit_at (get_or masks here 0) word ≡ 1) → IsWrittenAt code here
 written-from_mask code masks here i stands marks all word passed path reads =

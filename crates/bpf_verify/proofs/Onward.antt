@@ -1,4 +1,4 @@
--- Where instructions lead: forward.
+-- Instructions lead forward.
 use Rattle.std.proofs.Common.{◌≡◌, ℕ, ◌+◌, ◌<◌, ◌⊎◌, inl, inr, List, refl, arith}
 use Rattle.std.proofs.lemmas.Bool.{cases_order}
 use Rattle.bpf_code.specs.declared.instr.By.{By}
@@ -7,7 +7,7 @@ use Rattle.bpf_code.specs.declared.instr.Instr.TheVariants.{Branch, Jump, RetA, 
 use Rattle.bpf_code.specs.declared.instr.Test.{Test}
 use Rattle.bpf_code.specs.Flow.{IsSuccessor, LeadsTo}
 
--- What neither jumps nor returns leads to the place behind it, and to no other.
+-- An instruction that neither jumps nor returns leads to the next place only.
 pub falls_through : (place : ℕ) (i : Instr)
     → ((k : ℕ) → i ≡ Jump k → ⊥)
     → ((test : Test) (by : By) (jt jf : ℕ) → i ≡ Branch test by jt jf → ⊥)

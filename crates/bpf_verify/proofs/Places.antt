@@ -1,4 +1,4 @@
--- What stands at the places of a list, and `Any` by cases on the list.
+-- Elements at the places of a list, and `Any` by cases on the list.
 use Rattle.std.proofs.Common.{◌≡◌, ℕ, zero, suc, ◌<◌, ◌⊎◌, inl, inr, List, [], ◌∷◌, ◌++◌, length, get_or, Some, Any, slice_get, refl, sym, subst, ◌∙◌, arith}
 use Rattle.std.proofs.lemmas.Option.{same_Some}
 

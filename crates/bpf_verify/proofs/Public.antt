@@ -1,4 +1,4 @@
--- Lemmas for proofs of other crates: the statements of public laws, and one on lists.
+-- Lemmas for proofs of other crates: the public laws, and one about lists.
 use Rattle.std.proofs.Common.{◌≡◌, ◌⊎◌, List, ◌∷◌, Any}
 use Rattle.bpf_code.specs.declared.instr.Instr.{Instr}
 use Rattle.bpf_verify.proofs.Decided as decided
@@ -16,11 +16,11 @@ accepted-or_fault = decided.accepted-or_fault
 pub refused-from_fault : (code : List Instr) (fault : Fault) → FailsFirst code fault → IsAccepted code → ⊥
 refused-from_fault = faults.refused-from_fault
 
--- Of two faults that come first in a code, both are the same.
+-- Two faults that come first in a code are the same.
 pub one_comes_first : (code : List Instr) (one other : Fault) → FailsFirst code one → FailsFirst code other → one ≡ other
 one_comes_first = faults.one_comes_first
 
 module _ {X : Type 0} where
-  -- What holds of some element of a list holds of the first or of a later one.
+  -- If some element of a list has a property, the first or a later one has it.
   pub any_split : (P : X → Type 0) (x : X) (xs : List X) → Any P (x ∷ xs) → P x ⊎ Any P xs
   any_split = places.any_split

@@ -1,4 +1,4 @@
--- What is known of the instruction that stands at a place, as an element of the code's list.
+-- Facts about the instruction at a place, as an element of the code's list.
 use Rattle.std.proofs.Common.{◌≡◌, ℕ, ◌+◌, ◌-◌, ◌<◌, ◌≤◌, inl, inr, List, length, get_or, subst, sym, arith}
 use Rattle.std.proofs.lemmas.Bool.{cases_lt}
 use Rattle.std.proofs.lemmas.Option.{slice_get-get_or, slice_get_within}
@@ -26,7 +26,7 @@ module _ (code : List Instr) (at : ℕ) (default : Instr) (within : at < length 
             subst (λ n. IsSound (length code) n i) e (subst (λ j. IsSound (length code) at j) same here)
       ]
 
--- What stands last decides whether the code ends in a return.
+-- The last instruction decides whether the code ends in a return.
 pub ends_there : (code : List Instr) (i : Instr) → StandsAt code (length code - 1) i → IsReturn i → EndsInReturn code
 ends_there code i stands returns = (i, stands, returns)
 
@@ -34,7 +34,7 @@ pub lacks_there : (code : List Instr) (i : Instr) → StandsAt code (length code
 lacks_there code i stands goes_on j there returns =
     goes_on (subst IsReturn (one_stands code (length code - 1) j i there stands) returns)
 
--- Where a sound instruction leads is no further than behind the last place.
+-- A sound instruction leads at most to the place after the last.
 pub next_within : (code : List Instr) (at : ℕ) (i : Instr) → IsSized code → at < length code → IsSound (length code) at i
     → (next : ℕ) → LeadsTo at i next → next ≤ 4096
 next_within code at (Jump k) sized within sound next leads = omega (arith, sound.targets next leads, sized.most)
@@ -55,7 +55,7 @@ one_more code at before here place lt word passed path reads =
           there word passed path reads
     ]
 
--- Beyond the code nothing is read.
+-- There is no read after the end of the code.
 pub all_written : (code : List Instr) → ((place : ℕ) → place < length code → IsWrittenAt code place) → (place : ℕ) → IsWrittenAt code place
 all_written code below place word passed path reads =
     below place (slice_get_within code place reads.0 reads.1) word passed path reads

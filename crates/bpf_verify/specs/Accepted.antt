@@ -1,5 +1,5 @@
--- The static check of a classic BPF program: Linux's checks, of which the one of scratch words goes
--- by the paths through the code, so that nothing is asked of reads that no path reaches.
+-- The static check of a classic BPF program. The checks are Linux's, except that a read of an unwritten scratch word
+-- counts only if some path through the code reaches it.
 use Rattle.std.specs.Prelude.{ℕ, ◌-◌, ◌<◌, ◌≤◌, List, length}
 use Rattle.bpf_code.specs.declared.instr.Instr.{Instr}
 use Rattle.bpf_code.specs.Flow.{StandsAt, IsReturn, JumpsTo}
@@ -12,9 +12,9 @@ pub record IsSized (code : List Instr) : Type 0 where
   pub least : 0 < length code
   pub most : length code ≤ 4096
 
--- What is asked of an instruction by itself, at a place of a code of so many instructions: that its
--- scratch word is one of the sixteen, its constant divisor isn't 0, its constant shift is less than
--- the 32 bits of a register, and each of its targets is a place of the code.
+-- An instruction is sound by itself, at this place of a code of this many instructions: each scratch word that it uses
+-- is one of the sixteen, a constant divisor isn't 0, a constant shift is less than 32, and each jump target is a place
+-- of the code.
 pub record IsSound (size place : ℕ) (i : Instr) : Type 0 where
   pub scratch : (word : ℕ) → NamesWord i word → word < 16
   pub divisor : (divisor : ℕ) → DividesBy i divisor → 0 < divisor

@@ -1,4 +1,4 @@
--- The faults of a code, and which of them comes first.
+-- The faults of a code, and which one is first.
 use Rattle.std.specs.Prelude.{◌≡◌, ℕ, ◌-◌, ◌<◌, ◌≤◌, List, length, Any}
 use Rattle.bpf_code.specs.declared.instr.Instr.{Instr}
 use Rattle.bpf_code.specs.Flow.{StandsAt, IsReturn, JumpsTo}
@@ -9,7 +9,7 @@ use Rattle.bpf_verify.specs.declared.fault.Fault.TheVariants.{Empty, TooLong, Ba
 use Rattle.bpf_verify.specs.Accepted.{IsSized, IsSound, EndsInReturn}
 use Rattle.bpf_verify.specs.Paths.{IsPath, IsWrittenAt, Reads, Stores}
 
--- The fault is what the instruction breaks by itself, at a place of a code of so many instructions.
+-- The instruction has this fault by itself, at this place of a code of this many instructions.
 abbrev pub IsFaultOf : ℕ → ℕ → Instr → Fault → Type 0
 IsFaultOf size place i (BadScratch at) = (at ≡ place) × ((word : ℕ) × NamesWord i word × (16 ≤ word))
 IsFaultOf size place i (ZeroDivisor at) = (at ≡ place) × DividesBy i 0
@@ -17,28 +17,28 @@ IsFaultOf size place i (BadShift at) = (at ≡ place) × ((count : ℕ) × Shift
 IsFaultOf size place i (JumpOutside at) = (at ≡ place) × ((target : ℕ) × JumpsTo place i target × (size ≤ target))
 IsFaultOf size place i _ = ⊥
 
--- Each instruction before the place is sound.
+-- Each instruction before this bound is sound by itself.
 abbrev pub IsSoundBelow : List Instr → ℕ → Type 0
 IsSoundBelow code bound =
     (place : ℕ) (i : Instr) → place < bound → StandsAt code place i → IsSound (length code) place i
 
--- The instruction at the place is the first that isn't sound, and this is its fault.
+-- The instruction at this place has this fault, and each instruction before it is sound by itself.
 abbrev pub BreaksFirst : List Instr → ℕ → Fault → Type 0
 BreaksFirst code place fault =
     IsSoundBelow code place × ((i : Instr) × StandsAt code place i × IsFaultOf (length code) place i fault)
 
--- The last instruction is no return.
+-- The last instruction isn't a return.
 abbrev pub LacksReturn : List Instr → Type 0
 LacksReturn code = (i : Instr) → StandsAt code (length code - 1) i → ¬ IsReturn i
 
--- The place reads the word, and some path to it has not passed a store of the word.
+-- The instruction at this place reads the word, and some path to the place has passed no store of the word.
 abbrev pub IsUnwrittenAt : List Instr → ℕ → ℕ → Type 0
 IsUnwrittenAt code place word =
     Reads code word place × ((passed : List ℕ) × IsPath code passed place × (¬ Any (Stores code word) passed))
 
--- The fault is the part of the check that fails first: the number of instructions; then the first
--- instruction that isn't sound by itself; then the return at the end; then the first place with a
--- read that some path doesn't cover.
+-- The fault is that of the first part of the check that fails. The parts, in order: the number of instructions; the
+-- first instruction that isn't sound by itself; the return at the end; the first read of a word that some path to it
+-- doesn't store.
 abbrev pub FailsFirst : List Instr → Fault → Type 0
 FailsFirst code Empty = length code ≡ 0
 FailsFirst code TooLong = 4096 < length code

@@ -1,4 +1,4 @@
-//! Laws of the definitions of the check. Each is the contract of a function that does nothing.
+//! Laws of the definitions. Each function does nothing; its contract is the law.
 
 ghost use Rattle.std.specs.Prelude.{◌≡◌, ℕ, ◌↔◌, ◌⊎◌, List, [], ◌∷◌, ◌++◌, reverse};
 ghost use Rattle.bpf_code.specs.declared.instr.Instr.{Instr};
@@ -8,8 +8,8 @@ ghost use Rattle.bpf_verify.specs.Faults.{FailsFirst};
 ghost use Rattle.bpf_verify.specs.Paths.{IsPath, IsWrittenAt};
 ghost use Rattle.bpf_verify.specs.Walks.{IsWalk, IsWrittenOnEveryWalk};
 
-/// A path is a list of places that begins at 0 and goes from successor to successor: the places that
-/// it passed, in order, and the place that it reaches.
+/// A path is a list of places that begins at 0 and goes from successor to successor: the places that it passed, in
+/// order, and then the place that it reaches.
 pub fn paths_are_walks()
     ensures { (code : List Instr) (passed : List ℕ) (place : ℕ)
         → IsPath code passed place ↔ IsWalk code (reverse passed ++ place ∷ []) }

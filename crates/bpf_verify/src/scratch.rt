@@ -1,7 +1,7 @@
 //! The scratch words that every path to a place stores.
 //!
-//! Each place has a mask of the words that every path to it stores; without a known path the mask has all words.
-//! Jumps go forward, so when the check comes to a place, its mask accounts for every path to it.
+//! Each place has a mask of the words that every path to it stores; without a known path the mask has all words. Jumps
+//! go forward, so when the check reaches a place, its mask accounts for every path to it.
 
 ghost use Rattle.std.specs.Prelude.{◌≡◌, ◌≢◌, ℕ, ◌+◌, ◌<◌, ◌≤◌, ◌↔◌, length, min, slice_index, IfSome, IfNone, Some};
 ghost use Rattle.std.specs.Int.{bit_at};

@@ -5,7 +5,7 @@ use Rattle.bpf_verify.proofs.Onward.{falls_through}
 use Rattle.bpf_verify.proofs.scratch.pass_on.Goals as goal
 use Rattle.bpf_verify.proofs.scratch.pass_on.Goals.{In-Jump, In_default}
 
--- What the instruction is known to be, it leads to.
+-- Equal instructions lead to the same places.
 leads_from : (at : ℕ) (i j : Instr) (next : ℕ) → i ≡ j → LeadsTo at j next → LeadsTo at i next
 leads_from at i j next is leads = subst (λ k. LeadsTo at k next) (sym is) leads
 
@@ -27,7 +27,7 @@ pub narrow-here-requires-clause-within : goal.narrow-here-requires-clause-within
 narrow-here-requires-clause-within c =
     rw c.from-in-Branch.ensures (c.requires.within _ (leads_from c.args.at c.args.instr _ (c.args.at + 1 + c.in-Branch.jf) c.in-Branch.is (inr refl)))
 
--- The instruction leads to the place behind it alone.
+-- The instruction leads to the next place only.
 through : (c : In_default) → LeadsTo c.args.at c.args.instr (c.args.at + 1) × ((next : ℕ) → LeadsTo c.args.at c.args.instr next → next ≡ c.args.at + 1)
 through c = falls_through c.args.at c.args.instr c.in_default.not-Jump c.in_default.not-Branch c.in_default.not-RetK c.in_default.not-RetA
 

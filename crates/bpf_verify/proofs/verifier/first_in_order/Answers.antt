@@ -6,7 +6,7 @@ use Rattle.bpf_verify.proofs.Masks.{unwritten-from_mask, written-at_first, writt
 use Rattle.bpf_verify.proofs.Visit.{all_written, ends_there, lacks_there, next_within, one_more, one_sound, stands_there}
 use Rattle.bpf_verify.proofs.verifier.first_in_order.Goals as goal
 
--- Each place but the first begins with every word.
+-- Initially the mask of each place but the first has every word.
 begins_full : (size all place : ℕ) → 0 < place → place < size → get_or (set (replicate size all) 0 0) place 0 ≡ all
 begins_full size all place gt lt = grind (arith, common_steps)
 
