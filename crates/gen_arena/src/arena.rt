@@ -67,8 +67,7 @@ impl<T> Arena<T> {
             return Err(ArenaFault::NoSlots);
         }
         let places = PlaceRow::new(alloc, slots, used)?;
-        // The places name one another from the first on. Where none has a generation left, none is
-        // in the list.
+        // Each place links to the next one. If the places have no generation left, the free list is empty.
         let (first, free) = if used < u32::MAX {
             (0, slots)
         } else {

@@ -16,18 +16,18 @@ opening = record { level = 0; charged = 0 }
 abbrev pub level_at : Bucket → ℕ → ℕ
 level_at bucket moment = bucket.level - (moment - bucket.charged)
 
--- A cell at moment ta conforms if X' is at most tau.
+-- Whether a cell at moment ta conforms: it does if X' is at most tau.
 abbrev pub conforms : Gcra → Bucket → ℕ → Bool
 conforms gcra bucket moment = nat_le (level_at bucket moment) gcra.limit
 
--- After a conforming cell the level is X' + T, and the last conformance time is ta.
+-- The bucket after a conforming cell: the level is X' + T, and the last conformance time is ta.
 abbrev pub filled : Gcra → Bucket → ℕ → Bucket
 filled gcra bucket moment = record {
   level = level_at bucket moment + gcra.increment;
   charged = moment;
 }
 
--- A conforming cell fills the bucket; any other leaves it unchanged.
+-- The bucket after a cell: a conforming cell fills it, any other leaves it unchanged.
 abbrev pub bucket_after : Gcra → Bucket → ℕ → Bucket
 bucket_after gcra bucket moment =
     if conforms gcra bucket moment then filled gcra bucket moment else bucket

@@ -3,7 +3,7 @@ use Rattle.std.specs.Prelude.{◌≡◌, ℕ, ◌+◌, ◌/◌, nat_le, Bool, tr
 use Rattle.leaky.specs.declared.gcra.Gcra.{Gcra}
 use Rattle.leaky.specs.Bucket.{Bucket, conforms, filled}
 
--- The moment is between `first` and `first + span`, both included.
+-- Whether the moment is between `first` and `first + span`, both included.
 abbrev pub is_within : ℕ → ℕ → ℕ → Bool
 is_within first span moment = nat_le first moment && nat_le moment (first + span)
 
@@ -11,7 +11,7 @@ is_within first span moment = nat_le first moment && nat_le moment (first + span
 abbrev pub count_within : ℕ → ℕ → List ℕ → ℕ
 count_within first span moments = length (filter (is_within first span) moments)
 
--- 1 + (d + tau) div T, for a span of d ticks.
+-- The burst bound 1 + (d + tau) div T, for a span of d ticks.
 abbrev pub burst_bound : Gcra → ℕ → ℕ
 burst_bound gcra span = 1 + (span + gcra.limit) / gcra.increment
 

@@ -49,12 +49,12 @@ excess_of (Vbr3 peak sustained) = Tag
 abbrev pub sustained_of : Contract → Bool → Option Gcra
 sustained_of contract clp = if meets_second contract clp then second_of contract else None
 
--- A cell that doesn't meet the bucket counts as conforming.
+-- Whether the cell conforms to the bucket. A cell that doesn't meet the bucket counts as conforming.
 abbrev pub conforms_if_met : Option Gcra → Bucket → ℕ → Bool
 conforms_if_met None bucket moment = true
 conforms_if_met (Some gcra) bucket moment = conforms gcra bucket moment
 
--- A cell that doesn't meet the bucket leaves it unchanged.
+-- The bucket filled by the cell. A cell that doesn't meet the bucket leaves it unchanged.
 abbrev pub filled_if_met : Option Gcra → Bucket → ℕ → Bucket
 filled_if_met None bucket moment = bucket
 filled_if_met (Some gcra) bucket moment = filled gcra bucket moment

@@ -3,14 +3,14 @@
 use Rattle.std.specs.Prelude.{ℕ, ◌+◌, nat_lt, Bool, true, false, if◌then◌else◌, List, [], ◌∷◌}
 use Rattle.leaky.specs.declared.gcra.Gcra.{Gcra}
 
--- If TAT < ta the cell conforms; else if TAT > ta + tau it doesn't; else it conforms.
+-- Whether a cell conforms: if TAT < ta, it does; else if TAT > ta + tau, it doesn't; else it does.
 abbrev pub is_due : Gcra → ℕ → ℕ → Bool
 is_due gcra due moment =
     if nat_lt due moment then true
     else if nat_lt (moment + gcra.limit) due then false
     else true
 
--- In these three cases TAT becomes ta + T, stays TAT, becomes TAT + T.
+-- The next TAT. In these three cases it is ta + T, TAT, and TAT + T.
 abbrev pub due_after : Gcra → ℕ → ℕ → ℕ
 due_after gcra due moment =
     if nat_lt due moment then moment + gcra.increment

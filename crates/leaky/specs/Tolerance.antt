@@ -5,7 +5,7 @@ use Rattle.std.specs.Prelude.{ℕ, zero, suc, ◌+◌, ◌-◌, ◌*◌, List, [
 abbrev pub tolerance_of : ℕ → ℕ → ℕ → ℕ
 tolerance_of mbs ts tp = (mbs - 1) * (ts - tp)
 
--- A number of moments, from the first on, with this gap between two.
+-- This many moments, from the first on, each this gap after the one before.
 abbrev pub spaced : ℕ → ℕ → ℕ → List ℕ
 spaced zero gap first = []
 spaced (suc n) gap first = first ∷ spaced n gap (first + gap)

@@ -1,4 +1,4 @@
--- Pieces that go on from one another are one run.
+-- Pieces that continue each other are one run.
 use Rattle.std.proofs.Common.{◌≡◌, ℕ, suc, List, [], ◌∷◌, ◌++◌, Some, refl, sym, subst}
 use Rattle.std.specs.Prelude.{slice_get}
 use Rattle.std.proofs.lemmas.List.{append-nil}
@@ -8,7 +8,7 @@ use Rattle.line_record.specs.JournalRun.{IsRun}
 use Rattle.line_record.specs.Piece.{PieceView, IsPiece, IsChain, entries_in, end_of, AreOneRun}
 use Rattle.line_record.proofs.RunLemmas.{IsRun-append}
 
--- Every one of these is a piece.
+-- Each of these satisfies the invariant of a piece.
 abbrev pub ArePieces : List PieceView → Type 0
 ArePieces pieces = (k : ℕ) (piece : PieceView) → slice_get pieces k ≡ Some piece → IsPiece piece
 

@@ -14,7 +14,7 @@ use Rattle.line_record.specs.History.{NamedCell, moments_of, numbered, arrivals_
 use Rattle.line_record.specs.Laws.{HistoriesBoundBursts}
 use Rattle.line_record.proofs.HistoryLemmas.{arrivals_at-append, arrivals_at-named, arrivals_at-skips, buckets_left-append}
 
--- The moments of the cells at which a test of their verdict and priority holds.
+-- The moments of the cells for which a test of verdict and priority is true.
 abbrev charges_by : (Verdict → Bool → Bool) → Contract → Buckets → List Arrival → List ℕ
 charges_by test contract buckets [] = []
 charges_by test contract buckets (arrival ∷ later) =
@@ -38,7 +38,7 @@ second-by contract buckets (arrival ∷ later) =
     ap (λ rest. cond (charges_second verdict contract arrival.clp) (arrival.moment ∷ rest) rest)
     (second-by contract (after_cell contract buckets arrival.clp arrival.moment) later)
 
--- The same of entries.
+-- The same for entries.
 abbrev charges_in : (Verdict → Bool → Bool) → ℕ → List Entry → List ℕ
 charges_in test number entries =
     map (λ entry. entry.moment) (filter (λ entry. (entry.value == number) && test entry.verdict entry.clp) entries)
@@ -49,7 +49,7 @@ map_cond : (b : Bool) (entry : Entry) (later : List Entry)
 map_cond true entry later = refl
 map_cond false entry later = refl
 
--- An entry that names the contract, and one that does not.
+-- An entry that names the contract, and one that doesn't.
 charges_in-named : (test : Verdict → Bool → Bool) (number : ℕ) (cell : NamedCell) (verdict : Verdict) (entries : List Entry)
     → (cell.value == number) ≡ true
     → charges_in test number (entry_of cell verdict ∷ entries)
@@ -116,7 +116,7 @@ module _ (test : Verdict → Bool → Bool) (contracts : List Contract) (opening
       ] in
       choice (cell.value == number) refl
 
--- The cells that name a contract go on as all do.
+-- If the moments of all cells never go back, nor do those of the cells that name a contract.
 GoesOn-arrivals : (number : ℕ) (earliest : ℕ) (history : List NamedCell) → GoesOn earliest (moments_of history)
     → GoesOn earliest (map (λ (a : Arrival). a.moment) (arrivals_at number history))
 GoesOn-arrivals number earliest [] goes = tt

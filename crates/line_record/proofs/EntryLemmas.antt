@@ -16,11 +16,11 @@ use Rattle.line_record.specs.JournalRun.{StandsFor}
 use Rattle.line_record.proofs.NumberLemmas.{numbered-both}
 use Rattle.line_record.proofs.HistoryLemmas.{buckets_under-nil}
 
--- Later moments.
+-- A bucket that wasn't charged after a moment wasn't charged after a later one.
 pub charged_later : (buckets : Buckets) (earlier later : ℕ) → earlier ≤ later → IsChargedBy buckets earlier → IsChargedBy buckets later
 charged_later buckets earlier later h charged = record { first = omega (arith, charged.first); second = omega (arith, charged.second) }
 
--- The cells of one.
+-- A cell names its own contract.
 arrivals_at-own : (cell : NamedCell) → arrivals_at cell.value (cell ∷ []) ≡ arrival_of cell ∷ []
 arrivals_at-own cell = rw ((Decides-eqb cell.value cell.value).1 refl) refl
 
@@ -28,7 +28,7 @@ arrivals_at-other : (cell : NamedCell) (number : ℕ) → number ≢ cell.value 
 arrivals_at-other cell number apart =
     let differs : (cell.value == number) ≡ false = grind (arith, nat_tests) in rw differs refl
 
--- What judging one cell does to levels.
+-- What a judged cell leaves of the state: its levels and the last moment, and its verdict.
 pub record Judges (contracts : List Contract) (before after : State) (cell : NamedCell) (given : Verdict) : Type 0 where
   pub one_each : length before.levels.items ≡ length contracts
   pub sized : length after.levels.items ≡ length before.levels.items
@@ -57,7 +57,7 @@ module _ (contracts : List Contract) (before after : State) (cell : NamedCell) (
       let charged = charged_later (opening cell.value) before.last cell.moment judges.later (stands.charged cell.value old.0 old.1) in
       judges.verdict contract old.0 (opening cell.value) is old.1 (stands.agrees cell.value old.0 old.1) charged
 
-  -- Its verdict.
+  -- The verdict is that of the history.
   pub Judges-verdict : given ≡ verdict_after contracts opening [] cell
   Judges-verdict = verdict_is (numbered contracts cell.value) refl
 
@@ -98,7 +98,7 @@ module _ (contracts : List Contract) (before after : State) (cell : NamedCell) (
         rw (kept, judges.last) (stands.agrees number new stood, bounded)
   ]
 
-  -- And the levels that it leaves.
+  -- The levels after the cell represent the buckets after it.
   pub Judges-levels : StandsFor after (buckets_after contracts opening (cell ∷ []))
   Judges-levels = record {
     agrees = λ number new at. (agrees_at number new at).0;

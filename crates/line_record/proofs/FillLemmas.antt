@@ -14,12 +14,12 @@ use Rattle.line_record.specs.History.{NamedCell, numbered, arrivals_at, buckets_
 use Rattle.line_record.specs.Laws.{CountedCellsFill}
 use Rattle.line_record.proofs.HistoryLemmas.{arrivals_at-named, arrivals_at-skips, buckets_after-append}
 
--- What both buckets of a contract show of a cell that is counted for them or not.
+-- Each bucket is filled exactly if the cell is counted for it.
 record Told (contract : Contract) (before after : Buckets) (moment : ℕ) (charged charged_too : Bool) : Type 0 where
   first : Fills (peak_of contract) before.first after.first moment charged
   second : IfSome (second_of contract) (λ sustained. Fills sustained before.second after.second moment charged_too)
 
--- A cell that is counted for neither leaves both.
+-- A cell that isn't counted leaves the bucket unchanged.
 leaves : (gcra : Gcra) (bucket : Bucket) (moment : ℕ) → Fills gcra bucket bucket moment false
 leaves gcra bucket moment = record { fills = λ e. cc; leaves = λ e. refl }
 
@@ -39,7 +39,7 @@ module _ (contracts : List Contract) (opening : ℕ → Buckets) (history : List
   abbrev verdict : Verdict
   verdict = verdict_after contracts opening history cell
 
-  -- The contract's own cells among one.
+  -- The buckets after one cell are those after the arrivals of this cell for the contract.
   after-is : after ≡ buckets_left contract before (arrivals_at number (cell ∷ []))
   after-is =
       buckets_after-append contracts opening history (cell ∷ []) number

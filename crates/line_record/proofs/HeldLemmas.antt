@@ -1,4 +1,4 @@
--- What a directory knows of its lines, after each change.
+-- The held lines of a directory, after each change.
 use Rattle.std.proofs.Common.{◌≡◌, ◌≢◌, ℕ, ◌^◌, ◌<◌, ◌≤◌, Bool, true, false, Option, Some, None, List, [], length, replicate, set, sym, ap, subst, ◌∙◌, inl, inr, arith}
 use Rattle.std.specs.Prelude.{slice_get}
 use Rattle.std.proofs.lemmas.Bool.{cases_eq}
@@ -35,7 +35,7 @@ KnowsLines-new lines used most = record {
   free = λ line at vc seating sits. cc;
 }
 
--- A line that no change reaches.
+-- A line that the change doesn't concern.
 module _ (old : DirectoryView) (new : List (Vc × Seating)) (vc : Vc) (used : ℕ) (seating : Option Seating)
     (changes : ChangesAt old.seatings new vc seating) (line : ℕ) where
   pub stays_taken : ((before : Seating) → seating_at old vc ≡ Some before → before.line ≢ line)
@@ -121,7 +121,7 @@ module _ (old : DirectoryView) (held : List Bool) (sound : KnowsLines old held)
         ];
       }
 
--- Another program moves no line.
+-- A change of a connection's program changes no line.
 pub KnowsLines-moved : (old : DirectoryView) (held : List Bool) → KnowsLines old held
     → (new : List (Vc × Seating)) (vc : Vc) (seating : Seating) → seating_at old vc ≡ Some seating
     → (program : Id) → ChangesAt old.seatings new vc (Some (record seating { program = program }))

@@ -1,4 +1,4 @@
--- Histories that go on.
+-- Histories in two parts.
 use Rattle.std.proofs.Common.{◌≡◌, ℕ, suc, Bool, true, false, List, [], ◌∷◌, ◌++◌, length, map, filter, Option, Some, None, refl, sym, ap, subst, ◌∙◌, append_assoc}
 use Rattle.std.specs.Prelude.{◌==◌}
 use Rattle.std.proofs.lemmas.List.{map-append, append-nil}
@@ -40,7 +40,7 @@ arrivals_at-append number xs ys =
     ap (map arrival_of) (filter-append named xs ys)
     ∙ map-append arrival_of (filter named xs) (filter named ys)
 
--- A cell that names the contract, and one that does not.
+-- A cell that names the contract, and one that doesn't.
 pub arrivals_at-named : (number : ℕ) (cell : NamedCell) (later : List NamedCell) → (cell.value == number) ≡ true
     → arrivals_at number (cell ∷ later) ≡ arrival_of cell ∷ arrivals_at number later
 arrivals_at-named number cell later same = rw same refl
@@ -49,7 +49,7 @@ pub arrivals_at-skips : (number : ℕ) (cell : NamedCell) (later : List NamedCel
     → arrivals_at number (cell ∷ later) ≡ arrivals_at number later
 arrivals_at-skips number cell later differs = rw differs refl
 
--- What two histories one after the other leave.
+-- The buckets after two histories, one after the other.
 pub buckets_after-append : (contracts : List Contract) (opening : ℕ → Buckets) (xs ys : List NamedCell) (number : ℕ)
     → buckets_after contracts opening (xs ++ ys) number
     ≡ buckets_after contracts (buckets_after contracts opening xs) ys number
@@ -66,7 +66,7 @@ verdict_after-append contracts opening xs ys cell =
     ap (λ buckets. verdict_under (numbered contracts cell.value) buckets cell)
     (sym (buckets_after-append contracts opening xs ys cell.value))
 
--- Cells judged from the buckets that a history left are judged after it.
+-- Cells judged from the buckets after a history are judged after that history.
 pub judged-after : (contracts : List Contract) (opening : ℕ → Buckets) (before history cells : List NamedCell)
     → judged contracts (buckets_after contracts opening before) history cells
     ≡ judged contracts opening (before ++ history) cells
@@ -90,7 +90,7 @@ judged-append contracts opening history (cell ∷ xs) ys =
     ap (λ entries. entry_of cell (verdict_after contracts opening history cell) ∷ entries)
     (rest ∙ ap (λ whole. judged contracts opening (history ++ cell ∷ []) xs ++ judged contracts opening whole ys) joined)
 
--- Each cell has one entry, which is the cell but for its verdict.
+-- Each cell has one entry, which is the cell and a verdict.
 pub length-judged : (contracts : List Contract) (opening : ℕ → Buckets) (history cells : List NamedCell)
     → length (judged contracts opening history cells) ≡ length cells
 length-judged contracts opening history [] = refl
@@ -107,7 +107,7 @@ pub each-judged : EachCellIsJudged
 each-judged contracts opening history cells =
     (length-judged contracts opening history cells, cells_of-judged contracts opening history cells)
 
--- Moments, counts.
+-- Moments and counts.
 
 pub last_moment-append : (earlier : ℕ) (xs ys : List NamedCell)
     → last_moment earlier (xs ++ ys) ≡ last_moment (last_moment earlier xs) ys
@@ -127,7 +127,7 @@ tallied-append counts (x ∷ xs) ys = tallied-append (counted counts x.verdict) 
 pub cells_of-append : (xs ys : List Entry) → cells_of (xs ++ ys) ≡ cells_of xs ++ cells_of ys
 cells_of-append xs ys = map-append cell_of xs ys
 
--- A state stands for buckets, however they are written.
+-- A state that represents buckets represents equal ones.
 pub StandsFor-same : (state : State) (one other : ℕ → Buckets)
     → ((number : ℕ) → one number ≡ other number) → StandsFor state one → StandsFor state other
 StandsFor-same state one other same stands = record {

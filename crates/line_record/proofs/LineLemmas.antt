@@ -1,4 +1,4 @@
--- What a line keeps when it opens and when it judges a cell.
+-- The invariant of a line after it opens and after it judges a cell.
 use Rattle.std.proofs.Common.{◌≡◌, ℕ, ◌+◌, ◌^◌, ◌<◌, ◌≤◌, List, [], ◌∷◌, ◌++◌, length, Option, None, IsSome, sym, ap, subst, ◌∙◌, arith}
 use Rattle.std.proofs.lemmas.Bool.Decides.{nat_tests}
 use Rattle.std.proofs.lemmas.List.{length_push}
@@ -28,7 +28,7 @@ cells_in-counted tally Tag = omega arith
 cells_in-counted tally Discard = omega arith
 cells_in-counted tally Refuse = omega arith
 
--- A cell that the line has no reason to refuse.
+-- A cell that the line has no error for.
 pub record IsAdmitted (line : LineView) (moment : ℕ) : Type 0 where
   pub in_time : moment ≤ 2 ^ 62
   pub later : line.state.last ≤ moment
@@ -43,7 +43,7 @@ IsAdmitted-refusal line moment none = record {
   cells = grind (arith, nat_tests);
 }
 
--- A line that gained a cell.
+-- The invariant after one more cell.
 pub KeepsRoom-gains : (owner : Option Owner) (contracts : List Contract) (journal : ℕ) (start : State) (entries : List Entry) (state : State) (capacity : ℕ)
     → (entry : Entry) (next : State)
     → KeepsRoom (view_of owner contracts journal start entries state capacity) capacity
@@ -70,7 +70,7 @@ KeepsRoom-gains owner contracts journal start entries state capacity entry next 
       room = sound.room;
     }
 
--- The opening state is after no cell.
+-- An opening state agrees with the empty history.
 pub IsStateAfter-opening : (contracts : List Contract) (before : Tally) (state : State)
     → IsOpening contracts before state → IsStateAfter contracts [] state
 IsStateAfter-opening contracts before state opening =

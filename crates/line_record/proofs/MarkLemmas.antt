@@ -1,14 +1,14 @@
--- Which lines are held, by their marks.
+-- Held lines in terms of their marks.
 use Rattle.std.proofs.Common.{◌≡◌, ◌≢◌, ℕ, zero, suc, ◌<◌, ◌==◌, not, true, false, Some, List, [], ◌∷◌, length, replicate, map, slice_get, slice_set, slice_index, refl, ap, sym, ◌∙◌, arith}
 use Rattle.std.proofs.lemmas.Grind.{common_steps}
 use Rattle.line_record.specs.inner.FirstFree.{are_held}
 
--- No line is held where each mark is 0.
+-- If each mark is 0, no line is held.
 pub are_held-free : (lines : ℕ) → are_held (replicate lines 0) ≡ replicate lines false
 are_held-free zero = refl
 are_held-free (suc lines) = ap (λ rest. false ∷ rest) (are_held-free lines)
 
--- A line whose mark is written is held or free by that mark, and all others are as before.
+-- A write of a mark makes its line held or free and leaves all others unchanged.
 pub are_held-set : (marks : List ℕ) (line mark : ℕ) → are_held (slice_set marks line mark) ≡ slice_set (are_held marks) line (not (mark == 0))
 are_held-set [] line mark = refl
 are_held-set (first ∷ marks) zero mark = refl

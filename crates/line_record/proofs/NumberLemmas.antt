@@ -1,4 +1,4 @@
--- What has a number in a list, after a write to the list too.
+-- Items of a list by number, also after a write to the list.
 use Rattle.std.proofs.Common.{◌≡◌, ◌≢◌, ℕ, zero, suc, ◌-◌, ◌<◌, ◌≤◌, inl, inr, List, [], ◌∷◌, length, replicate, set, Some, None, All, get_or, refl, sym, ap, subst, ◌∙◌, arith}
 use Rattle.std.specs.Prelude.{slice_get}
 use Rattle.std.proofs.lemmas.Bool.Decides.{nat_tests}
@@ -13,7 +13,7 @@ module _ {X : Type 0} where
       slice_get-get_or (replicate n x) k x (omega (arith, length-replicate n x))
       ∙ ap Some (get_or-replicate n k x x within)
 
-  -- Numbers begin at 1.
+  -- There is no item of number 0.
   pub numbered-zero : (xs : List X) (n : ℕ) → n ≡ 0 → numbered xs n ≡ None
   numbered-zero xs n none = grind (arith, nat_tests)
 
@@ -32,13 +32,13 @@ module _ {X : Type 0} where
   numbered-set_other xs n zero x some apart = refl
   numbered-set_other xs n (suc m) x some apart = numbered-set_above xs n (suc m) x some (omega arith) apart
 
-  -- No list of four has such a number.
+  -- A list of at most four items has none of such a number.
   pub numbered-none : (xs : List X) (n : ℕ) → length xs ≤ 4 → IsNoNumber n → numbered xs n ≡ None
   numbered-none xs n few (inl none) = numbered-zero xs n none
   numbered-none xs n few (inr past) =
       numbered-above xs n (omega arith) ∙ slice_get_past xs (n - 1) (omega arith)
 
-  -- Lists of one length have the same numbers.
+  -- Lists of equal length have items of the same numbers.
   pub numbered-within : (xs : List X) (n : ℕ) (x : X) → numbered xs n ≡ Some x → (n ≢ 0) × (n - 1 < length xs)
   numbered-within xs zero x found = cc
   numbered-within xs (suc n) x found =
@@ -60,7 +60,7 @@ numbered-both xs ys n x same found =
     let other = slice_get-both xs ys (n - 1) x same at in
     (other.0, numbered-above ys n within.0 ∙ other.1)
 
--- What holds of all holds of what has a number.
+-- A property of all items holds of the item with a number.
 pub numbered-All : {X : Type 0} (P : X → Type 0) (xs : List X) (n : ℕ) (x : X) → All P xs → numbered xs n ≡ Some x → P x
 numbered-All P xs n x all found =
     let within = numbered-within xs n x found in

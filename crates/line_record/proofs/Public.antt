@@ -1,4 +1,4 @@
--- Lemmas that other crates may use: the laws of this crate, each as a term under its name.
+-- Lemmas for other crates: the laws of this crate as terms of the same names.
 use Rattle.line_record.specs.Laws.{HistoriesHaveStates, StatesStandForBuckets, RunsJoin, RunsFollowHistories, CellsAreJudgedInTurn, EachCellIsJudged, CountedCellsFill, HistoriesBoundBursts, TotalsCount, TotalsJoin, PartsAreWithin, VerdictsCount, EntriesCount}
 use Rattle.line_record.proofs.HistoryLemmas.{judged-append, each-judged}
 use Rattle.line_record.proofs.FillLemmas.{counted-fill}

@@ -10,7 +10,7 @@ use Rattle.line_record.specs.StateAfter.{IsStateAfter}
 use Rattle.line_record.specs.JournalRun.{tallied, IsRun}
 use Rattle.line_record.proofs.HistoryLemmas.{buckets_under-nil, buckets_after-append, judged-after, judged-append, last_moment-append, GoesOn-append, tallied-append, cells_of-append, StandsFor-same}
 
--- No entry is a run that stays.
+-- No entries are a run from a state to itself.
 pub IsRun-nil : (contracts : List Contract) (state : State) → length state.levels.items ≡ length contracts
     → IsRun contracts state [] state
 IsRun-nil contracts state one_each = record {
@@ -60,8 +60,8 @@ IsRun-append contracts start middle end xs ys first second =
           ∙ sym (tallied-append start.counts xs ys);
     }
 
--- A run from a state after a history leads to a state after the longer history, and its verdicts
--- are the history's.
+-- If a run starts from a state that agrees with a history, its end agrees with the longer history, and its verdicts are
+-- those of the history.
 pub IsStateAfter-run : (contracts : List Contract) (history : List NamedCell) (start end : State) (entries : List Entry)
     → IsStateAfter contracts history start → IsRun contracts start entries end
     → (entries ≡ judged contracts empty_buckets history (cells_of entries))

@@ -23,7 +23,7 @@ lookup-seating [] vc = refl
 lookup-seating (seating ∷ later) vc =
     rw (eq-vc vc seating.0) (ap (cond (is_same_vc vc seating.0) (Some seating.1)) (lookup-seating later vc))
 
--- A seating that passes a test, if the test finds one.
+-- If the test is true for some seating, an entry of the list has such a seating.
 entry_found : (test : Seating → Bool) (seatings : List (Vc × Seating)) → list_any test (values_of seatings) ≡ true
     → (entry : Vc × Seating) × Contains seatings entry × (test entry.1 ≡ true)
 entry_found test [] e = cc
@@ -48,7 +48,7 @@ seating_found test seatings has e =
     let found = entry_found test seatings e in
     (found.0.0, found.0.1, has found.0.0 found.0.1 found.1, found.2)
 
--- And the test finds the seating of a connection.
+-- If the test is true for the seating of a connection, it is true for some seating.
 pub seating_passes : (test : Seating → Bool) (seatings : List (Vc × Seating)) (vc : Vc) (seating : Seating)
     → seating_in seatings vc ≡ Some seating → test seating ≡ true → list_any test (values_of seatings) ≡ true
 seating_passes test [] vc seating at passes = cc
@@ -75,7 +75,7 @@ ChangesAt-updates old new vc seating updates = record {
       sym (lookup-seating new.entries other) ∙ updates.2 other away ∙ lookup-seating old.entries other;
 }
 
--- The seating is one that the directory can have.
+-- The connection may have this seating: its line and incarnation are in range, and no other connection has the line.
 pub record Suits (old : DirectoryView) (vc : Vc) (seating : Seating) (used : ℕ) : Type 0 where
   pub within : seating.line < old.lines
   pub given : (1 ≤ seating.incarnation) × (seating.incarnation ≤ used)
@@ -126,7 +126,7 @@ Suits-new old vc seating is within alone incarnation = record {
   alone = λ other another apart at. alone other another at;
 }
 
--- Another program changes nothing of that.
+-- This still holds with another program.
 pub Suits-moved : (old : DirectoryView) (vc : Vc) (before after : Seating) → IsDirectory old
     → seating_at old vc ≡ Some before → after.line ≡ before.line → after.incarnation ≡ before.incarnation
     → Suits old vc after old.used
@@ -151,7 +151,7 @@ IsDirectory-moved old new vc program is seating there changes =
     (Suits-moved old vc seating after is there refl refl))
     (omega arith) is.most
 
--- A connection whose program is told has a seating with it.
+-- If the connection has a program, it has a seating with that program.
 pub program_found : (found : Option Seating) (program : Id) → Some program ≡ option_map (λ seating. seating.program) found
     → (seating : Seating) × (found ≡ Some seating) × (seating.program ≡ program)
 program_found None program is = cc

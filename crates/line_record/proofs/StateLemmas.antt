@@ -17,7 +17,7 @@ use Rattle.line_record.proofs.HistoryLemmas.{arrivals_at-named, arrivals_at-skip
 use Rattle.line_record.proofs.EntryLemmas.{charged_later}
 use Rattle.line_record.specs.Laws.{StatesStandForBuckets, HistoriesHaveStates}
 
--- The buckets that levels stand for.
+-- Some buckets that the levels represent.
 some_buckets : Option Levels → Buckets
 some_buckets None = opening_buckets
 some_buckets (Some levels) = (levels_stand_for_buckets levels).0
@@ -61,7 +61,7 @@ charged-after contract number buckets earlier (cell ∷ later) goes charged =
     ] in
     choice (cell.value == number) refl
 
--- The cells that name a contract are in time where all are.
+-- If all cells have moments up to 2^62, so have those that name a contract.
 All-arrivals : (number : ℕ) (history : List NamedCell) → All (λ (c : NamedCell). c.moment ≤ 2 ^ 62) history
     → All (λ (a : Arrival). a.moment ≤ 2 ^ 62) (arrivals_at number history)
 All-arrivals number [] all = All-nil (λ (a : Arrival). a.moment ≤ 2 ^ 62)
@@ -77,7 +77,7 @@ All-arrivals number (cell ∷ later) all =
     ] in
     choice (cell.value == number) refl
 
--- Levels for the contracts from a number on.
+-- Levels for the contracts, from this number on.
 levels-built : (history : List NamedCell) → All (λ (c : NamedCell). c.moment ≤ 2 ^ 62) history
     → (contracts : List Contract) (from : ℕ)
     → (levels : List Levels) × (length levels ≡ length contracts)

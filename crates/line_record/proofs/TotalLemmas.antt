@@ -94,7 +94,7 @@ parts-within = record {
   total = IsPart-total;
 }
 
--- What is added so far, and what comes behind it.
+-- The sum so far, and the total of the rest.
 
 pub total-from : (tallies : List Tally) (place : ℕ) (given sum : Tally) → place < length tallies
     → plus sum (total (drop place tallies))

@@ -1,4 +1,4 @@
--- How many connections name a program, after each change of a directory.
+-- The number of connections that name a program, after each change of a directory.
 use Rattle.std.proofs.Common.{◌≡◌, ◌≢◌, ℕ, ◌+◌, ◌-◌, ◌^◌, ◌<◌, ◌≤◌, Bool, false, cond, Option, Some, None, List, [], length, replicate, set, refl, sym, ap, subst, ◌∙◌, inl, inr, arith, eq-eqb}
 use Rattle.std.specs.Prelude.{slice_get, slice_index, option_map}
 use Rattle.std.specs.List.{count_by}
@@ -21,7 +21,7 @@ use Rattle.gen_arena.proofs.Public.{slice_get-set_same, slice_get-set_other}
 use Rattle.line_record.proofs.NumberLemmas.{slice_get-replicate}
 use Rattle.line_record.proofs.HeldLemmas.{stays_taken, KnowsLines-new}
 
--- A count, after one element of the list was replaced.
+-- The count of a list, after one element is replaced.
 count_by-replaced : {X : Type 0} (test : X → Bool) (xs : List X) (k : ℕ) (old new : X) → slice_get xs k ≡ Some old
     → count_by test (set xs k new) + cond (test old) 1 0 ≡ count_by test xs + cond (test new) 1 0
 count_by-replaced test xs k old new at =
@@ -29,7 +29,7 @@ count_by-replaced test xs k old new at =
     subst (λ x. count_by test (set xs k new) + cond (test x) 1 0 ≡ count_by test xs + cond (test new) 1 0)
     (get_or_from_slice_get xs k old old at) replaced
 
--- The table beside a list of programs.
+-- The table for a list of programs.
 
 abbrev zeros : ℕ → List ℕ
 zeros places = replicate places 0
@@ -81,7 +81,7 @@ module _ (counts : List ℕ) (named : List (Option Id)) (counted : CountsProgram
   unfolding weight
   weight-replaced place line old new at = count_by-replaced (is_counted_at (length counts) place) named line old new at
 
-  -- One place changes as the count of its programs does.
+  -- A change of one line's program changes the count at one place.
   CountsPrograms-changed : (line : ℕ) (old new : Option Id) (changed uses : ℕ) → slice_get named line ≡ Some old
       → changed < length counts
       → ((place : ℕ) → place ≢ changed → weight place old ≡ weight place new)
@@ -108,7 +108,7 @@ module _ (counts : List ℕ) (named : List (Option Id)) (counted : CountsProgram
         each = subst Each (sym (length-set counts changed uses)) each;
       }
 
-  -- A line's connection names a program.
+  -- A line's connection names a program from now on.
   pub CountsPrograms-added : (line : ℕ) (program : Id) → slice_get named line ≡ Some None
       → CountsPrograms (with_uses counts program (uses_of counts program + 1)) (set named line (Some program))
   CountsPrograms-added line program at =
@@ -117,7 +117,7 @@ module _ (counts : List ℕ) (named : List (Option Id)) (counted : CountsProgram
       (λ other apart. weight-none other ∙ sym (weight-elsewhere program other apart))
       (omega (arith, weight-none place, weight-here program))
 
-  -- A program that a line's connection names is counted.
+  -- A program that a line's connection names has a count above 0.
   pub uses-some : (line : ℕ) (program : Id) → slice_get named line ≡ Some (Some program) → 0 < uses_of counts program
   uses-some line program at =
       let place = place_of counts program in
@@ -129,7 +129,7 @@ module _ (counts : List ℕ) (named : List (Option Id)) (counted : CountsProgram
         weight-here program,
       )
 
-  -- It names the program no more.
+  -- A line's connection no longer names the program.
   pub CountsPrograms-removed : (line : ℕ) (program : Id) → slice_get named line ≡ Some (Some program)
       → CountsPrograms (with_uses counts program (uses_of counts program - 1)) (set named line None)
   CountsPrograms-removed line program at =
@@ -138,7 +138,7 @@ module _ (counts : List ℕ) (named : List (Option Id)) (counted : CountsProgram
       (λ other apart. weight-elsewhere program other apart ∙ sym (weight-none other))
       (omega (arith, weight-none place, weight-here program, uses-some line program at))
 
-  -- Where a line has no connection, there is room for one more.
+  -- If a line has no connection, the count is below the number of lines.
   pub uses-room : (line : ℕ) (program : Id) → slice_get named line ≡ Some None → uses_of counts program < length named
   uses-room line program at =
       let place = place_of counts program in
@@ -180,7 +180,7 @@ KeepsDirectory-new seatings held counts lines used empty free zero some few most
   uses = CountsUses-new lines used some few;
 })
 
--- A program that some connection names has a use at its place.
+-- A program that some connection names has a count above 0.
 pub CountsUses-named : (directory : DirectoryView) (counts : List ℕ) → CountsUses directory counts
     → (program : Id) → IsNamed directory program → 0 < uses_of counts program
 CountsUses-named directory counts sound program is =
@@ -188,7 +188,7 @@ CountsUses-named directory counts sound program is =
     subst (λ (id : Id). 0 < uses_of counts id) is.names
     (uses-some counts sound.named sound.counted is.seating.line is.seating.program there)
 
--- A free line's connection names nothing.
+-- A free line has no program.
 pub CountsUses-free : (directory : DirectoryView) (counts : List ℕ) → (sound : CountsUses directory counts)
     → (line : ℕ) → line < directory.lines → IsOpenLine directory line → slice_get sound.named line ≡ Some None
 CountsUses-free directory counts sound line within free =
@@ -205,7 +205,7 @@ CountsUses-free directory counts sound line within free =
     ] in
     choice (slice_get sound.named line) refl
 
--- One connection changes, and with it the program of one line.
+-- The seating of one connection changes, and with it the program of one line.
 module _ (old : DirectoryView) (before : List ℕ) (sound : CountsUses old before) (new : List (Vc × Seating)) (vc : Vc)
     (used : ℕ) (seating : Option Seating) (changes : ChangesAt old.seatings new vc seating) (line : ℕ) where
   CountsUses-changed : (after : List ℕ) (named : List (Option Id)) → CountsPrograms after named
@@ -253,20 +253,20 @@ module _ (old : DirectoryView) (before : List ℕ) (sound : CountsUses old befor
     ];
   }
 
--- A connection's program has a use.
+-- A connection's program has a count above 0.
 pub CountsUses-held : (directory : DirectoryView) (counts : List ℕ) → CountsUses directory counts
     → (vc : Vc) (seating : Seating) → seating_at directory vc ≡ Some seating → 0 < uses_of counts seating.program
 CountsUses-held directory counts sound vc seating sits =
     uses-some counts sound.named sound.counted seating.line seating.program (sound.names vc seating sits)
 
--- Where a line is free, a use more has a number of 16 bits.
+-- If a line is free, a count plus one fits in 16 bits.
 pub CountsUses-room : (directory : DirectoryView) (counts : List ℕ) → CountsUses directory counts
     → (line : ℕ) → line < directory.lines → IsOpenLine directory line → (program : Id) → uses_of counts program < 65535
 CountsUses-room directory counts sound line within free program =
     let empty = CountsUses-free directory counts sound line within free in
     omega (arith, uses-room counts sound.named sound.counted line program empty, sound.sized, sound.few)
 
--- A connection comes to a free line.
+-- A connection gets a free line.
 pub CountsUses-put : (old : DirectoryView) (counts : List ℕ) → CountsUses old counts
     → (new : List (Vc × Seating)) (vc : Vc) (used : ℕ) (seating : Seating) → seating_at old vc ≡ None
     → ChangesAt old.seatings new vc (Some seating) → seating.line < old.lines → IsOpenLine old seating.line
@@ -285,7 +285,7 @@ CountsUses-put old counts sound new vc used seating absent changes within free =
     (λ given sits. let none : Some given ≡ None = sym sits ∙ absent in cc)
     (λ other given apart sits. free other given sits)
 
--- A connection is taken out.
+-- A connection is removed.
 pub CountsUses-take : (old : DirectoryView) (counts : List ℕ) → CountsUses old counts → IsDirectory old
     → (new : List (Vc × Seating)) (vc : Vc) (used : ℕ) (seating : Seating) → seating_at old vc ≡ Some seating
     → ChangesAt old.seatings new vc None
@@ -304,8 +304,7 @@ CountsUses-take old counts sound is new vc used seating there changes =
     (λ given sits. ap (λ (s : Seating). s.line) (same_Some given seating (sym sits ∙ there)))
     (λ other given apart sits same. apart (is.apart other vc given seating sits there same))
 
--- A connection gets another program: a use less of the one that it named, and then a use more of
--- the other.
+-- A connection gets another program: the count of the earlier one falls, and then that of the new one grows.
 module _ (old : DirectoryView) (counts : List ℕ) (sound : CountsUses old counts) (vc : Vc) (seating : Seating)
     (there : seating_at old vc ≡ Some seating) (program : Id) where
   abbrev pub between : List ℕ

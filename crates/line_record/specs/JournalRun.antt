@@ -1,4 +1,4 @@
--- Entries of a journal that lead from one state of a line to another.
+-- Journal entries that lead from one state of a line to another.
 use Rattle.std.specs.Prelude.{◌≡◌, ℕ, Some, List, [], ◌∷◌, length}
 use Rattle.leaky.specs.declared.contract.Contract.{Contract}
 use Rattle.leaky.specs.declared.levels.Levels.{Levels}
@@ -11,13 +11,13 @@ use Rattle.line_record.specs.declared.tally.Tally.{Tally}
 use Rattle.line_record.specs.Tally.{counted}
 use Rattle.line_record.specs.History.{numbered, moments_of, last_moment, cells_of, buckets_after, judged}
 
--- The counts after these entries.
+-- The counts after these entries are added.
 abbrev pub tallied : Tally → List Entry → Tally
 tallied counts [] = counts
 tallied counts (entry ∷ later) = tallied (counted counts entry.verdict) later
 
--- The levels of a state stand for these buckets of its contracts by number, and none of them was
--- charged after the state's last moment.
+-- The levels of the state represent these buckets, by contract number, and no bucket was charged after the state's last
+-- moment.
 pub record StandsFor (state : State) (buckets : ℕ → Buckets) : Type 0 where
   pub agrees : (number : ℕ) (levels : Levels)
       → numbered state.levels.items number ≡ Some levels → Agrees levels (buckets number)
@@ -25,9 +25,9 @@ pub record StandsFor (state : State) (buckets : ℕ → Buckets) : Type 0 where
       → numbered state.levels.items number ≡ Some levels
       → IsChargedBy (buckets number) state.last
 
--- The entries are a run from the start to the end under the contracts. From all buckets that the
--- start stands for, the verdicts are those of the contracts, and the end stands for the buckets that
--- are left. Both states have levels for each contract, and each entry is counted.
+-- The entries are a run from the start to the end under the contracts. From any buckets that the start represents, the
+-- verdicts are those of the contracts, and the end represents the buckets that are left. Both states have levels for
+-- each contract, and the counts of the end include each entry.
 pub record IsRun (contracts : List Contract) (start : State) (entries : List Entry) (end : State) : Type 0 where
   pub opens : length start.levels.items ≡ length contracts
   pub closes : length end.levels.items ≡ length contracts

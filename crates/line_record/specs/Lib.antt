@@ -1,5 +1,4 @@
--- What a line of the card keeps of the connection that it serves, and which line serves which
--- connection.
+-- What a line of the card records of the connection that it serves, and which line serves which connection.
 pub mod Tally
 pub mod History
 pub mod JournalRun

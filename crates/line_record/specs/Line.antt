@@ -10,9 +10,9 @@ use Rattle.line_record.specs.declared.fault.LineFault.TheVariants.{TooLate, Back
 use Rattle.line_record.specs.Tally.{cells_in}
 use Rattle.line_record.specs.JournalRun.{IsRun}
 
--- The owner (none where the line is free) and its contracts, how many entries a journal may have,
--- the state at the journal's beginning, the journal's entries, the present state, and whether a free
--- line already has the room for a journal.
+-- The owner (None if the line is free) and its contracts, the greatest number of entries of a journal, the state at the
+-- beginning of the journal, its entries, the present state, and whether the line is free with space reserved for a
+-- journal.
 pub record LineView : Type 0 where
   pub owner : Option Owner
   pub contracts : List Contract
@@ -22,11 +22,11 @@ pub record LineView : Type 0 where
   pub state : State
   pub ready : Bool
 
--- The state of no contract.
+-- The state of a line without contracts.
 abbrev pub resting : Tally → State
 resting counts = record { levels = record { items = [] }; last = 0; counts = counts }
 
--- A line that serves no connection, and has judged so many cells.
+-- A line that serves no connection, with these counts.
 abbrev pub free_line : ℕ → Tally → Bool → LineView
 free_line journal counts ready = record {
   owner = None;
@@ -38,8 +38,8 @@ free_line journal counts ready = record {
   ready = ready;
 }
 
--- Why a cell of this moment is not judged: it is later than 2^62, or earlier than the last judged
--- cell, or the journal is full or the line has judged 2^62 cells.
+-- The error if no cell of this moment can be judged: the moment is above 2^62, or before that of the last judged cell,
+-- or the journal is full, or 2^62 cells were judged on the line.
 abbrev pub line_refusal : LineView → ℕ → Option LineFault
 line_refusal line moment =
     if nat_lt (2 ^ 62) moment then Some TooLate
@@ -52,7 +52,7 @@ line_refusal line moment =
 abbrev pub IsHeld : LineView → Type 0
 IsHeld line = IsSome line.owner
 
--- The line has judged one more cell, which its journal gained, and all else of it is as before.
+-- The line judged one more cell: its journal has one more entry, its state changed by it, and all else is unchanged.
 pub record Gains (old : LineView) (entry : Entry) (new : LineView) : Type 0 where
   pub after : new ≡ record old { entries = old.entries ++ entry ∷ []; state = new.state }
   pub run : IsRun old.contracts old.state (entry ∷ []) new.state
@@ -64,7 +64,8 @@ pub record IsOpening (contracts : List Contract) (before : Tally) (state : State
   pub last : state.last ≡ 0
   pub counts : state.counts ≡ before
 
--- A free line has begun to serve a connection under these contracts, with an empty journal.
+-- The line now serves this connection under these contracts, with an empty journal and an opening state. The limit of
+-- the journal and the counts are those of the old line.
 pub record Opens (old : LineView) (holder : Owner) (under : List Contract) (new : LineView) : Type 0 where
   pub owner : new.owner ≡ Some holder
   pub contracts : new.contracts ≡ under
@@ -74,11 +75,11 @@ pub record Opens (old : LineView) (holder : Owner) (under : List Contract) (new 
   pub state : IsOpening under old.state.counts new.state
   pub ready : new.ready ≡ false
 
--- What every line keeps: its entries are a run from the start to the present state, it has at most
--- four contracts, and its numbers are within their limits.
+-- Invariant of a line: its entries are a run from the journal's first state to the present one, it has at most four
+-- contracts, and its numbers are within their limits. A line that serves a connection has a contract; a free line has
+-- no contract and no entry.
 pub record IsLine (line : LineView) : Type 0 where
   pub run : IsRun line.contracts line.start line.entries line.state
-  -- It has at most four contracts.
   pub few : length line.contracts ≤ 4
   pub some : 1 ≤ line.journal
   pub journal : line.journal ≤ 65536

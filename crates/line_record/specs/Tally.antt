@@ -8,7 +8,7 @@ use Rattle.line_record.specs.declared.tally.Tally.{Tally}
 abbrev pub nothing : Tally
 nothing = record { passed = 0; tagged = 0; discarded = 0; refused = 0 }
 
--- One more cell has this verdict.
+-- The counts with one more cell of this verdict.
 abbrev pub counted : Tally → Verdict → Tally
 counted tally Pass = record tally { passed = tally.passed + 1 }
 counted tally Tag = record tally { tagged = tally.tagged + 1 }
@@ -31,14 +31,14 @@ count_of tally Refuse = tally.refused
 abbrev pub cells_in : Tally → ℕ
 cells_in tally = tally.passed + tally.tagged + tally.discarded + tally.refused
 
--- Each number is below the most that is counted, 2^62.
+-- Each number is below 2^62.
 pub record HasRoom (tally : Tally) : Type 0 where
   pub passed : tally.passed < 2 ^ 62
   pub tagged : tally.tagged < 2 ^ 62
   pub discarded : tally.discarded < 2 ^ 62
   pub refused : tally.refused < 2 ^ 62
 
--- Both tallies together.
+-- The sum of two tallies.
 abbrev pub plus : Tally → Tally → Tally
 plus one other = record {
   passed = one.passed + other.passed;
@@ -47,19 +47,19 @@ plus one other = record {
   refused = one.refused + other.refused;
 }
 
--- All tallies of a list together.
+-- The sum of all tallies of a list.
 abbrev pub total : List Tally → Tally
 total [] = nothing
 total (tally ∷ later) = plus tally (total later)
 
--- Each number is below 2^64, so that a program can hold it.
+-- Each number is below 2^64, so it fits in a machine word.
 pub record FitsWords (tally : Tally) : Type 0 where
   pub passed : tally.passed < 2 ^ 64
   pub tagged : tally.tagged < 2 ^ 64
   pub discarded : tally.discarded < 2 ^ 64
   pub refused : tally.refused < 2 ^ 64
 
--- Of each verdict the part has at most as many cells as the whole.
+-- For each verdict, the part has at most as many cells as the whole.
 pub record IsPart (part whole : Tally) : Type 0 where
   pub passed : part.passed ≤ whole.passed
   pub tagged : part.tagged ≤ whole.tagged

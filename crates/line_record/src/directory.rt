@@ -1,4 +1,4 @@
-//! Which line serves which connection.
+//! The line of each connection.
 
 ghost use Rattle.std.specs.Prelude.{◌≡◌, ◌==◌, Some, IfSome, IfNone, option_map};
 ghost use Rattle.std.specs.List.{list_any};
@@ -20,7 +20,7 @@ use upc_cell::Vc;
 /// The last incarnation that a directory gives: 2^62.
 pub const LAST_INCARNATION: u64 = 4611686018427387904;
 
-/// The place of a connection.
+/// The line, the incarnation and the program of a connection.
 #[derive(Clone, Copy, Debug, PartialEq, Eq)]
 pub struct Seating {
     /// The number of its line, from 0.
@@ -31,20 +31,18 @@ pub struct Seating {
     pub program: Id,
 }
 
-/// Which line of the card serves which connection. No two connections share a line, and no
-/// incarnation is given twice.
+/// The line of each connection of a card. No two connections have the same line, and no incarnation is given twice.
 #[derive(Debug, Drop)]
 pub struct Directory {
-    /// Every cell is looked up here. An ordered map compares on the way down with jumps that no
-    /// processor foretells; a hash finds the place at once. There is room for a connection on each
-    /// line from the start.
+    /// Every cell causes a look-up here. An ordered map takes a branch at each level that a processor can't predict; a
+    /// hash map takes one step. There is space for a connection on each line from the start.
     seatings: HashMap<Vc, Seating>,
     lines: u16,
-    /// How many incarnations were given.
+    /// The number of incarnations given so far.
     used: u64,
-    /// Of each line, whether it is some connection's.
+    /// For each line, whether some connection has it.
     held: HeldLines,
-    /// How many connections name a program. Where none does, no seating is looked at to tell it.
+    /// The number of connections that name a program. If it is 0, no seating has to be read.
     uses: ProgramUses,
 }
 
@@ -63,12 +61,12 @@ impl Directory {
     ghost use Rattle.std.specs.Prelude.{◌≡◌, ℕ, ◌+◌, ◌^◌, ◌<◌, ◌≤◌, ◌⊎◌, ◌↔◌, Some, None, IsTrue, IsErrOf, IfOk, IfErr, IfSome, OnOk, OnErr, IfNone, MatchOption, option_map};
     ghost use Rattle.line_record.specs.Directory.{seating_at, IsOpenLine, IsTakenLine, IsNamed, Sits, IsEmpty, IsDirectory};
 
-    /// A directory of `lines` lines without connections, which gives the incarnation `first` next.
+    /// Makes a directory of `lines` lines without connections. It gives the incarnation `first` next.
     ///
     /// # Errors
     ///
-    /// `NoLines` where `lines` is 0, then `BadFirst` where `first` is 0 or above 2^62, and then
-    /// `NoMemory` where the memory is refused.
+    /// `NoLines` if `lines` is 0; otherwise `BadFirst` if `first` is 0 or above 2^62; otherwise `NoMemory` if an
+    /// allocation fails.
     pub fn new(alloc: Global, lines: u16, first: u64) -> Result<Self, DirFault>
         ensures made { IfOk result (λ directory. IsEmpty directory lines first) }
         ensures no_lines { IsErrOf result DirFault.NoLines ↔ (lines ≡ 0) }
@@ -84,8 +82,8 @@ impl Directory {
         Directory::empty(alloc, lines, first - 1).ok_or(DirFault::NoMemory)
     }
 
-    /// A directory without connections, where this number of incarnations was given; `None` where the
-    /// memory is refused.
+    /// Makes a directory without connections that has given this number of incarnations. Returns None if an allocation
+    /// fails.
     fn empty(alloc: Global, lines: u16, used: u64) -> Option<Self>
         requires some { 0 < lines }
         requires most { used ≤ 2 ^ 62 }
@@ -105,7 +103,7 @@ impl Directory {
         })
     }
 
-    /// The place of the connection, if it has one. Takes no memory.
+    /// Returns the seating of the connection, if it has one. Doesn't allocate.
     #[inline]
     pub fn find(&self, vc: Vc) -> Option<Seating>
         ensures seating { result ≡ seating_at self.now vc }
@@ -114,11 +112,11 @@ impl Directory {
         self.seatings.get(&vc).copied()
     }
 
-    /// Gives the connection a free line and the next incarnation, which is answered.
+    /// Gives the connection a free line and the next incarnation. Returns the incarnation.
     ///
     /// # Errors
     ///
-    /// `NoMemory`, where the memory is refused.
+    /// `NoMemory` if an allocation fails.
     pub fn put(&mut self, vc: Vc, line: u16, program: Id) -> Result<u64, DirFault>
         requires absent { seating_at self.old vc ≡ None }
         requires line { line < self.old.lines }
@@ -149,8 +147,8 @@ impl Directory {
         }
     }
 
-    /// Gives the connection another program, and answers the one that it had. Where there is no
-    /// such connection nothing changes. Takes no memory.
+    /// Gives the connection another program and returns the earlier one. If there is no such connection, returns None
+    /// and changes nothing. Doesn't allocate.
     pub fn move_to(&mut self, vc: Vc, program: Id) -> Option<Id>
         ensures before { result ≡ option_map (λ seating. seating.program) (seating_at self.old vc) }
         ensures moved { IfSome (seating_at self.old vc)
@@ -167,7 +165,7 @@ impl Directory {
         before
     }
 
-    /// Takes the connection out, and answers its place. Takes no memory.
+    /// Removes the connection and returns its seating. Doesn't allocate.
     pub fn take(&mut self, vc: Vc) -> Option<Seating>
         ensures before { result ≡ seating_at self.old vc }
         ensures gone { Sits self.old vc None self.new }
@@ -181,15 +179,14 @@ impl Directory {
         Some(seating)
     }
 
-    /// Whether some connection names the program. Takes no memory.
+    /// Returns whether some connection names the program. Doesn't allocate.
     pub fn names(&self, program: Id) -> bool
         ensures { IsTrue result ↔ IsNamed self.now program }
     {
         !self.uses.is_unused(program) && any_names(&self.seatings, program)
     }
 
-    /// The number of a line that is no connection's, if there is one. Which of them is open. Takes
-    /// no memory.
+    /// Returns a line that no connection has, if there is one. The contract doesn't fix which one. Doesn't allocate.
     pub fn free_line(&self) -> Option<u16>
         ensures { MatchOption result
             ((line : ℕ) → line < self.now.lines → IsTakenLine self.now line)
@@ -198,7 +195,7 @@ impl Directory {
         self.held.lowest_free()
     }
 
-    /// Whether the last incarnation was given.
+    /// Returns whether the last incarnation was given.
     pub fn worn(&self) -> bool
         ensures worn { IsTrue result ↔ (self.now.used ≡ 2 ^ 62) }
         ensures directory { IsDirectory self.now }
@@ -207,7 +204,7 @@ impl Directory {
     }
 }
 
-/// Writes another program into the place of the connection.
+/// Writes another program into the seating of the connection. Returns the earlier one.
 fn reprogram(seatings: &mut HashMap<Vc, Seating>, vc: Vc, program: Id) -> Option<Id>
     ensures before { result ≡ option_map (λ seating. seating.program) (seating_in seatings.old.entries vc) }
     ensures moved { IfSome (seating_in seatings.old.entries vc) (λ seating.
@@ -218,7 +215,7 @@ fn reprogram(seatings: &mut HashMap<Vc, Seating>, vc: Vc, program: Id) -> Option
     Some(mem::replace(&mut seating.program, program))
 }
 
-/// Whether some connection names the program.
+/// Returns whether some connection names the program.
 fn any_names(seatings: &HashMap<Vc, Seating>, program: Id) -> bool
     ensures any { result ≡ list_any (λ seating. is_same_id seating.program program) (values seatings.now) }
     ensures apart { HasEntries seatings.now.entries }

@@ -3,18 +3,17 @@
 use gen_arena::Id;
 use leaky::Verdict;
 
-/// A judged cell in a journal. In this order its fields take 24 octets; with the small ones in between they
-/// would take 32.
+/// A judged cell in a journal. In this order its fields take 24 octets; with the small ones in between they would take
+/// 32.
 #[derive(Clone, Copy, Debug, PartialEq, Eq)]
 pub struct Entry {
-    /// When the cell came, in ticks.
+    /// The moment of arrival, in ticks.
     pub moment: u64,
     /// The program that gave the number.
     pub program: Id,
-    /// The number that the program gave for it: that of a contract, counted from 1, or any other,
-    /// which names none.
+    /// The number that the program gave: that of a contract, counted from 1, or any other number, which names none.
     pub value: u32,
-    /// Its cell loss priority, before it was judged.
+    /// The cell loss priority on arrival.
     pub clp: bool,
     pub verdict: Verdict,
 }

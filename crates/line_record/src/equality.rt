@@ -1,4 +1,4 @@
-//! Comparisons whose contracts say that they find equal what is equal.
+//! Comparisons with contracts that other crates can use.
 
 ghost use Rattle.std.specs.Prelude.{◌≡◌, ◌↔◌, IsTrue};
 
@@ -6,7 +6,7 @@ use crate::owner::Owner;
 use leaky::{Contract, Levels};
 use upc_cell::same_vc;
 
-/// Whether both are the same connection in the same incarnation.
+/// Returns whether both are the same connection in the same incarnation.
 pub fn same_owner(one: Owner, other: Owner) -> bool
     ensures { IsTrue result ↔ (one ≡ other) }
 {

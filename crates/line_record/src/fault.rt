@@ -1,34 +1,34 @@
-//! Why a line or a directory refuses.
+//! The errors of lines and directories.
 
 use thiserror::Error;
 
-/// Why a line refuses. It is printed as its number and its name.
+/// An error of a line. Printed as its number and its name.
 #[derive(Clone, Copy, Debug, PartialEq, Eq, Error)]
 pub enum LineFault {
     /// The moment is above 2^62.
     #[error("1 TooLate")]
     TooLate,
-    /// The moment is before this one, that of the last judged cell of the connection.
+    /// The moment is before this one, which is that of the connection's last judged cell.
     #[error("2 Back {0}")]
     Back(u64),
     /// The journal is full, or 2^62 cells were judged on the line.
     #[error("3 Full")]
     Full,
-    /// The memory was refused.
+    /// An allocation failed.
     #[error("4 NoMemory")]
     NoMemory,
 }
 
-/// Why a directory refuses. It is printed as its number and its name.
+/// An error of a directory. Printed as its number and its name.
 #[derive(Clone, Copy, Debug, PartialEq, Eq, Error)]
 pub enum DirFault {
-    /// It would have no line.
+    /// The number of lines is 0.
     #[error("1 NoLines")]
     NoLines,
-    /// The incarnation that it would give first is 0 or above 2^62.
+    /// The first incarnation is 0 or above 2^62.
     #[error("2 BadFirst")]
     BadFirst,
-    /// The memory was refused.
+    /// An allocation failed.
     #[error("3 NoMemory")]
     NoMemory,
 }

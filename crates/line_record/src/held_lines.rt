@@ -1,4 +1,4 @@
-//! Which lines of a card are held, and the lowest that is free.
+//! The held lines of a card, and the lowest free one.
 
 ghost use Rattle.std.specs.Prelude.{◌≡◌, ◌≤◌, length, replicate, IfSome};
 ghost use Rattle.line_record.specs.inner.FirstFree.{IsFirstFree};
@@ -13,16 +13,16 @@ const FREE: u8 = 0;
 /// The mark of a held line.
 const HELD: u8 = 1;
 
-/// Of each line whether it is held. A line has its number from 0.
+/// For each line, numbered from 0, whether it is held.
 ///
-/// The lowest free line is given, whatever was freed last, so that the same setups and releases give
-/// the same lines. If each setup looked for it from line 0 on, n setups would take n * n / 2 looks.
-/// So the lowest free line is kept. When that one is held, `memchr` finds the next one, many lines at once.
+/// A setup gets the lowest free line, in whatever order lines were freed, so the same setups and releases give the same
+/// lines. A search from line 0 on would cost n setups n * n / 2 steps, so the lowest free line is stored. When it
+/// becomes held, `memchr` finds the next one, many lines at once.
 #[derive(Debug, Drop)]
 pub(crate) struct HeldLines {
-    /// Of each line its mark.
+    /// The mark of each line.
     marks: Vec<u8>,
-    /// The lowest free line, and how many lines there are where each is held.
+    /// The lowest free line, or the number of lines if all are held.
     lowest: u16,
 }
 
@@ -40,7 +40,7 @@ impl Model for HeldLines {
 impl HeldLines {
     ghost use Rattle.std.specs.Prelude.{◌≡◌, ◌<◌, ℕ, length, replicate, slice_get, slice_set, true, false, Some, IfSome, MatchOption};
 
-    /// This number of lines, each of them free; `None` where the memory is refused.
+    /// Makes this number of free lines. Returns None if an allocation fails.
     pub(crate) fn new(alloc: Global, lines: u16) -> Option<Self>
         ensures { IfSome result (λ held. held ≡ replicate lines false) }
     {
@@ -48,7 +48,7 @@ impl HeldLines {
         Some(HeldLines { marks, lowest: 0 })
     }
 
-    /// The lowest free line, if there is one.
+    /// Returns the lowest free line, if there is one.
     pub(crate) fn lowest_free(&self) -> Option<u16>
         ensures free { MatchOption result
             ((line : ℕ) → line < length self.now → slice_get self.now line ≡ Some true)
@@ -63,7 +63,7 @@ impl HeldLines {
         }
     }
 
-    /// Holds the line.
+    /// Marks the line as held.
     pub(crate) fn hold(&mut self, line: u16)
         requires { line < length self.old }
         ensures { self.new ≡ slice_set self.old line true }
@@ -74,7 +74,7 @@ impl HeldLines {
         }
     }
 
-    /// Frees the line.
+    /// Marks the line as free.
     pub(crate) fn free(&mut self, line: u16)
         requires { line < length self.old }
         ensures { self.new ≡ slice_set self.old line false }
@@ -86,14 +86,14 @@ impl HeldLines {
     }
 }
 
-/// The marks of this number of free lines; `None` where the memory is refused.
+/// Returns the marks of this number of free lines, or None if an allocation fails.
 fn free_marks(alloc: Global, lines: u16) -> Option<Vec<u8>>
     ensures { IfSome result (λ marks. marks.items ≡ replicate lines FREE) }
 {
     vec![in alloc; FREE; usize::from(lines)].ok()
 }
 
-/// The first free line from `start` on, and how many lines there are where none is free.
+/// Returns the first free line from `start` on, or the number of lines if there is none.
 fn first_free(marks: &[u8], start: u16) -> u16
     requires within { start ≤ length marks.now }
     requires few { length marks.now ≤ 65535 }

@@ -1,29 +1,28 @@
-//! Laws over the definitions that the contracts of this crate cite. These functions do nothing:
-//! each stands for the law that is its contract.
+//! Laws of the definitions that this crate's contracts cite. Each function does nothing; its contract is the law.
 
 ghost use Rattle.line_record.specs.Laws.{HistoriesHaveStates, StatesStandForBuckets, RunsJoin, RunsFollowHistories, CellsAreJudgedInTurn, EachCellIsJudged, CountedCellsFill, HistoriesBoundBursts, TotalsCount, TotalsJoin, PartsAreWithin, VerdictsCount, EntriesCount};
 
-/// Every history whose moments don't go back has a state that agrees with it.
+/// For every history whose moments never go back, up to 2^62, some state agrees with it.
 pub fn histories_have_states()
     ensures { HistoriesHaveStates }
 {}
 
-/// Every state stands for some buckets.
+/// Every state represents some buckets.
 pub fn states_stand_for_buckets()
     ensures { StatesStandForBuckets }
 {}
 
-/// Runs one after another are one run.
+/// Runs that follow one another make one run.
 pub fn runs_join()
     ensures { RunsJoin }
 {}
 
-/// Runs from a state after a history have the history's verdicts.
+/// A run from a state that agrees with a history has the history's verdicts.
 pub fn runs_follow_histories()
     ensures { RunsFollowHistories }
 {}
 
-/// Cells are judged in turn.
+/// Judging cells in two parts is judging them as one list.
 pub fn cells_are_judged_in_turn()
     ensures { CellsAreJudgedInTurn }
 {}
@@ -33,13 +32,12 @@ pub fn each_cell_is_judged()
     ensures { EachCellIsJudged }
 {}
 
-/// A cell is counted for a bucket exactly where it filled that bucket.
+/// A cell is counted for a bucket exactly if it filled that bucket.
 pub fn counted_cells_fill()
     ensures { CountedCellsFill }
 {}
 
-/// In any span of `d` ticks at most `1 + (d + limit) / increment` cells of a history charge one
-/// bucket of a contract.
+/// In any span of `d` ticks at most `1 + (d + limit) / increment` cells of a history charge one bucket of a contract.
 pub fn histories_bound_bursts()
     ensures { HistoriesBoundBursts }
 {}
@@ -54,17 +52,17 @@ pub fn totals_join()
     ensures { TotalsJoin }
 {}
 
-/// A part is at most the whole, verdict by verdict.
+/// A part has at most as many cells of each verdict as the whole.
 pub fn parts_are_within()
     ensures { PartsAreWithin }
 {}
 
-/// Verdicts are counted part by part, one by one, and each once.
+/// Verdicts can be counted part by part or one by one, and each counts once.
 pub fn verdicts_count()
     ensures { VerdictsCount }
 {}
 
-/// Entries are counted as their verdicts are.
+/// Entries are counted by their verdicts.
 pub fn entries_count()
     ensures { EntriesCount }
 {}

@@ -1,5 +1,5 @@
-//! What a line of an ATM card keeps of the connection that it serves: its journal, which is handed
-//! out in pieces, and the directory that knows which line serves which connection.
+//! A line of an ATM card: the journal of the connection that it serves, the pieces in which the journal is taken out,
+//! and the directory of which line serves which connection.
 #![tactic(auto)]
 
 mod directory;

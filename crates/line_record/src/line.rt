@@ -1,4 +1,4 @@
-//! A line of the card: its connection, its journal, and the judging of cells.
+//! A line of the card: its connection, its journal, and the policing of cells.
 
 ghost use Rattle.std.specs.Prelude.{◌≡◌};
 
@@ -15,23 +15,23 @@ use std::alloc::Global;
 use std::marker::Model;
 use std::mem;
 
-/// How many cells are judged on one line at most: 2^62.
+/// The greatest number of cells judged on one line: 2^62.
 pub const MOST_CELLS: u64 = 4611686018427387904;
 
-/// How many entries a journal has at most: 65,536.
+/// The greatest number of entries of a journal: 65,536.
 pub const MOST_ENTRIES: u32 = 65536;
 
-/// A line of the card: the connection that it serves, if any, with its contracts and their state,
-/// and the journal of the cells that were judged since it was last handed out.
+/// A line of the card: the connection that it serves, if any, with its contracts and their state, and the journal of
+/// the cells that were judged since the last piece was taken out.
 ///
-/// The entries of the journal are a run from the state at its beginning to the present state. The
-/// counts are those of all cells that were ever judged on the line.
+/// The entries of the journal are a run from the state at its beginning to the present state. The counts are those of
+/// all cells ever judged on the line.
 #[derive(Debug, Drop)]
 pub struct Line {
-    // What every cell touches comes first and lies together.
+    // The fields that every cell uses come first, next to each other.
     owner: Option<Owner>,
     journal: u32,
-    /// There is room for the whole journal while the line serves a connection.
+    /// Has capacity for the whole journal while the line serves a connection.
     entries: Vec<Entry>,
     state: State,
     contracts: ArrayVec<Contract, 4>,
@@ -62,11 +62,11 @@ impl Line {
     ghost use Rattle.line_record.specs.Line.{free_line, line_refusal, IsHeld, Gains, Opens, IsLine};
     ghost use Rattle.line_record.specs.Piece.{IsJournalOf, IsPiece};
 
-    /// A free line that has judged no cell, and whose journals hold `journal` entries (1 to 65536).
+    /// Makes a free line that has judged no cell. Its journals have at most `journal` entries (1 to 65536).
     ///
     /// # Errors
     ///
-    /// `NoMemory`, where the memory is refused.
+    /// `NoMemory` if an allocation fails.
     pub fn new(alloc: Global, journal: u32) -> Result<Self, LineFault>
         requires some { 1 ≤ journal }
         requires most { journal ≤ MOST_ENTRIES }
@@ -76,7 +76,7 @@ impl Line {
         Ok(Line::free(alloc, journal, Tally::new()))
     }
 
-    /// A free line with these counts.
+    /// Makes a free line with these counts.
     fn free(alloc: Global, journal: u32, counts: Tally) -> Self
         requires some { 1 ≤ journal }
         requires most { journal ≤ MOST_ENTRIES }
@@ -93,7 +93,7 @@ impl Line {
         }
     }
 
-    /// Whether the line serves no connection.
+    /// Returns whether the line serves no connection.
     pub fn is_free(&self) -> bool
         ensures free { IsTrue result ↔ (self.now.owner ≡ None) }
         ensures line { IsLine self.now }
@@ -101,14 +101,14 @@ impl Line {
         self.owner.is_none()
     }
 
-    /// Whether the line is free and has the room for its next journal.
+    /// Returns whether the line is free and has space reserved for its next journal.
     pub fn is_ready(&self) -> bool
         ensures { result ≡ self.now.ready }
     {
         self.is_free() && self.entries.capacity() >= self.journal as usize
     }
 
-    /// The connection that the line serves.
+    /// Returns the connection that the line serves.
     pub fn owner(&self) -> Option<Owner>
         ensures owner { result ≡ self.now.owner }
         ensures line { IsLine self.now }
@@ -116,7 +116,7 @@ impl Line {
         self.owner
     }
 
-    /// The contracts of the connection that the line serves, and none where it is free.
+    /// Returns the contracts of the connection that the line serves; none if the line is free.
     pub fn contracts(&self) -> &[Contract]
         ensures contracts { result.now ≡ self.now.contracts }
         ensures few { length self.now.contracts ≤ 4 }
@@ -125,7 +125,7 @@ impl Line {
         self.contracts.as_slice()
     }
 
-    /// The verdicts on all cells that were ever judged on the line.
+    /// Returns the counts of the verdicts on all cells ever judged on the line.
     pub fn counts(&self) -> Tally
         ensures counts { result ≡ self.now.state.counts }
         ensures bounded { cells_in result ≤ 2 ^ 62 }
@@ -133,7 +133,7 @@ impl Line {
         self.state.counts
     }
 
-    /// The moment of the connection's last judged cell, in ticks, and 0 where there was none.
+    /// Returns the moment of the connection's last judged cell, in ticks, or 0 if there was none.
     pub fn last(&self) -> u64
         ensures last { result ≡ self.now.state.last }
         ensures bounded { result ≤ 2 ^ 62 }
@@ -141,7 +141,7 @@ impl Line {
         self.state.last
     }
 
-    /// The journal: the cells that were judged since it was last handed out.
+    /// Returns the journal: the cells judged since the last piece was taken out.
     pub fn entries(&self) -> &[Entry]
         ensures entries { result.now ≡ self.now.entries }
         ensures line { IsLine self.now }
@@ -149,11 +149,11 @@ impl Line {
         self.entries.as_slice()
     }
 
-    /// Takes the room for the next journal of a free line, so that `open` takes none.
+    /// Reserves space for the next journal of a free line, so that `open` doesn't allocate.
     ///
     /// # Errors
     ///
-    /// `NoMemory`, where the memory is refused.
+    /// `NoMemory` if an allocation fails.
     pub fn prepare(&mut self) -> Result<(), LineFault>
         requires { self.old.owner ≡ None }
         ensures ready { OnOk result (self.new ≡ record self.old { ready = true }) }
@@ -169,13 +169,12 @@ impl Line {
         Ok(())
     }
 
-    /// Begins to serve a connection under its contracts, at least one. Their buckets are empty, the
-    /// last moment is 0, and so is the journal's number of entries.
+    /// Starts to serve a connection under its contracts, of which there is at least one. The buckets and the journal
+    /// are empty, and the last moment is 0.
     ///
     /// # Errors
     ///
-    /// `NoMemory` with the contracts, where the room for the journal is refused. It is never
-    /// answered of a line that is ready.
+    /// `NoMemory` with the contracts if the allocation for the journal fails. A line that is ready never returns it.
     pub fn open(
         &mut self,
         owner: Owner,
@@ -186,7 +185,7 @@ impl Line {
         ensures opened { OnOk result (Opens self.old owner contracts.items self.new) }
         ensures history { OnOk result (IsStateAfter contracts.items [] self.new.state) }
 
-        // It fails only where the room is refused, and then nothing changes.
+        // It fails only if the allocation fails, and then nothing changes.
         ensures was_ready { IsTrue self.old.ready → IsOk result }
         ensures no_memory { IfErr result (λ refused. refused.0 ≡ LineFault.NoMemory) }
         ensures returned { IfErr result (λ refused. refused.1 ≡ contracts) }
@@ -206,7 +205,7 @@ impl Line {
         Ok(())
     }
 
-    /// Why a cell of this moment is not judged.
+    /// Returns the error if no cell of this moment can be judged.
     #[inline(always)]
     fn refusal(&self, moment: u64) -> Option<LineFault>
         ensures { result ≡ line_refusal self.now moment }
@@ -224,15 +223,14 @@ impl Line {
         }
     }
 
-    /// Judges a cell of the connection by the contract whose number is `value`, counted from 1, and
-    /// keeps it in the journal. Where there is no such contract its verdict is Refuse. Takes no
-    /// memory.
+    /// Judges a cell of the connection by the contract with the number `value`, counted from 1, and appends it to the
+    /// journal. If there is no such contract, the verdict is Refuse. Doesn't allocate.
     ///
     /// # Errors
     ///
-    /// `TooLate` where the moment is above 2^62; `Back` where it is before that of the connection's
-    /// last judged cell; `Full` where the journal is full or 2^62 cells were judged on the line. The
-    /// first that holds is answered, and nothing changes. `NoMemory` is never answered.
+    /// `TooLate` if the moment is above 2^62; otherwise `Back` if it is before that of the connection's last judged
+    /// cell; otherwise `Full` if the journal is full or 2^62 cells were judged on the line. An error changes nothing.
+    /// `NoMemory` is never returned.
     #[inline(always)]
     pub fn judge(
         &mut self,
@@ -243,7 +241,7 @@ impl Line {
     ) -> Result<Entry, LineFault>
         requires { IsHeld self.old }
 
-        // It refuses exactly where the line has a reason to.
+        // It returns exactly the error of the line, if there is one.
         ensures refused { MatchResult result
             (λ _. line_refusal self.old moment ≡ None)
             (λ fault. line_refusal self.old moment ≡ Some fault) }
@@ -255,11 +253,11 @@ impl Line {
             ≡ record { moment = moment; clp = clp; value = value; program = program }) }
         ensures gained { IfOk result (λ entry. Gains self.old entry self.new) }
 
-        // A line has four contracts at most, so that no other value is the number of one.
+        // A line has at most four contracts, so no other number names one.
         ensures unnamed { IfOk result (λ entry. IsNoNumber value → entry.verdict ≡ Verdict.Refuse) }
 
-        // After whatever history the line was, the verdict is that history's, and the line is after
-        // one more cell.
+        // For any history that the line's state agrees with, the verdict is that of the history, and the new state
+        // agrees with the history and the cell.
         ensures verdict { IfOk result (λ entry. (history : List NamedCell)
             → IsStateAfter self.old.contracts history self.old.state
             → entry.verdict ≡ verdict_after self.old.contracts empty_buckets history (cell_of entry)) }
@@ -281,12 +279,11 @@ impl Line {
         Ok(entry)
     }
 
-    /// Hands out the journal, and begins a new one at the present state. The room for the new one
-    /// is taken first.
+    /// Takes the journal out as a piece and begins a new one at the present state. Allocates the new one first.
     ///
     /// # Errors
     ///
-    /// `NoMemory`, where that room is refused.
+    /// `NoMemory` if that allocation fails.
     pub fn cut(&mut self) -> Result<Piece, LineFault>
         requires { IsHeld self.old }
         ensures piece { IfOk result (λ piece. IsJournalOf self.old piece) }
@@ -312,7 +309,7 @@ impl Line {
         Ok(Piece::new(owner, contracts, start, entries, end))
     }
 
-    /// Hands out the journal, and frees the line. Takes no memory.
+    /// Takes the journal out as a piece and frees the line. Doesn't allocate.
     pub fn close(&mut self) -> Piece
         requires { IsHeld self.old }
         ensures piece { IsJournalOf self.old result }
@@ -335,7 +332,7 @@ impl Line {
     }
 }
 
-/// The same contracts once more.
+/// Returns a copy of the contracts.
 fn copied(contracts: &ArrayVec<Contract, 4>) -> ArrayVec<Contract, 4>
     ensures { result ≡ contracts.now }
 {

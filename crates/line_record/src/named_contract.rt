@@ -10,8 +10,8 @@ ghost use Rattle.leaky.specs.declared.levels.Levels.{Levels as SomeLevels};
 use arrayvec::ArrayVec;
 use leaky::{Contract, Levels, Verdict};
 
-/// The verdict of the contract of this number, counted from 1, whose levels go on. Where there is no
-/// such contract, the verdict is Refuse and nothing changes.
+/// Returns the verdict of the contract of this number, counted from 1, and updates its levels. If there is no such
+/// contract, returns Refuse and changes nothing.
 #[inline(always)]
 pub(crate) fn judge_named(
     contracts: &[Contract],
@@ -24,7 +24,7 @@ pub(crate) fn judge_named(
     requires in_time { moment ≤ 2 ^ 62 }
     ensures sized { length levels.new.items ≡ length levels.old.items }
 
-    // Of the contract that is named.
+    // For the contract that is named.
     ensures verdict { (contract : AContract) (before : SomeLevels) (buckets : Buckets)
         → numbered contracts.now number ≡ Some contract
         → numbered levels.old.items number ≡ Some before
@@ -37,7 +37,7 @@ pub(crate) fn judge_named(
         → Agrees before buckets → IsChargedBy buckets moment
         → Agrees after (buckets_after contract buckets clp moment) }
 
-    // Of all others.
+    // For all others.
     ensures others { (other : ℕ) → other ≢ number
         → numbered levels.new.items other ≡ numbered levels.old.items other }
     ensures none { numbered contracts.now number ≡ None
@@ -46,7 +46,7 @@ pub(crate) fn judge_named(
     if number == 0 {
         return Verdict::Refuse;
     }
-    // There are as many levels as contracts, and their number lies nearer to what is read next.
+    // There are as many levels as contracts, and the number of levels is closer to what is read next.
     let place = number as usize - 1;
     if place >= levels.len() {
         return Verdict::Refuse;

@@ -1,4 +1,4 @@
-//! Journals that were handed out, and how they go on from one another.
+//! Journals that were taken out of lines, and how they continue each other.
 
 ghost use Rattle.std.specs.Prelude.{◌≡◌, ◌↔◌, IsOk, IfErr, OnOk};
 ghost use Rattle.line_record.specs.Piece.{IsChain, BreaksAt, AreOneRun};
@@ -11,8 +11,8 @@ use arrayvec::ArrayVec;
 use leaky::Contract;
 use std::marker::Model;
 
-/// A journal that was handed out: the cells of one connection that were judged from one state of
-/// its line to another.
+/// A journal that was taken out of its line: the cells of one connection that were judged from one state of the line to
+/// another.
 #[derive(Debug, Drop)]
 pub struct Piece {
     owner: Owner,
@@ -44,7 +44,7 @@ impl Piece {
     ghost use Rattle.line_record.specs.JournalRun.{IsRun};
     ghost use Rattle.line_record.specs.Piece.{IsPiece, GoesOnFrom};
 
-    /// The piece of these parts.
+    /// Makes the piece of these parts.
     pub(crate) fn new(
         owner: Owner,
         contracts: ArrayVec<Contract, 4>,
@@ -70,28 +70,28 @@ impl Piece {
         }
     }
 
-    /// The connection that the cells came on.
+    /// Returns the connection of the cells.
     pub fn owner(&self) -> Owner
         ensures { result ≡ self.now.owner }
     {
         self.owner
     }
 
-    /// The contracts that judged them.
+    /// Returns the contracts that judged the cells.
     pub fn contracts(&self) -> &[Contract]
         ensures { result.now ≡ self.now.contracts }
     {
         self.contracts.as_slice()
     }
 
-    /// The state before the first of them.
+    /// Returns the state before the first cell.
     pub fn start(&self) -> &State
         ensures { result.now ≡ self.now.start }
     {
         &self.start
     }
 
-    /// The cells with their verdicts, in order: a run from the start to the end.
+    /// Returns the cells with their verdicts, in order: a run from the start to the end.
     pub fn entries(&self) -> &[Entry]
         ensures entries { result.now ≡ self.now.entries }
         ensures run { IsPiece self.now }
@@ -99,14 +99,14 @@ impl Piece {
         self.entries.as_slice()
     }
 
-    /// The state after the last of them.
+    /// Returns the state after the last cell.
     pub fn end(&self) -> &State
         ensures { result.now ≡ self.now.end }
     {
         &self.end
     }
 
-    /// Whether the piece goes on from the earlier one.
+    /// Returns whether this piece continues the earlier one.
     fn goes_on_from(&self, earlier: &Piece) -> bool
         ensures { IsTrue result ↔ GoesOnFrom earlier.now self.now }
     {
@@ -116,13 +116,13 @@ impl Piece {
     }
 }
 
-/// Whether the pieces are one whole record, in order: whether each has the owner and the contracts of
-/// the piece before it, and begins in the state in which that ends. All their entries are then one
-/// run. Of no piece and of one piece it is so. Takes no memory.
+/// Checks that the pieces, in order, are one whole record: each has the owner and the contracts of the piece before it,
+/// and starts in the state in which that ends. All their entries are then one run. No piece or one piece is always a
+/// whole record. Doesn't allocate.
 ///
 /// # Errors
 ///
-/// The place, from 0, of the first piece that does not go on from the one before it.
+/// The place, from 0, of the first piece that doesn't continue the one before it.
 pub fn chain(pieces: &[Piece]) -> Result<(), usize>
     ensures chain { IsOk result ↔ IsChain pieces.now }
     ensures broken { IfErr result (λ place. BreaksAt pieces.now place) }
@@ -130,7 +130,7 @@ pub fn chain(pieces: &[Piece]) -> Result<(), usize>
 {
     for place in 0..pieces.len() {
         let piece = &pieces[place];
-        // Each piece is looked into, the first one too: its entries are a run.
+        // Reads each piece, also the first: its invariant is that its entries are a run.
         let _ = &piece.entries;
         if place > 0 && !piece.goes_on_from(&pieces[place - 1]) {
             return Err(place);

@@ -1,4 +1,4 @@
-//! How many connections name a program.
+//! The number of connections that name a program.
 
 ghost use Rattle.std.specs.Prelude.{◌≡◌, length};
 
@@ -6,12 +6,12 @@ use gen_arena::Id;
 use std::alloc::Global;
 use std::marker::Model;
 
-/// How many connections name the programs of each place. A program's place is its slot, modulo the
-/// number of places.
+/// For each place, the number of connections that name a program of this place. A program's place is its slot modulo
+/// the number of places.
 ///
-/// A program may only leave the card where no connection names it, and to look at each connection
-/// costs as much as the card has connections. A count of 0 tells it at once. Programs can share a
-/// place, so another count tells only that a look is worth its time.
+/// A program can be removed only if no connection names it, and to look at each connection costs as much as the card
+/// has connections. A count of 0 is enough to know. Programs can have the same place, so with any other count the
+/// connections have to be looked at.
 #[derive(Debug, Drop)]
 pub(crate) struct ProgramUses {
     counts: Vec<u16>,
@@ -31,7 +31,7 @@ impl ProgramUses {
     ghost use Rattle.std.specs.Prelude.{◌≡◌, ◌+◌, ◌-◌, ◌<◌, ◌↔◌, length, replicate, IfSome, IsTrue};
     ghost use Rattle.line_record.specs.inner.ProgramUses.{place_of, uses_of, with_uses};
 
-    /// This number of places without a use; `None` where the memory is refused.
+    /// Makes this number of places with count 0. Returns None if an allocation fails.
     pub(crate) fn new(alloc: Global, places: u16) -> Option<Self>
         requires { 0 < places }
         ensures { IfSome result (λ uses. uses ≡ replicate places 0) }
@@ -40,14 +40,14 @@ impl ProgramUses {
         Some(ProgramUses { counts })
     }
 
-    /// Whether the program's place has no use.
+    /// Returns whether the count at the program's place is 0.
     pub(crate) fn is_unused(&self, program: Id) -> bool
         ensures { IsTrue result ↔ (uses_of self.now program ≡ 0) }
     {
         self.counts[self.place(program)] == 0
     }
 
-    /// Counts a use of the program.
+    /// Adds a use of the program.
     pub(crate) fn add(&mut self, program: Id)
         requires { uses_of self.old program < 65535 }
         ensures { self.new ≡ with_uses self.old program (uses_of self.old program + 1) }
@@ -56,7 +56,7 @@ impl ProgramUses {
         self.counts[place] += 1;
     }
 
-    /// Counts a use of the program no more.
+    /// Removes a use of the program.
     pub(crate) fn remove(&mut self, program: Id)
         requires { 0 < uses_of self.old program }
         ensures { self.new ≡ with_uses self.old program (uses_of self.old program - 1) }
@@ -65,7 +65,7 @@ impl ProgramUses {
         self.counts[place] -= 1;
     }
 
-    /// The place of a program.
+    /// Returns the place of a program.
     fn place(&self, program: Id) -> usize
         ensures place { result ≡ place_of self.now program }
         ensures within { result < length self.now }

@@ -1,4 +1,4 @@
-//! What a line knows of its connection between two cells.
+//! The state of a line between two cells.
 
 use crate::entry::Entry;
 use crate::equality::same_levels;
@@ -8,14 +8,14 @@ use arrayvec::ArrayVec;
 use gen_arena::Id;
 use leaky::{Contract, Levels, Verdict};
 
-/// What a line knows of its connection between two cells.
+/// The state of a line between two cells.
 #[derive(Debug, PartialEq, Eq, Drop)]
 pub struct State {
-    /// The moment of the last judged cell of the connection, in ticks, and 0 where there was none.
+    /// The moment of the connection's last judged cell, in ticks, or 0 if there was none.
     pub last: u64,
-    /// The verdicts on the line, those on earlier connections too.
+    /// The counts of the verdicts on the line, including those for earlier connections.
     pub counts: Tally,
-    /// The levels of each contract, in the contracts' order.
+    /// The levels of each contract, in the order of the contracts.
     pub levels: ArrayVec<Levels, 4>,
 }
 
@@ -26,7 +26,7 @@ impl State {
     ghost use Rattle.line_record.specs.JournalRun.{IsRun};
     ghost use Rattle.line_record.specs.Line.{resting, IsOpening};
 
-    /// The state of no contract.
+    /// Returns the state of a line without contracts.
     pub(crate) fn resting(counts: Tally) -> Self
         ensures { result ≡ resting counts }
     {
@@ -37,7 +37,7 @@ impl State {
         }
     }
 
-    /// The state of a connection under these contracts that had no cell.
+    /// Returns the state of a connection under these contracts before its first cell.
     pub(crate) fn opening(contracts: &[Contract], counts: Tally) -> Self
         requires { length contracts.now ≤ 4 }
         ensures { IsOpening contracts.now counts result }
@@ -51,7 +51,7 @@ impl State {
         }
     }
 
-    /// The same state once more.
+    /// Returns a copy of the state.
     pub(crate) fn copied(&self) -> Self
         ensures { result ≡ self.now }
     {
@@ -66,8 +66,8 @@ impl State {
         }
     }
 
-    /// Whether both states are the same. It is what `==` answers, under a contract that another
-    /// crate can use.
+    /// Returns whether both states are the same. The result is that of `==`; the contract is one that other crates can
+    /// use.
     pub fn is_same(&self, other: &State) -> bool
         ensures { IsTrue result ↔ (self.now ≡ other.now) }
     {
@@ -76,7 +76,7 @@ impl State {
             && self.counts == other.counts
     }
 
-    /// Judges a cell, and goes on to the state after it.
+    /// Judges a cell and updates the state.
     #[inline(always)]
     pub(crate) fn judge(
         &mut self,

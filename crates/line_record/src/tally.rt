@@ -3,7 +3,7 @@
 use crate::line::MOST_CELLS;
 use leaky::Verdict;
 
-/// How many cells got each verdict.
+/// The number of cells with each verdict.
 #[derive(Clone, Copy, Debug, Default, PartialEq, Eq)]
 pub struct Tally {
     pub passed: u64,
@@ -16,7 +16,7 @@ impl Tally {
     ghost use Rattle.std.specs.Prelude.{◌≡◌, ◌+◌, ◌^◌, ◌<◌, ◌↔◌, IsTrue};
     ghost use Rattle.line_record.specs.Tally.{nothing, counted, count_of, cells_in, plus, total, HasRoom, FitsWords};
 
-    /// The tally of no cell.
+    /// Returns the tally of no cell.
     #[inline]
     pub fn new() -> Self
         ensures { result ≡ nothing }
@@ -29,7 +29,7 @@ impl Tally {
         }
     }
 
-    /// How many cells got this verdict.
+    /// Returns the number of cells with this verdict.
     #[inline]
     pub fn of(&self, verdict: Verdict) -> u64
         ensures { result ≡ count_of self.now verdict }
@@ -42,7 +42,7 @@ impl Tally {
         }
     }
 
-    /// Counts one more cell of this verdict.
+    /// Counts one more cell with this verdict.
     #[inline(always)]
     pub fn count(&mut self, verdict: Verdict)
         requires { count_of self.old verdict + 1 < 2 ^ 64 }
@@ -56,7 +56,7 @@ impl Tally {
         }
     }
 
-    /// How many cells there are in all.
+    /// Returns the number of all cells.
     #[inline]
     pub fn cells(&self) -> u64
         requires { cells_in self.now < 2 ^ 64 }
@@ -65,7 +65,7 @@ impl Tally {
         self.passed + self.tagged + self.discarded + self.refused
     }
 
-    /// Whether each number is below 2^62, so that one more cell of any verdict can be counted.
+    /// Returns whether each number is below 2^62, so that one more cell of any verdict can be counted.
     #[inline]
     pub fn has_room(&self) -> bool
         ensures { IsTrue result ↔ HasRoom self.now }
@@ -76,7 +76,7 @@ impl Tally {
             && self.refused < MOST_CELLS
     }
 
-    /// Both tallies together.
+    /// Returns the sum of both tallies.
     #[inline]
     pub fn plus(self, other: Tally) -> Tally
         requires { FitsWords (plus self other) }
@@ -90,7 +90,7 @@ impl Tally {
         }
     }
 
-    /// All these tallies together, and the tally of no cell where there is none.
+    /// Returns the sum of all these tallies.
     pub fn total(tallies: &[Tally]) -> Tally
         requires { FitsWords (total tallies.now) }
         ensures { result ≡ total tallies.now }

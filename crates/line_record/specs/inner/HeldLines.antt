@@ -1,8 +1,8 @@
--- What a directory knows of each line.
+-- Which lines of a directory are held.
 use Rattle.std.specs.Prelude.{◌≡◌, ℕ, Bool, true, false, Some, List, length, slice_get}
 use Rattle.line_record.specs.Directory.{DirectoryView, IsDirectory, IsOpenLine, IsTakenLine}
 
--- It is a directory, and the list says of each line whether it is some connection's.
+-- The invariant of a directory holds, and the list has, for each line, whether some connection has it.
 pub record KnowsLines (directory : DirectoryView) (held : List Bool) : Type 0 where
   pub kept : IsDirectory directory
   pub sized : length held ≡ directory.lines
