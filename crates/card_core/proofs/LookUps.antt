@@ -1,4 +1,4 @@
--- What options, tests and lists have at a place.
+-- Options, tests and lists at a place.
 use Rattle.std.proofs.Common.{◌≡◌, ◌≢◌, ◌⊎◌, ℕ, suc, ◌<◌, Bool, true, false, cond, List, [], ◌∷◌, length, length-set, zero, set, replicate, Option, Some, None, IsSome, is_none, is_some, slice_get, option_map, refl, sym, ap, ◌∙◌, subst, inl, inr, arith}
 use Rattle.std.proofs.lemmas.Bool.{cases_eq}
 use Rattle.std.proofs.lemmas.Option.{same_Some, slice_get_within}
@@ -6,7 +6,7 @@ use Rattle.std.proofs.lemmas.Option.{same_Some, slice_get_within}
 pub same_some : {X : Type 0} (x y : X) → Some x ≡ Some y → x ≡ y
 same_some x y e = same_Some x y e
 
--- What was refused by a test, and by what follows it.
+-- If a chain of tests passes, its first test and the rest pass.
 pub passed_on : {X : Type 0} (test : Bool) (refused : X) (rest : Option X)
     → cond test (Some refused) rest ≡ None → (test ≡ false) × (rest ≡ None)
 passed_on true refused rest e = absurd (cc)
@@ -31,7 +31,7 @@ there_is (Some x) e = (x, refl)
 pub IsSome-of : {X : Type 0} (o : Option X) (x : X) → o ≡ Some x → IsSome o
 IsSome-of o x e = ap is_some e
 
--- What passes a chain of tests, of which each refuses with something of this kind.
+-- If each refusal of a chain of tests has a property, so has its result.
 pub refused_by : {X : Type 0} (P : X → Type 0) (test : Bool) (refused : X) (rest : Option X) → P refused
     → ((x : X) → rest ≡ Some x → P x) → (x : X) → cond test (Some refused) rest ≡ Some x → P x
 refused_by P true refused rest here later x e = subst P (same_some refused x e) here
@@ -54,7 +54,7 @@ module _ {X : Type 0} where
   slice_get-set_other (y ∷ xs) (suc k) zero x apart = refl
   slice_get-set_other (y ∷ xs) (suc k) (suc j) x apart = slice_get-set_other xs k j x (λ e. apart (ap suc e))
 
-  -- What a place has after a write is what was written there, or what it had.
+  -- After a write, a place has the written item or the earlier one.
   pub slice_get-set : (xs : List X) (k j : ℕ) (x y : X) → slice_get (set xs k x) j ≡ Some y
       → ((j ≡ k) × (x ≡ y)) ⊎ ((j ≢ k) × (slice_get xs j ≡ Some y))
   slice_get-set xs k j x y e = elim (cases_eq j k) [
