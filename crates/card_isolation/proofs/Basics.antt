@@ -1,13 +1,13 @@
--- What functions, options, lists and look-ups are after a change.
+-- Functions, options, lists and look-ups after a change.
 use Rattle.std.proofs.Common.{◌≡◌, ◌≢◌, ℕ, zero, suc, ◌<◌, ◌==◌, Bool, true, false, cond, List, [], ◌∷◌, length, set, Option, Some, None, IsSome, is_some, slice_get, option_map, refl, sym, ap, ◌∙◌, inl, inr, arith}
 use Rattle.std.proofs.lemmas.Bool.{cases_eq, eq-eqb, ne_eqb}
 use Rattle.std.proofs.lemmas.Option.{same_Some, slice_get_within}
 
--- Functions are equal where they have equal values.
+-- Functions with equal values are equal.
 pub pointwise : {X Y : Type 0} (f g : X → Y) → ((x : X) → f x ≡ g x) → f ≡ g
 pointwise f g same = λ i x. same x i
 
--- What was refused by a test, and by what follows it.
+-- If a chain of tests passes, its first test and the rest pass.
 pub passed_on : {X : Type 0} (test : Bool) (refused : X) (rest : Option X)
     → cond test (Some refused) rest ≡ None → (test ≡ false) × (rest ≡ None)
 passed_on true refused rest e = absurd (cc)
@@ -33,7 +33,7 @@ there_is (Some x) e = (x, refl)
 abbrev pub with_at : {X : Type 0} → (ℕ → X) → ℕ → X → ℕ → X
 with_at values at value other = cond (other == at) value (values other)
 
--- It is the same where the value was that one.
+-- It is the same if it had that value before.
 pub with_at-same : {X : Type 0} (values : ℕ → X) (at : ℕ) (value : X) → values at ≡ value → with_at values at value ≡ values
 with_at-same values at value same = pointwise (with_at values at value) values (λ other. elim (cases_eq other at) [
   | inl is ↦ ap (λ b. cond b value (values other)) (eq-eqb other at is) ∙ sym same ∙ ap values (sym is)
@@ -53,7 +53,7 @@ module _ {X : Type 0} where
   get-set_other (y ∷ xs) (suc k) zero x apart = refl
   get-set_other (y ∷ xs) (suc k) (suc j) x apart = get-set_other xs k j x (λ e. apart (ap suc e))
 
--- What is seen at each place of a list, once one place was written.
+-- A view of each place of a list, after one place was written.
 pub seen-set : {X Y : Type 0} (view : Option X → Y) (xs : List X) (k : ℕ) (x old : X) → slice_get xs k ≡ Some old
     → (λ place. view (slice_get (set xs k x) place)) ≡ with_at (λ place. view (slice_get xs place)) k (view (Some x))
 seen-set view xs k x old had =
