@@ -27,7 +27,8 @@ pub record IsTold (cell : List ℕ) (moment : ℕ) (judged : JudgedView) : Type 
   pub unnamed : IsNoNumber judged.value → judged.verdict ≡ Refuse
   pub given : IsGiven cell judged.value
 
--- If the answer names the moment as the error, the moment is above 2^62, or before the moment in the answer.
+-- If the answer is MomentTooLate, the moment is above 2^62. If it is MomentBack, the moment is before the one in the
+-- answer.
 abbrev pub BlamesRightly : ℕ → Answer → Type 0
 BlamesRightly moment MomentTooLate = 2 ^ 62 < moment
 BlamesRightly moment (MomentBack last) = moment < last

@@ -73,7 +73,7 @@ impl<S: Ledgers> CountedLine<S> {
         // The seat counts the cell exactly if it was judged.
         ensures tallied { seat.new ≡ seat_after seat.old (told result) }
 
-        // The answer to a judged cell, and the moments that an error may name.
+        // The answer to a judged cell. The moment is the error only if it is too late or goes back.
         ensures there { IfSome (told result) (λ judged. judged.line ≡ seating.now.line) }
         ensures moment { IfSome (told result) (λ judged. judged.moment ≡ moment) }
         ensures value { IfSome (told result) (λ judged. judged.value ≡ named.now.value) }
