@@ -1,4 +1,4 @@
--- Lemmas for proofs of other crates. Each is the statement of a public law.
+-- Lemmas for proofs of other crates: the public laws.
 use Rattle.std.proofs.Common.{◌≡◌, ℕ, ◌⊎◌, List}
 use Rattle.bpf_asm.proofs.totality.CodeOrFault as whole
 use Rattle.bpf_asm.proofs.meanings.Fitting as fitting
@@ -28,6 +28,6 @@ fault_once = faults.fault_once
 pub meaning-or_fault : (source : List ℕ) → ((code : List Instr) × IsMeaning source code) ⊎ ((fault : AsmFault) × IsFault source fault)
 meaning-or_fault = whole.meaning-or_fault
 
--- The octets of a code that a source means spell it plainly.
+-- The octets of the code that a source means spell it, with 0 in all unused fields.
 pub meaning-plainly : (source : List ℕ) (code : List Instr) → IsMeaning source code → SpellsPlainly (code_octets code) code
 meaning-plainly = fitting.meaning-plainly

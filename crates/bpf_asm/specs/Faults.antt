@@ -1,4 +1,4 @@
--- The one fault of a source without a meaning.
+-- The one fault of a source that means no code.
 use Rattle.std.specs.Prelude.{◌≡◌, ◌⊎◌, ◌+◌, ◌≤◌, ◌<◌, ℕ, List, [], ◌∷◌, ◌++◌, length, Some}
 use Rattle.bpf_asm.specs.Grammar.{Line, AreLines, IsLine}
 use Rattle.bpf_asm.specs.Labels.{EachLabelOnce, HasLabel, IsDangling, IsOffset, Operand, StandsFor, operands_of, statements_of}
@@ -9,8 +9,8 @@ use Rattle.bpf_asm.specs.declared.fault.AsmKind.{AsmKind}
 use Rattle.bpf_asm.specs.declared.fault.AsmKind.TheVariants.{BadLine, BadNumber, LabelTwice, UnknownLabel, Backward, TooFar, DanglingLabel, NoMemory}
 use Rattle.bpf_asm.specs.declared.fault.AsmFault.{AsmFault}
 
--- A line's own fault, behind lines that say these: a number that is none goes before a line that is
--- none of the grammar, and that before a label of an earlier line.
+-- This line, which comes after these lines, has the fault: BadNumber if it has a bad number; otherwise BadLine if it
+-- isn't in the grammar; LabelTwice if it is in the grammar and an earlier line has the same label.
 abbrev pub IsLineFault : List Line → List ℕ → AsmKind → Type 0
 IsLineFault before here BadNumber = HasBadNumber here
 IsLineFault before here BadLine = (¬ HasBadNumber here) × ((line : Line) → ¬ IsLine here line)
@@ -18,7 +18,7 @@ IsLineFault before here LabelTwice =
     (line : Line) × IsLine here line × (label : List ℕ) × (line.label ≡ Some label) × (earlier : ℕ) × HasLabel before earlier label
 IsLineFault before here _ = ⊥
 
--- The first line that has a fault of its own. Lines count from 1.
+-- The first line that has a fault. Lines count from 1.
 pub record IsFirstLineFault (source : List (List ℕ)) (fault : AsmFault) : Type 0 where
   pub before : List (List ℕ)
   pub here : List ℕ
@@ -30,7 +30,7 @@ pub record IsFirstLineFault (source : List (List ℕ)) (fault : AsmFault) : Type
   pub once : EachLabelOnce lines
   pub faulty : IsLineFault lines here fault.kind
 
--- The first label behind which no instruction stands.
+-- The first label that no instruction follows.
 pub record IsFirstDangling (lines : List Line) (fault : AsmFault) : Type 0 where
   pub kind : fault.kind ≡ DanglingLabel
   pub at : ℕ
@@ -38,12 +38,12 @@ pub record IsFirstDangling (lines : List Line) (fault : AsmFault) : Type 0 where
   pub dangling : IsDangling lines at
   pub followed : (earlier : ℕ) → earlier < at → ¬ IsDangling lines earlier
 
--- The label operand of the instruction at a place has an offset.
+-- The label operand of the instruction at this place has an offset.
 abbrev pub HasOffset : List Line → ℕ → Operand → Type 0
 HasOffset lines place operand = (offset : ℕ) × IsOffset lines place operand offset
 
--- The fault of a label operand of the instruction at a place: no line has its label; the label's place
--- is at most this one; the offset doesn't fit its field.
+-- The fault of a label operand of the instruction at this place: no line has its label; the label's place is at most
+-- this one; or the offset doesn't fit its field.
 abbrev pub IsOperandFault : List Line → ℕ → Operand → AsmKind → Type 0
 IsOperandFault lines place operand UnknownLabel = (at : ℕ) → ¬ HasLabel lines at operand.label
 IsOperandFault lines place operand Backward =
@@ -52,18 +52,18 @@ IsOperandFault lines place operand TooFar =
     (target : ℕ) × StandsFor lines operand.label target × (place + 1 + operand.most < target)
 IsOperandFault lines place operand _ = ⊥
 
--- Each of these operands has one.
+-- Each of these operands has an offset.
 abbrev pub HasOffsets : List Line → ℕ → List Operand → Type 0
 HasOffsets lines place [] = Unit {0}
 HasOffsets lines place (operand ∷ more) = HasOffset lines place operand × HasOffsets lines place more
 
--- The label operands of each of these statements, from a place on, have offsets.
+-- The label operands of each of these statements, from this place on, have offsets.
 abbrev pub HaveOffsets : List Line → ℕ → List Statement → Type 0
 HaveOffsets lines place [] = Unit {0}
 HaveOffsets lines place (statement ∷ more) =
     HasOffsets lines place (operands_of statement) × HaveOffsets lines (place + 1) more
 
--- The first label operand of a statement that has no offset, from left to right.
+-- The first label operand of a statement, from left to right, that has no offset.
 pub record IsStatementFault (lines : List Line) (place : ℕ) (statement : Statement) (kind : AsmKind) : Type 0 where
   pub left : List Operand
   pub operand : Operand
@@ -72,8 +72,8 @@ pub record IsStatementFault (lines : List Line) (place : ℕ) (statement : State
   pub well : HasOffsets lines place left
   pub faulty : IsOperandFault lines place operand kind
 
--- The first label operand that has no offset, by lines and in a line from left to right. Its line is
--- the instruction's.
+-- The first label operand that has no offset, by lines and in each line from left to right. The fault is at the line of
+-- the instruction.
 pub record IsFirstOperandFault (lines : List Line) (fault : AsmFault) : Type 0 where
   pub before : List Line
   pub here : Line
@@ -85,18 +85,18 @@ pub record IsFirstOperandFault (lines : List Line) (fault : AsmFault) : Type 0 w
   pub stands : here.statement ≡ Some statement
   pub faulty : IsStatementFault lines (length (statements_of before)) statement fault.kind
 
--- A fault of labels, in lines that are lines of the grammar and have each label once: a label without
--- an instruction goes before all faults of operands.
+-- A fault of labels. All lines are in the grammar, and no label occurs twice. A label that no instruction follows comes
+-- before all faults of operands.
 pub record IsLabelFault (source : List (List ℕ)) (fault : AsmFault) : Type 0 where
   pub lines : List Line
   pub said : AreLines source lines
   pub once : EachLabelOnce lines
   pub faulty : IsFirstDangling lines fault ⊎ (((at : ℕ) → ¬ IsDangling lines at) × IsFirstOperandFault lines fault)
 
--- The source has the fault; the faults of lines go before all faults of labels.
+-- The source has this fault. Faults of lines come before faults of labels.
 abbrev pub IsFault : List ℕ → AsmFault → Type 0
 IsFault source fault = IsFirstLineFault (source_lines source) fault ⊎ IsLabelFault (source_lines source) fault
 
--- Memory ran out, which has no line.
+-- An allocation failed. This fault has no line.
 abbrev pub IsOutOfMemory : AsmFault → Type 0
 IsOutOfMemory fault = (fault.line ≡ 0) × (fault.kind ≡ NoMemory)

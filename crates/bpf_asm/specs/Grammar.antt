@@ -1,4 +1,4 @@
--- The lines of the grammar.
+-- The grammar of lines.
 use Rattle.std.specs.Prelude.{◌≡◌, ◌⊎◌, ℕ, List, [], ◌∷◌, ◌++◌, Option, Some, None}
 use Rattle.bpf_asm.specs.StatementSpelling.{Part, Statement, spelling_tokens, spellings}
 use Rattle.bpf_asm.specs.Tokens.{Token, name, mark, tokens_in}
@@ -8,30 +8,30 @@ pub record Line : Type 0 where
   pub label : Option (List ℕ)
   pub statement : Option Statement
 
--- The tokens are those of one of the spellings.
+-- The tokens are those of one of these spellings.
 abbrev pub IsOneOf : List Token → List (List Part) → Type 0
 IsOneOf tokens [] = ⊥
 IsOneOf tokens (spelling ∷ more) = (tokens ≡ spelling_tokens spelling) ⊎ IsOneOf tokens more
 
--- The tokens are a statement, or none where there is none.
+-- The tokens spell this statement, or there are none and no statement.
 abbrev pub IsStatement : List Token → Option Statement → Type 0
 IsStatement tokens None = tokens ≡ []
 IsStatement tokens (Some statement) = IsOneOf tokens (spellings statement)
 
--- A label is a name and `:`.
+-- The tokens of a label: a name and `:`.
 abbrev pub label_tokens : Option (List ℕ) → List Token
 label_tokens None = []
 label_tokens (Some octets) = name octets ∷ mark 58 ∷ []
 
--- The tokens are a line of the grammar, which says this.
+-- The tokens are those of this line: its label, and then a spelling of its statement.
 abbrev pub IsLineOf : List Token → Line → Type 0
 IsLineOf tokens line = (rest : List Token) × (tokens ≡ label_tokens line.label ++ rest) × IsStatement rest line.statement
 
--- The octets of a line say this.
+-- The octets of a line are in the grammar and parse as this.
 unfoldable pub IsLine : List ℕ → Line → Type 0
 IsLine octets line = IsLineOf (tokens_in octets) line
 
--- The lines of a source say these, in order.
+-- The lines of a source parse as these, in order.
 abbrev pub AreLines : List (List ℕ) → List Line → Type 0
 AreLines [] lines = lines ≡ []
 AreLines (octets ∷ more) [] = ⊥

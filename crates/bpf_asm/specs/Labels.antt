@@ -1,4 +1,4 @@
--- What labels stand for.
+-- The places that labels name.
 use Rattle.std.specs.Prelude.{◌≡◌, ◌+◌, ◌≤◌, ℕ, List, [], ◌∷◌, ◌++◌, length, drop, Option, Some, None, slice_get}
 use Rattle.std.specs.List.{filter_map}
 use Rattle.bpf_asm.specs.Grammar.{Line}
@@ -8,12 +8,12 @@ use Rattle.bpf_asm.specs.StatementSpelling.{Statement, plain, jump, branch}
 unfoldable pub statements_of : List Line → List Statement
 statements_of lines = filter_map (λ line. line.statement) lines
 
--- The line, which counts from 0, has the label.
+-- The line of this number, from 0, has the label.
 abbrev pub HasLabel : List Line → ℕ → List ℕ → Type 0
 HasLabel lines at label = (line : Line) × (slice_get lines at ≡ Some line) × (line.label ≡ Some label)
 
--- A label stands for the number of instruction lines before it, so one that is alone in its line
--- names the next instruction.
+-- A label names the place whose number is that of the instruction lines before it. So a label alone on its line names
+-- the next instruction.
 pub record StandsFor (lines : List Line) (label : List ℕ) (place : ℕ) : Type 0 where
   pub before : List Line
   pub here : Line
@@ -22,11 +22,11 @@ pub record StandsFor (lines : List Line) (label : List ℕ) (place : ℕ) : Type
   pub named : here.label ≡ Some label
   pub counted : place ≡ length (statements_of before)
 
--- No label stands in two lines.
+-- No label is in two lines.
 abbrev pub EachLabelOnce : List Line → Type 0
 EachLabelOnce lines = (one other : ℕ) (label : List ℕ) → HasLabel lines one label → HasLabel lines other label → one ≡ other
 
--- The line has a label, and no instruction stands there or behind.
+-- The line has a label, and neither it nor any later line has an instruction.
 abbrev pub IsDangling : List Line → ℕ → Type 0
 IsDangling lines at = (label : List ℕ) × HasLabel lines at label × (statements_of (drop at lines) ≡ [])
 
@@ -35,15 +35,15 @@ pub record Operand : Type 0 where
   pub label : List ℕ
   pub most : ℕ
 
--- The greatest offset of a branch, whose fields have 8 bits.
+-- The largest offset of a branch, whose fields have 8 bits.
 abbrev pub most_branch : ℕ
 most_branch = 255
 
--- The greatest offset of `ja`, whose field has 32 bits.
+-- The largest offset of `ja`, whose field has 32 bits.
 abbrev pub most_jump : ℕ
 most_jump = 4294967295
 
--- The label operands of a side of a branch.
+-- The label operands of one side of a branch.
 abbrev pub side : Option (List ℕ) → List Operand
 side None = []
 side (Some target) = record { label = target; most = most_branch } ∷ []
@@ -54,8 +54,7 @@ operands_of (plain i) = []
 operands_of (jump target) = record { label = target; most = most_jump } ∷ []
 operands_of (branch test by met unmet) = side met ++ side unmet
 
--- The offset of a label operand in the instruction at a place: the label's place less that one, less
--- one.
+-- The offset of a label operand in the instruction at this place: the label's place minus this place, minus 1.
 pub record IsOffset (lines : List Line) (place : ℕ) (operand : Operand) (offset : ℕ) : Type 0 where
   pub stands : StandsFor lines operand.label (place + 1 + offset)
   pub fits : offset ≤ operand.most

@@ -1,4 +1,4 @@
--- What a source means.
+-- The code that a source means.
 use Rattle.std.specs.Prelude.{◌≡◌, ◌+◌, ℕ, List, [], ◌∷◌, Option, Some, None}
 use Rattle.bpf_asm.specs.Grammar.{Line, AreLines}
 use Rattle.bpf_asm.specs.Labels.{EachLabelOnce, IsDangling, IsOffset, most_branch, most_jump, statements_of}
@@ -7,12 +7,12 @@ use Rattle.bpf_asm.specs.StatementSpelling.{Statement, plain, jump, branch}
 use Rattle.bpf_code.specs.declared.instr.Instr.{Instr}
 use Rattle.bpf_code.specs.declared.instr.Instr.TheVariants.{Jump, Branch}
 
--- The offset of a side of a branch: 0 where it names no label.
+-- The offset of one side of a branch. Without a label it is 0.
 abbrev pub IsSide : List Line → ℕ → Option (List ℕ) → ℕ → Type 0
 IsSide lines place None offset = offset ≡ 0
 IsSide lines place (Some target) offset = IsOffset lines place (record { label = target; most = most_branch }) offset
 
--- The statement at a place means this instruction.
+-- The statement at this place means this instruction.
 abbrev pub Means : List Line → ℕ → Statement → Instr → Type 0
 Means lines place (plain i) meant = meant ≡ i
 Means lines place (jump target) meant =
@@ -20,20 +20,20 @@ Means lines place (jump target) meant =
 Means lines place (branch test by met unmet) meant =
     (jt jf : ℕ) × (meant ≡ Branch test by jt jf) × IsSide lines place met jt × IsSide lines place unmet jf
 
--- The statements from a place on mean these instructions, in order.
+-- The statements from this place on mean these instructions, in order.
 abbrev pub MeanFrom : List Line → ℕ → List Statement → List Instr → Type 0
 MeanFrom lines place [] code = code ≡ []
 MeanFrom lines place (statement ∷ more) [] = ⊥
 MeanFrom lines place (statement ∷ more) (i ∷ code) = Means lines place statement i × MeanFrom lines (place + 1) more code
 
--- Lines mean their instruction lines in order, where each label stands once and before an
--- instruction.
+-- The lines mean the instructions of their instruction lines, in order. No label occurs twice, and an instruction
+-- follows each label.
 pub record LinesMean (lines : List Line) (code : List Instr) : Type 0 where
   pub once : EachLabelOnce lines
   pub followed : (at : ℕ) → ¬ IsDangling lines at
   pub meant : MeanFrom lines 0 (statements_of lines) code
 
--- A source means this code.
+-- The source means this code.
 pub record IsMeaning (source : List ℕ) (code : List Instr) : Type 0 where
   pub lines : List Line
   pub said : AreLines (source_lines source) lines

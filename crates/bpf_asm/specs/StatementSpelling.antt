@@ -13,14 +13,14 @@ use Rattle.bpf_code.specs.declared.instr.Size.TheVariants.{Word, Half, Octet}
 use Rattle.bpf_code.specs.declared.instr.Test.{Test}
 use Rattle.bpf_code.specs.declared.instr.Test.TheVariants.{Eq, Gt, Ge, Set}
 
--- What an instruction line says: an instruction without labels, a jump to a label, or a branch with
--- the label of each side; a side without one goes on behind the branch.
+-- The statement of an instruction line: an instruction without labels, a jump to a label, or a branch with the label of
+-- each side. A side without a label continues at the next instruction.
 pub data Statement : Type 0 where
   plain : Instr → Statement
   jump : List ℕ → Statement
   branch : Test → By → Option (List ℕ) → Option (List ℕ) → Statement
 
--- A part of a spelling: text as it stands, a number in any spelling, or a label.
+-- A part of a spelling: literal text, a number in any spelling, or a label.
 pub data Part : Type 0 where
   text : List ℕ → Part
   num : ℕ → Part
@@ -52,26 +52,26 @@ test_name Gt = codes "jgt"
 test_name Ge = codes "jge"
 test_name Set = codes "jset"
 
--- The mnemonics of branches that go on behind themselves where the test holds.
+-- The mnemonics of branches that jump if the test is false.
 abbrev pub inverse_names : Test → List (List ℕ)
 inverse_names Eq = codes "jne" ∷ codes "jneq" ∷ []
 inverse_names Gt = codes "jle" ∷ []
 inverse_names Ge = codes "jlt" ∷ []
 inverse_names Set = []
 
--- An operand of arithmetic and of branches.
+-- The spelling of an operand of arithmetic or of a branch.
 abbrev pub operand : By → List Part
 operand (Imm k) = text (codes "#") ∷ num k ∷ []
 operand X = text (codes "x") ∷ []
 
--- A mnemonic, an operand and a label, for each mnemonic.
+-- The spellings with one of these mnemonics, this operand and this label.
 abbrev pub one_sided : List (List ℕ) → By → List ℕ → List (List Part)
 one_sided [] by target = []
 one_sided (mnemonic ∷ more) by target =
     (text mnemonic ∷ text (codes " ") ∷ operand by ++ text (codes ", ") ∷ label target ∷ []) ∷ one_sided more by target
 
--- The spellings of a statement, one row a line of the instruction table; the first one is that of a
--- listing.
+-- The spellings of a statement, one line for each row of the instruction table. The first spelling is the one in
+-- listings.
 unfoldable pub spellings : Statement → List (List Part)
 spellings (plain (LoadAbs size k)) = (text (load_name size) ∷ text (codes " [") ∷ num k ∷ text (codes "]") ∷ []) ∷ []
 spellings (plain (LoadInd size k)) = (text (load_name size) ∷ text (codes " [x+") ∷ num k ∷ text (codes "]") ∷ []) ∷ []
@@ -109,7 +109,7 @@ part_tokens (text octets) = tokens_of octets
 part_tokens (num value) = number value ∷ []
 part_tokens (label octets) = name octets ∷ []
 
--- The octets of a part; numbers are decimal.
+-- The octets of a part. Numbers are decimal.
 abbrev pub part_octets : Part → List ℕ
 part_octets (text octets) = octets
 part_octets (num value) = decimal value

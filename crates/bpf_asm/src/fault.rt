@@ -26,7 +26,7 @@ pub enum AsmKind {
     /// No instruction follows the label.
     #[error("7 DanglingLabel")]
     DanglingLabel,
-    /// Memory ran out.
+    /// An allocation failed.
     #[error("8 NoMemory")]
     NoMemory,
 }
@@ -41,13 +41,13 @@ pub struct AsmFault {
     pub kind: AsmKind,
 }
 
-/// Why a code has no listing.
+/// The reason why a code has no listing.
 #[derive(Clone, Copy, Debug, PartialEq, Eq, Error)]
 pub enum ListFault {
     /// Some jump leads outside the code: the first such place, counted from 0.
     #[error("1 JumpOutside {0}")]
     JumpOutside(usize),
-    /// Memory ran out.
+    /// An allocation failed.
     #[error("2 NoMemory")]
     NoMemory,
 }

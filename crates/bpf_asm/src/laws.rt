@@ -1,4 +1,4 @@
-//! Laws of the definitions: functions that do nothing, each for the sake of its contract.
+//! Laws of the definitions. Each function does nothing; its contract is the law.
 
 ghost use Rattle.std.specs.Prelude.{◌≡◌, ◌⊎◌, ℕ, List};
 ghost use Rattle.bpf_asm.specs.Faults.{IsFault};

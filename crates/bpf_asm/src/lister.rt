@@ -162,7 +162,7 @@ fn put_line(text: &mut Vec<u8>, place: usize, instr: Instr) -> Result<(), AllocE
     text.extend_from_slice(b"\n")
 }
 
-/// Returns whether some target of an instruction is outside the code, where `behind` instructions follow it.
+/// Returns whether some target of an instruction is outside the code, if `behind` instructions follow it.
 fn leaves(behind: usize, instr: Instr) -> bool
     ensures { (place : ℕ) → MatchBool result
         (Leaves (place + 1 + behind) place instr) (StaysWithin (place + 1 + behind) place instr) }

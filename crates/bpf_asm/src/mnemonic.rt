@@ -35,7 +35,7 @@ const TESTS: [(&[u8], Test); 4] = [
     (b"jset", Test::Set),
 ];
 
-/// The mnemonics of branches to one label, which jump if the test fails.
+/// The mnemonics of branches to one label, which jump if the test is false.
 const INVERSES: [(&[u8], Test); 4] = [
     (b"jne", Test::Eq),
     (b"jneq", Test::Eq),

@@ -19,7 +19,7 @@ pub(crate) enum LentStatement<'a> {
     Plain(Instr),
     /// A jump to a label.
     Jump(&'a [u8]),
-    /// A branch with the label of each side; a side without one goes on to the next instruction.
+    /// A branch with the label of each side. A side without one continues at the next instruction.
     Branch {
         test: Test,
         by: By,

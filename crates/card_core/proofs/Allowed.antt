@@ -1,4 +1,4 @@
--- What a step did that led somewhere, and what is known of a step that isn't refused.
+-- The effect of a step that leads somewhere, and facts about a step that isn't refused.
 use Rattle.std.proofs.Common.{◌≡◌, ◌≢◌, ◌⊎◌, ℕ, zero, suc, ◌^◌, ◌<◌, ◌≤◌, ◌==◌, Bool, true, false, cond, not, List, [], ◌∷◌, length, Option, Some, None, IsSome, is_none, is_some, slice_get, nat_lt, nat_le, MatchOption, option_map, refl, ap, subst, inl, inr, arith}
 use Rattle.std.specs.List.{list_any, list_all}
 use Rattle.std.proofs.lemmas.Bool.{and_parts, not-true, not-false, eqb-true, eqb-false, eq-eqb, ltb-false, leb-false}
@@ -16,7 +16,7 @@ use Rattle.card_core.specs.Steps.{Succeeds, FindsNoMemory, IsRefused, WorldStep}
 use Rattle.card_core.proofs.LookUps.{same_some, passed_on, unmapped, is_there, is_missing, IsSome-of}
 use Rattle.card_core.proofs.ConnectionLemmas.{connection_passes}
 
--- What a step that led somewhere did: it succeeded, found no memory, or was refused.
+-- A step that leads somewhere succeeded, failed to allocate, or was refused.
 pub data StepCase (before : World) (step : Step) (reply : Reply) (after : World) : Type 0 where
   succeeded : refusal before step ≡ None → Succeeds before step reply after → StepCase before step reply after
   starved : FindsNoMemory before step reply after → StepCase before step reply after
@@ -38,7 +38,7 @@ step-case before step reply after w =
     ] in
     choice (refusal before step) refl w
 
--- What a cell that isn't refused is.
+-- Facts about a cell that isn't refused.
 pub record IsAllowed (world : World) (connection : Connection) (moment : ℕ) : Type 0 where
   pub early : moment ≤ 2 ^ 62
   pub forward : last_moment 0 connection.history ≤ moment
@@ -59,7 +59,7 @@ cell-allowed world connection moment e =
       counted = leb-false (2 ^ 62) (length (world.judged connection.line)) four.0;
     }
 
--- A picked cell that isn't refused is on the connection that was picked.
+-- A picked cell that isn't refused is on the picked connection.
 pub picking-allowed : (world : World) (port : ℕ) (picking : Picking) (connection : Connection)
     → slice_get world.ports port ≡ Some (picked picking)
     → connection_in world.connections picking.vc ≡ Some connection
@@ -82,7 +82,7 @@ picking-allowed world port picking connection had found e =
     ] in
     choice (connection.incarnation == picking.incarnation) refl at_picking
 
--- What a connection needs that isn't refused.
+-- Facts about a setup that isn't refused.
 pub record MaySetUp (before : World) (ask : Ask) : Type 0 where
   pub live : IsSome (code_in before.live ask.program)
   pub free : connection_in before.connections ask.vc ≡ None
@@ -114,7 +114,7 @@ line-held before line free other another found same =
     (λ vc. eq-eqb another.line line same) in
     absurd (cc)
 
--- Where no port has a cell none has one that was picked.
+-- If no port has a cell, no port has a picked cell.
 pub none_picked : (ports : List PortState) → list_all is_outside ports ≡ true → (port : ℕ) (picking : Picking)
     → slice_get ports port ≡ Some (picked picking) → ⊥
 none_picked [] all port picking e = absurd (cc)
@@ -126,7 +126,7 @@ none_picked (first ∷ later) all zero picking e =
 none_picked (first ∷ later) all (suc port) picking e =
     none_picked later (and_parts (is_outside first) (list_all is_outside later) all).1 port picking e
 
--- What a program needs that is retired.
+-- Facts about a retirement that isn't refused.
 pub record MayRetire (before : World) (id : Id) : Type 0 where
   pub idle : list_all is_outside before.ports ≡ true
   pub live : IsSome (code_in before.live id)

@@ -1,4 +1,4 @@
--- A cell's whole way at a port that is outside, with which the port is outside again.
+-- All steps of a cell at a port without a cell. Afterwards the port has no cell again.
 use Rattle.std.proofs.Common.{◌≡◌, ℕ, zero, suc, true, Option, Some, None, List, [], ◌∷◌, refl, sym, ap, subst, ◌∙◌, inl, inr}
 use Rattle.std.specs.Prelude.{slice_get, slice_set}
 use Rattle.std.proofs.lemmas.List.{append-nil}
@@ -29,7 +29,7 @@ use Rattle.card_core.proofs.PickSteps.{pick-goes, pick-missed}
 use Rattle.card_core.proofs.JudgeSteps.{judge-goes}
 use Rattle.card_core.proofs.RunLemmas.{follows-next}
 
--- A core that takes no step, one step, and two and three.
+-- A core that takes no step, one step, two steps and three steps.
 none-taken : (old : CoreView) → FollowsAll old [] [] old
 none-taken old shape log before leads agrees = record {
   after = before;
@@ -52,13 +52,13 @@ three-taken : (old middle later new : CoreView) (one two three : Step) (first se
 three-taken old middle later new one two three first second third goes then last =
     follows-next old later new (one ∷ two ∷ []) (first ∷ second ∷ []) three third refl (two-taken old middle later one two first second goes then) last
 
--- What is put at a port that there is stands there,
+-- A state that is written to an existing port is there.
 stands : (ports : List Port) (port : ℕ) (old next : Port) → slice_get ports port ≡ Some old → slice_get (slice_set ports port next) port ≡ Some next
 stands [] port old next e = absurd (cc)
 stands (first ∷ later) zero old next e = refl
 stands (first ∷ later) (suc port) old next e = stands later port old next e
 
--- and nothing is left of what stood there before.
+-- A second write replaces the first.
 again : (ports : List Port) (port : ℕ) (one other : Port) → slice_set (slice_set ports port one) port other ≡ slice_set ports port other
 again [] port one other = refl
 again (first ∷ later) zero one other = refl
@@ -78,7 +78,7 @@ module _ (shape : Shape) (store : List (Slot (List Instr))) (directory : Directo
   abbrev entered_ports : List Port
   entered_ports = slice_set ports port (EnteredPort here)
 
-  -- The port once it is outside again.
+  -- The ports after the cell has left.
   left-entered : slice_set entered_ports port Outside ≡ ports
   left-entered = again ports port (EnteredPort here) Outside ∙ set-again ports port Outside (outside-there (slice_get ports port) free)
 
@@ -95,7 +95,7 @@ module _ (shape : Shape) (store : List (Slot (List Instr))) (directory : Directo
       (subst (λ (list : List Port). Follows (core_of shape store directory lines entered_ports) (Pick port) (Answered answer) (core_of shape store directory lines list))
       left-entered picks))
 
-  -- The judging answers it.
+  -- The judgement answers the cell.
   pub arrives-judged : (found : Found) → IsFound store directory shape.side here found → (answer : Answer) (after : List LineView)
       → ChangesLine lines found.seating.line (JudgesOrRefuses found answer) after
       → Answers Old port here.cell here.moment answer (core_of shape store directory after ports)

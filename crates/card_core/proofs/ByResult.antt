@@ -1,4 +1,4 @@
--- What holds of both cases of a result holds of the result; and what a clause says of a case, once it is known.
+-- Cases of a result, and clauses in a known case.
 use Rattle.std.proofs.Common.{◌≡◌, refl, subst, Result, Ok, Err, IfOk, IfErr, OnErr}
 
 pub by_result : {A : Type 0} {E : Type 0} (P : Result A E → Type 0) (result : Result A E)

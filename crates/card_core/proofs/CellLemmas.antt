@@ -1,4 +1,4 @@
--- What a cell keeps when it is tagged, and what its verdict tells of how it came.
+-- Fields that tagging keeps, and the CLP of a cell on arrival from its verdict.
 use Rattle.std.proofs.Common.{◌≡◌, ℕ, ◌/◌, ◌%◌, ◌^◌, false, List, [], ◌∷◌, Option, Some, None, refl, sym, ap, arith}
 use Rattle.upc_cell.specs.declared.side.Side.{Side}
 use Rattle.upc_cell.specs.declared.side.Side.TheVariants.{Uni, Nni}
@@ -16,7 +16,7 @@ use Rattle.line_record.specs.History.{NamedCell, verdict_under}
 use Rattle.card_core.specs.Steps.{cell_after}
 use Rattle.card_core.specs.Headline.{came_with}
 
--- The number of a tagged header but for its lowest bit.
+-- Tagging changes only the lowest bit of the header.
 header-tagged : (cell : List ℕ) → header_number (tagged_form cell) / 2 ≡ header_number cell / 2
 header-tagged [] = refl
 header-tagged (a ∷ []) = refl
@@ -24,7 +24,7 @@ header-tagged (a ∷ b ∷ []) = refl
 header-tagged (a ∷ b ∷ c ∷ []) = refl
 header-tagged (a ∷ b ∷ c ∷ d ∷ rest) = omega arith
 
--- So a field above that bit is the same.
+-- A field above the lowest bit is unchanged.
 quotients : (one other : ℕ) → one / 2 ≡ other / 2 → (one / 2 ^ 4 ≡ other / 2 ^ 4) × (one / 2 ^ 20 ≡ other / 2 ^ 20)
 quotients one other same = (omega (arith, same), omega (arith, same))
 
@@ -40,20 +40,20 @@ vc-tagged side cell =
     (ap (λ n. n % 4096) (path-tagged side cell))
     (ap (λ n. n % 2 ^ 16) (quotients (header_number (tagged_form cell)) (header_number cell) (header-tagged cell)).0)
 
--- A cell leaves with the connection that it came with.
+-- A cell leaves with the connection of its arrival.
 pub vc-after : (side : Side) (verdict : Verdict) (cell : List ℕ) → vc_of side (cell_after verdict cell) ≡ vc_of side cell
 vc-after side Pass cell = refl
 vc-after side Tag cell = vc-tagged side cell
 vc-after side Discard cell = refl
 vc-after side Refuse cell = refl
 
--- A cell that was tagged came with CLP 0.
+-- A tagged cell arrived with CLP 0.
 untagged : (contract : Option Contract) (buckets : Buckets) (cell : NamedCell) → verdict_under contract buckets cell ≡ Tag
     → cell.clp ≡ false
 untagged None buckets cell e = absurd (cc)
 untagged (Some contract) buckets cell e = tagged_cells_came_untagged contract buckets cell.clp cell.moment e
 
--- And so what a judged cell's reply tells of the CLP with which it came is right.
+-- The reply to a judged cell determines the CLP on arrival.
 pub came : (cell : List ℕ) (contract : Option Contract) (buckets : Buckets) (named : NamedCell)
     → named.clp ≡ has_low_priority cell
     → came_with (verdict_under contract buckets named) (cell_after (verdict_under contract buckets named) cell) ≡ named.clp

@@ -1,4 +1,4 @@
--- Look-ups in the codes that a world was given, before and after one is put in or taken out.
+-- Look-ups in the codes of a world, before and after a load or a retirement.
 use Rattle.std.proofs.Common.{◌≡◌, ◌≢◌, ◌⊎◌, ℕ, suc, ◌≤◌, ◌==◌, Bool, true, false, cond, List, [], ◌∷◌, Some, None, refl, sym, ap, ◌∙◌, subst, inl, inr, arith}
 use Rattle.std.proofs.lemmas.Bool.{eq-eqb}
 use Rattle.bpf_code.specs.declared.instr.Instr.{Instr}
@@ -43,7 +43,7 @@ without_code-others (here ∷ later) id other apart =
     ] in
     choice (is_same_id id here.id) refl
 
--- What was there without one code was there.
+-- A code that is found after one was removed was found before.
 pub without_code-was : (loadings : List Loading) (gone id : Id) (code : List Instr)
     → code_in (without_code loadings gone) id ≡ Some code → (id ≢ gone) × (code_in loadings id ≡ Some code)
 without_code-was loadings gone id code e = elim (id_cases id gone) [
@@ -55,7 +55,7 @@ without_code-was loadings gone id code e = elim (id_cases id gone) [
   | inr apart ↦ (apart, sym (without_code-others loadings gone id apart) ∙ e)
 ]
 
--- How often a slot was given, once it or another was given once more.
+-- The number of times that a slot was given, after one more.
 pub times-same : (loading : Loading) (later : List Loading) (slot : ℕ) → loading.id.slot ≡ slot
     → times_given (loading ∷ later) slot ≡ suc (times_given later slot)
 times-same loading later slot e =
@@ -70,7 +70,7 @@ times-grow loading later slot =
     ] in
     choice (loading.id.slot == slot)
 
--- What is looked up once a code was put in is that, or what was there.
+-- A code that is found after a load is the new one or was found before.
 pub code-cases : (loading : Loading) (later : List Loading) (id : Id) (code : List Instr)
     → code_in (loading ∷ later) id ≡ Some code
     → ((id ≡ loading.id) × (loading.code ≡ code)) ⊎ ((id ≢ loading.id) × (code_in later id ≡ Some code))

@@ -1,4 +1,4 @@
--- Look-ups in a world's connections, before and after a change of one.
+-- Look-ups in the connections of a world, before and after a change of one.
 use Rattle.std.proofs.Common.{◌≡◌, ◌≢◌, ◌⊎◌, suc, Bool, true, false, cond, List, [], ◌∷◌, zero, Option, Some, None, refl, sym, ap, ◌∙◌, subst, inl, inr, arith}
 use Rattle.std.specs.List.{list_any, Contains}
 use Rattle.std.proofs.lemmas.Bool.{or_left, or_right}
@@ -73,7 +73,7 @@ changes-without old vc = record {
   others = λ other apart. without-others old vc other apart;
 }
 
--- A connection that the test finds.
+-- If the test is true for a connection that is found, it is true for some entry.
 pub connection_passes : (test : (Vc × Connection) → Bool) (connections : List (Vc × Connection)) (vc : Vc) (connection : Connection)
     → connection_in connections vc ≡ Some connection → ((other : Vc) → test (other, connection) ≡ true)
     → list_any test connections ≡ true
@@ -91,7 +91,7 @@ connection_passes test (first ∷ later) vc connection at passes =
     ] in
     choice (is_same_vc vc first.0) refl
 
--- Each connection of the list is the one that is looked up.
+-- Each entry of the list is the one that a look-up finds.
 abbrev pub IsOnce : List (Vc × Connection) → Type 0
 IsOnce connections = (here : Vc × Connection) → Contains connections here → connection_in connections here.0 ≡ Some here.1
 
@@ -103,7 +103,7 @@ contains-first : (first entry : Vc × Connection) (later : List (Vc × Connectio
 contains-first first entry later (zero, within, is) = inl is
 contains-first first entry later (suc place, within, is) = inr (place, omega (arith, within), is)
 
--- What the list has without one connection it had, and it is another's.
+-- An entry of the list without one connection was in the list, and is another connection's.
 pub contains-without : (connections : List (Vc × Connection)) (vc : Vc) (entry : Vc × Connection)
     → Contains (without_connection connections vc) entry → Contains connections entry × (entry.0 ≢ vc)
 contains-without [] vc entry there = absurd (omega (arith, there.1))

@@ -1,4 +1,4 @@
--- Pieces, and a line at its connection's setup and cut.
+-- Pieces, and the line of a connection at setup and cut.
 use Rattle.std.proofs.Common.{◌≡◌, ◌≢◌, ℕ, false, Some, None, List, [], ◌∷◌, length, take, drop, refl, sym, ap, subst, ◌∙◌, inl, inr, arith}
 use Rattle.std.specs.Prelude.{Result, Ok, Err, MatchResult, IfOk, OnOk, OnErr}
 use Rattle.line_record.specs.declared.directory.Seating.{Seating}
@@ -46,7 +46,7 @@ piece-is world vc connection line piece serves counts journal = record {
   counts = ap (λ (state : State). state.counts) journal.end ∙ counts;
 }
 
--- A line that was cut serves its connection, all of whose cells were handed out.
+-- After a cut the line serves its connection, all of whose cells were returned.
 pub cut-serves : (vc : Vc) (connection : Connection) (line : LineView) (verdicts : List Verdict)
     → Serves line vc connection verdicts → line.state.counts ≡ tally_of verdicts
     → Serves (record line { start = line.state; entries = [] }) vc (record connection { handed = length connection.history }) verdicts
@@ -62,7 +62,7 @@ cut-serves vc connection line verdicts serves counts =
       state = serves.state;
     }
 
--- A line that was opened serves the connection that was set up.
+-- A line that was opened serves the new connection.
 pub open-serves : (ask : Ask) (number incarnation : ℕ) (line next : LineView) (owner : Owner) (verdicts : List Verdict)
     → owner ≡ record { vc = ask.vc; incarnation = incarnation } → Opens line owner ask.contracts.items next
     → IsStateAfter ask.contracts.items [] next.state → line.state.counts ≡ tally_of verdicts
@@ -77,12 +77,12 @@ open-serves ask number incarnation line next owner verdicts given opens history 
   state = history;
 }
 
--- A line that may have become ready is the line before but for its room.
+-- A line that may have become ready differs only in that.
 pub readied : (line next : LineView) → MayBecomeReady line next → next ≡ record line { ready = next.ready }
 readied line next (inl same) = subst (λ (l : LineView). l ≡ record line { ready = l.ready }) (sym same) refl
 readied line next (inr became) = subst (λ (l : LineView). l ≡ record line { ready = l.ready }) (sym became.1) refl
 
--- What a release on lent parts did, in one match.
+-- The effect of a release on a line that is passed, in one match.
 pub releases : (old new : DirectoryView) (vc : Vc) (seating : Seating) (line next : LineView) (result : Result PieceView DeskFault)
     → MatchResult result (λ piece. line.owner ≡ Some (holder vc seating)) (λ fault. (fault ≡ Stale) × (line.owner ≢ Some (holder vc seating)))
     → IfOk result (λ piece. IsJournalOf line piece) → OnOk result (Sits old vc None new)

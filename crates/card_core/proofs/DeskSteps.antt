@@ -38,7 +38,7 @@ module _ (shape : Shape) (store : List (Slot (List Instr))) (directory : Directo
   missing before agrees vc none =
       unmapped seating_of (connection_in before.connections vc) (sym (agrees.seatings.seatings vc) ∙ none)
 
-  -- And with one there is.
+  -- With a seating there is a connection.
   seated : (before : World) → CoreAgrees Old before → (vc : Vc) (seating : Seating) → seating_at directory vc ≡ Some seating
       → (connection : Connection) × (connection_in before.connections vc ≡ Some connection) × (seating_of connection ≡ seating)
   seated before agrees vc seating sits =
@@ -59,7 +59,7 @@ module _ (shape : Shape) (store : List (Slot (List Instr))) (directory : Directo
       let fault = missing-is before vc None (missing before agrees vc none) in
       (before, step-refused before (Cut vc) (Refused NoConnection) (ap (option_map Refused) fault), agrees))
 
-  -- The line of a connection.
+  -- The line of a connection serves it.
   line-serves : (before : World) → CoreAgrees Old before → (vc : Vc) (seating : Seating) (connection : Connection) (line : LineView)
       → connection_in before.connections vc ≡ Some connection → seating_of connection ≡ seating → slice_get lines seating.line ≡ Some line
       → Serves line vc connection (before.judged connection.line)
@@ -124,7 +124,7 @@ module _ (shape : Shape) (store : List (Slot (List Instr))) (directory : Directo
         },
       ))
 
-  -- The core's line is always the directory's.
+  -- In a core the line is always the one of the directory.
   pub release-never : (vc : Vc) (seating : Seating) (new : DirectoryView) (result : Result PieceView DeskFault) (after : List LineView)
       → seating_at directory vc ≡ Some seating
       → ChangesLine lines seating.line (ReleasesOrRefuses directory new vc seating result) after
@@ -187,7 +187,7 @@ module _ (shape : Shape) (store : List (Slot (List Instr))) (directory : Directo
         },
       ))
 
-  -- Why a cut is refused: its memory alone may be.
+  -- A cut on its own line fails only if an allocation fails.
   only-memory : (line : LineView) (owner : Owner) (fault : DeskFault) → line.owner ≡ Some owner → IsUncut line owner fault → fault ≡ NoMemory
   only-memory line owner NoProgram own why = absurd why
   only-memory line owner NoConnection own why = absurd why
@@ -219,7 +219,7 @@ module _ (shape : Shape) (store : List (Slot (List Instr))) (directory : Directo
         subst (λ (list : List LineView). CoreAgrees (core_of shape store directory list ports) before) (sym same) agrees,
       ))
 
-  -- Why a Reload is refused.
+  -- The reason why a Reload is refused.
   reload-is : (before : World) (vc : Vc) (program : Id) (code : Option (List Instr)) (now : Option Connection)
       → code_in before.live program ≡ code → connection_in before.connections vc ≡ now
       → reload_fault before vc program ≡ cond (is_none code) (Some NoProgram) (cond (is_none now) (Some NoConnection) None)

@@ -1,4 +1,4 @@
--- How a step of the core is proved: from a sound world.
+-- How a step of the core is proved: from a world that satisfies the invariant.
 use Rattle.std.proofs.Common.{◌≡◌, List, [], ◌∷◌, ◌++◌, Some, None, refl, sym, subst, inl, inr}
 use Rattle.card_core.specs.declared.reply.Reply.{Reply}
 use Rattle.card_core.specs.declared.step.Step.{Step}
@@ -11,7 +11,7 @@ use Rattle.card_core.proofs.Sound.{IsSound}
 use Rattle.card_core.proofs.LeftLemmas.{left_with, left-as}
 use Rattle.card_core.proofs.SoundSteps.{reached-sound}
 
--- A log goes on by one event.
+-- A log with one more event.
 pub Run-next : (start before after : World) (log : List Event) (step : Step) (reply : Reply)
     → Run start log before → WorldStep before step reply after
     → Run start (log ++ record { step = step; reply = reply } ∷ []) after
@@ -30,13 +30,13 @@ pub step-taken : (before after : World) (step : Step) (reply : Reply) → refusa
     → Succeeds before step reply after → WorldStep before step reply after
 step-taken before after step reply e goes = rw e (inl goes)
 
--- A step that finds no memory.
+-- A step that fails to allocate.
 pub step-without_memory : (before : World) (step : Step) (reply : Reply) → refusal before step ≡ None
     → without_memory step ≡ Some reply → WorldStep before step reply before
 step-without_memory before step reply e lacks = rw e (inr (record { answer = lacks; world = refl }))
 
--- From every sound world that the old core agrees with, the step leads with the reply to one that the
--- new core agrees with.
+-- For every world that satisfies the invariant and agrees with the old core, the step with this reply leads to a world
+-- that agrees with the new core.
 abbrev pub GoesOn : CoreView → Step → Reply → CoreView → Type 0
 GoesOn old step reply new = (before : World) → IsSound before → CoreAgrees old before
     → (after : World) × WorldStep before step reply after × CoreAgrees new after

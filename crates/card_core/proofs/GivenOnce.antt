@@ -19,7 +19,7 @@ use Rattle.card_core.proofs.Allowed.{succeeded, starved, rejected, step-case}
 use Rattle.card_core.proofs.SoundChanges.{opening-sound}
 use Rattle.card_core.proofs.SoundSteps.{sound-step, reached-sound}
 
--- What a step does to the codes that were ever put in: nothing, or one more under an id that is new.
+-- A step leaves the given codes unchanged or adds one under a new id.
 pub data GivenCase (before after : List Loading) : Type 0 where
   as_before : after ≡ before → GivenCase before after
   one_more : (loading : Loading) → after ≡ loading ∷ before → IsAccepted loading.code
@@ -38,7 +38,7 @@ given-left before (Pick port) = given-left_by_pick before port (slice_get before
 given-left before (Judge port) = given-left_by_judge before port (slice_get before.ports port)
 given-left before _ = refl
 
--- An id that is of the next generation of its slot was not given.
+-- An id with the next generation of its slot was not given.
 pub new-id : (world : World) → IsSound world → (id : Id) → id.generation ≡ times_given world.given id.slot + 1
     → code_in world.given id ≡ None
 new-id world sound id next =
@@ -70,7 +70,7 @@ given-step before step reply after sound w = elim (step-case before step reply a
   | rejected refused e refusing ↦ as_before (ap (λ (v : World). v.given) refusing.world ∙ given-left before step)
 ]
 
--- An id names one code.
+-- An id has one code.
 
 pub code-kept : (before after : List Loading) → GivenCase before after → (id : Id) (code : List Instr)
     → code_in before id ≡ Some code → code_in after id ≡ Some code
@@ -94,7 +94,7 @@ pub one-code : IdsNameOneCode
 one-code shape log further world later leads run id code e =
     code-run world further later (reached-sound shape log world leads) run id code e
 
--- No id stands twice.
+-- No id occurs twice.
 
 abbrev IsGivenOnce : List Loading → Type 0
 IsGivenOnce given = (place other : ℕ) (one another : Loading)
@@ -104,7 +104,7 @@ IsGivenOnce given = (place other : ℕ) (one another : Loading)
 abbrev AreAccepted : List Loading → Type 0
 AreAccepted given = (place : ℕ) (loading : Loading) → slice_get given place ≡ Some loading → IsAccepted loading.code
 
--- An id that nothing is looked up under stands nowhere.
+-- An id without a code doesn't occur in the list.
 stands-nowhere : (given : List Loading) (id : Id) → code_in given id ≡ None → (place : ℕ) (loading : Loading)
     → slice_get given place ≡ Some loading → loading.id ≢ id
 stands-nowhere [] id none place loading e same = absurd (cc)

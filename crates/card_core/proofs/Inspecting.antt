@@ -1,4 +1,4 @@
--- What a core tells of itself without a step, by its parts.
+-- Reads of a core without a step, by its parts.
 use Rattle.std.proofs.Common.{◌≡◌, ◌≢◌, ◌↔◌, ℕ, Bool, true, false, cond, not, Option, Some, None, List, Result, Ok, Err, IsOk, IsErr, IsSome, refl, sym, ap, subst, ◌∙◌, arith}
 use Rattle.std.specs.Prelude.{◌==◌, IsErrOf}
 use Rattle.std.specs.List.{list_all}
@@ -23,7 +23,7 @@ use Rattle.card_core.specs.inner.Ports.{is_free_port}
 use Rattle.card_core.proofs.PortLemmas.{core_of}
 use Rattle.card_core.proofs.StoreSteps.{all-outside}
 
--- What succeeded did not fail.
+-- A result that is Ok isn't an error.
 pub never-err : {A : Type 0} (E : Type 0) (value : A) → IsErr {E = E} (Ok value) → ⊥
 never-err E value e = absurd (cc)
 
@@ -75,7 +75,7 @@ module _ (shape : Shape) (store : List (Slot (List Instr))) (directory : Directo
     rest = refl;
   }
 
-  -- Why a retirement is refused while no port has a cell: there are two reasons, and no third.
+  -- While no port has a cell, a retirement has only two reasons to be refused.
   no-third : (id : Id) → ((live_value store id ≡ None) → ⊥) → ((IsLive store id × IsNamed directory id) → ⊥)
       → ((IsLive store id × (IsNamed directory id → ⊥)) → ⊥) → ⊥
   no-third id missing used none =

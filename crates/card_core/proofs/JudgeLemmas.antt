@@ -1,4 +1,4 @@
--- What a judged cell is to the line and to the connection's history.
+-- The effect of a judged cell on the line and on the connection's history.
 use Rattle.std.proofs.Common.{◌≡◌, ◌≢◌, ℕ, ◌^◌, ◌≤◌, Bool, true, false, cond, Option, Some, None, List, [], ◌∷◌, ◌++◌, length, refl, sym, ap, subst, ◌∙◌, arith}
 use Rattle.std.specs.Prelude.{option_map, nat_lt, nat_le, ◌==◌, MatchOption}
 use Rattle.std.proofs.lemmas.Bool.Decides.{nat_tests, Decides-eqb}
@@ -19,14 +19,14 @@ use Rattle.card_core.specs.Refusals.{cell_refusal}
 use Rattle.card_core.specs.Steps.{with_cell}
 use Rattle.card_core.specs.Sections.{answer_for}
 
--- What a match on an option says where the option is known.
+-- A match on an option that is known to be some.
 pub match_some : {X : Type 0} (o : Option X) (P : Type 0) (Q : X → Type 0) (x : X) → o ≡ Some x → MatchOption o P Q → Q x
 match_some o P Q x e m = subst (λ p. MatchOption p P Q) e m
 
 pub match_none : {X : Type 0} (o : Option X) (P : Type 0) (Q : X → Type 0) → o ≡ None → MatchOption o P Q → P
 match_none o P Q e m = subst (λ p. MatchOption p P Q) e m
 
--- Four tests in turn refuse a cell of a line and of a connection alike.
+-- The same four tests refuse a cell of a line and of a connection.
 by_tests : (late back full worn : Bool) (last : ℕ)
     → option_map answer_for (cond late (Some TooLate) (cond back (Some (Back last)) (cond full (Some Full) (cond worn (Some Full) None))))
     ≡ cond late (Some MomentTooLate) (cond back (Some (MomentBack last)) (cond full (Some JournalFull) (cond worn (Some JournalFull) None)))
@@ -36,7 +36,7 @@ by_tests false false true worn last = refl
 by_tests false false false true last = refl
 by_tests false false false false last = refl
 
--- The refusals of a line are those of the connection that it serves.
+-- A line refuses the same cells as the connection that it serves.
 pub refusals_agree : (line : LineView) (world : World) (connection : Connection) (moment : ℕ)
     → line.journal ≡ world.shape.journal → line.state.last ≡ last_moment 0 connection.history
     → length line.entries ≡ length (kept_cells connection)
@@ -54,7 +54,7 @@ refusals_agree line world connection moment journals lasts entries counts =
     ∙ ap (λ (n : ℕ). Refuses world.shape.journal (last_moment 0 connection.history) n (cells_in line.state.counts)) entries
     ∙ ap (λ (n : ℕ). Refuses world.shape.journal (last_moment 0 connection.history) (length (kept_cells connection)) n) counts
 
--- The cells that no cut has handed out, with one more.
+-- The cells that no cut has returned, with one more.
 pub kept-with_cell : (connection : Connection) (cell : NamedCell) → connection.handed ≤ length connection.history
     → kept_cells (with_cell connection cell) ≡ kept_cells connection ++ cell ∷ []
 kept-with_cell connection cell within = drop-append-le connection.handed connection.history (cell ∷ []) within
@@ -102,7 +102,7 @@ pub tallied-append : (counts : Tally) (entries later : List Entry)
 tallied-append counts [] later = refl
 tallied-append counts (entry ∷ entries) later = tallied-append (counted counts entry.verdict) entries later
 
--- One more entry and its verdict are counted alike.
+-- One more entry and its verdict count alike.
 pub tallied-more : (counts : Tally) (entries : List Entry) (verdicts : List Verdict) (entry : Entry) (verdict : Verdict)
     → entry.verdict ≡ verdict → tallied counts entries ≡ tally_of verdicts
     → tallied counts (entries ++ entry ∷ []) ≡ tally_of (verdicts ++ verdict ∷ [])

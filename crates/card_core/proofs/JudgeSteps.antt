@@ -41,7 +41,7 @@ use Rattle.card_core.proofs.PortLemmas.{core_of, found_there, moved, CoreAgrees-
 use Rattle.card_core.proofs.PortSteps.{at-port}
 use Rattle.card_core.proofs.JudgeLemmas.{match_some, match_none, refusals_agree, judged-with_cell, handed-with_cell, with_verdict-here, with_verdict-other, tallied-more}
 
--- A line that serves a connection, once it has judged the connection's next cell.
+-- A line that serves a connection, after it judged the connection's next cell.
 module _ (line next : LineView) (vc : Vc) (connection : Connection) (verdicts : List Verdict) (found : Found) (answer : Answer)
     (serves : Serves line vc connection verdicts) (within : connection.handed ≤ length connection.history)
     (counts : line.state.counts ≡ tally_of verdicts)
@@ -95,7 +95,7 @@ module _ (line next : LineView) (vc : Vc) (connection : Connection) (verdicts : 
       ∙ ap (λ tally. Told connection.line (count_of tally judges.entry.verdict + 1) judges.entry.verdict) counts
       ∙ ap (λ (verdict : Verdict). Told connection.line (count_of (tally_of verdicts) verdict + 1) verdict) judged-verdict
 
--- The refusal of a picked cell, by what the world has of its connection.
+-- The refusal of a picked cell, from the world's connection.
 refused-as : (world : World) (port : ℕ) (picking : Picking) → slice_get world.ports port ≡ Some (picked picking)
     → refusal world (Judge port) ≡ option_map Answered (picking_refusal world picking (connection_in world.connections picking.vc))
 refused-as world port picking had = ap (judge_refusal world) had
@@ -117,7 +117,7 @@ module _ (shape : Shape) (store : List (Slot (List Instr))) (directory : Directo
   had : (before : World) → CoreAgrees Old before → slice_get before.ports port ≡ Some (picked (picking_of found))
   had before agrees = at-port shape store directory lines ports port before agrees ∙ found_there (slice_get ports port) found there
 
-  -- A picked cell that is refused leaves the port outside, and nothing else changes.
+  -- The refusal of a picked cell leaves the port without a cell and changes nothing else.
   refused : (before : World) → CoreAgrees Old before → (answer : Answer) (after : List LineView) → after ≡ lines
       → refusal before (Judge port) ≡ Some (Answered answer)
       → (world : World) × WorldStep before (Judge port) (Answered answer) world × CoreAgrees (New after) world
@@ -128,7 +128,7 @@ module _ (shape : Shape) (store : List (Slot (List Instr))) (directory : Directo
         (CoreAgrees-moved shape store directory lines ports before port Outside outside refl agrees),
   )
 
-  -- The line serves the picked connection, and judges the cell.
+  -- The line serves the picked connection and judges the cell.
   taken : (before : World) → IsSound before → CoreAgrees Old before → (answer : Answer) (line next : LineView) (connection : Connection)
       → slice_get lines found.seating.line ≡ Some line
       → connection_in before.connections found.vc ≡ Some connection → connection.line ≡ found.seating.line
@@ -187,12 +187,12 @@ module _ (shape : Shape) (store : List (Slot (List Instr))) (directory : Directo
     abbrev Holder : Owner
     Holder = holder found.vc found.seating
 
-    -- What a refusal leaves of the lines.
+    -- A refusal leaves the lines unchanged.
     unchanged : change.next ≡ change.line → after ≡ lines
     unchanged same =
         change.after ∙ ap (set lines found.seating.line) same ∙ set-again lines found.seating.line change.line change.there
 
-    -- The line of a connection that has the picked incarnation is the one that was found.
+    -- A connection with the picked incarnation has the line that was found.
     line-of : (before : World) → CoreAgrees Old before → (connection : Connection)
         → connection_in before.connections found.vc ≡ Some connection → connection.line ≡ found.seating.line
         → Serves change.line found.vc connection (before.judged connection.line)
@@ -203,7 +203,7 @@ module _ (shape : Shape) (store : List (Slot (List Instr))) (directory : Directo
         subst (λ (l : LineView). Serves l found.vc connection (before.judged connection.line))
         (same_some serving.0 change.line (sym at ∙ change.there)) serving.2
 
-    -- The line isn't the picked connection's.
+    -- The line doesn't serve the picked connection.
     gone : (before : World) → IsSound before → CoreAgrees Old before → is_owned_by change.line.owner Holder ≡ false
         → (now : Option Connection) → connection_in before.connections found.vc ≡ now
         → picking_refusal before (picking_of found) now ≡ Some Released
@@ -238,7 +238,7 @@ module _ (shape : Shape) (store : List (Slot (List Instr))) (directory : Directo
         ∙ ap (option_map Answered) (gone before sound agrees other (connection_in before.connections found.vc) refl)
         ∙ ap (λ (a : Answer). Some (Answered a)) (sym did.0))
 
-    -- The line is the picked connection's.
+    -- The line serves the picked connection.
     held : (before : World) → IsSound before → CoreAgrees Old before → is_owned_by change.line.owner Holder ≡ true → Result before
     held before sound agrees own =
         let owner : change.line.owner ≡ Some Holder = owned change.line.owner Holder own in

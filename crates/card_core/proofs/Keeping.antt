@@ -1,4 +1,4 @@
--- What a refusal leaves of the core, for each step.
+-- The core after a refusal, for each step.
 use Rattle.std.proofs.Common.{◌≡◌, ℕ, Option, Some, None, List, length-set, set, refl, sym, ap, subst, ◌∙◌, inl, inr}
 use Rattle.std.specs.Prelude.{slice_get, slice_set, MatchOption, Result, Err}
 use Rattle.std.proofs.lemmas.Bool.{cases_eq}
@@ -30,7 +30,7 @@ use Rattle.gen_arena.proofs.Public.{slice_get-set_other}
 use Rattle.card_core.proofs.LineLemmas.{set-again, get-set_same}
 use Rattle.card_core.proofs.LookUps.{same_some}
 
--- A core that has only its port outside is what any answer leaves.
+-- After an answer to a cell that isn't judged, only the port changed.
 pub answer-keeps : (answer : Answer) (port : ℕ) (old new : CoreView) → new ≡ with_outside old port → AnswerKeeps answer port old new
 answer-keeps (Judged line number moment value program verdict cell) port old new same = tt
 answer-keeps NoConnection port old new same = same
@@ -41,13 +41,13 @@ answer-keeps MomentTooLate port old new same = same
 answer-keeps JournalFull port old new same = same
 answer-keeps NoMemoryAnswer port old new same = same
 
--- A line that was lent and is as before leaves the lines as they were.
+-- If the line that is passed is unchanged, so are the lines.
 pub again : (lines : List LineView) (number : ℕ) (line next : LineView) → slice_get lines number ≡ Some line → next ≡ line
     → slice_set lines number next ≡ lines
 again lines number line next there same =
     ap (slice_set lines number) same ∙ set-again lines number line there
 
--- A picked cell is judged, or its line is the line before.
+-- A picked cell is judged, or its line is unchanged.
 judge-keeps_by : (refusal : Option Answer) (line next : LineView) (found : Found) (answer : Answer) (port : ℕ) (old new : CoreView)
     → MatchOption refusal (JudgesAt line found.seating found.named found.moment answer next) (λ refused. (answer ≡ refused) × (next ≡ line))
     → (next ≡ line → new ≡ with_outside old port) → AnswerKeeps answer port old new
@@ -63,7 +63,7 @@ judge-keeps lines after found answer port old new change same =
     judge-keeps_by (judging_refusal change.line found.vc found.seating found.moment) change.line change.next found answer port old new change.did
     (λ next. same (change.after ∙ again lines found.seating.line change.line change.next change.there next))
 
--- A core that hasn't changed is what any refused setup leaves.
+-- A refused setup may leave the core unchanged.
 pub setup-same : (fault : DeskFault) (old new : CoreView) → new ≡ old → SetupKeeps fault old new
 setup-same NoProgram old new same = same
 setup-same NoConnectionFault old new same = same
@@ -101,7 +101,7 @@ room-alone old new number line next there ready same =
       ];
     })
 
--- A setup that is refused on the line that was lent.
+-- A setup that is refused on the line that is passed.
 pub setup-keeps : (fault : DeskFault) (old new : CoreView) (number : ℕ) (line next : LineView)
     → slice_get old.lines number ≡ Some line → IsUnready line fault → (fault ≡ Stale → next ≡ line) → MayBecomeReady line next
     → new ≡ record old { lines = slice_set old.lines number next } → SetupKeeps fault old new
@@ -118,19 +118,19 @@ setup-keeps Exhausted old new number line next there why stale ready same = absu
 setup-keeps BadContracts old new number line next there why stale ready same = absurd why
 setup-keeps Busy old new number line next there why stale ready same = absurd why
 
--- Of cores of these parts.
+-- For cores with these parts.
 module _ (shape : Shape) (store : List (Slot (List Instr))) (directory : DirectoryView) (lines : List LineView) (ports : List Port) where
   abbrev Old : CoreView
   Old = core_of shape store directory lines ports
 
-  -- One port is outside now.
+  -- One port has no cell now.
   pub left-outside : (after : List LineView) (moved_ports : List Port) (port : ℕ) → after ≡ lines → moved_ports ≡ slice_set ports port Outside
       → core_of shape store directory after moved_ports ≡ with_outside Old port
   left-outside after moved_ports port same e =
       ap (λ (list : List LineView). core_of shape store directory list moved_ports) same
       ∙ ap (λ (states : List PortState). record Old { ports = states }) (ap states_of e ∙ moved ports (states_of ports) port Outside refl)
 
-  -- The line that was lent is as before, and so is the directory.
+  -- The line that is passed is unchanged, and so is the directory.
   lines-again : (new : DirectoryView) (number : ℕ) (line next : LineView) (after : List LineView) → new ≡ directory
       → slice_get lines number ≡ Some line → next ≡ line → after ≡ slice_set lines number next
       → core_of shape store new after ports ≡ Old

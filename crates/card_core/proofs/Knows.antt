@@ -1,4 +1,4 @@
--- What a log tells of the world that it leads to: of its codes, its connections, its ports and its verdicts.
+-- Facts about a world from the log that leads to it: its codes, its connections, its ports and its verdicts.
 use Rattle.std.proofs.Common.{◌≡◌, ℕ, List, [], ◌∷◌, ◌++◌, Some, false, slice_get, append_assoc, append-nil, refl, sym, ap, ◌∙◌, subst, inl, inr, arith}
 use Rattle.upc_cell.specs.declared.vc.Vc.{Vc}
 use Rattle.bpf_code.specs.declared.instr.Instr.{Instr}
@@ -23,7 +23,7 @@ use Rattle.card_core.proofs.SoundSteps.{sound-step}
 use Rattle.card_core.proofs.LogLemmas.{event_of, cut-more, never-nothing, never-more, verdicts_on-append, cells_on-append, cells_of-append, program_named-append}
 use Rattle.card_core.proofs.KnowsCodes.{KnowsCodes, codes-step}
 
--- A connection was set up, and what was told since then is what it has; but for its program.
+-- The connection agrees with the log since its setup, in all but its program.
 pub record Stood (shape : Shape) (log : List Event) (vc : Vc) (connection : Connection) (ask : Ask) (since : List Event) : Type 0 where
   pub stands : StandsSince log vc ask since
   pub incarnation : stands.incarnation ≡ connection.incarnation
@@ -31,7 +31,7 @@ pub record Stood (shape : Shape) (log : List Event) (vc : Vc) (connection : Conn
   pub cells : connection.history ≡ cells_of shape vc since
   pub held : connection.history ≡ cells_on connection.line since
 
--- And its program is the one that was named last.
+-- Its program is the latest that the log gave it.
 pub record KnowsConnection (shape : Shape) (log : List Event) (vc : Vc) (connection : Connection) : Type 0 where
   pub ask : Ask
   pub since : List Event
@@ -119,8 +119,7 @@ entered-now log port cell moment step reply step_is reply_is =
     subst (λ (s : Step). HasEntered (log ++ event_of s reply ∷ []) port cell moment) (sym step_is)
     (subst (λ (r : Reply). HasEntered (log ++ event_of (Enter port cell moment) r ∷ []) port cell moment) (sym reply_is) now)
 
--- The connection of a picked cell: what is known of it since it was set up, and the program that it
--- named when the cell was picked.
+-- Facts about the connection of a picked cell: its state since its setup, and its program at the pick.
 pub record KnowsPickedOn (shape : Shape) (log since : List Event) (port : ℕ) (pick : Picking) (connection : Connection) : Type 0 where
   pub ask : Ask
   pub until : List Event
@@ -140,7 +139,7 @@ pub record KnowsPick (shape : Shape) (log : List Event) (given : List Loading) (
   pub standing : (connection : Connection) → connection_in connections pick.vc ≡ Some connection
       → connection.incarnation ≡ pick.incarnation → KnowsPickedOn shape log since port pick connection
 
--- One more event, in which the port doesn't move.
+-- One more event that doesn't move the port.
 pick-more : (shape : Shape) (log : List Event) (before after : World) (step : Step) (reply : Reply) (port : ℕ) (pick : Picking)
     → IsSound before → StepTold shape before step reply after
     → ((id : Id) (code : List Instr) → code_in before.given id ≡ Some code → code_in after.given id ≡ Some code)
@@ -217,7 +216,7 @@ pick-now shape log before after step reply port pick tells keeps_codes codes con
       ];
     }
 
--- What a log tells of all parts of the world that it leads to.
+-- Facts from a log about all parts of the world that it leads to.
 pub record Knows (shape : Shape) (log : List Event) (world : World) : Type 0 where
   pub shape_is : world.shape ≡ shape
   pub codes : KnowsCodes log world.given world.live

@@ -1,4 +1,4 @@
--- What a log tells of the codes.
+-- Facts from a log about the codes.
 use Rattle.std.proofs.Common.{◌≡◌, ◌≢◌, true, false, cond, List, [], ◌∷◌, ◌++◌, Some, None, refl, sym, ap, ◌∙◌, subst, inl, inr}
 use Rattle.bpf_code.specs.declared.instr.Instr.{Instr}
 use Rattle.gen_arena.specs.declared.id.Id.{Id}
@@ -16,7 +16,7 @@ use Rattle.card_core.proofs.LogLemmas.{event_of, cut-more, never-nothing, never-
 use Rattle.card_core.proofs.Told.{StoreTold, store_same, store_loaded, store_retired}
 use Rattle.card_core.proofs.CodeLemmas.{code-cases, without_code-was}
 
--- One more event, in which nothing is put in under the id.
+-- One more event that loads nothing under the id.
 pub loaded-more : (log : List Event) (event : Event) (id : Id) (code : List Instr) → IsLoadedOnce log id code
     → loads id event ≡ false → IsLoadedOnce (log ++ event ∷ []) id code
 loaded-more log event id code known none = record {
@@ -27,7 +27,7 @@ loaded-more log event id code known none = record {
   last = never-more (loads id) known.later event known.last none;
 }
 
--- The event in which the code is put in, under a new id.
+-- The event that loads the code, under a new id.
 loaded-now : (log : List Event) (id : Id) (code : List Instr) → Never (loads id) log
     → IsLoadedOnce (log ++ loading code id ∷ []) id code
 loaded-now log id code new = record {
@@ -38,14 +38,14 @@ loaded-now log id code new = record {
   last = never-nothing (loads id);
 }
 
--- What a log tells of the codes that were given and of those that are live.
+-- Facts from a log about the codes that were given and those that are live.
 pub record KnowsCodes (log : List Event) (given live : List Loading) : Type 0 where
   pub loaded : (id : Id) (code : List Instr) → code_in given id ≡ Some code → IsLoadedOnce log id code
   pub unloaded : (id : Id) → code_in given id ≡ None → Never (loads id) log
   pub kept : (id : Id) (code : List Instr) → code_in live id ≡ Some code → Never (retires id) log
   pub untouched : (id : Id) → code_in given id ≡ None → Never (retires id) log
 
--- What was put in under no id isn't, once a code was put in under another.
+-- An id without a code has none after a load under another id.
 none-given : (given : List Loading) (id other : Id) (code : List Instr)
     → code_in (record { id = id; code = code } ∷ given) other ≡ None → (other ≢ id) × (code_in given other ≡ None)
 none-given given id other code e = elim (id_cases other id) [

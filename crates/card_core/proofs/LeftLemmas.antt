@@ -1,4 +1,4 @@
--- What a refused step leaves, by its answer.
+-- The world after a refused step, by its answer.
 use Rattle.std.proofs.Common.{◌≡◌, ℕ, Option, Some, None, slice_get, is_none, refl, sym, ap}
 use Rattle.upc_cell.specs.Connection.{vc_of}
 use Rattle.card_core.specs.declared.answer.Answer.TheVariants.{NoConnection as UnknownCell}
@@ -11,18 +11,18 @@ use Rattle.card_core.specs.Refusals.{refusal, pick_refusal, judge_refusal, picki
 use Rattle.card_core.specs.Steps.{left_by_pick, left_by_judge, left_by}
 use Rattle.card_core.proofs.LookUps.{same_some, refused_by, mapped}
 
--- The world with the port outside, where its cell was answered.
+-- The world after this reply: if it answers the port's cell, the port has no cell.
 abbrev pub with_answered : World → ℕ → Reply → World
 with_answered before port (Answered answer) = with_port before port outside
 with_answered before port _ = before
 
--- What a refused step leaves, by what is answered.
+-- The world after a step is refused with this reply.
 abbrev pub left_with : World → Step → Reply → World
 left_with before (Pick port) refused = with_answered before port refused
 left_with before (Judge port) refused = with_answered before port refused
 left_with before _ refused = before
 
--- At no time for it a port stays as it was.
+-- NotNow changes no port.
 not-now : (before : World) (port : ℕ) (refused : Reply) → Some NotNow ≡ Some refused → before ≡ with_answered before port refused
 not-now before port refused e = ap (with_answered before port) (same_some NotNow refused e)
 

@@ -1,4 +1,4 @@
--- The agreement of lines and of seatings with the connections, after one connection changed.
+-- The agreement of lines and of seatings with the connections, after a change of one connection.
 use Rattle.std.proofs.Common.{◌≡◌, ◌≢◌, ℕ, Bool, Some, None, List, set, refl, sym, ap, subst, ◌∙◌, inl, inr, arith}
 use Rattle.std.specs.Prelude.{slice_get, option_map}
 use Rattle.std.proofs.lemmas.Bool.{cases_eq}
@@ -22,13 +22,13 @@ module _ {X : Type 0} where
   pub get-set_same : (xs : List X) (k : ℕ) (x y : X) → slice_get xs k ≡ Some y → slice_get (set xs k x) k ≡ Some x
   get-set_same xs k x y at = slice_get-set_same xs k x (slice_get_within xs k y at)
 
-  -- What stands there, written again, changes nothing.
+  -- Writing an item that is there already changes nothing.
   pub set-again : (xs : List X) (k : ℕ) (x : X) → slice_get xs k ≡ Some x → set xs k x ≡ xs
   set-again xs k x at = ap (set xs k) (sym (get_or_from_slice_get xs k x x at)) ∙ set-get_or xs k x
 
 module _ (shape : Shape) (lines : List LineView) (connections : List (Vc × Connection)) (verdicts : ℕ → List Verdict)
     (agrees : LinesAgree shape lines connections verdicts) where
-  -- One line is another now, and so are its verdicts.
+  -- One line changed, and so did its verdicts.
   pub record Change (number : ℕ) (line next : LineView) (after : ℕ → List Verdict) : Type 0 where
     pub there : slice_get lines number ≡ Some line
     pub journal : next.journal ≡ line.journal
@@ -39,7 +39,7 @@ module _ (shape : Shape) (lines : List LineView) (connections : List (Vc × Conn
     here : slice_get (set lines number next) number ≡ Some next
     here = get-set_same lines number next line change.there
 
-    -- What stands at the number now.
+    -- The item at this place is the new line.
     now_there : (k : ℕ) (l : LineView) → slice_get (set lines number next) k ≡ Some l → k ≡ number → next ≡ l
     now_there k l at e =
         same_some next l (sym here ∙ subst (λ (n : ℕ). slice_get (set lines number next) n ≡ Some l) e at)
@@ -69,7 +69,7 @@ module _ (shape : Shape) (lines : List LineView) (connections : List (Vc × Conn
           subst (λ (vs : List Verdict). Serves old.0 vc connection vs) (sym (change.others connection.line apart)) old.2,
         )
 
-    -- The line serves a connection now, and no other does.
+    -- The line now serves this connection, and no other line does.
     pub lines-with : (vc : Vc) (connection : Connection) → connection.line ≡ number → Serves next vc connection (after number)
         → ((other : Vc) (another : Connection) → other ≢ vc → connection_in connections other ≡ Some another → another.line ≢ number)
         → ((old : Connection) → connection_in connections vc ≡ Some old → old.line ≡ number)
@@ -118,7 +118,7 @@ module _ (shape : Shape) (lines : List LineView) (connections : List (Vc × Conn
       counts = counts-set;
     }
 
-    -- The line serves no connection any more.
+    -- The line no longer serves a connection.
     pub lines-without : (vc : Vc) → next.owner ≡ None
         → ((other : Vc) (another : Connection) → other ≢ vc → connection_in connections other ≡ Some another → another.line ≢ number)
         → ((old : Connection) → connection_in connections vc ≡ Some old → old.line ≡ number)
@@ -155,7 +155,7 @@ module _ (shape : Shape) (lines : List LineView) (connections : List (Vc × Conn
       counts = counts-set;
     }
 
--- A line that differs in nothing but its room serves as before.
+-- A line that only became ready serves as before.
 serves-ready : (line : LineView) (ready : Bool) (vc : Vc) (connection : Connection) (verdicts : List Verdict)
     → Serves line vc connection verdicts → Serves (record line { ready = ready }) vc connection verdicts
 serves-ready line ready vc connection verdicts serves = record {
@@ -167,7 +167,7 @@ serves-ready line ready vc connection verdicts serves = record {
   together = serves.together;
 }
 
--- And the lines agree as before.
+-- The lines still agree.
 pub lines-ready : (shape : Shape) (lines : List LineView) (connections : List (Vc × Connection)) (verdicts : ℕ → List Verdict)
     (agrees : LinesAgree shape lines connections verdicts) (number : ℕ) (line next : LineView)
     → slice_get lines number ≡ Some line → next ≡ record line { ready = next.ready }
@@ -221,7 +221,7 @@ module _ (shape : Shape) (directory : DirectoryView) (connections : List (Vc × 
     ];
   }
 
-  -- A connection that changed nothing of its seating.
+  -- A connection with the same seating as before.
   pub seatings-kept : (vc : Vc) (connection : Connection) → seating_at directory vc ≡ Some (seating_of connection)
       → SeatingsAgree shape directory (with_connection connections vc connection) used
   seatings-kept vc connection sits = seatings-with vc connection directory used

@@ -14,7 +14,7 @@ use Rattle.card_core.proofs.SoundSteps.{reached-sound}
 use Rattle.card_core.proofs.OneAnswer.{one-standing}
 use Rattle.card_core.proofs.Standing.{connections-told}
 
--- The cells that a log tells of a connection since it was set up are a history.
+-- The cells of a connection since its setup, by the log, are a history.
 told-history : (shape : Shape) (log : List Event) (world : World) → Leads shape log world
     → (vc : Vc) (ask : Ask) (since : List Event) → StandsSince log vc ask since → IsHistory (cells_of shape vc since)
 told-history shape log world leads vc ask since stands =

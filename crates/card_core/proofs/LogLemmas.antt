@@ -1,4 +1,4 @@
--- What the events of a log do one after another, and at which of them a log is cut.
+-- Properties of logs in parts, and the event at which a log is cut.
 use Rattle.std.proofs.Common.{◌≡◌, ℕ, ◌==◌, Bool, true, false, List, [], ◌∷◌, ◌++◌, Option, None, map, filter, append_assoc, refl, sym, ap, ◌∙◌, subst}
 use Rattle.std.specs.List.{filter_map}
 use Rattle.std.proofs.lemmas.List.{map-append}
@@ -17,13 +17,13 @@ use Rattle.card_core.specs.Headline.{Never, named_after, program_named, judged_i
 abbrev pub event_of : Step → Reply → Event
 event_of step reply = record { step = step; reply = reply }
 
--- A cut of the log is one of the longer log.
+-- A cut of the log is a cut of the longer log.
 pub cut-more : (log earlier later : List Event) (at event : Event) → log ≡ earlier ++ at ∷ later
     → log ++ event ∷ [] ≡ earlier ++ at ∷ (later ++ event ∷ [])
 cut-more log earlier later at event cut =
     ap (λ (l : List Event). l ++ event ∷ []) cut ∙ append_assoc earlier (at ∷ later) (event ∷ [])
 
--- What never happens in a log, and in its parts.
+-- An event that never happens in a log never happens in its parts.
 
 module _ (does : Event → Bool) where
   pub never-nothing : Never does []
@@ -51,7 +51,7 @@ module _ (does : Event → Bool) where
   never-after [] further none = none
   never-after (event ∷ log) further none = never-after log further (never-later event (log ++ further) none)
 
--- One log, cut at an event in two ways.
+-- Two cuts of one log.
 
 rest_of : List Event → List Event
 rest_of [] = []
@@ -69,7 +69,7 @@ tails : (one other : Event) (xs ys : List Event) → one ∷ xs ≡ other ∷ ys
 unfolding rest_of
 tails one other xs ys e = ap rest_of e
 
--- Both cuts are one.
+-- Both cuts are the same.
 pub record AreOneCut (before other : List Event) (at another : Event) (after later : List Event) : Type 0 where
   pub fronts : before ≡ other
   pub events : at ≡ another
@@ -133,7 +133,7 @@ module _ (does : Event → Bool) where
       (first-cut xs other at another ys later it it_too (never-later does first xs none) (never-later does second other none_too)
       (tails first second (xs ++ at ∷ ys) (other ++ another ∷ later) e))
 
--- What two logs have one after the other, their joined log has.
+-- Two logs, one after the other.
 
 judged-append : (log further : List Event) → judged_cells (log ++ further) ≡ judged_cells log ++ judged_cells further
 judged-append log further = filter_map-append (λ (event : Event). judged_in event.reply) log further
@@ -162,6 +162,6 @@ pub program_named-append : (vc : Vc) (program : Id) (log further : List Event)
 program_named-append vc program log further =
     fold-append (λ (named : Id) (event : Event). named_after vc named event.reply event.step) program log further
 
--- An event whose reply tells of no judged cell adds none.
+-- An event whose reply has no judged cell adds none.
 pub none-judged : (step : Step) (reply : Reply) → judged_in reply ≡ None → judged_cells (event_of step reply ∷ []) ≡ []
 none-judged step reply none = ap (λ (o : Option JudgedView). filter_map (λ (event : Event). o) (event_of step reply ∷ [])) none

@@ -1,11 +1,11 @@
--- What options, tests and lists have at a place.
+-- Options, tests and lists at a place.
 use Rattle.std.proofs.Common.{◌≡◌, ℕ, suc, Bool, true, false, cond, zero, replicate, Option, Some, None, IsSome, is_none, is_some, slice_get, option_map, refl, sym, ap, subst, arith}
 use Rattle.std.proofs.lemmas.Option.{same_Some}
 
 pub same_some : {X : Type 0} (x y : X) → Some x ≡ Some y → x ≡ y
 same_some x y e = same_Some x y e
 
--- What was refused by a test, and by what follows it.
+-- If a chain of tests passes, its first test and the rest pass.
 pub passed_on : {X : Type 0} (test : Bool) (refused : X) (rest : Option X)
     → cond test (Some refused) rest ≡ None → (test ≡ false) × (rest ≡ None)
 passed_on true refused rest e = absurd (cc)
@@ -30,7 +30,7 @@ there_is (Some x) e = (x, refl)
 pub IsSome-of : {X : Type 0} (o : Option X) (x : X) → o ≡ Some x → IsSome o
 IsSome-of o x e = ap is_some e
 
--- What passes a chain of tests, of which each refuses with something of this kind.
+-- If each refusal of a chain of tests has a property, so has its result.
 pub refused_by : {X : Type 0} (P : X → Type 0) (test : Bool) (refused : X) (rest : Option X) → P refused
     → ((x : X) → rest ≡ Some x → P x) → (x : X) → cond test (Some refused) rest ≡ Some x → P x
 refused_by P true refused rest here later x e = subst P (same_some refused x e) here

@@ -21,7 +21,7 @@ use Rattle.card_core.specs.Headline.{moves, changes, loads, program_named, cells
 use Rattle.card_core.specs.Laws.{PromisesLeaveOneAnswer}
 use Rattle.card_core.proofs.LogLemmas.{one-cut}
 
--- What an event says.
+-- The step and the reply of an event.
 
 cell_entered : Step → List ℕ
 cell_entered (Enter port cell moment) = cell
@@ -61,7 +61,7 @@ one-entered log port cell other moment later one another =
     one.later another.later (eq-eqb port port refl) (eq-eqb port port refl) one.alone another.alone (sym one.cut ∙ another.cut) in
     one_cell port port cell other moment later cut.events
 
--- The setting up since which a connection stands.
+-- The setup since which a connection exists.
 
 own-change : (vc : Vc) (ask : Ask) (incarnation : ℕ) → ask.vc ≡ vc → changes vc (setting_up ask incarnation) ≡ true
 own-change vc ask incarnation same = subst (λ (v : Vc). is_same_vc vc v ≡ true) (sym same) (vc_itself vc)
@@ -74,7 +74,7 @@ one-standing log vc ask other since later one another =
     one.standing another.standing (sym one.cut ∙ another.cut) in
     (one_ask ask other one.incarnation another.incarnation cut.events, cut.ends)
 
--- The code that was put in under an id.
+-- The code that was loaded under an id.
 one-loaded : (log : List Event) (id : Id) (code other : List Instr) → IsLoadedOnce log id code → IsLoadedOnce log id other
     → code ≡ other
 one-loaded log id code other one another =
@@ -82,10 +82,10 @@ one-loaded log id code other one another =
     (id_itself id) (id_itself id) one.last another.last (sym one.cut ∙ another.cut) in
     one_code code other id id cut.events
 
--- Two promises of one port after the same events.
+-- Two promises for one port after the same events.
 
 module _ (shape : Shape) (before : List Event) (port : ℕ) (one other : JudgedView) (p : IsPromised shape before port one) (q : IsPromised shape before port other) where
-  -- Their cells were picked in one event, and entered in one.
+  -- Both cells were picked in one event and entered in one event.
   one-pick : p.at_pick ≡ q.at_pick
   one-pick =
       (one-cut (moves port) p.at_pick q.at_pick (picking port) (picking port) p.since q.since
@@ -96,7 +96,7 @@ module _ (shape : Shape) (before : List Event) (port : ℕ) (one other : JudgedV
       one-entered p.at_pick port p.came q.came one.moment other.moment p.arrived
       (subst (λ (l : List Event). HasEntered l port q.came other.moment) (sym one-pick) q.arrived)
 
-  -- They are of one connection, which names one program at the pick.
+  -- Both are of one connection, which names one program at the pick.
   one-vc : p.vc ≡ q.vc
   one-vc = p.own ∙ ap (vc_of shape.side) one-arrival.0 ∙ sym q.own
 
@@ -118,7 +118,7 @@ module _ (shape : Shape) (before : List Event) (port : ℕ) (one other : JudgedV
       ∙ ap (program_named q.vc q.ask.program) one-until
       ∙ sym q.named
 
-  -- It gives one value.
+  -- The program gives one value.
   same-code : p.code ≡ q.code
   same-code =
       let mine : IsLoadedOnce (p.at_pick ++ []) one.program p.code = (p.live [] (picking port ∷ p.since) refl).loaded in
@@ -134,7 +134,7 @@ module _ (shape : Shape) (before : List Event) (port : ℕ) (one other : JudgedV
       (subst (λ came. Gives q.code came other.value) (sym one-arrival.0) q.gives) in
       (Value-unique p.code p.came one.value other.value p.gives.0 theirs.0 p.gives.1 theirs.1).0
 
-  -- They have one history, and so one verdict.
+  -- Both have one history, so they have one verdict.
   one-history : p.history ≡ q.history
   one-history = p.cells ∙ ap (λ (v : Vc). cells_of shape v p.standing) one-vc ∙ ap (cells_of shape q.vc) one-asked.1 ∙ sym q.cells
 

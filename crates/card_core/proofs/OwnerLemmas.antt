@@ -1,4 +1,4 @@
--- Who holds a line.
+-- The owner of a line.
 use Rattle.std.proofs.Common.{◌≡◌, Bool, true, false, ◌==◌, ◌&&◌, ◌↔◌, refl, sym, ap, subst, ◌∙◌, arith, Option, Some, None, IsTrue}
 use Rattle.std.proofs.lemmas.Bool.Decides.{nat_tests}
 use Rattle.upc_cell.specs.Connection.{is_same_vc}
@@ -13,7 +13,7 @@ both : (a b : Bool) → (a && b) ≡ true → (a ≡ true) × (b ≡ true)
 both true b e = (refl, e)
 both false b e = (e, cc)
 
--- The test says who holds it.
+-- The test decides whether the line has this owner.
 pub owned : (owner : Option Owner) (other : Owner) → is_owned_by owner other ≡ true → owner ≡ Some other
 owned None other e = cc
 owned (Some owner) other e =

@@ -1,4 +1,4 @@
--- A Pick, found or missed.
+-- A Pick, successful or refused.
 use Rattle.std.proofs.Common.{◌≡◌, ℕ, cond, Option, Some, None, List, IsSome, refl, sym, ap, subst, ◌∙◌}
 use Rattle.std.specs.Prelude.{slice_get, slice_set, option_map, is_none}
 use Rattle.gen_arena.specs.Slot.{Slot}
@@ -29,7 +29,7 @@ use Rattle.card_core.proofs.LookUps.{mapped, unmapped}
 use Rattle.card_core.proofs.PortLemmas.{core_of, came, CoreAgrees-moved}
 use Rattle.card_core.proofs.PortSteps.{at-port}
 
--- An entered cell whose connection is there isn't refused.
+-- An entered cell whose connection exists isn't refused.
 found-not_refused : (world : World) (state : Option PortState) (cell : List ℕ) (moment : ℕ) (connection : Connection)
     → state ≡ Some (entered cell moment) → connection_in world.connections (vc_of world.shape.side cell) ≡ Some connection
     → pick_refusal world state ≡ None
@@ -37,7 +37,7 @@ found-not_refused world state cell moment connection had found =
     ap (pick_refusal world) had
     ∙ ap (λ (o : Option Connection). cond (is_none o) (Some (Answered NoConnection)) None) found
 
--- And one whose connection isn't there is.
+-- An entered cell whose connection doesn't exist is refused.
 missed-refused : (world : World) (state : Option PortState) (cell : List ℕ) (moment : ℕ)
     → state ≡ Some (entered cell moment) → connection_in world.connections (vc_of world.shape.side cell) ≡ None
     → pick_refusal world state ≡ Some (Answered NoConnection)
@@ -45,7 +45,7 @@ missed-refused world state cell moment had missed =
     ap (pick_refusal world) had
     ∙ ap (λ (o : Option Connection). cond (is_none o) (Some (Answered NoConnection)) None) missed
 
--- What was found is what the world picks.
+-- The values that were found are those that the world picks.
 same-picking : (found : Found) (cell : List ℕ) (moment : ℕ) (vc : Vc) (connection : Connection)
     → found.named.cell ≡ cell → found.moment ≡ moment → found.vc ≡ vc → seating_of connection ≡ found.seating
     → found.named.program ≡ found.seating.program

@@ -1,4 +1,4 @@
--- What the core's ports are to the world, and what a move of one leaves of the agreement.
+-- The core's ports and those of the world, before and after a change of one.
 use Rattle.std.proofs.Common.{◌≡◌, ◌⊎◌, ℕ, zero, suc, ◌<◌, true, false, Option, Some, None, List, [], ◌∷◌, length, set, refl, sym, ap, subst, ◌∙◌, inl, inr, arith}
 use Rattle.std.specs.Prelude.{slice_get, slice_set, option_map}
 use Rattle.std.proofs.lemmas.Bool.{cases_eq}
@@ -20,7 +20,7 @@ use Rattle.card_core.specs.Agreement.{CoreView, CoreAgrees}
 use Rattle.gen_arena.proofs.Public.{slice_get-set_other}
 use Rattle.card_core.specs.inner.Ports.{state_of, states_of, picking_of, is_idle, came_in, found_in, IsCore}
 
--- A core of these parts.
+-- A core with these parts.
 abbrev pub core_of : Shape → List (Slot (List Instr)) → DirectoryView → List LineView → List Port → CoreView
 core_of shape store directory lines ports = record {
   shape = shape;
@@ -30,7 +30,7 @@ core_of shape store directory lines ports = record {
   ports = states_of ports;
 }
 
--- The port as the world has it.
+-- The state of the port in the world.
 pub state-at : (ports : List Port) (port : ℕ) → slice_get (states_of ports) port ≡ option_map state_of (slice_get ports port)
 state-at ports port = slice_get-map state_of ports port
 
@@ -62,7 +62,7 @@ not_came world (Some Outside) e = refl
 not_came world (Some (Entered other)) e = absurd (cc)
 not_came world (Some (Picked found)) e = refl
 
--- A port with a cell that was picked.
+-- A port with a picked cell.
 pub found_there : (port : Option Port) (here : Found) → found_in port ≡ Some here → option_map state_of port ≡ Some (picked (picking_of here))
 found_there None here e = absurd (cc)
 found_there (Some Outside) here e = absurd (cc)
@@ -77,7 +77,7 @@ not_found world (Some Outside) e = refl
 not_found world (Some (Entered other)) e = refl
 not_found world (Some (Picked found)) e = absurd (cc)
 
--- A move of one port.
+-- A change of one port.
 pub moved : (ports : List Port) (states : List PortState) (port : ℕ) (next : Port) → states_of ports ≡ states
     → states_of (slice_set ports port next) ≡ slice_set states port (state_of next)
 moved ports states port next e =
@@ -94,7 +94,7 @@ CoreAgrees-moved shape store directory lines ports world port next state same ag
   ports = moved ports world.ports port next agrees.ports ∙ ap (slice_set world.ports port) same;
 }
 
--- A write is seen, or there is no such place and it changes nothing.
+-- Either the port exists and has the new state, or it doesn't exist and nothing changes.
 there_or_past : (ports : List Port) (port : ℕ) (next : Port)
     → (slice_get (set ports port next) port ≡ Some next) ⊎ (set ports port next ≡ ports)
 there_or_past [] port next = inr refl
@@ -104,7 +104,7 @@ there_or_past (first ∷ later) (suc port) next = elim (there_or_past later port
   | inr past ↦ inr (ap (λ (list : List Port). first ∷ list) past)
 ]
 
--- The lines of picked cells after a move.
+-- The lines of picked cells after a change.
 pub within-moved : (lines : List LineView) (ports : List Port) (port : ℕ) (next : Port)
     → ((k : ℕ) (found : Found) → found_in (slice_get ports k) ≡ Some found → found.seating.line < length lines)
     → ((found : Found) → found_in (Some next) ≡ Some found → found.seating.line < length lines)
@@ -131,7 +131,7 @@ IsCore-moved old new lines others ports after port next is same_lines same_lengt
           (subst (Within (length lines)) (sym e) (within-moved lines ports port next is.within fits));
     }
 
--- A port that has no picked cell after the move.
+-- A port without a picked cell after the change.
 pub IsCore-left : (old new : DirectoryView) (lines others : List LineView) (ports after : List Port) (port : ℕ)
     → IsCore old lines ports → new.lines ≡ old.lines → length others ≡ length lines → after ≡ slice_set ports port Outside
     → IsCore new others after

@@ -22,7 +22,7 @@ module _ (shape : Shape) (store : List (Slot (List Instr))) (directory : Directo
   abbrev Old : CoreView
   Old = core_of shape store directory lines ports
 
-  -- What the world has of the port.
+  -- The state of the port in the world.
   pub at-port : (before : World) → CoreAgrees Old before → slice_get before.ports port ≡ option_map state_of (slice_get ports port)
   at-port before agrees = ap (λ (states : List PortState). slice_get states port) (sym agrees.ports) ∙ state-at ports port
 

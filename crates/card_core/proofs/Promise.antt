@@ -1,4 +1,4 @@
--- The headline: what is promised of each judged cell.
+-- The headline: the promise for each judged cell.
 use Rattle.std.proofs.Common.{◌≡◌, ℕ, true, List, [], ◌∷◌, ◌++◌, Some, None, slice_get, append_assoc, refl, sym, ap, ◌∙◌, subst}
 use Rattle.upc_cell.specs.Connection.{vc_of}
 use Rattle.bpf_code.specs.declared.instr.Instr.{Instr}
@@ -33,7 +33,7 @@ run-parts before (event ∷ log) further after run =
     let rest = run-parts run.0 log further after run.2 in
     (rest.0, (run.0, run.1, rest.1), rest.2)
 
--- A code that was live after the log and is after all that follows was so all the time.
+-- A code that is live after the log and after all further events is live after each of them.
 live-through : (log further : List Event) (id : Id) (code : List Instr) → IsLoadedOnce log id code
     → IsLive (log ++ further) id code → IsLiveThrough log further id code
 live-through log further id code at_first at_last so_far rest parts =
@@ -63,7 +63,7 @@ live-through log further id code at_first at_last so_far rest parts =
       kept = never-before (retires id) (log ++ so_far) rest all;
     }
 
--- The promise, of a picked cell on its connection.
+-- The promise for a picked cell on its connection.
 
 module _ (shape : Shape) (log : List Event) (world : World) (sound : IsSound world) (known : Knows shape log world) (port : ℕ) (pick : Picking) (had : slice_get world.ports port ≡ Some (picked pick)) (connection : Connection) (found : connection_in world.connections pick.vc ≡ Some connection) (same : connection.incarnation ≡ pick.incarnation) (allowed : IsAllowed world connection pick.moment) where
   own-vc : pick.vc ≡ vc_of shape.side pick.cell
@@ -114,7 +114,7 @@ module _ (shape : Shape) (log : List Event) (world : World) (sound : IsSound wor
         counted = ap (λ verdicts. number_with verdicts (verdict_on connection (cell_of_picking pick))) (known.verdicts connection.line);
       }
 
--- What is promised of the judged cell of an answer.
+-- The promise for the judged cell of an answer.
 
 promised-judges : (shape : Shape) (log : List Event) (before : World) (port : ℕ) (reply : Reply) (after : World) (judged : JudgedView)
     → IsSound before → Knows shape log before → refusal before (Judge port) ≡ None → Judges before port reply after
@@ -126,7 +126,7 @@ promised-judges shape log before port reply after judged sound known allowed w i
     subst (IsPromised shape log port) same
     (promised-picked shape log before sound known port w.picking w.had w.connection w.found may.0 may.1)
 
--- A refused Judge told of no judged cell.
+-- A refused Judge has no judged cell.
 refused-none : (refused : Reply) → CellRefused refused → judged_in refused ≡ None
 refused-none refused (at_no_time is) = ap judged_in is
 refused-none refused (with_answer answer is unjudged) = ap judged_in is ∙ unjudged

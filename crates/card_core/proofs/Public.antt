@@ -1,4 +1,4 @@
--- What the crates above may use in their proofs.
+-- Lemmas for other crates.
 use Rattle.std.proofs.Common.{List, [], ◌∷◌, ◌++◌}
 use Rattle.card_core.specs.declared.reply.Reply.{Reply}
 use Rattle.card_core.specs.declared.step.Step.{Step}
@@ -11,15 +11,15 @@ use Rattle.card_core.proofs.Follow as follow
 use Rattle.card_core.proofs.Replies as replies
 use Rattle.card_core.proofs.SoundSteps as sound
 
--- In every world that a log leads to each step has a reply that says nothing of memory.
+-- In every world that a log leads to, each step has a reply that reports no allocation failure.
 pub step-replied : StepsHaveReplies
 step-replied = replies.steps-replied
 
--- Every world that a log leads to is sound.
+-- Every world that a log leads to satisfies the invariant.
 pub worlds-sound : ReachedWorldsAreSound
 worlds-sound = sound.reached-sound
 
--- A log goes on by one event.
+-- A log with one more event.
 pub log-goes_on : (start before after : World) (log : List Event) (step : Step) (reply : Reply)
     → Run start log before → WorldStep before step reply after
     → Run start (log ++ record { step = step; reply = reply } ∷ []) after

@@ -1,4 +1,4 @@
--- Each step has a reply that says nothing of memory.
+-- Each step has a reply that reports no allocation failure.
 use Rattle.std.proofs.Common.{◌≡◌, ◌⊎◌, ℕ, zero, suc, ◌+◌, ◌^◌, ◌<◌, ◌≤◌, ◌==◌, Bool, true, false, not, List, [], ◌∷◌, length, take, Option, Some, None, is_none, is_some, slice_get, MatchOption, refl, sym, ap, ◌∙◌, subst, inl, inr, arith}
 use Rattle.std.proofs.lemmas.Bool.{or_cases, not-false}
 use Rattle.std.proofs.lemmas.List.{take-append-drop}
@@ -250,7 +250,7 @@ can-succeed before (Reload vc program) sound accepted e = can-reload before vc p
 can-succeed before (Release vc) sound accepted e = can-release before vc sound (unmapped _ (missing_fault before vc) e)
 can-succeed before (Cut vc) sound accepted e = can-cut before vc sound (unmapped _ (missing_fault before vc) e)
 
--- A step as the refusal has it.
+-- A step from its refusal.
 step-with : (before : World) (step : Step) (reply : Reply) (after : World) (o : Option Reply) → refusal before step ≡ o
     → MatchOption o (Succeeds before step reply after ⊎ FindsNoMemory before step reply after)
     (λ refused. IsRefused before step refused reply after)

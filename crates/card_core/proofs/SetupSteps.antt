@@ -40,7 +40,7 @@ module _ (shape : Shape) (store : List (Slot (List Instr))) (directory : Directo
   abbrev Old : CoreView
   Old = core_of shape store directory lines ports
 
-  -- The fault by its five tests.
+  -- The error, from its five tests.
   abbrev fault_by : Bool → Bool → Bool → Bool → Bool → Option DeskFault
   fault_by dead taken empty room worn =
       cond dead (Some NoProgram) (cond taken (Some Taken) (cond empty (Some BadContracts)
@@ -61,7 +61,7 @@ module _ (shape : Shape) (store : List (Slot (List Instr))) (directory : Directo
       ∙ ap (λ t. fault_by dead taken empty t fifth) d
       ∙ ap (λ t. fault_by dead taken empty room t) e
 
-  -- What the tests say of what the core has.
+  -- The tests, in terms of the core.
   is-dead : (before : World) → CoreAgrees Old before → live_value store ask.program ≡ None → is_none (code_in before.live ask.program) ≡ true
   is-dead before agrees gone = ap is_none (sym (agrees.store.values ask.program) ∙ gone)
 
@@ -218,7 +218,7 @@ module _ (shape : Shape) (store : List (Slot (List Instr))) (directory : Directo
           },
         ))
 
-    -- A line that is no connection's is free.
+    -- A setup on an open line fails only if an allocation fails.
     only-memory : (before : World) → CoreAgrees Old before → (fault : DeskFault) → IsUnready change.line fault → fault ≡ NoMemory
     only-memory before agrees NoProgram why = absurd why
     only-memory before agrees NoConnection why = absurd why

@@ -1,2 +1,2 @@
--- What every reached world keeps, under the name by which proofs cite it.
+-- The invariant of worlds, under the names that proofs use.
 pub use Rattle.card_core.specs.inner.Sound.{SoundPrograms, SoundConnection, SoundConnections, SoundPicking, IsSound, ReachedWorldsAreSound}

@@ -1,4 +1,4 @@
--- What a change of a world keeps: of its ports, of one of its connections, or of its programs.
+-- The invariant after a change of a world: of its ports, of one of its connections, or of its programs.
 use Rattle.std.proofs.Common.{◌≡◌, ◌≢◌, ◌⊎◌, ℕ, ◌^◌, ◌<◌, ◌≤◌, Bool, true, false, cond, List, ◌∷◌, length, length-set, set, Option, Some, IsSome, slice_get, refl, sym, ap, ◌∙◌, subst, inl, inr, arith}
 use Rattle.std.proofs.lemmas.List.{length-replicate}
 use Rattle.upc_cell.specs.declared.vc.Vc.{Vc}
@@ -44,7 +44,7 @@ pub picked_same : (one other : Picking) → picked one ≡ picked other → one 
 unfolding picking_in
 picked_same one other e = ap (λ state. picking_in state one) e
 
--- What is picked once a port was written.
+-- The picked cells after a write to a port.
 pub picks-set : (before : World) (port : ℕ) (state : PortState) → IsSound before
     → ((picking : Picking) → state ≡ picked picking → SoundPicking before picking)
     → (place : ℕ) (picking : Picking) → slice_get (set before.ports port state) place ≡ Some (picked picking)
@@ -96,7 +96,7 @@ sound-port before port state sound new =
     sound-ported before (set before.ports port state) sound (length-set before.ports port state ∙ sound.sized)
     (picks-set before port state sound new)
 
--- The connection is new, on a line of no connection; or it has its incarnation and line from before.
+-- The connection is new, on a line without a connection, or it has its incarnation and line from before.
 abbrev pub IsNewOrKept : World → Vc → Connection → Type 0
 IsNewOrKept before vc connection =
     (before.used < connection.incarnation)
@@ -105,7 +105,7 @@ IsNewOrKept before vc connection =
     ⊎ ((old : Connection) × (connection_in before.connections vc ≡ Some old)
     × (connection.incarnation ≡ old.incarnation) × (connection.line ≡ old.line))
 
--- The world with all of its connections, incarnations, verdicts and ports anew.
+-- The world with new connections, incarnations, verdicts and ports.
 abbrev pub changed : World → List (Vc × Connection) → ℕ → (ℕ → List Verdict) → List PortState → World
 changed before connections used judged ports =
     record before { connections = connections; used = used; judged = judged; ports = ports }
@@ -153,7 +153,7 @@ module _ (before : World) (connections : List (Vc × Connection)) (used : ℕ) (
         }
   ]
 
-  -- Another connection than the new one has another line and another incarnation.
+  -- Any other connection has another line and another incarnation.
   alone : (connection : Connection) → new ≡ Some connection → (other : Vc) (another : Connection) → other ≢ vc
       → connection_in before.connections other ≡ Some another
       → (another.line ≢ connection.line) × (another.incarnation ≢ connection.incarnation)
@@ -235,7 +235,7 @@ module _ (before : World) (connections : List (Vc × Connection)) (used : ℕ) (
     used = c.most;
   }
 
--- A connection that changes in what the others don't share.
+-- A connection keeps its line and its incarnation.
 pub sound-rewritten : (before : World) (vc : Vc) (connection new : Connection) → IsSound before
     → connection_in before.connections vc ≡ Some connection
     → new.incarnation ≡ connection.incarnation → new.line ≡ connection.line
@@ -256,7 +256,7 @@ sound-rewritten before vc connection new sound found same_incarnation same_line 
           (inr (connection, found, same_incarnation, same_line));
     })
 
--- A program more leaves each live program live.
+-- One more program leaves each live program live.
 
 pub some-more : (loading : Loading) (later : List Loading) (id : Id) → IsSome (code_in later id) → IsSome (code_in (loading ∷ later) id)
 some-more loading later id there =
@@ -266,7 +266,7 @@ some-more loading later id there =
     ] in
     choice (is_same_id id loading.id)
 
--- A world whose programs alone changed.
+-- A world of which only the programs changed.
 pub sound-programs : (before : World) (given live : List Loading) → IsSound before
     → SoundPrograms (record before { given = given; live = live })
     → ((vc : Vc) (connection : Connection) → connection_in before.connections vc ≡ Some connection

@@ -1,4 +1,4 @@
--- Each step keeps what every world keeps that a log leads to.
+-- Each step preserves the invariant of worlds.
 use Rattle.std.proofs.Common.{◌≡◌, ◌≢◌, ℕ, suc, ◌+◌, ◌^◌, ◌≤◌, true, List, [], ◌∷◌, ◌++◌, length, length-set, length-append, set, Option, Some, None, slice_get, is_none, is_some, refl, sym, ap, ◌∙◌, subst, inl, inr, arith}
 use Rattle.std.proofs.lemmas.List.Elements.{All-nil, All-push}
 use Rattle.upc_cell.specs.declared.vc.Vc.{Vc}
@@ -31,7 +31,7 @@ use Rattle.card_core.proofs.JudgeLemmas.{with_verdict-here, with_verdict-other, 
 use Rattle.card_core.proofs.SoundChanges.{opening-sound, picked_same, picks-set, sound-port, IsNewOrKept, changed, sound-changed, sound-rewritten, some-more, sound-programs}
 use Rattle.card_core.proofs.Allowed.{succeeded, starved, rejected, step-case, picking-allowed, setup-allowed, line-held, none_picked, retire-allowed}
 
--- The steps of a port keep it.
+-- The steps of a port preserve it.
 
 sound-enters : (before : World) (port : ℕ) (cell : List ℕ) (moment : ℕ) (reply : Reply) (after : World) → IsSound before
     → Enters before port cell moment reply after → IsSound after
@@ -106,9 +106,9 @@ sound-judges before port reply after sound allowed w =
           (inr (connection, w.found, refl, refl));
     }))
 
--- The steps of the desk keep it.
+-- The steps of the desk preserve it.
 
--- Another program, or more cells handed out, change nothing of that.
+-- Another program, or more returned cells, leave the invariant intact.
 sound-reloads : (before : World) (vc : Vc) (program : Id) (reply : Reply) (after : World) → IsSound before
     → refusal before (Reload vc program) ≡ None → Reloads before vc program reply after → IsSound after
 sound-reloads before vc program reply after sound allowed w =
@@ -255,7 +255,7 @@ sound-retires before id reply after sound allowed w =
     ∙ (sound.connections.each vc connection e).named_live)
     (λ port picking e. absurd (none_picked before.ports may.idle port picking e)))
 
--- Whatever step is taken and however it is answered, it is kept.
+-- Every step with every reply preserves it.
 
 sound-left_by_pick : (before : World) (port : ℕ) (o : Option PortState) → IsSound before → IsSound (left_by_pick before port o)
 sound-left_by_pick before port (Some (entered cell moment)) sound = sound-port before port outside sound (λ picking e. absurd (cc))

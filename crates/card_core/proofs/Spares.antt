@@ -1,4 +1,4 @@
--- Some answers never come: that what was lent is stale, and that memory was refused where none is taken.
+-- Some replies never come: Stale, and an allocation failure of a step that doesn't allocate.
 use Rattle.std.proofs.Common.{◌≡◌, ℕ, ◌^◌, ◌==◌, Bool, true, false, cond, not, ◌∷◌, length, Option, Some, None, is_none, is_some, slice_get, nat_lt, nat_le, refl, sym, subst}
 use Rattle.upc_cell.specs.declared.vc.Vc.{Vc}
 use Rattle.upc_cell.specs.Connection.{vc_of}
@@ -26,7 +26,7 @@ use Rattle.card_core.specs.Steps.{without_memory}
 use Rattle.card_core.proofs.Allowed.{succeeded, starved, rejected, step-case}
 use Rattle.card_core.proofs.Promise.{run-parts}
 
--- A reply that says neither that memory was refused nor that what was lent is stale.
+-- The reply neither reports an allocation failure nor is Stale.
 abbrev pub Spares : Reply → Type 0
 Spares reply = (is_of_memory reply ≡ false) × (is_stale reply ≡ false)
 
@@ -75,7 +75,7 @@ judge-spares before (Some (picked picking)) refused e =
     let found = mapped Answered (picking_refusal before picking (connection_in before.connections picking.vc)) refused e in
     subst Spares (sym found.2) (picking-spares before picking (connection_in before.connections picking.vc) found.0 found.1)
 
--- A fault of the desk, under any reply that hands it on.
+-- An error of the desk, in any reply that returns it.
 module _ (reply : DeskFault → Reply) where
   abbrev FaultSpares : DeskFault → Type 0
   FaultSpares fault = Spares (reply fault)
@@ -139,7 +139,7 @@ refused-spares before (Cut vc) refused e =
     let found = mapped Refused (missing_fault before vc) refused e in
     subst Spares (sym found.2) (missing-spares Refused (refl, refl) (refl, refl) (refl, refl) (refl, refl) (refl, refl) (refl, refl) (refl, refl) (refl, refl) (refl, refl) before vc found.0 found.1)
 
--- Whatever step is taken and however it is answered, its reply is one that may come.
+-- Every step with every reply has this property.
 
 success-spares : (before : World) (step : Step) (reply : Reply) (after : World) → Succeeds before step reply after → Spares reply
 success-spares before (Enter port cell moment) reply after w = subst Spares (sym w.answer) (refl, refl)
@@ -158,7 +158,7 @@ plainly step reply spares = record {
   memory = λ e. let none = spares.0 in absurd (cc);
 }
 
--- A step that found no memory takes some.
+-- A step that fails to allocate is one that may allocate.
 starved-spares : (step : Step) (reply : Reply) → without_memory step ≡ Some reply → AnswersAsItMay (record { step = step; reply = reply })
 starved-spares (Setup ask) reply e =
     subst (λ (r : Reply). AnswersAsItMay (record { step = Setup ask; reply = r })) (same_some (NotSetUp NoMemory ask) reply e)

@@ -1,4 +1,4 @@
--- The connections of a world are those of which its log tells.
+-- The connections of a world are those of its log.
 use Rattle.std.proofs.Common.{◌≡◌, ◌≢◌, ℕ, ◌+◌, Bool, true, false, List, [], ◌∷◌, ◌++◌, Option, Some, IsSome, slice_get, is_some, sym, ap, ◌∙◌, subst, inl, inr}
 use Rattle.upc_cell.specs.declared.vc.Vc.{Vc}
 use Rattle.upc_cell.specs.Connection.{is_same_vc}
@@ -24,7 +24,7 @@ use Rattle.card_core.proofs.Allowed.{succeeded, starved, rejected, step-case}
 use Rattle.card_core.proofs.Knows.{KnowsConnection, leads-knows}
 use Rattle.card_core.proofs.Promise.{run-parts}
 
--- A connection that is there stays, unless it is released.
+-- A connection remains unless it is released.
 
 there-with : (connections : List (Vc × Connection)) (other : Vc) (new : Connection) (vc : Vc)
     → IsSome (connection_in connections vc) → IsSome (connection_in (with_connection connections other new) vc)
@@ -43,7 +43,7 @@ apart-from vc other none same =
 abbrev IsThere : World → Vc → Type 0
 IsThere world vc = IsSome (connection_in world.connections vc)
 
--- The step with its reply doesn't change the virtual connection.
+-- The step with this reply doesn't set up or release the virtual connection.
 abbrev Unchanged : Vc → Step → Reply → Type 0
 Unchanged vc step reply = changes vc (event_of step reply) ≡ false
 
@@ -95,7 +95,7 @@ stays-run before (event ∷ later) after vc there run still =
     (stays before event.step event.reply run.0 vc there run.1 (never-first (changes vc) event later still))
     run.2 (never-later (changes vc) event later still)
 
--- A connection that was set up is there.
+-- A connection that was set up exists.
 
 has_set_up : Reply → Bool
 has_set_up (SetUp owner) = true

@@ -1,4 +1,4 @@
--- The agreement of the store, and what the world's tests of slots and programs say.
+-- The agreement of the store, and the world's tests of slots and programs.
 use Rattle.std.proofs.Common.{◌≡◌, ◌≢◌, ℕ, zero, suc, ◌+◌, ◌<◌, Bool, true, false, cond, not, ◌&&◌, ◌||◌, Option, Some, None, IsSome, List, [], ◌∷◌, length, refl, sym, ap, subst, ◌∙◌, inl, inr, arith}
 use Rattle.std.specs.Prelude.{slice_get, nat_lt, is_none, ◌==◌}
 use Rattle.std.specs.List.{list_any}
@@ -28,7 +28,7 @@ or_right false b e = e
 or_left : (a b : Bool) → a ≡ true → (a || b) ≡ true
 or_left a b e = ap (λ c. c || b) e
 
--- A test that passes somewhere below.
+-- A test that is true somewhere below the bound.
 pub below-passes : (number : ℕ) (test : ℕ → Bool) (k : ℕ) → k < number → test k ≡ true → any_below number test ≡ true
 below-passes zero test k within e = absurd (omega arith)
 below-passes (suc number) test k within e = elim (cases_eq k number) [
@@ -36,14 +36,14 @@ below-passes (suc number) test k within e = elim (cases_eq k number) [
   | inr apart ↦ or_right (test number) (any_below number test) (below-passes number test k (omega arith) e)
 ]
 
--- And one that passes nowhere.
+-- A test that is true nowhere below the bound.
 pub below-fails : (number : ℕ) (test : ℕ → Bool) → ((k : ℕ) → k < number → test k ≡ false) → any_below number test ≡ false
 below-fails zero test fails = refl
 below-fails (suc number) test fails =
     ap (λ b. b || any_below number test) (fails number (omega arith))
     ∙ below-fails number test (λ k within. fails k (omega arith))
 
--- The slot of a live id is tested.
+-- The slot of a live id passes the test.
 live-tested : (live : List Loading) (id : Id) (code : List Instr) → code_in live id ≡ Some code
     → list_any (λ (loading : Loading). loading.id.slot == id.slot) live ≡ true
 live-tested [] id code e = absurd (cc)
@@ -60,7 +60,7 @@ live-tested (here ∷ later) id code e =
     ] in
     choice (is_same_id id here.id) refl
 
--- A slot that is tested is that of a live id.
+-- A slot that passes the test has a live id.
 tested-live : (live : List Loading) (slot : ℕ) → list_any (λ (loading : Loading). loading.id.slot == slot) live ≡ true
     → (id : Id) × (code : List Instr) × (id.slot ≡ slot) × (code_in live id ≡ Some code)
 tested-live [] slot e = absurd (cc)
@@ -105,7 +105,7 @@ times-other loading later slot apart =
     ap (λ b. cond b (suc (times_given later slot)) (times_given later slot)) differs
 
 module _ (shape : Shape) (store : List (Slot (List Instr))) (given live : List Loading) (agrees : StoreAgrees shape store given live) where
-  -- The slot of an id that was just given is open.
+  -- The slot of an id that was just given was open.
   pub inserted-open : (world : World) → world.given ≡ given → world.live ≡ live → (new : List (Slot (List Instr))) (id : Id) (code : List Instr)
       → Inserts store new id code → is_open_slot world id.slot ≡ true
   inserted-open world same_given same_live new id code insert =
@@ -131,7 +131,7 @@ module _ (shape : Shape) (store : List (Slot (List Instr))) (given live : List L
       ∙ ap (λ (list : List Loading). not test && nat_lt (times_given list id.slot) greatest_generation) same_given
       ∙ ap (λ b. not b && nat_lt (times_given given id.slot) greatest_generation) empty ∙ unworn
 
-  -- Its slot is one of the card's, and its generation is the slot's next.
+  -- The slot of the id is one of the card's, and its generation is the slot's next.
   pub inserted-within : (new : List (Slot (List Instr))) (id : Id) (code : List Instr) → Inserts store new id code → id.slot < shape.programs
   inserted-within new id code insert =
       let within = slice_get_within store id.slot insert.taken insert.stood in
@@ -142,7 +142,7 @@ module _ (shape : Shape) (store : List (Slot (List Instr))) (given live : List L
   inserted-next new id code insert =
       insert.next ∙ ap (λ (n : ℕ). n + 1) (sym (sym (agrees.generations id.slot) ∙ ap generation_or_zero insert.stood))
 
-  -- Where no slot is free, none is open.
+  -- If no slot is free, none is open.
   pub full-closed : (world : World) → world.given ≡ given → world.live ≡ live → NoneIsFree store → (slot : ℕ) → slot < shape.programs
       → is_open_slot world slot ≡ false
   full-closed world same_given same_live full slot within =
@@ -169,7 +169,7 @@ module _ (shape : Shape) (store : List (Slot (List Instr))) (given live : List L
       ∙ ap (λ (list : List Loading). not test && nat_lt (times_given list slot) greatest_generation) same_given
       ∙ closed
 
-  -- The store after an id was given.
+  -- The store after an id is given.
   pub store-inserted : (new : List (Slot (List Instr))) (id : Id) (code : List Instr) → Inserts store new id code
       → StoreAgrees shape new (record { id = id; code = code } ∷ given) (record { id = id; code = code } ∷ live)
   store-inserted new id code insert =
@@ -201,7 +201,7 @@ module _ (shape : Shape) (store : List (Slot (List Instr))) (given live : List L
         ];
       }
 
-  -- And after an id was retired.
+  -- The store after an id is retired.
   pub store-removed : (new : List (Slot (List Instr))) (id : Id) (code : List Instr) → Removes store new id code
       → StoreAgrees shape new given (without_code live id)
   store-removed new id code remove =

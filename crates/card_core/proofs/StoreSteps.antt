@@ -34,14 +34,14 @@ use Rattle.card_core.proofs.ConnectionLemmas.{connection_passes}
 use Rattle.card_core.proofs.PortLemmas.{core_of}
 use Rattle.card_core.proofs.StoreLemmas.{below-passes, below-fails, inserted-open, inserted-within, inserted-next, full-closed, store-inserted, store-removed}
 
--- The ports are outside for the core exactly where they are for the world.
+-- The core's ports have no cell exactly if the world's have none.
 pub all-outside : (ports : List Port) → list_all is_outside (states_of ports) ≡ list_all is_free_port ports
 all-outside [] = refl
 all-outside (Outside ∷ later) = all-outside later
 all-outside (Entered came ∷ later) = refl
 all-outside (Picked found ∷ later) = refl
 
--- A connection that passes a test, where one does.
+-- If the test is true for some entry, there is a connection for which it is true.
 pub tested-connection : (connections : List (Vc × Connection)) (test : (Vc × Connection) → Bool) → list_any test connections ≡ true
     → (here : Vc × Connection) × Contains connections here × (test here ≡ true)
 tested-connection [] test e = absurd (cc)
@@ -119,7 +119,7 @@ module _ (shape : Shape) (store : List (Slot (List Instr))) (directory : Directo
       (busy-is before agrees false some) in
       (before, step-refused before (Retire id) (Refused Busy) (ap (option_map Refused) fault), agrees))
 
-  -- Some connection of the directory names a program exactly where some connection of the world does.
+  -- Some connection of the directory names a program exactly if some connection of the world does.
   named-there : (before : World) → IsSound before → CoreAgrees Old before → (id : Id) → is_named before id ≡ true → IsNamed directory id
   named-there before sound agrees id e =
       let found = tested-connection before.connections (λ (here : Vc × Connection). is_same_id here.1.program id) e in
@@ -139,7 +139,7 @@ module _ (shape : Shape) (store : List (Slot (List Instr))) (directory : Directo
       connection_passes (λ (here : Vc × Connection). is_same_id here.1.program id) before.connections named.vc known.0 known.1
       (λ other. subst (λ (i : Id). is_same_id known.0.program i ≡ true) same (id_itself known.0.program))
 
-  -- Why a Retire is refused while the ports are outside.
+  -- The reason why a Retire is refused while no port has a cell.
   retire-fault-is : (before : World) → CoreAgrees Old before → (id : Id) → list_all is_free_port ports ≡ true
       → (o : Option (List Instr)) → code_in before.live id ≡ o → (b : Bool) → is_named before id ≡ b
       → retire_fault before id ≡ cond (is_none o) (Some NoProgram) (cond b (Some InUse) None)

@@ -1,4 +1,4 @@
--- Each step tells what it does: at the desk, and all steps.
+-- Each step has the effect that its reply shows: the steps of the desk, and all steps.
 use Rattle.std.proofs.Common.{◌≡◌, ◌+◌, cond, List, ◌∷◌, length, Some, append-nil, refl, sym, ap, ◌∙◌, subst, inl, inr, arith}
 use Rattle.upc_cell.specs.declared.vc.Vc.{Vc}
 use Rattle.upc_cell.proofs.Public.{vc_itself, vc_differs, vc_cases}
@@ -22,7 +22,7 @@ use Rattle.card_core.proofs.LeftLemmas.{left_with, left-as}
 use Rattle.card_core.proofs.TellingCells.{no-verdicts, tells-at, tells-enters, tells-picks, tells-judges}
 use Rattle.card_core.proofs.TellingRefusals.{tells-refused, tells-starved}
 
--- Each step of the desk tells what it does.
+-- Each step of the desk has the effect that its reply shows.
 
 tells-loads : (shape : Shape) (before : World) (code : List Instr) (reply : Reply) (after : World) → IsSound before
     → Loads before code reply after → StepTold shape before (Load code) reply after
@@ -150,7 +150,7 @@ tells-cuts shape before vc reply after w =
       verdicts = λ line. no-verdicts (before.judged line) line (Cut vc) told refl;
     })
 
--- Whatever step is taken and however it is answered, it tells what it does.
+-- Every step with every reply has the effect that the reply shows.
 
 tells-success : (shape : Shape) (before : World) (step : Step) (reply : Reply) (after : World) → IsSound before → before.shape ≡ shape
     → Succeeds before step reply after → StepTold shape before step reply after

@@ -1,4 +1,4 @@
--- Each step at a port tells what it does.
+-- Each step at a port has the effect that its reply shows.
 use Rattle.std.proofs.Common.{◌≡◌, ◌≢◌, ℕ, ◌==◌, Bool, true, false, cond, List, [], ◌∷◌, ◌++◌, map, filter, Some, None, slice_get, append-nil, refl, sym, ap, ◌∙◌, subst, inl, inr}
 use Rattle.std.proofs.lemmas.Bool.{eq-eqb, ne_eqb, cases_eq}
 use Rattle.upc_cell.specs.declared.vc.Vc.{Vc}
@@ -26,7 +26,7 @@ use Rattle.card_core.proofs.CellLemmas.{vc-after, came}
 use Rattle.card_core.proofs.Told.{store_same, Kept, kept, IsSilent, connections-same, connections-with, IsPickedNow, PortsTold, ports-moved, StepTold}
 use Rattle.card_core.proofs.SoundChanges.{picked_same}
 
--- Some answers tell nothing.
+-- Some answers show no change.
 
 pub record IsQuiet (reply : Reply) : Type 0 where
   pub no_code : (id : Id) (step : Step) → loads id (event_of step reply) ≡ false
@@ -104,14 +104,14 @@ tells-quiet shape before step reply ports quiet moves = record {
   verdicts = λ line. no-verdicts (before.judged line) line step reply quiet.no_cell;
 }
 
--- The reply and the world that a step led to are those that are known.
+-- The reply and the world after a step, replaced by equal ones.
 pub tells-at : (shape : Shape) (before : World) (step : Step) (one other : Reply) (after later : World)
     → one ≡ other → after ≡ later → StepTold shape before step other later → StepTold shape before step one after
 tells-at shape before step one other after later same leads tells =
     subst (λ (r : Reply). StepTold shape before step r after) (sym same)
     (subst (λ (w : World). StepTold shape before step other w) (sym leads) tells)
 
--- What an Enter and a Pick tell: whose cell is at the port, and since when.
+-- Enter and Pick show whose cell is at the port, and since when.
 
 enter_of : ℕ → PortState → Step
 enter_of port outside = Enter port [] 0
@@ -167,7 +167,7 @@ tells-picks shape before port reply after w =
       verdicts = λ line. no-verdicts (before.judged line) line step Picked refl;
     })
 
--- What the answer to a judged cell tells.
+-- The judged cell of the answer.
 abbrev pub judgement_on : World → Picking → Connection → JudgedView
 judgement_on before picking connection = record {
   line = connection.line;
@@ -179,7 +179,7 @@ judgement_on before picking connection = record {
   cell = cell_after (verdict_on connection (cell_of_picking picking)) picking.cell;
 }
 
--- It tells the cell as the history has it.
+-- It shows the cell as the history has it.
 pub told-cell : (before : World) (picking : Picking) (connection : Connection)
     → as_it_came (judgement_on before picking connection) ≡ cell_of_picking picking
 told-cell before picking connection =
@@ -199,7 +199,7 @@ module _ (shape : Shape) (before : World) (sound : IsSound before) (same_shape :
   judgement : JudgedView
   judgement = judgement_on before picking connection
 
-  -- What a log with this event alone has of it, where the test is so.
+  -- The judged cell of this event, if the test is true.
   shown : {X : Type 0} → (JudgedView → X) → Bool → List X
   shown show test = map show (cond test (judgement ∷ []) [])
 

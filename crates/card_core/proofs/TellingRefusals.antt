@@ -1,4 +1,4 @@
--- What is refused, and what finds no memory, tells nothing but that a port moved.
+-- A refused step, and one that fails to allocate, changes nothing but that a port moved.
 use Rattle.std.proofs.Common.{◌≡◌, ℕ, ◌^◌, ◌==◌, Bool, true, false, cond, length, set, Option, Some, None, slice_get, is_none, nat_lt, nat_le, refl, sym, subst}
 use Rattle.upc_cell.specs.Connection.{vc_of}
 use Rattle.line_record.specs.History.{last_moment}
@@ -24,7 +24,7 @@ use Rattle.card_core.proofs.TellingCells.{IsQuiet, quiet-not_now, quiet-answered
 abbrev pub IsUnjudged : Answer → Type 0
 IsUnjudged answer = told answer ≡ None
 
--- What a Pick or a Judge is refused with.
+-- The replies of a refused Pick or Judge.
 pub data CellRefused (refused : Reply) : Type 0 where
   at_no_time : refused ≡ NotNow → CellRefused refused
   with_answer : (answer : Answer) → refused ≡ Answered answer → IsUnjudged answer → CellRefused refused
@@ -71,13 +71,13 @@ judge-refused before (Some (picked picking)) refused e =
     let found = mapped Answered (picking_refusal before picking (connection_in before.connections picking.vc)) refused e in
     with_answer found.0 found.2 (picking-refused before picking (connection_in before.connections picking.vc) found.0 found.1)
 
--- A step that leaves the world as it was, with an answer that tells nothing.
+-- A step that leaves the world unchanged, with a reply that shows no change.
 tells-nothing : (shape : Shape) (before : World) (step : Step) (reply : Reply) → IsQuiet reply → ((port : ℕ) → moves port (event_of step reply) ≡ false)
     → StepTold shape before step reply before
 tells-nothing shape before step reply quiet still =
     tells-quiet shape before step reply before.ports quiet (ports-same before before step reply refl still)
 
--- A Pick or a Judge that is refused.
+-- A refused Pick or Judge.
 tells-cell_refused : (shape : Shape) (before : World) (step : Step) (port : ℕ) (refused : Reply) → ((other : ℕ) → is_at other step ≡ (other == port))
     → CellRefused refused → StepTold shape before step refused (with_answered before port refused)
 tells-cell_refused shape before step port refused at (at_no_time is) =

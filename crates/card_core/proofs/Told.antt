@@ -1,4 +1,4 @@
--- What each step tells by its reply, of the codes, of the connections, of the ports and of the verdicts.
+-- The effect that a step's reply shows on the codes, the connections, the ports and the verdicts.
 use Rattle.std.proofs.Common.{◌≡◌, ◌≢◌, ◌⊎◌, ℕ, ◌<◌, ◌==◌, false, List, [], ◌∷◌, ◌++◌, map, filter, set, Some, None, slice_get, append-nil, refl, sym, ap, ◌∙◌, subst, inl, inr}
 use Rattle.std.proofs.lemmas.Bool.{ne_eqb}
 use Rattle.upc_cell.specs.declared.vc.Vc.{Vc}
@@ -21,7 +21,7 @@ use Rattle.gen_arena.proofs.Public.{slice_get-set}
 use Rattle.card_core.proofs.LookUps.{same_some}
 use Rattle.card_core.proofs.ConnectionLemmas.{with-here, with-others}
 
--- What is told of the codes: nothing, or that one was put in, or that one was retired.
+-- The effect on the codes: none, or one was loaded, or one was retired.
 pub data StoreTold (before after : World) (step : Step) (reply : Reply) : Type 0 where
   store_same : after.given ≡ before.given → after.live ≡ before.live
       → ((id : Id) → loads id (event_of step reply) ≡ false) → ((id : Id) → retires id (event_of step reply) ≡ false)
@@ -36,7 +36,7 @@ pub data StoreTold (before after : World) (step : Step) (reply : Reply) : Type 0
       → code_in before.live id ≡ Some code
       → StoreTold before after step reply
 
--- A connection that was there before, and what was told of it.
+-- A connection that existed before, and the effect on it.
 pub record Kept (shape : Shape) (old connection : Connection) (vc : Vc) (step : Step) (reply : Reply) : Type 0 where
   pub incarnation : connection.incarnation ≡ old.incarnation
   pub line : connection.line ≡ old.line
@@ -46,7 +46,7 @@ pub record Kept (shape : Shape) (old connection : Connection) (vc : Vc) (step : 
   pub cells : connection.history ≡ old.history ++ cells_of shape vc (event_of step reply ∷ [])
   pub held : connection.history ≡ old.history ++ cells_on old.line (event_of step reply ∷ [])
 
--- A connection that is there since this step.
+-- A connection that this step set up.
 pub record IsFresh (used : ℕ) (connection : Connection) (vc : Vc) (step : Step) (reply : Reply) : Type 0 where
   pub ask : Ask
   pub asked : ask.vc ≡ vc
@@ -66,13 +66,13 @@ abbrev pub ConnectionsTold : Shape → World → World → Step → Reply → Ty
 ConnectionsTold shape before after step reply = (vc : Vc) (connection : Connection)
     → connection_in after.connections vc ≡ Some connection → Fate shape before vc connection step reply
 
--- Nothing is told of the connection.
+-- The step has no effect on the connection.
 pub record IsSilent (vc : Vc) (step : Step) (reply : Reply) : Type 0 where
   pub standing : changes vc (event_of step reply) ≡ false
   pub programs : (program : Id) → named_after vc program reply step ≡ program
   pub cells : judged_cells (event_of step reply ∷ []) ≡ []
 
--- Then it is as it was, but for what the log doesn't tell.
+-- A connection that is unchanged, except for its returned cells, fits a step without an effect on it.
 pub kept-silent : (shape : Shape) (old connection : Connection) (vc : Vc) (step : Step) (reply : Reply) → IsSilent vc step reply
     → connection.incarnation ≡ old.incarnation → connection.line ≡ old.line → connection.contracts ≡ old.contracts
     → connection.program ≡ old.program → connection.history ≡ old.history → Kept shape old connection vc step reply
@@ -102,7 +102,7 @@ connections-same shape before after step reply silent same vc connection found =
     kept connection (subst (λ (l : List (Vc × Connection)). connection_in l vc ≡ Some connection) same found)
     (same-silent shape connection connection vc step reply (silent vc) refl)
 
--- One connection is written anew, of which that is told, and the others stay.
+-- One connection is written, with this effect, and the others are unchanged.
 pub connections-with : (shape : Shape) (before after : World) (step : Step) (reply : Reply) (vc : Vc) (new : Connection)
     → after.connections ≡ with_connection before.connections vc new
     → Fate shape before vc new step reply
@@ -125,12 +125,12 @@ connections-with shape before after step reply vc new same here others other con
           kept connection old (others other apart connection old)
     ]
 
--- A port keeps its state, and didn't move.
+-- A port keeps its state and didn't move.
 abbrev pub PortStays : World → ℕ → PortState → Step → Reply → Type 0
 PortStays before port state step reply =
     (slice_get before.ports port ≡ Some state) × (moves port (event_of step reply) ≡ false)
 
--- A port's cell is picked in this step.
+-- This step picks the port's cell.
 pub record IsPickedNow (before : World) (port : ℕ) (picking : Picking) (step : Step) (reply : Reply) : Type 0 where
   pub step_is : step ≡ Pick port
   pub reply_is : reply ≡ Picked
@@ -182,7 +182,7 @@ ports-moved before after step reply port state same moved enters picks = record 
       ];
 }
 
--- What a step tells of all parts of the world.
+-- The effect of a step on all parts of the world.
 pub record StepTold (shape : Shape) (before : World) (step : Step) (reply : Reply) (after : World) : Type 0 where
   pub shape_same : after.shape ≡ before.shape
   pub store : StoreTold before after step reply

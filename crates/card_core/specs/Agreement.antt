@@ -1,5 +1,5 @@
--- When a core agrees with a world. A core keeps slots, a directory, lines and ports; the world has
--- whole histories. Each part agrees by itself.
+-- Agreement of a core with a world. A core has slots, a directory, lines and ports; a world has whole histories. Each
+-- part of the core agrees with the world by itself.
 use Rattle.std.specs.Prelude.{◌≡◌, ℕ, List, [], ◌∷◌, ◌++◌, length, Some, option_map, slice_get}
 use Rattle.upc_cell.specs.declared.vc.Vc.{Vc}
 use Rattle.bpf_code.specs.declared.instr.Instr.{Instr}
@@ -22,8 +22,7 @@ use Rattle.card_core.specs.Log.{Event, Run, Leads}
 use Rattle.card_core.specs.Steps.{WorldStep}
 use Rattle.card_core.specs.World.{World, Loading, Connection, PortState, code_in, times_given, connection_in, handed_cells, kept_cells}
 
--- What contracts see of a core: its shape, the slots for programs, the directory, the lines, and the
--- ports.
+-- The parts of a core that contracts see: its shape, the slots for programs, the directory, the lines, and the ports.
 pub record CoreView : Type 0 where
   pub shape : Shape
   pub store : List (Slot (List Instr))
@@ -31,8 +30,8 @@ pub record CoreView : Type 0 where
   pub lines : List LineView
   pub ports : List PortState
 
--- Each slot's generation is how often it was given, and exactly the live ids have a value, which is
--- their code.
+-- Each slot's generation is the number of times that the slot was given. The code of each id is that of the live ids;
+-- an id that isn't live has none.
 pub record StoreAgrees (shape : Shape) (slots : List (Slot (List Instr))) (given live : List Loading) : Type 0 where
   pub sized : length slots ≡ shape.programs
   pub generations : (slot : ℕ) → generation_at slots slot ≡ times_given given slot
@@ -46,8 +45,8 @@ seating_of connection = record {
   program = connection.program;
 }
 
--- The directory has each connection's line, incarnation and program, no other connection, and has
--- given as many incarnations.
+-- The directory has exactly the world's connections, each with its line, incarnation and program, and has given as many
+-- incarnations as the world.
 pub record SeatingsAgree (shape : Shape) (directory : DirectoryView) (connections : List (Vc × Connection)) (used : ℕ) : Type 0 where
   pub lines : directory.lines ≡ shape.lines
   pub used_up : directory.used ≡ used
@@ -57,10 +56,10 @@ pub record SeatingsAgree (shape : Shape) (directory : DirectoryView) (connection
 abbrev pub owner_of : Vc → Connection → Owner
 owner_of vc connection = record { vc = vc; incarnation = connection.incarnation }
 
--- The line, on which these verdicts were given, serves the connection under its contracts; its journal
--- has the cells that no cut has returned, with their verdicts; its first state is that after the cells that
--- cuts returned, its last state that after all cells; and the counts at the journal's beginning and those of its
--- entries are together the counts of these verdicts.
+-- The line, with these verdicts given on it, serves the connection under its contracts. Its journal has the cells that
+-- no cut has returned, with their verdicts. Its first state is that after the returned cells, its last state that after
+-- all cells. The counts at the beginning of the journal and those of its entries are together the counts of these
+-- verdicts.
 pub record Serves (line : LineView) (vc : Vc) (connection : Connection) (verdicts : List Verdict) : Type 0 where
   pub owner : line.owner ≡ Some (owner_of vc connection)
   pub contracts : line.contracts ≡ connection.contracts
@@ -69,15 +68,15 @@ pub record Serves (line : LineView) (vc : Vc) (connection : Connection) (verdict
   pub state : IsStateAfter connection.contracts connection.history line.state
   pub together : tallied line.start.counts line.entries ≡ tally_of verdicts
 
--- The line of this number and its owner are those of a connection.
+-- The connection of this owner, by virtual connection and incarnation, exists and has the line of this number.
 pub record IsLineOf (connections : List (Vc × Connection)) (number : ℕ) (owner : Owner) : Type 0 where
   pub connection : Connection
   pub found : connection_in connections owner.vc ≡ Some connection
   pub incarnation : connection.incarnation ≡ owner.incarnation
   pub line : connection.line ≡ number
 
--- Each connection has a line that serves it, no other line serves any, and each line has counted all
--- verdicts ever given on it.
+-- Each connection has a line that serves it, each line with an owner is that of a connection, and the counts of each
+-- line are those of all verdicts ever given on it.
 pub record LinesAgree (shape : Shape) (lines : List LineView) (connections : List (Vc × Connection)) (verdicts : ℕ → List Verdict) : Type 0 where
   pub sized : length lines ≡ shape.lines
   pub journals : (number : ℕ) (line : LineView) → slice_get lines number ≡ Some line → line.journal ≡ shape.journal
@@ -96,15 +95,16 @@ pub record CoreAgrees (core : CoreView) (world : World) : Type 0 where
   pub lines : LinesAgree world.shape core.lines world.connections world.judged
   pub ports : core.ports ≡ world.ports
 
--- Where a core has gone by an event: the step leads, with its reply, from the world before to one that the
--- new core agrees with, and so the log with this event leads there.
+-- The event leads from the world before to a world that the new core agrees with, so the log with this event leads to
+-- that world.
 pub record GoneOn (shape : Shape) (log : List Event) (before : World) (step : Step) (reply : Reply) (new : CoreView) : Type 0 where
   pub after : World
   pub stepped : WorldStep before step reply after
   pub leads : Leads shape (log ++ record { step = step; reply = reply } ∷ []) after
   pub agrees : CoreAgrees new after
 
--- The core goes on by this event, from whatever world it agrees with, if a log has led there.
+-- For every log and every world that it leads to and the old core agrees with, this event leads on to a world that the
+-- new core agrees with.
 abbrev pub Follows : CoreView → Step → Reply → CoreView → Type 0
 Follows old step reply new = (shape : Shape) (log : List Event) (before : World)
     → Leads shape log before → CoreAgrees old before → GoneOn shape log before step reply new
@@ -115,15 +115,16 @@ events_of [] replies = []
 events_of (step ∷ steps) [] = []
 events_of (step ∷ steps) (reply ∷ replies) = record { step = step; reply = reply } ∷ events_of steps replies
 
--- Where a core has gone by some events: they lead from the world before to one that the new core agrees
--- with, and so the log with these events leads there.
+-- The events lead from the world before to a world that the new core agrees with, so the log with these events leads to
+-- that world.
 pub record GoneAll (shape : Shape) (log : List Event) (before : World) (events : List Event) (new : CoreView) : Type 0 where
   pub after : World
   pub stepped : Run before events after
   pub leads : Leads shape (log ++ events) after
   pub agrees : CoreAgrees new after
 
--- The core goes on by all these events, from whatever world it agrees with, if a log has led there.
+-- For every log and every world that it leads to and the old core agrees with, these events lead on to a world that the
+-- new core agrees with.
 abbrev pub FollowsAll : CoreView → List Step → List Reply → CoreView → Type 0
 FollowsAll old steps replies new = (shape : Shape) (log : List Event) (before : World)
     → Leads shape log before → CoreAgrees old before → GoneAll shape log before (events_of steps replies) new

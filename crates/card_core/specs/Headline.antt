@@ -1,6 +1,6 @@
--- What a log promises of each judged cell. A log is the list of the steps that were taken, each with its
--- reply, the earliest first, and all words here are over the log alone: first what one event does, then
--- what a log has of a port, a connection and a program, then the promise, and last the headline.
+-- The promise of a log for each judged cell. A log is the list of the steps that were taken, each with its reply, the
+-- earliest first. All definitions here are over the log alone: first the effect of one event, then the events of a
+-- port, a connection and a program, then the promise, and last the headline.
 use Rattle.std.specs.Prelude.{◌≡◌, ℕ, ◌^◌, ◌==◌, ◌≤◌, Bool, true, false, not, ◌&&◌, if◌then◌else◌, List, [], ◌∷◌, ◌++◌, map, filter, filter_map, fold, All, Option, None}
 use Rattle.upc_cell.specs.declared.vc.Vc.{Vc}
 use Rattle.bpf_code.specs.declared.instr.Instr.{Instr}
@@ -35,12 +35,12 @@ is_at port (Pick other) = port == other
 is_at port (Judge other) = port == other
 is_at port _ = false
 
--- Whether the reply is NotNow: the port had no such step to take.
+-- Whether the reply is NotNow: the step didn't fit the state of the port.
 abbrev pub is_not_now : Reply → Bool
 is_not_now NotNow = true
 is_not_now _ = false
 
--- The event moves the port: its step is one at the port, and was not answered NotNow.
+-- Whether the event moves the port: its step is at the port, and the reply isn't NotNow.
 abbrev pub moves : ℕ → Event → Bool
 moves port event = not (is_not_now event.reply) && is_at port event.step
 
@@ -50,35 +50,35 @@ is_change vc (SetUp owner) (Setup ask) = is_same_vc vc ask.vc
 is_change vc (Released piece) (Release other) = is_same_vc vc other
 is_change vc _ _ = false
 
--- The event changes the virtual connection: it sets it up or releases it.
+-- Whether the event sets up or releases the virtual connection.
 abbrev pub changes : Vc → Event → Bool
 changes vc event = is_change vc event.reply event.step
 
--- Whether the step with this reply put a code in under the id.
+-- Whether the step with this reply loaded a code under the id.
 abbrev pub is_load : Id → Reply → Step → Bool
 is_load id (Loaded given) (Load code) = is_same_id id given
 is_load id _ _ = false
 
--- The event puts a code in under the id.
+-- Whether the event loads a code under the id.
 abbrev pub loads : Id → Event → Bool
 loads id event = is_load id event.reply event.step
 
--- Whether the step with this reply retired what was put in under the id.
+-- Whether the step with this reply retired the id.
 abbrev pub is_retirement : Id → Reply → Step → Bool
 is_retirement id (Retired code) (Retire gone) = is_same_id id gone
 is_retirement id _ _ = false
 
--- The event retires what was put in under the id.
+-- Whether the event retires the id.
 abbrev pub retires : Id → Event → Bool
 retires id event = is_retirement id event.reply event.step
 
--- The program that the virtual connection names after the step with this reply, where it named this one
--- before: a reload gives it another.
+-- The program of the virtual connection after the step with this reply, if it was this one before: a reload gives it
+-- another.
 abbrev pub named_after : Vc → Id → Reply → Step → Id
 named_after vc program (Reloaded old) (Reload other next) = if is_same_vc vc other then next else program
 named_after vc program _ _ = program
 
--- The program that the virtual connection names after these events, where it named this one at first.
+-- The program of the virtual connection after these events, if it was this one before them.
 abbrev pub program_named : Vc → Id → List Event → Id
 program_named vc first log = fold (λ program event. named_after vc program event.reply event.step) first log
 
@@ -91,18 +91,18 @@ judged_in _ = None
 abbrev pub judged_cells : List Event → List JudgedView
 judged_cells log = filter_map (λ event. judged_in event.reply) log
 
--- The verdicts that were given on the line.
+-- The verdicts on the judged cells of this line.
 abbrev pub verdicts_on : ℕ → List Event → List Verdict
 verdicts_on line log = map (λ judged. judged.verdict) (filter (λ judged. judged.line == line) (judged_cells log))
 
--- Whether a judged cell came with CLP 1, by its verdict and the leaving cell: a tagged cell came with CLP 0.
+-- Whether a judged cell arrived with CLP 1, from its verdict and the leaving cell: a tagged cell arrived with CLP 0.
 abbrev pub came_with : Verdict → List ℕ → Bool
 came_with Pass leaving = has_low_priority leaving
 came_with Tag leaving = false
 came_with Discard leaving = has_low_priority leaving
 came_with Refuse leaving = has_low_priority leaving
 
--- A judged cell as it came, which is how the history of its connection has it.
+-- A judged cell as it arrived, which is how its connection's history has it.
 abbrev pub as_it_came : JudgedView → NamedCell
 as_it_came judged = record {
   moment = judged.moment;
@@ -141,7 +141,7 @@ setting_up ask incarnation = record {
   reply = SetUp (record { vc = ask.vc; incarnation = incarnation });
 }
 
--- The event in which the code was put in under the id.
+-- The event in which the code was loaded under the id.
 abbrev pub loading : List Instr → Id → Event
 loading code id = record { step = Load code; reply = Loaded id }
 
@@ -152,8 +152,8 @@ pub record HasEntered (log : List Event) (port : ℕ) (cell : List ℕ) (moment 
   pub cut : log ≡ earlier ++ entering port cell moment ∷ later
   pub alone : Never (moves port) later
 
--- The virtual connection was set up as this was asked; these events followed, and none of them released it
--- or set it up again.
+-- The virtual connection was set up with this request. These events followed, and none of them released it or set it up
+-- again.
 pub record StandsSince (log : List Event) (vc : Vc) (ask : Ask) (since : List Event) : Type 0 where
   pub earlier : List Event
   pub incarnation : ℕ
@@ -161,7 +161,7 @@ pub record StandsSince (log : List Event) (vc : Vc) (ask : Ask) (since : List Ev
   pub cut : log ≡ earlier ++ setting_up ask incarnation ∷ since
   pub standing : Never (changes vc) since
 
--- The code was put in under the id, and no code was put in under it before or after.
+-- The code was loaded under the id, and no code was loaded under it before or after.
 pub record IsLoadedOnce (log : List Event) (id : Id) (code : List Instr) : Type 0 where
   pub earlier : List Event
   pub later : List Event
@@ -169,12 +169,12 @@ pub record IsLoadedOnce (log : List Event) (id : Id) (code : List Instr) : Type 
   pub first : Never (loads id) earlier
   pub last : Never (loads id) later
 
--- The code is live under the id: it is the one code that was ever put in under it, and it was not retired.
+-- The code is live under the id: it is the only code ever loaded under it, and the id was not retired.
 pub record IsLive (log : List Event) (id : Id) (code : List Instr) : Type 0 where
   pub loaded : IsLoadedOnce log id code
   pub kept : Never (retires id) log
 
--- The code is live under the id after the log, and after each of the events that follow it.
+-- The code is live under the id after the log, and after each of the further events.
 abbrev pub IsLiveThrough : List Event → List Event → Id → List Instr → Type 0
 IsLiveThrough log further id code =
     (so_far rest : List Event) → further ≡ so_far ++ rest → IsLive (log ++ so_far) id code
@@ -186,13 +186,13 @@ pub record IsPromised (shape : Shape) (before : List Event) (port : ℕ) (judged
   pub since : List Event
   pub cut : before ≡ at_pick ++ picking port ∷ since
   pub alone : Never (moves port) since
-  -- Before that, this cell entered the port at the moment in the answer; it leaves tagged if the
-  -- verdict is Tag, otherwise unchanged.
+  -- Before that, this cell entered the port at the moment in the answer. It leaves tagged if the verdict is Tag,
+  -- otherwise unchanged.
   pub came : List ℕ
   pub arrived : HasEntered at_pick port came judged.moment
   pub left : judged.cell ≡ cell_after judged.verdict came
-  -- Its virtual connection was set up before the cell was picked, and was neither released nor set up
-  -- again. All events since it was set up are `standing`; those of them before the pick are `until`.
+  -- Its virtual connection was set up before the cell was picked, and was neither released nor set up again. `standing`
+  -- are all events since the setup, `until` those of them before the pick.
   pub vc : Vc
   pub own : vc ≡ vc_of shape.side came
   pub ask : Ask
@@ -200,15 +200,15 @@ pub record IsPromised (shape : Shape) (before : List Event) (port : ℕ) (judged
   pub stands : StandsSince before vc ask standing
   pub until : List Event
   pub pick : standing ≡ until ++ picking port ∷ since
-  -- The program is the one that the connection named when the cell was picked: one accepted code, live
-  -- from there to the judgement, whose value on the cell is the one in the answer.
+  -- The program is the one that the connection named when the cell was picked: one accepted code, live from then until
+  -- the judgement. Its value on the cell is the one in the answer.
   pub named : judged.program ≡ program_named vc ask.program until
   pub code : List Instr
   pub accepted : IsAccepted code
   pub live : IsLiveThrough at_pick (picking port ∷ since) judged.program code
   pub gives : Gives code came judged.value
-  -- The history of the connection is the list of the cells that were judged on it since it was set up,
-  -- which are those that were judged on its line since then.
+  -- The history of the connection is the list of the cells judged on it since it was set up. These are also the cells
+  -- judged on its line since then.
   pub history : List NamedCell
   pub cells : history ≡ cells_of shape vc standing
   pub held : history ≡ cells_on judged.line standing
@@ -216,8 +216,8 @@ pub record IsPromised (shape : Shape) (before : List Event) (port : ℕ) (judged
   pub in_order : IsHistory (history ++ named_cell came judged.moment judged.program judged.value ∷ [])
   -- The moment is at most 2^62.
   pub in_time : judged.moment ≤ 2 ^ 62
-  -- The verdict is that of the contract whose number is the value, from the buckets that the history left
-  -- in it; it is Refuse if there is no such contract.
+  -- The verdict is that of the contract with the value's number, from its buckets after the history. It is Refuse if
+  -- there is no such contract.
   pub decided : judged.verdict ≡ verdict_after ask.contracts.items empty_buckets history (named_cell came judged.moment judged.program judged.value)
   -- The number counts the verdicts of this kind on the line, this one included.
   pub counted : judged.number ≡ number_with (verdicts_on judged.line before) judged.verdict

@@ -1,5 +1,5 @@
--- Reads of a core without a step: the line of a connection, and why a program can't be put in or
--- taken out now.
+-- Reads of a core without a step: the line of a connection, and the reason why no program can be loaded, or this one
+-- can't be retired, now.
 use Rattle.std.specs.Prelude.{◌≡◌, ◌≢◌, ◌==◌, Bool, true, false, not, if◌then◌else◌, List, Option, Some, None, slice_get}
 use Rattle.std.specs.List.{list_all}
 use Rattle.upc_cell.specs.declared.vc.Vc.{Vc}
@@ -17,28 +17,28 @@ use Rattle.card_core.specs.declared.fault.DeskFault.TheVariants.{NoProgram, InUs
 use Rattle.card_core.specs.World.{is_outside}
 use Rattle.card_core.specs.Agreement.{CoreView}
 
--- The line of a connection that has this seating, if it has one.
+-- The line of this seating, if there is a seating and such a line.
 abbrev pub line_of_seating : List LineView → Option Seating → Option LineView
 line_of_seating lines None = None
 line_of_seating lines (Some seating) = slice_get lines seating.line
 
--- The line that serves a connection: the one whose number the directory has for it.
+-- The line that serves a connection: the one that the directory has for it.
 abbrev pub line_at : CoreView → Vc → Option LineView
 line_at core vc = line_of_seating core.lines (seating_at core.directory vc)
 
--- Some port has a cell.
+-- Whether some port has a cell.
 abbrev pub has_cell : CoreView → Bool
 has_cell core = not (list_all is_outside core.ports)
 
--- Why no program can be put in now: some port has a cell; no slot is free.
+-- The reason why no program can be loaded now: some port has a cell; or else no slot is free.
 abbrev pub load_fault_of : CoreView → Option DeskFault
 load_fault_of core =
     if has_cell core then Some Busy
     else if free_slots core.store == 0 then Some ProgramsFull
     else None
 
--- Why the program of this id can't be taken out now, if there is a reason: some port has a cell; the id isn't
--- live; some connection names it. Each is the reason only if none before it holds.
+-- The reason why the program of this id can't be retired now, or none: some port has a cell; else the id isn't live;
+-- else some connection names it.
 abbrev pub IsRetireFault : CoreView → Id → Option DeskFault → Type 0
 IsRetireFault core id None = (has_cell core ≡ false) × IsLive core.store id × (¬ IsNamed core.directory id)
 IsRetireFault core id (Some Busy) = has_cell core ≡ true
@@ -46,8 +46,8 @@ IsRetireFault core id (Some NoProgram) = (has_cell core ≡ false) × (live_valu
 IsRetireFault core id (Some InUse) = (has_cell core ≡ false) × IsLive core.store id × IsNamed core.directory id
 IsRetireFault core id (Some _) = ⊥
 
--- The code was put in under the id, which was not live before; every other id has the code that it had, and
--- all but the slots is as before.
+-- The code was loaded under the id, which wasn't live before. Every other id has the same code as before, and all but
+-- the slots is unchanged.
 pub record PutsIn (old : CoreView) (id : Id) (code : List Instr) (new : CoreView) : Type 0 where
   pub inserts : Inserts old.store new.store id code
   pub was : live_value old.store id ≡ None
@@ -55,8 +55,8 @@ pub record PutsIn (old : CoreView) (id : Id) (code : List Instr) (new : CoreView
   pub others : (other : Id) → other ≢ id → live_value new.store other ≡ live_value old.store other
   pub rest : new ≡ record old { store = new.store }
 
--- The code of the id was taken out, and the id is not live; every other id has the code that it had, and all
--- but the slots is as before.
+-- The code of the id was removed, and the id isn't live. Every other id has the same code as before, and all but the
+-- slots is unchanged.
 pub record TakesOut (old : CoreView) (id : Id) (code : List Instr) (new : CoreView) : Type 0 where
   pub removes : Removes old.store new.store id code
   pub was : live_value old.store id ≡ Some code

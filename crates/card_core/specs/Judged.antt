@@ -5,8 +5,8 @@ use Rattle.leaky.specs.declared.verdict.Verdict.{Verdict}
 use Rattle.card_core.specs.declared.answer.Answer.{Answer}
 use Rattle.card_core.specs.declared.answer.Answer.TheVariants.{Judged}
 
--- A judged cell: the line that judged it, how many verdicts of its kind the line then has, the moment at
--- which it came, the value that its program gave, that program, its verdict, and the cell as it leaves.
+-- A judged cell: the line that judged it, the number of verdicts of its kind on the line including this one, the moment
+-- of arrival, the value that its program gave, that program, its verdict, and the leaving cell.
 pub record JudgedView : Type 0 where
   pub line : ℕ
   pub number : ℕ
@@ -16,7 +16,7 @@ pub record JudgedView : Type 0 where
   pub verdict : Verdict
   pub cell : List ℕ
 
--- The judged cell of an answer, if the answer is that a cell was judged.
+-- The judged cell of an answer, if the answer is Judged.
 abbrev pub told : Answer → Option JudgedView
 told (Judged line number moment value program verdict cell) = Some (record {
   line = line;

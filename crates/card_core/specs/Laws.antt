@@ -1,4 +1,4 @@
--- Laws of every world that a log leads to.
+-- Laws of all worlds that logs lead to.
 use Rattle.std.specs.Prelude.{◌≡◌, ℕ, Bool, true, false, ⊤, List, [], ◌∷◌, ◌++◌, Some, IsSome, slice_get}
 use Rattle.upc_cell.specs.declared.vc.Vc.{Vc}
 use Rattle.bpf_code.specs.declared.instr.Instr.{Instr}
@@ -24,8 +24,8 @@ use Rattle.card_core.specs.Stale.{is_stale}
 use Rattle.card_core.specs.Judged.{JudgedView}
 use Rattle.card_core.specs.Headline.{program_named, cells_of, cells_on, StandsSince, IsPromised}
 
--- The program of each connection is live, and so is that of each port's picked cell, although its
--- connection may have been given another since, or released, or set up again.
+-- The program of each connection is live. So is the program of each picked cell, even if its connection has another
+-- program by now, or was released or set up again.
 pub record NamesLivePrograms (world : World) : Type 0 where
   pub connections : (vc : Vc) (connection : Connection) → connection_in world.connections vc ≡ Some connection
       → IsSome (code_in world.live connection.program)
@@ -36,7 +36,7 @@ pub record NamesLivePrograms (world : World) : Type 0 where
 abbrev pub NamedProgramsAreLive : Type 0
 NamedProgramsAreLive = (shape : Shape) (log : List Event) (world : World) → Leads shape log world → NamesLivePrograms world
 
--- No id occurs twice among the codes that were ever put in, and each of these codes is accepted.
+-- No id was given twice, and each code that was loaded is accepted.
 pub record GivesEachIdOnce (world : World) : Type 0 where
   pub once : (place other : ℕ) (one another : Loading)
       → slice_get world.given place ≡ Some one → slice_get world.given other ≡ Some another
@@ -48,13 +48,13 @@ pub record GivesEachIdOnce (world : World) : Type 0 where
 abbrev pub IdsAreGivenOnce : Type 0
 IdsAreGivenOnce = (shape : Shape) (log : List Event) (world : World) → Leads shape log world → GivesEachIdOnce world
 
--- The code that an id was given never changes, whatever events follow.
+-- The code of a given id never changes, whatever events follow.
 abbrev pub IdsNameOneCode : Type 0
 IdsNameOneCode = (shape : Shape) (log further : List Event) (world later : World)
     → Leads shape log world → Run world further later
     → (id : Id) (code : List Instr) → code_in world.given id ≡ Some code → code_in later.given id ≡ Some code
 
--- Two virtual connections whose connections have one line, or one incarnation, are the same.
+-- No two connections have the same line or the same incarnation.
 pub record KeepsConnectionsApart (world : World) : Type 0 where
   pub lines : (one other : Vc) (connection another : Connection)
       → connection_in world.connections one ≡ Some connection → connection_in world.connections other ≡ Some another
@@ -67,9 +67,9 @@ pub record KeepsConnectionsApart (world : World) : Type 0 where
 abbrev pub ConnectionsAreApart : Type 0
 ConnectionsAreApart = (shape : Shape) (log : List Event) (world : World) → Leads shape log world → KeepsConnectionsApart world
 
--- The burst bound of ITU-T I.371, over the history of each connection: of the cells that one of its
--- contracts passed or tagged, at most 1 + (d + tau) div T, for the increment T and the limit tau of
--- the contract's bucket 1, have moments within any span d.
+-- The burst bound of ITU-T I.371, over the history of each connection: at most 1 + (d + tau) div T of the cells that
+-- one of its contracts passed or tagged have moments within any span of d ticks, for the increment T and the limit tau
+-- of the contract's bucket 1.
 abbrev pub ConnectionsBoundBursts : Type 0
 ConnectionsBoundBursts = (shape : Shape) (log : List Event) (world : World) → Leads shape log world
     → (vc : Vc) (connection : Connection) → connection_in world.connections vc ≡ Some connection
@@ -77,7 +77,7 @@ ConnectionsBoundBursts = (shape : Shape) (log : List Event) (world : World) → 
     → (first span : ℕ)
     → IsBounded first span (peak_charges number (judged connection.contracts empty_buckets [] connection.history)) (peak_of contract)
 
--- The reply reports an allocation failure.
+-- Whether the reply reports an allocation failure.
 abbrev pub is_of_memory : Reply → Bool
 is_of_memory (Answered CellMemory) = true
 is_of_memory (NotLoaded NoMemory code) = true
@@ -85,36 +85,36 @@ is_of_memory (NotSetUp NoMemory ask) = true
 is_of_memory (Refused NoMemory) = true
 is_of_memory _ = false
 
--- The code of a step that loads one is accepted, as every program's is.
+-- If the step is a Load, its code is accepted, as that of every program is.
 abbrev pub LoadsAccepted : Step → Type 0
 LoadsAccepted (Load code) = IsAccepted code
 LoadsAccepted _ = ⊤
 
--- In every world each step has a reply that reports no allocation failure.
+-- In every world that a log leads to, each step has a reply that reports no allocation failure.
 abbrev pub StepsHaveReplies : Type 0
 StepsHaveReplies = (shape : Shape) (log : List Event) (world : World) → Leads shape log world
     → (step : Step) → LoadsAccepted step
     → (reply : Reply) × (after : World) × WorldStep world step reply after × (is_of_memory reply ≡ false)
 
--- The step may allocate: it is a Setup or a Cut.
+-- Whether the step may allocate: it is a Setup or a Cut.
 abbrev pub takes_memory : Step → Bool
 takes_memory (Setup ask) = true
 takes_memory (Cut vc) = true
 takes_memory _ = false
 
--- The reply isn't Stale, and it is NoMemory only if the step may allocate.
+-- The reply isn't Stale, and reports an allocation failure only if the step may allocate.
 pub record AnswersAsItMay (event : Event) : Type 0 where
   pub never_stale : is_stale event.reply ≡ false
   pub memory : is_of_memory event.reply ≡ true → takes_memory event.step ≡ true
 
--- This holds for every event of a log: no reply is Stale, and none to a cell is NoMemory.
+-- This holds for every event of a log.
 abbrev pub SomeAnswersNeverCome : Type 0
 SomeAnswersNeverCome = (shape : Shape) (before after : List Event) (event : Event)
     → IsLog shape (before ++ event ∷ after) → AnswersAsItMay event
 
--- What the log has of a connection: it was set up by this request, with this incarnation, and was neither
--- released nor set up again since; its program is the one that was named last; its history is the list of the
--- cells that were judged since on its virtual connection, which are also those that were judged on its line.
+-- The connection agrees with the log: it was set up by this request, with this incarnation, and was neither released
+-- nor set up again since. Its program is the latest that it was given. Its history is the list of the cells judged
+-- since then on its virtual connection, which are also those judged on its line.
 pub record IsAsTold (shape : Shape) (log : List Event) (vc : Vc) (connection : Connection) : Type 0 where
   pub ask : Ask
   pub since : List Event
@@ -125,8 +125,8 @@ pub record IsAsTold (shape : Shape) (log : List Event) (vc : Vc) (connection : C
   pub cells : connection.history ≡ cells_of shape vc since
   pub held : connection.history ≡ cells_on connection.line since
 
--- Each connection of the world that a log leads to is as the log says, and each connection of
--- the log is in the world.
+-- Each connection of the world agrees with the log. Each connection that, by the log, was set up and neither released
+-- nor set up again since is in the world.
 pub record TellsConnections (shape : Shape) (log : List Event) (world : World) : Type 0 where
   pub told : (vc : Vc) (connection : Connection) → connection_in world.connections vc ≡ Some connection
       → IsAsTold shape log vc connection
@@ -138,8 +138,8 @@ abbrev pub ConnectionsAreAsTold : Type 0
 ConnectionsAreAsTold = (shape : Shape) (log : List Event) (world : World) → Leads shape log world
     → TellsConnections shape log world
 
--- The burst bound over the log alone: of the cells that were judged on a connection since it was set
--- up, and that one of its contracts passed or tagged.
+-- The burst bound over the log alone, for the cells judged on a connection since it was set up that one of its
+-- contracts passed or tagged.
 abbrev pub LogsBoundBursts : Type 0
 LogsBoundBursts = (shape : Shape) (log : List Event) → IsLog shape log
     → (vc : Vc) (ask : Ask) (since : List Event) → StandsSince log vc ask since
@@ -147,8 +147,8 @@ LogsBoundBursts = (shape : Shape) (log : List Event) → IsLog shape log
     → (first span : ℕ)
     → IsBounded first span (peak_charges number (judged ask.contracts.items empty_buckets [] (cells_of shape vc since))) (peak_of contract)
 
--- The headline leaves one answer: two judged cells of one line that are both promised at this port after
--- these events are the same, in number, moment, value, program, verdict and leaving cell.
+-- The headline leaves one answer: if two judged cells of one line are both promised at this port after these events,
+-- they are the same.
 abbrev pub PromisesLeaveOneAnswer : Type 0
 PromisesLeaveOneAnswer = (shape : Shape) (before : List Event) (port : ℕ) (one other : JudgedView)
     → IsPromised shape before port one → IsPromised shape before port other

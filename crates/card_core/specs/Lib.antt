@@ -1,6 +1,6 @@
--- The card with whole histories, its steps, its logs, and when a core agrees with it. Read in the order
--- World, Refusals, Steps, Log, Agreement, Arrival, Headline;
--- Inspection and Sums have the reads of a core without a step, Laws has the other laws beside the headline.
+-- The card with whole histories, its steps, its logs, and the agreement of a core with it. Read World, Refusals, Steps,
+-- Log, Agreement, Arrival and Headline, in this order. Inspection and Sums have the reads of a core without a step,
+-- Laws the laws beside the headline.
 pub mod World
 pub mod Refusals
 pub mod Steps

@@ -4,7 +4,7 @@ use Rattle.card_core.specs.declared.reply.PortReply.TheVariants as port
 use Rattle.card_core.specs.declared.reply.Reply.{Reply}
 use Rattle.card_core.specs.declared.reply.Reply.TheVariants.{Entered, Picked, NotNow, Answered}
 
--- The reply that a port's reply is.
+-- The reply of a port as a reply of the card.
 abbrev pub reply_of : PortReply → Reply
 reply_of port.Entered = Entered
 reply_of port.Picked = Picked

@@ -1,4 +1,4 @@
--- When a step is refused. The refusals of each step are tried in the order of the text.
+-- The refusals of each step. They are tried in the order given above each definition.
 use Rattle.std.specs.Prelude.{ℕ, ◌^◌, ◌==◌, nat_lt, nat_le, not, if◌then◌else◌, length, Option, Some, None, is_some, is_none, option_map, slice_get}
 use Rattle.upc_cell.specs.declared.vc.Vc.{Vc}
 use Rattle.gen_arena.specs.declared.id.Id.{Id}
@@ -15,15 +15,15 @@ use Rattle.card_core.specs.declared.step.Step.TheVariants.{Enter, Pick, Judge, L
 use Rattle.upc_cell.specs.Connection.{vc_of}
 use Rattle.card_core.specs.World.{World, Connection, Picking, PortState, outside, entered, picked, code_in, connection_in, kept_cells, is_busy, any_below, is_open_slot, is_open_line, is_named}
 
--- Enter: the port isn't outside, or there is no such port.
+-- Enter is refused if the port has a cell, or if there is no such port.
 abbrev pub enter_refusal : Option PortState → Option Reply
 enter_refusal None = Some NotNow
 enter_refusal (Some outside) = None
 enter_refusal (Some (entered cell moment)) = Some NotNow
 enter_refusal (Some (picked picking)) = Some NotNow
 
--- Pick: the port has no cell that entered, or there is no such port; the cell's virtual connection
--- has no connection.
+-- Pick is refused if the port has no cell that entered, or if there is no such port; else if the cell's virtual
+-- connection isn't set up.
 abbrev pub pick_refusal : World → Option PortState → Option Reply
 pick_refusal world None = Some NotNow
 pick_refusal world (Some outside) = Some NotNow
@@ -33,8 +33,9 @@ pick_refusal world (Some (entered cell moment)) =
     else None
 pick_refusal world (Some (picked picking)) = Some NotNow
 
--- A cell of this moment on the connection: it is later than 2^62, or earlier than the last judged
--- cell; as many cells were judged since the last cut as a journal holds, or 2^62 cells on the line.
+-- A cell of this moment on the connection is refused if the moment is above 2^62; else if it is before that of the last
+-- judged cell; else if as many cells were judged since the last cut as a journal has at most, or 2^62 cells were judged
+-- on the line.
 abbrev pub cell_refusal : World → Connection → ℕ → Option Answer
 cell_refusal world connection moment =
     if nat_lt (2 ^ 62) moment then Some MomentTooLate
@@ -43,7 +44,8 @@ cell_refusal world connection moment =
     else if nat_le (2 ^ 62) (length (world.judged connection.line)) then Some JournalFull
     else None
 
--- A picked cell: the connection that was picked is gone; or its cell is refused.
+-- A picked cell is refused if its virtual connection no longer has a connection of the picked incarnation; else if that
+-- connection refuses the cell.
 abbrev pub picking_refusal : World → Picking → Option Connection → Option Answer
 picking_refusal world picking None = Some PickReleased
 picking_refusal world picking (Some connection) =
@@ -51,8 +53,7 @@ picking_refusal world picking (Some connection) =
     then cell_refusal world connection picking.moment
     else Some PickReleased
 
--- Judge: the port has no cell that was picked, or there is no such port; or the picked cell is
--- refused.
+-- Judge is refused if the port has no picked cell, or if there is no such port; else if the picked cell is refused.
 abbrev pub judge_refusal : World → Option PortState → Option Reply
 judge_refusal world None = Some NotNow
 judge_refusal world (Some outside) = Some NotNow
@@ -60,14 +61,14 @@ judge_refusal world (Some (entered cell moment)) = Some NotNow
 judge_refusal world (Some (picked picking)) =
     option_map Answered (picking_refusal world picking (connection_in world.connections picking.vc))
 
--- Load: some port has a cell; each slot is a live id's, or was given 4294967295 times.
+-- Load is refused if some port has a cell; else if each slot has a live id or was given 4294967295 times.
 abbrev pub load_fault : World → Option DeskFault
 load_fault world =
     if is_busy world then Some Busy
     else if not (any_below world.shape.programs (is_open_slot world)) then Some ProgramsFull
     else None
 
--- Retire: some port has a cell; the id isn't live; some connection names it.
+-- Retire is refused if some port has a cell; else if the id isn't live; else if some connection names it.
 abbrev pub retire_fault : World → Id → Option DeskFault
 retire_fault world id =
     if is_busy world then Some Busy
@@ -75,8 +76,8 @@ retire_fault world id =
     else if is_named world id then Some InUse
     else None
 
--- Setup: the program isn't live; the virtual connection has a connection; there is no contract;
--- every line is some connection's; the last incarnation was given.
+-- Setup is refused if the program isn't live; else if the virtual connection is set up already; else if there is no
+-- contract; else if each line has a connection; else if the last incarnation was given.
 abbrev pub setup_fault : World → Ask → Option DeskFault
 setup_fault world ask =
     if is_none (code_in world.live ask.program) then Some NoProgram
@@ -86,18 +87,18 @@ setup_fault world ask =
     else if nat_le (2 ^ 62) world.used then Some Exhausted
     else None
 
--- Reload: the program isn't live; there is no such connection.
+-- Reload is refused if the program isn't live; else if there is no such connection.
 abbrev pub reload_fault : World → Vc → Id → Option DeskFault
 reload_fault world vc program =
     if is_none (code_in world.live program) then Some NoProgram
     else if is_none (connection_in world.connections vc) then Some NoConnection
     else None
 
--- Release and Cut: there is no such connection.
+-- Release and Cut are refused if there is no such connection.
 abbrev pub missing_fault : World → Vc → Option DeskFault
 missing_fault world vc = if is_none (connection_in world.connections vc) then Some NoConnection else None
 
--- The reply to a refused step, or none if the step isn't refused.
+-- The reply to a refused step, or None if the step isn't refused.
 abbrev pub refusal : World → Step → Option Reply
 refusal world (Enter port cell moment) = enter_refusal (slice_get world.ports port)
 refusal world (Pick port) = pick_refusal world (slice_get world.ports port)

@@ -1,4 +1,4 @@
--- What the locked sections do to the parts that are passed to them.
+-- The effects of the locked sections on the parts that are passed to them.
 use Rattle.std.specs.Prelude.{◌≡◌, ◌≢◌, ℕ, ◌+◌, ◌^◌, ◌<◌, ◌==◌, ◌&&◌, ◌⊎◌, Bool, true, false, if◌then◌else◌, List, [], ◌∷◌, ◌++◌, length, Option, Some, None, option_map, IsSome, Result, Ok, Err}
 use Rattle.upc_cell.specs.declared.vc.Vc.{Vc}
 use Rattle.upc_cell.specs.Connection.{is_same_vc}
@@ -27,13 +27,13 @@ use Rattle.card_core.specs.declared.fault.DeskFault.TheVariants.{NoProgram, Take
 use Rattle.card_core.specs.Steps.{Gives, cell_after, named_cell}
 pub use Rattle.card_core.specs.Judged.{JudgedView, told}
 
--- A program's value for a cell: the program, the cell and the value.
+-- The value that a program gave for a cell: the program, the cell and the value.
 pub record NamedView : Type 0 where
   pub program : Id
   pub cell : List ℕ
   pub value : ℕ
 
--- The live program of this id gives the value for the cell.
+-- The program of this id is live and gives this value for the cell.
 pub record IsNaming (store : List (Slot (List Instr))) (id : Id) (cell : List ℕ) (named : NamedView) : Type 0 where
   pub program : named.program ≡ id
   pub same : named.cell ≡ cell
@@ -41,32 +41,32 @@ pub record IsNaming (store : List (Slot (List Instr))) (id : Id) (cell : List �
   pub live : live_value store id ≡ Some code
   pub gives : Gives code cell named.value
 
--- Who holds the line that the directory names for a connection.
+-- The owner of the line that the directory has for a connection.
 abbrev pub holder : Vc → Seating → Owner
 holder vc seating = record { vc = vc; incarnation = seating.incarnation }
 
--- The line serves this owner.
+-- Whether the line serves this owner.
 abbrev pub is_owned_by : Option Owner → Owner → Bool
 is_owned_by None owner = false
 is_owned_by (Some other) owner = is_same_vc other.vc owner.vc && (other.incarnation == owner.incarnation)
 
--- The answer for a line's refusal.
+-- The answer for an error of a line.
 abbrev pub answer_for : LineFault → Answer
 answer_for TooLate = MomentTooLate
 answer_for (Back last) = MomentBack last
 answer_for Full = JournalFull
 answer_for LineNoMemory = NoMemory
 
--- Why a picked cell is not judged on the line: the line doesn't serve the connection that was picked,
--- or it has a reason to refuse a cell of this moment.
+-- The reason why a picked cell isn't judged on the line: the line doesn't serve the picked connection; or else it has
+-- an error for a cell of this moment.
 abbrev pub judging_refusal : LineView → Vc → Seating → ℕ → Option Answer
 judging_refusal line vc seating moment =
     if is_owned_by line.owner (holder vc seating)
     then option_map answer_for (line_refusal line moment)
     else Some Released
 
--- The line has judged the named cell, which its journal gained. After whatever history the line was,
--- the verdict is that history's, and the line is after one more cell.
+-- The line judged the cell, and its journal has one more entry. For any history that the line's state agreed with, the
+-- verdict is that of the history, and the new state agrees with the history and this cell.
 pub record JudgesAt (old : LineView) (seating : Seating) (named : NamedView) (moment : ℕ) (answer : Answer) (new : LineView) : Type 0 where
   pub entry : Entry
   pub cell : cell_of entry ≡ named_cell named.cell moment named.program named.value
@@ -85,7 +85,7 @@ unjudged_answer unjudged.Released = Released
 unjudged_answer unjudged.Stale = StaleAnswer
 unjudged_answer (unjudged.Refused fault) = answer_for fault
 
--- The answer to a cell with this result: it was judged, and leaves as its verdict says; or it wasn't judged, for
+-- The answer to a cell with this result: either it was judged and leaves as its verdict requires, or it wasn't, for
 -- this reason.
 abbrev pub answer_to : List ℕ → Result Judgement Unjudged → Answer
 answer_to cell (Ok judgement) =
@@ -93,7 +93,7 @@ answer_to cell (Ok judgement) =
     (cell_after judgement.verdict cell)
 answer_to cell (Err reason) = unjudged_answer reason
 
--- The requested connection may be set up on this line.
+-- The requested connection can be set up on this line.
 pub record Admits (store : List (Slot (List Instr))) (directory : DirectoryView) (ask : Ask) (line : ℕ) : Type 0 where
   pub live : IsLive store ask.program
   pub new : seating_at directory ask.vc ≡ None
@@ -102,9 +102,9 @@ pub record Admits (store : List (Slot (List Instr))) (directory : DirectoryView)
   pub free : IsOpenLine directory line
   pub unworn : directory.used < 2 ^ 62
 
--- Why it may not: the program isn't live; the virtual connection has a connection; there is no
--- contract; each line is some connection's; the last incarnation was given. Each is the reason only
--- if none before it holds.
+-- The reason why the requested connection can't be set up on any line: the program isn't live; else the virtual
+-- connection is set up already; else there is no contract; else each line has a connection; else the last incarnation
+-- was given.
 abbrev pub IsUnfit : List (Slot (List Instr)) → DirectoryView → Ask → DeskFault → Type 0
 IsUnfit store directory ask NoProgram = live_value store ask.program ≡ None
 IsUnfit store directory ask Taken =
@@ -119,17 +119,18 @@ IsUnfit store directory ask Exhausted =
     × ((line : ℕ) × (line < directory.lines) × IsOpenLine directory line) × (directory.used ≡ 2 ^ 62)
 IsUnfit store directory ask _ = ⊥
 
--- Why a setup on this line is refused: the line isn't free; or it is free, and an allocation failed.
+-- The reason why a setup on this line is refused: the line isn't free; or it is free, and an allocation failed.
 abbrev pub IsUnready : LineView → DeskFault → Type 0
 IsUnready line Stale = IsSome line.owner
 IsUnready line DeskNoMemory = line.owner ≡ None
 IsUnready line _ = ⊥
 
--- The line is unchanged; or it was free, and only became ready.
+-- The line is unchanged; or it was free, and is only ready now.
 abbrev pub MayBecomeReady : LineView → LineView → Type 0
 MayBecomeReady old new = (new ≡ old) ⊎ ((old.owner ≡ None) × (new ≡ record old { ready = true }))
 
--- Why a cut of this line is refused: the line isn't this owner's; or it is, and an allocation failed.
+-- The reason why a cut of this line is refused: the line doesn't serve this owner; or it does, and an allocation
+-- failed.
 abbrev pub IsUncut : LineView → Owner → DeskFault → Type 0
 IsUncut line owner Stale = line.owner ≢ Some owner
 IsUncut line owner DeskNoMemory = line.owner ≡ Some owner

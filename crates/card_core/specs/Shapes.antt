@@ -1,15 +1,15 @@
--- Which shapes a card may have.
+-- The shapes that a card may have.
 use Rattle.std.specs.Prelude.{ℕ, ◌==◌, ◌≤◌, nat_lt, Bool, ◌||◌, if◌then◌else◌, Option, Some, None}
 use Rattle.card_core.specs.declared.fault.CardFault.{CardFault}
 use Rattle.card_core.specs.declared.fault.CardFault.TheVariants.{Programs, Lines, Ports, Journal}
 use Rattle.card_core.specs.declared.shape.Shape.{Shape}
 
--- The number isn't 1 to this one.
+-- Whether the number is 0 or above this one.
 abbrev pub is_beyond : ℕ → ℕ → Bool
 is_beyond number most = (number == 0) || nat_lt most number
 
--- The first number of a shape that is out of its limits: 1 to 1024 programs, 1 to 4096 lines, 1 to 16
--- ports, journals of 1 to 65536 entries.
+-- The first number of a shape that is out of its limits: 1 to 1024 programs, 1 to 4096 lines, 1 to 16 ports, journals
+-- of 1 to 65536 entries.
 abbrev pub shape_fault : Shape → Option CardFault
 shape_fault shape =
     if is_beyond shape.programs 1024 then Some Programs

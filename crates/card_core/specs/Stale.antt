@@ -1,4 +1,4 @@
--- Replies that a card in threads may give, and a core never.
+-- Replies that a card with threads may give and a core never gives.
 use Rattle.std.specs.Prelude.{◌≡◌, Bool, true, false, List}
 use Rattle.card_core.specs.declared.answer.Answer.TheVariants.{Stale as StaleAnswer}
 use Rattle.card_core.specs.declared.fault.DeskFault.TheVariants.{Stale}
@@ -9,7 +9,7 @@ use Rattle.card_core.specs.World.{World}
 use Rattle.card_core.specs.Log.{Event, Leads}
 use Rattle.card_core.specs.Agreement.{CoreView, CoreAgrees}
 
--- The reply is that a program or a line isn't what it was found to be.
+-- Whether the reply is Stale: a program or a line is no longer as it was found.
 abbrev pub is_stale : Reply → Bool
 is_stale (Answered StaleAnswer) = true
 is_stale (NotLoaded Stale code) = true
@@ -17,7 +17,7 @@ is_stale (NotSetUp Stale ask) = true
 is_stale (Refused Stale) = true
 is_stale _ = false
 
--- From a core that agrees with a world to which some log leads, the reply isn't stale.
+-- If the core agrees with a world that some log leads to, the reply isn't Stale.
 abbrev pub IsNeverStale : CoreView → Reply → Type 0
 IsNeverStale core reply = (shape : Shape) (log : List Event) (before : World)
     → Leads shape log before → CoreAgrees core before → is_stale reply ≡ false

@@ -1,4 +1,4 @@
--- The world after each step that isn't refused, and after a refusal.
+-- The world after each step: one that succeeds, one that is refused, and one that fails to allocate.
 use Rattle.std.specs.Prelude.{◌≡◌, ℕ, ◌+◌, ◌<◌, ◌≤◌, ◌⊎◌, List, [], ◌∷◌, ◌++◌, length, Option, Some, None, MatchOption, IsTrue, slice_get, slice_set}
 use Rattle.upc_cell.specs.declared.vc.Vc.{Vc}
 use Rattle.upc_cell.specs.Tagged.{tagged_form}
@@ -27,7 +27,7 @@ use Rattle.line_record.specs.Tally.{tally_of}
 use Rattle.card_core.specs.World.{World, Connection, Picking, PortState, outside, entered, picked, code_in, without_code, times_given, handed_cells, kept_cells, connection_in, without_connection, with_connection, with_port, with_verdict, is_open_slot, is_open_line}
 use Rattle.card_core.specs.Refusals.{refusal}
 
--- The code gives this value for the cell, within as many steps as it has instructions.
+-- The code gives this value for the cell, after at most as many steps as it has instructions.
 abbrev pub Gives : List Instr → List ℕ → ℕ → Type 0
 Gives code cell value = (steps : ℕ) × Value code cell value steps × (steps ≤ length code)
 
@@ -38,7 +38,7 @@ cell_after Tag cell = tagged_form cell
 cell_after Discard cell = cell
 cell_after Refuse cell = cell
 
--- A cell that came, as its connection's history has it.
+-- A cell that arrived, as its connection's history has it.
 abbrev pub named_cell : List ℕ → ℕ → Id → ℕ → NamedCell
 named_cell cell moment program value = record {
   moment = moment;
@@ -47,12 +47,12 @@ named_cell cell moment program value = record {
   program = program;
 }
 
--- The cell of a port that was picked, as the connection's history will have it.
+-- A picked cell, as its connection's history will have it.
 abbrev pub cell_of_picking : Picking → NamedCell
 cell_of_picking picking = named_cell picking.cell picking.moment picking.program picking.value
 
--- The verdict on the next cell of a connection: that of the contract that the cell names, from the
--- buckets that the connection's cells so far have left.
+-- The verdict on the next cell of a connection: that of the contract that the cell names, from its buckets after the
+-- connection's history.
 abbrev pub verdict_on : Connection → NamedCell → Verdict
 verdict_on connection cell = verdict_after connection.contracts empty_buckets connection.history cell
 
@@ -61,7 +61,7 @@ pub record Enters (before : World) (port : ℕ) (cell : List ℕ) (moment : ℕ)
   pub answer : reply ≡ Entered
   pub world : after ≡ with_port before port (entered cell moment)
 
--- The values that a pick keeps with its cell.
+-- The values that a pick stores with its cell.
 abbrev pub picking_of : List ℕ → ℕ → Vc → Connection → ℕ → Picking
 picking_of cell moment vc connection value = record {
   cell = cell;
@@ -73,8 +73,8 @@ picking_of cell moment vc connection value = record {
   value = value;
 }
 
--- Pick: the port has the cell with its connection's incarnation, line and program, and the value of
--- that program's code for the cell.
+-- Pick: the port now has the cell with its connection's incarnation, line and program, and the value of that program's
+-- code for the cell.
 pub record Picks (before : World) (port : ℕ) (reply : Reply) (after : World) : Type 0 where
   pub cell : List ℕ
   pub moment : ℕ
@@ -92,8 +92,8 @@ pub record Picks (before : World) (port : ℕ) (reply : Reply) (after : World) :
 abbrev pub with_cell : Connection → NamedCell → Connection
 with_cell connection cell = record connection { history = connection.history ++ cell ∷ [] }
 
--- The world once the picked cell was judged on its connection: the connection's history has gained
--- the cell, the line's verdicts the verdict, and the port is outside.
+-- The world after the picked cell is judged on its connection: the connection's history has the cell at its end, the
+-- line's verdicts the verdict, and the port has no cell.
 abbrev pub judged_world : World → ℕ → Picking → Connection → World
 judged_world before port picking connection = record before {
   connections = with_connection before.connections picking.vc (with_cell connection (cell_of_picking picking));
@@ -101,7 +101,7 @@ judged_world before port picking connection = record before {
   ports = slice_set before.ports port outside;
 }
 
--- How many verdicts of this kind there are among these and one more.
+-- The number of verdicts of this kind among these, plus 1.
 abbrev pub number_with : List Verdict → Verdict → ℕ
 number_with verdicts verdict = count_of (tally_of verdicts) verdict + 1
 
@@ -121,7 +121,7 @@ pub record Judges (before : World) (port : ℕ) (reply : Reply) (after : World) 
   pub answer : reply ≡ Answered (judgement_of before picking connection)
   pub world : after ≡ judged_world before port picking connection
 
--- Load: some open slot is given once more, and the code, an accepted one, is live under that id.
+-- Load: some open slot is given once more, and the code, which is accepted, is live under the new id.
 pub record Loads (before : World) (code : List Instr) (reply : Reply) (after : World) : Type 0 where
   pub accepted : IsAccepted code
   pub slot : ℕ
@@ -136,7 +136,7 @@ pub record Loads (before : World) (code : List Instr) (reply : Reply) (after : W
     live = record { id = id; code = code } ∷ before.live;
   }
 
--- Retire: the id isn't live any more, and its code is returned.
+-- Retire: the id is no longer live, and the reply has its code.
 pub record Retires (before : World) (id : Id) (reply : Reply) (after : World) : Type 0 where
   pub code : List Instr
   pub was : code_in before.live id ≡ Some code
@@ -154,7 +154,7 @@ new_connection ask line incarnation = record {
   handed = 0;
 }
 
--- Setup: there is such a connection, without a cell, on some open line, under the next incarnation.
+-- Setup: the connection exists, without a cell, on some open line, under the next incarnation.
 pub record SetsUp (before : World) (ask : Ask) (reply : Reply) (after : World) : Type 0 where
   pub line : ℕ
   pub within : line < before.shape.lines
@@ -165,7 +165,7 @@ pub record SetsUp (before : World) (ask : Ask) (reply : Reply) (after : World) :
     used = before.used + 1;
   }
 
--- Reload: the connection names the new program, nothing else changes, and the reply has the old one.
+-- Reload: the connection names the new program, the reply has the old one, and nothing else changes.
 pub record Reloads (before : World) (vc : Vc) (program : Id) (reply : Reply) (after : World) : Type 0 where
   pub connection : Connection
   pub found : connection_in before.connections vc ≡ Some connection
@@ -174,9 +174,9 @@ pub record Reloads (before : World) (vc : Vc) (program : Id) (reply : Reply) (af
     connections = with_connection before.connections vc (record connection { program = program });
   }
 
--- A piece of a connection's record: the cells that no cut has returned, with their verdicts, and
--- the states before and after them. The counts at its end are those of all verdicts ever given on the
--- line; the counts at its start and those of its entries are together as many.
+-- A piece of a connection's record: the cells that no cut has returned, with their verdicts, and the states before and
+-- after them. The counts at its end are those of all verdicts ever given on the line, and so are the counts at its
+-- start plus those of its entries.
 pub record IsPieceOf (world : World) (vc : Vc) (connection : Connection) (piece : PieceView) : Type 0 where
   pub owner : piece.owner ≡ record { vc = vc; incarnation = connection.incarnation }
   pub contracts : piece.contracts ≡ connection.contracts
@@ -186,7 +186,7 @@ pub record IsPieceOf (world : World) (vc : Vc) (connection : Connection) (piece 
   pub counts : piece.end.counts ≡ tally_of (world.judged connection.line)
   pub together : tallied piece.start.counts piece.entries ≡ tally_of (world.judged connection.line)
 
--- Release: the connection is gone, and the reply has its last piece. The line's verdicts stay.
+-- Release: the connection is gone, and the reply has its last piece. The line's verdicts are unchanged.
 pub record Releases (before : World) (vc : Vc) (reply : Reply) (after : World) : Type 0 where
   pub connection : Connection
   pub found : connection_in before.connections vc ≡ Some connection
@@ -195,7 +195,7 @@ pub record Releases (before : World) (vc : Vc) (reply : Reply) (after : World) :
   pub answer : reply ≡ Released piece
   pub world : after ≡ record before { connections = without_connection before.connections vc }
 
--- Cut: the cells of the connection's history count as returned, and the reply has the piece.
+-- Cut: the reply has a piece, and all cells of the connection's history count as returned.
 pub record Cuts (before : World) (vc : Vc) (reply : Reply) (after : World) : Type 0 where
   pub connection : Connection
   pub found : connection_in before.connections vc ≡ Some connection
@@ -206,7 +206,7 @@ pub record Cuts (before : World) (vc : Vc) (reply : Reply) (after : World) : Typ
     connections = with_connection before.connections vc (record connection { handed = length connection.history });
   }
 
--- The effect of a step that isn't refused.
+-- The effect of a step that succeeds.
 abbrev pub Succeeds : World → Step → Reply → World → Type 0
 Succeeds before (Enter port cell moment) reply after = Enters before port cell moment reply after
 Succeeds before (Pick port) reply after = Picks before port reply after
@@ -224,37 +224,35 @@ without_memory (Setup ask) = Some (NotSetUp NoMemory ask)
 without_memory (Cut vc) = Some (Refused NoMemory)
 without_memory _ = None
 
--- An allocation of the step fails, and nothing changes.
+-- An allocation of the step failed, and nothing changed.
 pub record FindsNoMemory (before : World) (step : Step) (reply : Reply) (after : World) : Type 0 where
   pub answer : without_memory step ≡ Some reply
   pub world : after ≡ before
 
--- After a refused Pick: a cell that had entered the port is answered, and the port is outside; a port
--- in another state stays as it was.
+-- After a refused Pick: if a cell had entered the port, the port has no cell now. Otherwise it is unchanged.
 abbrev pub left_by_pick : World → ℕ → Option PortState → World
 left_by_pick before port (Some (entered cell moment)) = with_port before port outside
 left_by_pick before port _ = before
 
--- After a refused Judge: a cell of the port that was picked is answered, and the port is outside; a
--- port in another state stays as it was.
+-- After a refused Judge: if the port had a picked cell, it has no cell now. Otherwise it is unchanged.
 abbrev pub left_by_judge : World → ℕ → Option PortState → World
 left_by_judge before port (Some (picked picking)) = with_port before port outside
 left_by_judge before port _ = before
 
--- The world after a refused step: after a Pick or a Judge it depends on the state of the port; after every other
--- step it is unchanged.
+-- The world after a refused step. After a Pick or a Judge it depends on the state of the port; after any other step it
+-- is unchanged.
 abbrev pub left_by : World → Step → World
 left_by before (Pick port) = left_by_pick before port (slice_get before.ports port)
 left_by before (Judge port) = left_by_judge before port (slice_get before.ports port)
 left_by before _ = before
 
--- The reply to the step is this refusal.
+-- The step was refused with this reply.
 pub record IsRefused (before : World) (step : Step) (refused reply : Reply) (after : World) : Type 0 where
   pub answer : reply ≡ refused
   pub world : after ≡ left_by before step
 
--- From the world the step may lead with the reply to the other world. If there is a reason to
--- refuse it, it is refused; otherwise it succeeds, or an allocation fails.
+-- The step with this reply may lead from the world before to the world after. If there is a reason to refuse it, it is
+-- refused. Otherwise it succeeds, or an allocation fails.
 abbrev pub WorldStep : World → Step → Reply → World → Type 0
 WorldStep before step reply after = MatchOption (refusal before step)
     (Succeeds before step reply after ⊎ FindsNoMemory before step reply after)

@@ -4,7 +4,7 @@ use Rattle.std.specs.List.{sum_by}
 use Rattle.line_record.specs.Line.{LineView}
 use Rattle.card_core.specs.declared.sums.Totals.{Totals}
 
--- For each verdict the sum of what these lines have counted.
+-- For each verdict, the sum of the counts of these lines.
 abbrev pub totals_of : List LineView → Totals
 totals_of lines = record {
   passed = sum_by (λ line. line.state.counts.passed) lines;

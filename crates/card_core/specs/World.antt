@@ -1,6 +1,6 @@
--- The card as its callers may think of it: which programs were ever put in and which are live, the
--- whole history of each connection, all verdicts of each line, and what each port has. It knows
--- nothing of slots' contents, arrival times, journals or how connections are looked up.
+-- The card in the terms of its callers: which programs were ever loaded and which are live, the whole history of each
+-- connection, all verdicts of each line, and the state of each port. It has no slot contents, arrival times, journals
+-- or look-ups.
 use Rattle.std.specs.Prelude.{ℕ, ◌==◌, nat_lt, Bool, true, false, not, ◌&&◌, ◌||◌, zero, suc, if◌then◌else◌, List, [], ◌∷◌, ◌++◌, take, drop, replicate, Option, Some, None, slice_set}
 use Rattle.std.specs.List.{list_any, list_all}
 use Rattle.upc_cell.specs.declared.vc.Vc.{Vc}
@@ -14,31 +14,30 @@ use Rattle.gen_arena.specs.SameId.{is_same_id}
 use Rattle.line_record.specs.History.{NamedCell}
 use Rattle.card_core.specs.declared.shape.Shape.{Shape}
 
--- A code that was put in, and the id that it was given.
+-- A code that was loaded, and its id.
 pub record Loading : Type 0 where
   pub id : Id
   pub code : List Instr
 
--- The code that the list has under this id.
+-- The code of this id in the list, if there is one.
 abbrev pub code_in : List Loading → Id → Option (List Instr)
 code_in [] id = None
 code_in (loading ∷ later) id = if is_same_id id loading.id then Some loading.code else code_in later id
 
--- The list without what it has under this id.
+-- The list without the codes of this id.
 abbrev pub without_code : List Loading → Id → List Loading
 without_code [] id = []
 without_code (loading ∷ later) id =
     if is_same_id id loading.id then without_code later id else loading ∷ without_code later id
 
--- How many of these ids are of this slot.
+-- The number of these ids with this slot.
 abbrev pub times_given : List Loading → ℕ → ℕ
 times_given [] slot = 0
 times_given (loading ∷ later) slot =
     if loading.id.slot == slot then suc (times_given later slot) else times_given later slot
 
--- A connection since it was set up: the number of this setting up among all, its line, the program
--- that names the contracts for its cells, the contracts, its judged cells, and how many of these
--- were returned by cuts.
+-- A connection since it was set up: its incarnation, its line, the program that names the contracts for its cells, the
+-- contracts, its judged cells, and the number of these that cuts have returned.
 pub record Connection : Type 0 where
   pub incarnation : ℕ
   pub line : ℕ
@@ -51,28 +50,27 @@ pub record Connection : Type 0 where
 abbrev pub handed_cells : Connection → List NamedCell
 handed_cells connection = take connection.handed connection.history
 
--- The cells that were judged since.
+-- The cells that no cut has returned.
 abbrev pub kept_cells : Connection → List NamedCell
 kept_cells connection = drop connection.handed connection.history
 
--- The connection that the list has at this virtual connection.
+-- The connection of this virtual connection in the list, if there is one.
 abbrev pub connection_in : List (Vc × Connection) → Vc → Option Connection
 connection_in [] vc = None
 connection_in (here ∷ later) vc = if is_same_vc vc here.0 then Some here.1 else connection_in later vc
 
--- The list without its connection there.
+-- The list without this virtual connection.
 abbrev pub without_connection : List (Vc × Connection) → Vc → List (Vc × Connection)
 without_connection [] vc = []
 without_connection (here ∷ later) vc =
     if is_same_vc vc here.0 then without_connection later vc else here ∷ without_connection later vc
 
--- The list with this connection there, in place of the one that it had, if any.
+-- The list with this connection for the virtual connection, in place of the earlier one, if any.
 abbrev pub with_connection : List (Vc × Connection) → Vc → Connection → List (Vc × Connection)
 with_connection connections vc connection = (vc, connection) ∷ without_connection connections vc
 
--- A cell whose connection was looked up: the cell and the moment when it came, its virtual
--- connection, the incarnation and the line that were found, and the program that was named with its
--- value on the cell.
+-- A cell whose connection was looked up: the cell and its moment of arrival, its virtual connection, the incarnation
+-- and the line that were found, the program that was named, and its value on the cell.
 pub record Picking : Type 0 where
   pub cell : List ℕ
   pub moment : ℕ
@@ -82,21 +80,21 @@ pub record Picking : Type 0 where
   pub program : Id
   pub value : ℕ
 
--- A port has no cell, or a cell that came at a moment, or one whose connection was looked up.
+-- A port has no cell, or a cell that entered at a moment, or a cell whose connection was looked up.
 pub data PortState : Type 0 where
   outside : PortState
   entered : List ℕ → ℕ → PortState
   picked : Picking → PortState
 
--- The port has no cell.
+-- Whether the port has no cell.
 abbrev pub is_outside : PortState → Bool
 is_outside outside = true
 is_outside (entered cell moment) = false
 is_outside (picked picking) = false
 
--- Of a card of this shape: the codes that were ever put in, the latest first, and those of them that
--- weren't retired; the connections; how many incarnations were given; for each line number the list
--- of all verdicts ever given on it, the earliest first; and the ports, by number from 0.
+-- The state of a card of this shape: the codes that were ever loaded, the latest first, and those of them that weren't
+-- retired; the connections; the number of incarnations given; for each line number the list of all verdicts ever given
+-- on it, the earliest first; and the ports, by number from 0.
 pub record World : Type 0 where
   pub shape : Shape
   pub given : List Loading
@@ -106,7 +104,7 @@ pub record World : Type 0 where
   pub judged : ℕ → List Verdict
   pub ports : List PortState
 
--- At first nothing was put in, there is no connection, no cell was judged, and every port is outside.
+-- Initially no program was loaded, there is no connection, no cell was judged, and no port has a cell.
 abbrev pub opening_world : Shape → World
 opening_world shape = record {
   shape = shape;
@@ -127,25 +125,25 @@ abbrev pub with_verdict : (ℕ → List Verdict) → ℕ → Verdict → ℕ →
 with_verdict judged line verdict other =
     if other == line then judged other ++ verdict ∷ [] else judged other
 
--- Some port has a cell.
+-- Whether some port has a cell.
 abbrev pub is_busy : World → Bool
 is_busy world = not (list_all is_outside world.ports)
 
--- Some number below this one passes the test.
+-- Whether some number below this one passes the test.
 abbrev pub any_below : ℕ → (ℕ → Bool) → Bool
 any_below zero test = false
 any_below (suc number) test = test number || any_below number test
 
--- The slot is no live id's, and was given fewer than 4294967295 times.
+-- Whether no live id has this slot, and it was given fewer than 4294967295 times.
 abbrev pub is_open_slot : World → ℕ → Bool
 is_open_slot world slot =
     not (list_any (λ loading. loading.id.slot == slot) world.live)
     && nat_lt (times_given world.given slot) greatest_generation
 
--- The line is no connection's.
+-- Whether no connection has the line.
 abbrev pub is_open_line : World → ℕ → Bool
 is_open_line world line = not (list_any (λ here. here.1.line == line) world.connections)
 
--- Some connection names the program.
+-- Whether some connection names the program.
 abbrev pub is_named : World → Id → Bool
 is_named world id = list_any (λ here. is_same_id here.1.program id) world.connections

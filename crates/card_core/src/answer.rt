@@ -17,12 +17,11 @@ pub enum Answer {
         line: u16,
         /// How many cells with this verdict were judged on the line, this one included.
         number: u64,
-        /// When the cell came, in ticks.
+        /// The moment of arrival, in ticks.
         moment: u64,
-        /// The number that the program gave for it: that of a contract, counted from 1, or any
-        /// other, which names none.
+        /// The number that the program gave: that of a contract, counted from 1, or any other number, which names none.
         value: u32,
-        /// The program that gave it.
+        /// The program that gave the number.
         program: Id,
         verdict: Verdict,
         /// The leaving cell: tagged if the verdict is Tag, otherwise unchanged.
@@ -30,9 +29,9 @@ pub enum Answer {
     },
     /// The cell belongs to no connection.
     NoConnection,
-    /// The connection that was picked is gone.
+    /// The picked connection is gone.
     Released,
-    /// The program that was picked isn't live. The core never answers it.
+    /// The picked program isn't live. The core never returns this.
     Stale,
     /// The moment is before that of the connection's last judged cell.
     MomentBack {
@@ -47,37 +46,37 @@ pub enum Answer {
     NoMemory,
 }
 
-/// The answer to a judged cell, without the cell itself, which the caller has.
+/// The answer to a judged cell without the cell itself, which the caller has.
 #[derive(Clone, Copy, Debug, PartialEq, Eq)]
 pub struct Judgement {
     /// How many cells with this verdict were judged on the line, this one included.
     pub number: u64,
-    /// When the cell came, in ticks.
+    /// The moment of arrival, in ticks.
     pub moment: u64,
     /// The program that gave the number of the contract.
     pub program: Id,
-    /// The number that it gave: that of a contract, counted from 1, or any other, which names none.
+    /// The number that the program gave: that of a contract, counted from 1, or any other number, which names none.
     pub value: u32,
     /// The number of the line, from 0.
     pub line: u16,
     pub verdict: Verdict,
 }
 
-/// Why a cell that arrived isn't judged. It is small; an [`Answer`] has room for a cell.
+/// The reason why a cell that arrived isn't judged. It is small; an [`Answer`] has space for a cell.
 #[derive(Clone, Copy, Debug, PartialEq, Eq)]
 pub enum Unjudged {
     /// The cell belongs to no connection.
     NoConnection,
-    /// The connection that was picked is gone.
+    /// The picked connection is gone.
     Released,
-    /// The program that was picked isn't live. The core never answers it.
+    /// The picked program isn't live. The core never returns this.
     Stale,
     /// The line refuses the cell.
     Refused(LineFault),
 }
 
 impl Unjudged {
-    /// The answer to the cell.
+    /// Returns the answer to the cell.
     pub fn answer(self) -> Answer
         ensures { result ≡ unjudged_answer self }
     {
@@ -90,7 +89,7 @@ impl Unjudged {
     }
 }
 
-/// The answer for a line's refusal.
+/// Returns the answer for an error of a line.
 fn refusal_of(fault: LineFault) -> Answer
     ensures { result ≡ answer_for fault }
 {

@@ -11,6 +11,6 @@ pub struct Ask {
     pub vc: Vc,
     /// The program that names the contract for each of its cells.
     pub program: Id,
-    /// Its contracts. Programs give their numbers, counted from 1.
+    /// Its contracts. A program names one by its number, counted from 1.
     pub contracts: ArrayVec<Contract, 4>,
 }

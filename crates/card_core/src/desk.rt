@@ -1,4 +1,4 @@
-//! The sections of the desk. They change programs and connections, on the parts that the caller passes.
+//! The sections of the desk. They change programs and connections, in the parts that the caller passes.
 
 ghost use Rattle.std.specs.Prelude.{◌≡◌, ◌≢◌, ◌+◌, ◌<◌, ◌^◌, ◌↔◌, length, IsOk, IsErr, IsErrOf, IsSome, IfOk, IfErr, OnOk, OnErr, MatchResult, Some, None, false, []};
 ghost use Rattle.bpf_verify.specs.Accepted.{IsAccepted};
@@ -23,8 +23,8 @@ use gen_arena::Id;
 use line_record::{Directory, Line, Owner, Piece, Seating};
 use upc_cell::Vc;
 
-/// Puts a program into a free slot, under an id that was never given before. Any free slot may be
-/// used. Doesn't allocate.
+/// Loads a program into a free slot, under an id that was never given before. Any free slot may be used. Doesn't
+/// allocate.
 ///
 /// # Errors
 ///
@@ -40,7 +40,7 @@ pub fn load(store: &mut Store, program: Program) -> Result<Id, (DeskFault, Progr
     ensures unchanged { OnErr result (store.new ≡ store.old) }
     ensures past { KeepsPast store.old store.new }
 {
-    // This call gives the fact that the code is accepted, which the contract says.
+    // This call gives the fact that the code is accepted, which the contract states.
     let _ = program.code();
     match store.insert(program) {
         Ok(id) => Ok(id),
@@ -48,11 +48,11 @@ pub fn load(store: &mut Store, program: Program) -> Result<Id, (DeskFault, Progr
     }
 }
 
-/// Takes out a program that no connection names. Its id is never live again. Doesn't allocate.
+/// Retires a program that no connection names. Its id is never live again. Doesn't allocate.
 ///
 /// # Errors
 ///
-/// `NoProgram` if the id isn't live, then `InUse` if some connection names it.
+/// `NoProgram` if the id isn't live; otherwise `InUse` if some connection names it.
 pub fn retire(store: &mut Store, directory: &Directory, id: Id) -> Result<Program, DeskFault>
     ensures retired { IfOk result (λ program. Removes store.old store.new id program) }
     ensures no_program { IsErrOf result DeskFault.NoProgram ↔ (live_value store.old id ≡ None) }
@@ -102,14 +102,14 @@ pub fn admit(store: &Store, directory: &Directory, ask: &Ask) -> Result<u16, Des
     Ok(line)
 }
 
-/// Sets up a connection on this line. [`admit`] returns the number of a line that meets the
-/// preconditions. All allocations are made before the connection is set up.
+/// Sets up a connection on this line. [`admit`] returns the number of a line that meets the preconditions. All
+/// allocations come before any other change.
 ///
 /// # Errors
 ///
-/// Each error returns the request. `Stale` if the line isn't free; nothing changes. Then `NoMemory`
-/// if an allocation fails. The line may then have the room for its next journal, and all else is
-/// unchanged: a line that was ready is still ready.
+/// Each error returns the request. `Stale` if the line isn't free; nothing changes. Otherwise `NoMemory` if an
+/// allocation fails. The line may then have space reserved for its next journal, and all else is unchanged: a line that
+/// was ready is still ready.
 pub fn setup(
     directory: &mut Directory,
     line: &mut Line,
@@ -163,12 +163,12 @@ pub fn setup(
     }
 }
 
-/// Gives a connection another program, and returns the one that it had. Its buckets and its journal
-/// stay. Doesn't allocate.
+/// Gives a connection another program and returns the earlier one. Its buckets and its journal are unchanged. Doesn't
+/// allocate.
 ///
 /// # Errors
 ///
-/// `NoProgram` if the program isn't live, then `NoConnection` if there is no connection.
+/// `NoProgram` if the program isn't live; otherwise `NoConnection` if there is no connection.
 pub fn reload(
     store: &Store,
     directory: &mut Directory,
@@ -194,8 +194,7 @@ pub fn reload(
         .ok_or(DeskFault::NoConnection)
 }
 
-/// Ends a connection on the line that the directory names for it, and returns its last journal. Doesn't
-/// allocate.
+/// Releases a connection from the line that the directory has for it, and returns its last journal. Doesn't allocate.
 ///
 /// # Errors
 ///
@@ -226,12 +225,11 @@ pub fn release(directory: &mut Directory, line: &mut Line, vc: Vc) -> Result<Pie
     Ok(line.close())
 }
 
-/// Returns a connection's journal, and begins a new one. The new one is allocated first.
+/// Returns a connection's journal and begins a new one. Allocates the new one first.
 ///
 /// # Errors
 ///
-/// `Stale` if the line doesn't serve this connection, then `NoMemory` if an allocation fails;
-/// nothing changes.
+/// `Stale` if the line doesn't serve this connection; otherwise `NoMemory` if an allocation fails. Nothing changes.
 pub fn cut(line: &mut Line, vc: Vc, seating: &Seating) -> Result<Piece, DeskFault>
     ensures served { OnOk result (line.old.owner ≡ Some (holder vc seating.now)) }
     ensures refused { IfErr result (λ fault. IsUncut line.old (holder vc seating.now) fault) }

@@ -1,8 +1,8 @@
-//! Why a card can't be made, and why the desk is refused.
+//! The errors of making a card and of the desk.
 
 use thiserror::Error;
 
-/// Why a card can't be made. It is printed as its number and its name.
+/// The reason why a card can't be made. Printed as its number and its name.
 #[derive(Clone, Copy, Debug, PartialEq, Eq, Error)]
 pub enum CardFault {
     /// The number of programs isn't 1 to 1024.
@@ -17,12 +17,12 @@ pub enum CardFault {
     /// The number of a journal's entries isn't 1 to 65536.
     #[error("4 Journal")]
     Journal,
-    /// The memory was refused.
+    /// An allocation failed.
     #[error("5 NoMemory")]
     NoMemory,
 }
 
-/// Why a command of the desk is refused. It is printed as its number and its name.
+/// An error of the desk. Printed as its number and its name.
 #[derive(Clone, Copy, Debug, PartialEq, Eq, Error)]
 pub enum DeskFault {
     /// The program isn't live.
@@ -34,7 +34,7 @@ pub enum DeskFault {
     /// The connection exists already.
     #[error("3 Taken")]
     Taken,
-    /// Each line is some connection's.
+    /// Each line has a connection.
     #[error("4 NoLine")]
     NoLine,
     /// Some connection names the program.
@@ -49,13 +49,13 @@ pub enum DeskFault {
     /// There is no contract.
     #[error("8 BadContracts")]
     BadContracts,
-    /// Some port isn't outside.
+    /// Some port has a cell.
     #[error("9 Busy")]
     Busy,
-    /// The memory was refused.
+    /// An allocation failed.
     #[error("10 NoMemory")]
     NoMemory,
-    /// The line that was passed isn't the one that the directory names.
+    /// The line that was passed isn't as the directory has it.
     #[error("11 Stale")]
     Stale,
 }

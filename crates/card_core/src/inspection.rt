@@ -16,8 +16,8 @@ impl Core {
     ghost use Rattle.card_core.specs.Sums.{totals_of, AreAtMost};
     ghost use Rattle.card_core.specs.Inspection.{line_at, load_fault_of, IsRetireFault};
 
-    /// The line that serves a connection, so that its counts, its journal and its contracts can be read. None
-    /// if and only if there is no such connection.
+    /// Returns the line that serves a connection, with its counts, its journal and its contracts. None if and only if
+    /// there is no such connection.
     pub fn line_of(&self, vc: Vc) -> Option<&Line>
         ensures line { option_copied result ≡ line_at self.now vc }
     {
@@ -40,7 +40,7 @@ impl Core {
         totals_of(&self.lines)
     }
 
-    /// Returns why no program can be put in now: `Busy` if a port has a cell, then `ProgramsFull` if no slot is
+    /// Returns why no program can be loaded now: `Busy` if a port has a cell; otherwise `ProgramsFull` if no slot is
     /// free. None if and only if [`Core::load`] would succeed.
     pub fn load_fault(&self) -> Option<DeskFault>
         ensures { result ≡ load_fault_of self.now }
@@ -54,9 +54,9 @@ impl Core {
         None
     }
 
-    /// Returns why the program of this id can't be taken out now: `Busy` if a port has a cell, then `NoProgram`
-    /// if the id isn't live, then `InUse` if some connection names it. None if and only if
-    /// [`Core::retire`] would succeed.
+    /// Returns why the program of this id can't be retired now: `Busy` if a port has a cell; otherwise `NoProgram` if
+    /// the id isn't live; otherwise `InUse` if some connection names it. None if and only if [`Core::retire`] would
+    /// succeed.
     pub fn retire_fault(&self, id: Id) -> Option<DeskFault>
         ensures { IsRetireFault self.now id result }
     {

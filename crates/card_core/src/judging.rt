@@ -1,4 +1,4 @@
-//! The judging of a named cell, on the line that the caller passes.
+//! The judgement of a cell whose program named a contract, on the line that the caller passes.
 
 ghost use Rattle.std.specs.Prelude.{◌≡◌, ◌≢◌, ◌+◌, ◌↔◌, IsTrue, IfSome, IfNone, IfOk, IfErr, OnErr, MatchOption, Some, None, Err};
 ghost use Rattle.line_record.specs.History.{IsNoNumber};
@@ -13,12 +13,10 @@ use leaky::Verdict;
 use line_record::{Line, Seating};
 use upc_cell::{Cell, Vc, same_vc};
 
-/// Judges a named cell on the line of its connection by the contract whose number was named.
-/// Doesn't allocate.
+/// Judges a cell on the line of its connection, by the contract that its program named. Doesn't allocate.
 ///
-/// `Released` if the line doesn't serve the connection that was picked; then `MomentTooLate`,
-/// `MomentBack` or `JournalFull`, as [`Line::judge`] refuses. The answer is the first that holds,
-/// and nothing changes.
+/// Returns `Released` if the line doesn't serve the picked connection; otherwise the error of [`Line::judge`] as
+/// `MomentTooLate`, `MomentBack` or `JournalFull`. Then nothing changes.
 pub fn judge_at(line: &mut Line, vc: Vc, seating: &Seating, named: &Named, moment: u64) -> Answer
     // It is judged if and only if there is no reason to refuse it.
     ensures judged { MatchOption (judging_refusal line.old vc seating.now moment)
@@ -34,11 +32,11 @@ pub fn judge_at(line: &mut Line, vc: Vc, seating: &Seating, named: &Named, momen
     ensures program { IfSome (told result) (λ judged. judged.program ≡ named.now.program) }
     ensures cell { IfSome (told result) (λ judged. judged.cell ≡ cell_after judged.verdict named.now.cell) }
 
-    // No connection has more than four contracts.
+    // A connection has at most four contracts.
     ensures unnamed { IfSome (told result) (λ judged.
         IsNoNumber judged.value → judged.verdict ≡ Verdict.Refuse) }
 
-    // The line keeps its run. Its owner stays, and it counts a judged cell and no other.
+    // The line's invariant holds before. Its owner is unchanged, and it counts the cell exactly if the cell was judged.
     ensures kept { IsLine line.old }
     ensures owner { line.new.owner ≡ line.old.owner }
     ensures counts { IfSome (told result) (λ judged.
@@ -65,8 +63,7 @@ pub fn judge_at(line: &mut Line, vc: Vc, seating: &Seating, named: &Named, momen
     }
 }
 
-/// Judges a named cell as [`judge_at`] does, and returns the judgement without the leaving cell, so that no
-/// cell is copied.
+/// Judges a cell as [`judge_at`] does, and returns the judgement without the leaving cell, so that no cell is copied.
 #[inline(always)]
 pub(crate) fn tell_at(
     line: &mut Line,
@@ -111,7 +108,7 @@ pub(crate) fn tell_at(
     }
 }
 
-/// Whether the line serves the connection that was picked.
+/// Returns whether the line serves the picked connection.
 pub(crate) fn serves(line: &Line, vc: Vc, seating: &Seating) -> bool
     ensures test { result ≡ is_owned_by line.now.owner (holder vc seating.now) }
     ensures owner { IsTrue result ↔ (line.now.owner ≡ Some (holder vc seating.now)) }

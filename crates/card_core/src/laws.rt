@@ -1,5 +1,4 @@
-//! Laws over the worlds and logs of a card. These functions do nothing: the contract of each
-//! is a law.
+//! Laws of the worlds and logs of a card. Each function does nothing; its contract is the law.
 
 ghost use Rattle.card_core.specs.Headline.{EachJudgedCellIsPromised};
 ghost use Rattle.card_core.specs.Laws.{NamedProgramsAreLive, IdsAreGivenOnce, IdsNameOneCode, ConnectionsAreApart, ConnectionsBoundBursts, StepsHaveReplies, SomeAnswersNeverCome, ConnectionsAreAsTold, LogsBoundBursts, PromisesLeaveOneAnswer};
@@ -9,7 +8,7 @@ pub fn named_programs_are_live()
     ensures { NamedProgramsAreLive }
 {}
 
-/// No id is given twice, and each code that is put in is accepted.
+/// No id is given twice, and each loaded code is accepted.
 pub fn ids_are_given_once()
     ensures { IdsAreGivenOnce }
 {}
@@ -19,18 +18,18 @@ pub fn ids_name_one_code()
     ensures { IdsNameOneCode }
 {}
 
-/// No two connections share a line or an incarnation.
+/// No two connections have the same line or the same incarnation.
 pub fn connections_are_apart()
     ensures { ConnectionsAreApart }
 {}
 
-/// In any span of `d` ticks at most `1 + (d + limit) / increment` cells of a connection are passed or
-/// tagged by one contract, by its bucket 1.
+/// In any span of `d` ticks one contract passes or tags at most `1 + (d + limit) / increment` cells of a connection,
+/// for the increment and the limit of its bucket 1.
 pub fn connections_bound_bursts()
     ensures { ConnectionsBoundBursts }
 {}
 
-/// Each step has a reply in every world, one that reports no allocation failure.
+/// In every world each step has a reply that reports no allocation failure.
 pub fn steps_have_replies()
     ensures { StepsHaveReplies }
 {}
@@ -45,17 +44,17 @@ pub fn each_judged_cell_is_promised()
     ensures { EachJudgedCellIsPromised }
 {}
 
-/// For a judged cell of a given line, the headline allows one answer only.
+/// The headline allows only one answer for a judged cell of a given line.
 pub fn promises_leave_one_answer()
     ensures { PromisesLeaveOneAnswer }
 {}
 
-/// The connections are those of the log, with the program and the history that the log has of them.
+/// The connections are those of the log, each with the program and the history that it has by the log.
 pub fn connections_are_as_told()
     ensures { ConnectionsAreAsTold }
 {}
 
-/// The burst bound of each contract's bucket 1, over the cells that the log has of a connection.
+/// The burst bound of each contract's bucket 1, over the cells of a connection in the log.
 pub fn logs_bound_bursts()
     ensures { LogsBoundBursts }
 {}

@@ -1,4 +1,4 @@
-//! The picking of a cell's connection, and the naming of its contract by the program.
+//! The look-up of a cell's connection, and the run of its program, which names a contract.
 
 use bpf_interp::run;
 use bpf_verify::Program;
@@ -10,8 +10,8 @@ use upc_cell::{Cell, Vc};
 /// The programs of a card, by id.
 pub type Store = Arena<Program>;
 
-/// A cell, a program, and the number of a contract that the program gave for the cell. [`name`]
-/// alone makes one, so that no number is judged that no program gave.
+/// A cell, a program, and the number of a contract that the program gave for the cell. Only [`name`] makes one, so a
+/// number that no program gave is never judged.
 #[derive(Clone, Copy, Debug)]
 pub struct Named {
     program: Id,
@@ -32,7 +32,7 @@ impl Model for Named {
 impl Named {
     ghost use Rattle.std.specs.Prelude.{◌≡◌};
 
-    /// The program that gave the value.
+    /// Returns the program that gave the value.
     #[inline]
     pub fn program(&self) -> Id
         ensures { result ≡ self.now.program }
@@ -40,7 +40,7 @@ impl Named {
         self.program
     }
 
-    /// The cell, as it came.
+    /// Returns the cell as it arrived.
     #[inline]
     pub fn cell(&self) -> Cell
         ensures { result ≡ self.now.cell }
@@ -48,7 +48,7 @@ impl Named {
         self.cell
     }
 
-    /// The number of a contract, counted from 1, or any other, which names none.
+    /// Returns the number of a contract, counted from 1, or any other number, which names none.
     #[inline]
     pub fn value(&self) -> u32
         ensures { result ≡ self.now.value }
@@ -73,8 +73,8 @@ pub fn pick(directory: &Directory, vc: Vc) -> Option<Seating>
     directory.find(vc)
 }
 
-/// Runs the program of this id on the cell, and returns the value that it gives; none if and only if
-/// the id isn't live. Doesn't allocate.
+/// Runs the program of this id on the cell and returns the value that it gives. None if and only if the id isn't live.
+/// Doesn't allocate.
 #[inline]
 pub fn name(store: &Store, program: Id, cell: &Cell) -> Option<Named>
     ensures live { IsSome result ↔ IsLive store.now program }

@@ -33,14 +33,14 @@ pub(crate) enum Port {
     Picked(Found),
 }
 
-/// Whether no port has a cell.
+/// Returns whether no port has a cell.
 pub(crate) fn are_outside(ports: &[Port]) -> bool
     ensures { result ≡ list_all is_free_port ports.now }
 {
     ports.iter().all(|port| matches!(port, Port::Outside))
 }
 
-/// Whether there is a port of this number that has no cell.
+/// Returns whether there is a port of this number that has no cell.
 pub(crate) fn is_idle_at(ports: &[Port], port: u8) -> bool
     ensures { result ≡ is_idle (slice_get ports.now port) }
 {
@@ -79,7 +79,7 @@ pub(crate) fn move_port(ports: &mut Vec<Port>, port: u8, next: Port)
     }
 }
 
-/// Makes this many ports without a cell; none if an allocation fails.
+/// Makes this many ports without a cell. Returns None if an allocation fails.
 pub(crate) fn outside_ports(alloc: Global, many: usize) -> Option<Vec<Port>>
     ensures { IfSome result (λ ports. ports.items ≡ replicate many Port.Outside) }
 {

@@ -64,12 +64,12 @@ impl Core {
     ghost use Rattle.card_core.specs.DeskReplies.{load_reply, retire_reply, setup_reply, reload_reply, release_reply, cut_reply};
     ghost use Rattle.card_core.specs.Stale.{IsNeverStale};
 
-    /// A card of this shape: without programs and connections, and with every port outside.
+    /// Makes a card of this shape, without programs and connections. No port has a cell.
     ///
     /// # Errors
     ///
-    /// `Programs`, `Lines`, `Ports`, `Journal`: the first number of the shape that is out of its
-    /// limits. Then `NoMemory` if an allocation fails.
+    /// `Programs`, `Lines`, `Ports` or `Journal` for the first number of the shape that is out of its limits. Otherwise
+    /// `NoMemory` if an allocation fails.
     pub fn new(alloc: Global, shape: Shape) -> Result<Self, CardFault>
         ensures agrees { IfOk result (λ core. CoreAgrees core (opening_world shape)) }
         ensures refused { MatchResult result
@@ -101,7 +101,7 @@ impl Core {
         })
     }
 
-    /// Returns the size of the card, and which header its cells have.
+    /// Returns the shape of the card.
     pub fn shape(&self) -> Shape
         ensures { result ≡ self.now.shape }
     {
@@ -139,11 +139,11 @@ impl Core {
         }
     }
 
-    /// Takes the steps in their order. The room for the replies is allocated first.
+    /// Takes the steps in order. Allocates the list of replies first.
     ///
     /// # Errors
     ///
-    /// Returns the steps, with nothing done, if that allocation fails.
+    /// If that allocation fails, returns the steps and changes nothing.
     pub fn run(&mut self, alloc: Global, steps: Vec<Step>) -> Result<Vec<Reply>, Vec<Step>>
         ensures follows { IfOk result (λ replies.
             FollowsAll self.old steps.items replies.items self.new) }
@@ -160,7 +160,7 @@ impl Core {
         Ok(replies)
     }
 
-    /// A cell comes to a port: the step `Enter`.
+    /// A cell enters a port: the step `Enter`.
     pub fn enter(&mut self, port: u8, cell: Cell, moment: u64) -> PortReply
         ensures follows { Follows self.old (Enter port cell moment) (reply_of result) self.new }
         ensures unchanged { RefusalKeeps (reply_of result) (Enter port cell moment) self.old self.new }
@@ -172,7 +172,7 @@ impl Core {
         PortReply::Entered
     }
 
-    /// The cell's connection is looked up, and its program names a contract: the step `Pick`.
+    /// Looks up the cell's connection, whose program names a contract: the step `Pick`.
     pub fn pick(&mut self, port: u8) -> PortReply
         ensures follows { Follows self.old (Pick port) (reply_of result) self.new }
         ensures unchanged { RefusalKeeps (reply_of result) (Pick port) self.old self.new }
@@ -193,7 +193,7 @@ impl Core {
         }
     }
 
-    /// The cell is judged by the contract that was named: the step `Judge`.
+    /// Judges the cell by the contract that was named: the step `Judge`.
     pub fn judge(&mut self, port: u8) -> PortReply
         ensures follows { Follows self.old (Judge port) (reply_of result) self.new }
         ensures unchanged { RefusalKeeps (reply_of result) (Judge port) self.old self.new }
@@ -207,10 +207,9 @@ impl Core {
         PortReply::Answered(answer)
     }
 
-    /// Takes all steps of a cell at a port: `Enter`, `Pick` and, if its connection is found, `Judge`. Returns
-    /// the last answer. The answer to a judged cell is without the leaving cell, which is the cell that was
-    /// passed, or `Cell::tagged` of it if the verdict is Tag. Returns none if the port has a cell or there is
-    /// no such port; then nothing changes.
+    /// Takes all steps of a cell at a port: `Enter`, `Pick` and, if its connection is found, `Judge`. Returns the last
+    /// answer, without the leaving cell: that is the cell passed here, or `Cell::tagged` of it if the verdict is Tag.
+    /// Returns None and changes nothing if the port has a cell or there is no such port.
     #[inline(always)]
     pub fn arrive(
         &mut self,
@@ -228,7 +227,7 @@ impl Core {
         if !is_idle_at(&self.ports, port) {
             return None;
         }
-        // The port is outside before and afterwards, and nothing reads it in between.
+        // The port has no cell before and afterwards, and nothing reads it in between.
         let side = self.shape.side;
         let picked = find_and_name(&self.store, &self.directory, side, cell, moment);
         match picked {
@@ -237,12 +236,12 @@ impl Core {
         }
     }
 
-    /// Puts a program in: the step `Load`. Programs are put in and taken out only while every port is outside.
-    /// So no program is taken out while a cell is at a port.
+    /// Loads a program: the step `Load`. Programs are loaded and retired only while no port has a cell, so no program
+    /// is retired while a cell is at a port.
     ///
     /// # Errors
     ///
-    /// `Busy` if a port has a cell, then `ProgramsFull` if no slot is free. Each error returns the program.
+    /// `Busy` if a port has a cell; otherwise `ProgramsFull` if no slot is free. Each error returns the program.
     pub fn load(&mut self, program: Program) -> Result<Id, (DeskFault, Program)>
         ensures follows { Follows self.old (Load program) (load_reply result) self.new }
         ensures unchanged { RefusalKeeps (load_reply result) (Load program) self.old self.new }
@@ -261,12 +260,12 @@ impl Core {
         desk::load(&mut self.store, program)
     }
 
-    /// Takes a program out: the step `Retire`. Like `Load`, it needs every port to be outside.
+    /// Retires a program: the step `Retire`. Like `Load`, it needs every port without a cell.
     ///
     /// # Errors
     ///
-    /// `Busy` if a port has a cell, then `NoProgram` if the id isn't live, then `InUse` if some
-    /// connection names it.
+    /// `Busy` if a port has a cell; otherwise `NoProgram` if the id isn't live; otherwise `InUse` if some connection
+    /// names it.
     pub fn retire(&mut self, id: Id) -> Result<Program, DeskFault>
         ensures follows { Follows self.old (Retire id) (retire_reply result) self.new }
         ensures unchanged { RefusalKeeps (retire_reply result) (Retire id) self.old self.new }
@@ -284,12 +283,12 @@ impl Core {
         desk::retire(&mut self.store, &self.directory, id)
     }
 
-    /// Sets up a connection: the step `Setup`. An allocation may fail even if nothing else is wrong.
+    /// Sets up a connection: the step `Setup`. An allocation may fail even if there is no other error.
     ///
     /// # Errors
     ///
-    /// The first that holds of `NoProgram`, `Taken`, `BadContracts`, `NoLine`, `Exhausted` (see [`desk::admit`]).
-    /// Then `NoMemory` if an allocation fails. Each error returns the request.
+    /// The first of `NoProgram`, `Taken`, `BadContracts`, `NoLine` and `Exhausted` that applies (see [`desk::admit`]).
+    /// Otherwise `NoMemory` if an allocation fails. Each error returns the request.
     pub fn setup(&mut self, ask: Ask) -> Result<Owner, (DeskFault, Ask)>
         ensures follows { Follows self.old (Setup ask) (setup_reply result) self.new }
         ensures unchanged { RefusalKeeps (setup_reply result) (Setup ask) self.old self.new }
@@ -303,11 +302,11 @@ impl Core {
         setup_line(&mut self.directory, &mut self.lines, number, ask)
     }
 
-    /// Gives a connection another program, and returns the one that it had: the step `Reload`.
+    /// Gives a connection another program and returns the earlier one: the step `Reload`.
     ///
     /// # Errors
     ///
-    /// `NoProgram` if the id isn't live, then `NoConnection` if there is no such connection.
+    /// `NoProgram` if the id isn't live; otherwise `NoConnection` if there is no such connection.
     pub fn reload(&mut self, vc: Vc, program: Id) -> Result<Id, DeskFault>
         ensures follows { Follows self.old (Reload vc program) (reload_reply result) self.new }
         ensures unchanged { RefusalKeeps (reload_reply result) (Reload vc program) self.old self.new }
@@ -316,7 +315,7 @@ impl Core {
         desk::reload(&self.store, &mut self.directory, vc, program)
     }
 
-    /// Ends a connection, and returns its last journal: the step `Release`.
+    /// Releases a connection and returns its last journal: the step `Release`.
     ///
     /// # Errors
     ///
@@ -332,11 +331,11 @@ impl Core {
         release_line(&mut self.directory, &mut self.lines, vc, &seating)
     }
 
-    /// Returns a connection's journal, and begins a new one: the step `Cut`.
+    /// Returns a connection's journal and begins a new one: the step `Cut`.
     ///
     /// # Errors
     ///
-    /// `NoConnection` if there is no such connection, then `NoMemory` if an allocation fails.
+    /// `NoConnection` if there is no such connection; otherwise `NoMemory` if an allocation fails.
     pub fn cut(&mut self, vc: Vc) -> Result<Piece, DeskFault>
         ensures follows { Follows self.old (Cut vc) (cut_reply result) self.new }
         ensures unchanged { RefusalKeeps (cut_reply result) (Cut vc) self.old self.new }
@@ -357,7 +356,7 @@ ghost use Rattle.line_record.specs.Directory.{seating_at, IsOpenLine};
 ghost use Rattle.upc_cell.specs.Connection.{vc_of};
 ghost use Rattle.card_core.specs.inner.Parts.{IsFound, IsMissed, ChangesLine, JudgesOrRefuses, SetsUpOrRefuses, ReleasesOrRefuses, CutsOrRefuses};
 
-/// Makes `many` free lines, each with a journal of `journal` entries. None if an allocation fails.
+/// Makes `many` free lines, each with a journal of `journal` entries. Returns None if an allocation fails.
 fn free_lines(alloc: Global, many: usize, journal: u32) -> Option<Vec<Line>>
     requires some { 1 ≤ journal }
     requires most { journal ≤ MOST_ENTRIES }
@@ -375,8 +374,8 @@ fn free_lines(alloc: Global, many: usize, journal: u32) -> Option<Vec<Line>>
     Some(lines)
 }
 
-/// Returns the seating of the cell's connection, and the value that its program gives for the cell.
-/// This function and the next are on the path of each cell. They are inlined, since a call would copy the cell.
+/// Returns the seating of the cell's connection, and the value that its program gives for the cell. Every cell runs
+/// this function and the next. They are inlined, since a call would copy the cell.
 #[inline(always)]
 fn find_and_name(
     store: &Store,
@@ -405,7 +404,7 @@ fn find_and_name(
     })
 }
 
-/// Judges a picked cell on its line, which is one of these. Returns the judgement without the leaving cell.
+/// Judges a picked cell on its line. Returns the judgement without the leaving cell.
 #[inline(always)]
 fn tell_line(lines: &mut Vec<Line>, found: &Found) -> Result<Judgement, Unjudged>
     requires { found.now.seating.line < length lines.old.items }
@@ -417,7 +416,7 @@ fn tell_line(lines: &mut Vec<Line>, found: &Found) -> Result<Judgement, Unjudged
     tell_at(line, found.vc, &found.seating, &found.named, found.moment)
 }
 
-/// Judges a picked cell on its line, which is one of these.
+/// Judges a picked cell on its line.
 fn judge_line(lines: &mut Vec<Line>, found: &Found) -> Answer
     requires { found.now.seating.line < length lines.old.items }
     ensures line { ChangesLine lines.old.items found.now.seating.line

@@ -7,27 +7,27 @@ use crate::fault::CardFault;
 use line_record::MOST_ENTRIES;
 use upc_cell::Side;
 
-/// How many programs a card holds at most.
+/// The greatest number of programs of a card.
 pub const MOST_PROGRAMS: u64 = 1024;
 
-/// How many lines a card has at most.
+/// The greatest number of lines of a card.
 pub const MOST_LINES: u64 = 4096;
 
-/// How many ports a card has at most.
+/// The greatest number of ports of a card.
 pub const MOST_PORTS: u64 = 16;
 
-/// The size of a card.
+/// The size of a card, and the header of its cells.
 #[derive(Clone, Copy, Debug, PartialEq, Eq)]
 pub struct Shape {
-    /// How many programs it holds at most, 1 to 1024.
+    /// The greatest number of live programs, 1 to 1024.
     pub programs: u64,
-    /// How many lines it has, 1 to 4096. Each serves at most one connection.
+    /// The number of lines, 1 to 4096. Each serves at most one connection.
     pub lines: u64,
-    /// How many ports it has, 1 to 16.
+    /// The number of ports, 1 to 16.
     pub ports: u64,
-    /// How many entries a journal holds, 1 to 65536.
+    /// The greatest number of entries of a journal, 1 to 65536.
     pub journal: u64,
-    /// Which header its cells have.
+    /// The side at which the headers of its cells are read.
     pub side: Side,
 }
 
@@ -59,7 +59,7 @@ pub(crate) fn refusal(shape: &Shape) -> Option<CardFault>
     }
 }
 
-/// Whether the number is 0 or above `most`.
+/// Returns whether the number is 0 or above `most`.
 fn is_beyond(number: u64, most: u64) -> bool
     ensures { result ≡ is_beyond number most }
 {

@@ -9,13 +9,12 @@ use upc_cell::{Cell, Vc};
 /// desk may come between them.
 #[derive(Debug, Drop)]
 pub enum Step {
-    /// A cell comes to a port that is outside. From here to its judging no program is loaded or
-    /// retired.
+    /// A cell enters a port that has none. From then until its answer no program is loaded or retired.
     Enter {
         /// The number of the port, from 0.
         port: u8,
         cell: Cell,
-        /// When it comes, in ticks.
+        /// The moment of arrival, in ticks.
         moment: u64,
     },
     /// The cell's connection is looked up, and its program names a contract.
@@ -28,18 +27,18 @@ pub enum Step {
         /// The number of the port, from 0.
         port: u8,
     },
-    /// A program is put into the store.
+    /// A program is loaded.
     Load(Program),
-    /// A program is taken out of the store.
+    /// A program is retired.
     Retire(Id),
     /// A connection is set up.
     Setup(Ask),
-    /// A connection gets another program. Its buckets and its journal stay.
+    /// A connection gets another program. Its buckets and its journal are unchanged.
     Reload {
         vc: Vc,
         program: Id,
     },
-    /// A connection ends.
+    /// A connection is released.
     Release(Vc),
     /// A connection's journal is returned, and a new one begins.
     Cut(Vc),

@@ -5,8 +5,8 @@ ghost use Rattle.card_core.specs.Sums.{totals_of, AreAtMost};
 
 use line_record::{Line, Tally};
 
-/// How many cells got each verdict on several lines together. The counts of one line fit 64 bits, and their
-/// sums may not.
+/// The number of cells with each verdict, over several lines. The counts of one line fit in 64 bits; their sums may
+/// not.
 #[derive(Clone, Copy, Debug, PartialEq, Eq)]
 pub struct Totals {
     pub passed: u128,

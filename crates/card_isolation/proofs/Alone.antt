@@ -1,5 +1,5 @@
--- A connection as one would know it who knows of no other: what its own acts make of it, and what comes of
--- them. The same acts have the same outcomes.
+-- A connection on its own: its state as a function of its own acts, and their outcomes. The same acts have the same
+-- outcomes.
 use Rattle.std.proofs.Common.{◌≡◌, ℕ, ◌^◌, Bool, true, false, if◌then◌else◌, List, [], ◌∷◌, ◌++◌, length, take, drop, Option, Some, None, nat_lt, nat_le, refl, sym, ap, ◌∙◌, subst}
 use Rattle.std.specs.Prelude.{⊤}
 use Rattle.std.proofs.lemmas.Option.{same_Some}
@@ -16,16 +16,16 @@ use Rattle.card_isolation.specs.OwnEvents.{OwnEvent, acts_of}
 use Rattle.card_isolation.proofs.Basics.{with_at}
 use Rattle.card_isolation.proofs.Forgotten.{seen_entries}
 
--- A connection that is set up: its contracts, the code of its program, the cells that were judged, and how
--- many of these were handed out.
+-- A connection that is set up: its contracts, the code of its program, the judged cells, and the number of these that
+-- cuts have returned.
 pub record Standing : Type 0 where
   pub contracts : List Contract
   pub code : Option (List Instr)
   pub history : List NamedCell
   pub handed : ℕ
 
--- What a port has of the connection: nothing, a cell that came at a moment, or one that was looked up, with
--- the value and the code that gave it, and whether the connection stands since.
+-- The connection's part of a port: nothing, a cell that entered at a moment, or one that was looked up, with the value
+-- and the code that gave it, and whether the connection is still the one that was looked up.
 pub data Place : Type 0 where
   idle : Place
   came : List ℕ → ℕ → Place
@@ -35,7 +35,7 @@ pub record Alone : Type 0 where
   pub connection : Option Standing
   pub places : ℕ → Place
 
--- A place once the connection was released.
+-- A port's part after the connection was released.
 abbrev pub ended : Place → Place
 ended idle = idle
 ended (came cell moment) = came cell moment
@@ -45,7 +45,7 @@ ended (looked cell moment value code current) = looked cell moment value code fa
 abbrev pub cell_alone : List ℕ → ℕ → ℕ → NamedCell
 cell_alone cell moment value = named_cell cell moment (record { slot = 0; generation = 0 }) value
 
--- Why a cell isn't judged.
+-- The reason why a cell isn't judged.
 
 abbrev pub moment_refusal : ℕ → Standing → ℕ → Option Answer
 moment_refusal journal standing moment =
@@ -58,7 +58,7 @@ abbrev pub refusal_alone : ℕ → Option Standing → ℕ → Bool → Option A
 refusal_alone journal None moment current = Some Released
 refusal_alone journal (Some standing) moment current = if current then moment_refusal journal standing moment else Some Released
 
--- What comes of a cell that is judged, or isn't.
+-- The outcome of a cell that is judged, or isn't.
 
 abbrev pub judged_alone : Option Standing → List ℕ → ℕ → ℕ → Option (List Instr) → Outcome
 judged_alone None cell moment value code = done
@@ -107,7 +107,7 @@ abbrev pub found_alone : Option Standing → Outcome
 found_alone None = was_not_judged NoConnection
 found_alone (Some standing) = done
 
--- What comes of an act.
+-- The outcome of an act.
 abbrev pub outcome_alone : ℕ → Alone → Act → Outcome
 outcome_alone journal alone (sets_up contracts code) = done
 outcome_alone journal alone (reloads code) = named_outcome alone.connection
@@ -117,7 +117,7 @@ outcome_alone journal alone (enters port cell moment) = done
 outcome_alone journal alone (looks_up port) = found_alone alone.connection
 outcome_alone journal alone (judges port) = outcome_at journal alone.connection (alone.places port)
 
--- A cell is named by the connection's program.
+-- The connection's program gives a value for the cell.
 pub record IsNamed (standing : Standing) (cell : List ℕ) (moment : ℕ) (after : Place) : Type 0 where
   pub code : List Instr
   pub named : standing.code ≡ Some code
@@ -142,7 +142,7 @@ cut_off (Some standing) = Some (record standing { handed = length standing.histo
 abbrev pub set_up : List Contract → Option (List Instr) → Standing
 set_up contracts code = record { contracts = contracts; code = code; history = []; handed = 0 }
 
--- What an act makes of the connection and of what the ports have of it.
+-- The effect of an act on the connection and on its part of the ports.
 abbrev pub Next : ℕ → Alone → Act → Alone → Type 0
 Next journal before (sets_up contracts code) after = after ≡ record before { connection = Some (set_up contracts code) }
 Next journal before (reloads code) after = after ≡ record before { connection = reloaded before.connection code }
@@ -156,19 +156,19 @@ Next journal before (judges port) after = after ≡ record before {
   places = with_at before.places port idle;
 }
 
--- The port has nothing of the connection.
+-- The port has no cell of the connection.
 abbrev pub is_idle : Place → Bool
 is_idle idle = true
 is_idle (came cell moment) = false
 is_idle (looked cell moment value code current) = false
 
--- The act fits: the port has a cell of the connection that is looked up or judged.
+-- The act fits: the port has a cell of the connection to be looked up or judged.
 abbrev pub Fits : Alone → Act → Type 0
 Fits before (looks_up port) = is_idle (before.places port) ≡ false
 Fits before (judges port) = is_idle (before.places port) ≡ false
 Fits before _ = ⊤
 
--- One own event does this.
+-- The effect of one own event.
 pub record Does (journal : ℕ) (before : Alone) (event : OwnEvent) (after : Alone) : Type 0 where
   pub fits : Fits before event.act
   pub outcome : event.outcome ≡ outcome_alone journal before event.act
@@ -178,7 +178,7 @@ abbrev pub Plays : ℕ → Alone → List OwnEvent → Type 0
 Plays journal before [] = ⊤
 Plays journal before (event ∷ later) = (after : Alone) × Does journal before event after × Plays journal after later
 
--- An act leads to one state.
+-- An act leads to at most one state.
 
 one-named : (standing : Standing) (cell : List ℕ) (moment : ℕ) (one other : Place) → IsNamed standing cell moment one
     → IsNamed standing cell moment other → one ≡ other

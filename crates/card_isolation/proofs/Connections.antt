@@ -1,4 +1,4 @@
--- Look-ups in a world's connections and codes, before and after a change of one.
+-- Look-ups in the connections and codes of a world, before and after a change of one.
 use Rattle.std.proofs.Common.{◌≡◌, ◌+◌, Bool, true, false, cond, List, [], ◌∷◌, Option, Some, IsSome, refl, sym, ap, ◌∙◌, subst, arith}
 use Rattle.std.specs.List.{list_any}
 use Rattle.std.proofs.lemmas.Bool.{or_left, or_right}
@@ -42,13 +42,13 @@ with-others connections vc other connection apart =
     connection-later vc other connection (without_connection connections vc) apart
     ∙ without-others connections vc other apart
 
--- What the list has at a virtual connection it has at the same.
+-- The list has the same connection for equal virtual connections.
 pub found-same : (connections : List (Vc × Connection)) (vc other : Vc) (found : Option Connection) → is_same_vc vc other ≡ true
     → connection_in connections other ≡ found → connection_in connections vc ≡ found
 found-same connections vc other found e at =
     subst (λ (v : Vc). connection_in connections v ≡ found) (sym (vc_same vc other e)) at
 
--- A live program's code stays, whatever is put in under a new id.
+-- A live program keeps its code after a load under a new id.
 pub code-stays : (world : World) (id program : Id) (code : List Instr) → IsSound world
     → id.generation ≡ times_given world.given id.slot + 1 → IsSome (code_in world.live program)
     → code_in (record { id = id; code = code } ∷ world.given) program ≡ code_in world.given program
@@ -64,8 +64,7 @@ code-stays world id program code sound next live =
     ] in
     choice (is_same_id program id) refl
 
--- A connection that passes a test, where one does.
--- A connection that the test finds.
+-- If the test is true for a connection that is found, it is true for some entry.
 pub connection-passes : (test : (Vc × Connection) → Bool) (connections : List (Vc × Connection)) (vc : Vc) (connection : Connection)
     → connection_in connections vc ≡ Some connection → ((other : Vc) → test (other, connection) ≡ true)
     → list_any test connections ≡ true

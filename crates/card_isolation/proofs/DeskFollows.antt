@@ -1,4 +1,4 @@
--- A world with the kept connections alone follows the desk.
+-- A world with only the kept connections follows the steps of the desk.
 use Rattle.std.proofs.Common.{◌≡◌, ℕ, zero, suc, ◌+◌, ◌^◌, ◌<◌, ◌==◌, Bool, true, false, cond, not, List, ◌∷◌, length, Option, Some, None, is_some, is_none, option_map, nat_le, refl, sym, ap, ◌∙◌, subst, inl, inr, arith}
 use Rattle.std.specs.List.{list_any, list_all}
 use Rattle.std.proofs.lemmas.Bool.{cases_eq, or_left, or_right, not-false, not-true, leb-false}
@@ -26,7 +26,7 @@ use Rattle.card_isolation.proofs.Shadow.{idle-too, found-too, unheld-too}
 use Rattle.card_isolation.proofs.OwnSteps.{own-sets_up, own-reloads, own-cuts, own-releases, same_holding, new_holding, new_program, no_holding}
 use Rattle.card_isolation.proofs.Follows.{Follows, AreBeside, leads-on, stays-shadow, goes-own, goes-beside, granted}
 
--- What passes a test.
+-- A chain of tests passes if its first test and the rest pass.
 passes : {X : Type 0} (test : Bool) (refused : X) (rest : Option X) → test ≡ false → rest ≡ None → cond test (Some refused) rest ≡ None
 passes true refused rest e e_rest = absurd (cc)
 passes false refused rest e e_rest = e_rest
@@ -39,7 +39,7 @@ none-of : {X : Type 0} (o : Option X) → is_some o ≡ true → is_none o ≡ f
 none-of None e = absurd (cc)
 none-of (Some x) e = refl
 
--- A number below this one that passes the test is one.
+-- If a number below the bound passes the test, one does.
 below-one : (number : ℕ) (test : ℕ → Bool) (at : ℕ) → at < number → test at ≡ true → any_below number test ≡ true
 below-one zero test at within passes = absurd (omega (arith, within))
 below-one (suc number) test at within passes = elim (cases_eq at number) [
@@ -91,7 +91,7 @@ module _ {kept : Vc → Bool} {world shadow : World} (beside : AreBeside kept wo
       (ap (λ (l : List Loading). record { id = w.id; code = code } ∷ l) beside.shadows.live ∙ sym (ap (λ (v : World). v.live) w.world))
       (ap (λ (v : World). v.connections) w.world) refl (ap (λ (v : World). v.used) w.world) refl refl
 
-  -- A program that no connection of the world names is named by none of the shadow.
+  -- If no connection of the world names a program, none of the shadow does.
   unnamed : (id : Id) → is_named world id ≡ false → is_named shadow id ≡ false
   unnamed id none = unheld-too kept world shadow beside.shadows beside.sound_too (λ holding. is_same_id holding.program id) none
 
@@ -153,7 +153,7 @@ module _ {kept : Vc → Bool} {world shadow : World} (beside : AreBeside kept wo
             (passes (length ask.contracts.items == 0) BadContracts _ three.0
             (passes (not (any_below shadow.shape.lines (is_open_line shadow))) NoLine _ some
             (passes (nat_le (2 ^ 62) shadow.used) Exhausted None unspent refl))))) in
-            -- The shadow may give any open line, and gives the one that the world gave.
+            -- The shadow may choose any open line, and takes that of the world.
             let answered : Reply = SetUp (record { vc = ask.vc; incarnation = shadow.used + 1 }) in
             let later : World = record shadow {
               connections = with_connection shadow.connections ask.vc (new_connection ask w.line (shadow.used + 1));
@@ -176,7 +176,7 @@ module _ {kept : Vc → Bool} {world shadow : World} (beside : AreBeside kept wo
       ] in
       choice (kept ask.vc) refl
 
-  -- A kept connection is there.
+  -- A kept connection exists in the shadow too.
   there-too : (vc : Vc) → kept vc ≡ true → is_none (connection_in world.connections vc) ≡ false
       → is_none (connection_in shadow.connections vc) ≡ false
   there-too vc is some =

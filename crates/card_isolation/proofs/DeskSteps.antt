@@ -1,4 +1,4 @@
--- What the steps of the desk tell of a connection.
+-- The effect of the steps of the desk on a connection.
 use Rattle.std.proofs.Common.{◌≡◌, ℕ, ◌+◌, ◌<◌, ◌==◌, Bool, true, false, cond, List, ◌∷◌, map, length, take, Option, Some, None, is_none, is_some, slice_get, option_map, refl, sym, ap, ◌∙◌, subst, arith}
 use Rattle.std.proofs.lemmas.Bool.{ne_eqb}
 use Rattle.std.proofs.lemmas.List.{take-map, drop-map, length-map}
@@ -28,7 +28,7 @@ use Rattle.card_isolation.proofs.Connections.{with-here, with-others, without-ot
 use Rattle.card_isolation.proofs.Alone.{Standing, Place, idle, came, looked, Alone, ended, code_alone, piece_alone, reloaded, cut_off, set_up}
 use Rattle.card_isolation.proofs.Views.{standing_of, is_current, place_of, alone_of, alone_in, Goes, Tells, no-more, same-alone, tells-at}
 
--- Load: the codes that were put in before stay.
+-- Load: the codes that were loaded before remain.
 
 place-loaded : (vc : Vc) (before : World) (new : Loading) (found : Option Connection) (port : ℕ) → (o : Option PortState)
     → ((picking : Picking) → o ≡ Some (picked picking) → code_in (new ∷ before.given) picking.program ≡ code_in before.given picking.program)
@@ -77,11 +77,11 @@ tells-retires vc before id reply after w =
       counts = λ line. no-more (before.judged line);
     })
 
--- What the connection has of the world where other connections were written.
+-- The connection's part of the world, after a write of other connections.
 abbrev alone_with : Vc → World → Option Connection → Alone
 alone_with vc world found = alone_of world.shape.side vc world.given found world.ports
 
--- Setup: no cell that was looked up is the new connection's.
+-- Setup: no cell that was looked up belongs to the new connection.
 
 place-new : (vc : Vc) (before : World) (new : Connection) → (o : Option PortState)
     → ((picking : Picking) → o ≡ Some (picked picking) → picking.incarnation < new.incarnation)
@@ -94,7 +94,7 @@ place-new vc before new (Some (picked picking)) old =
     ap (λ current. cond (is_same_vc vc picking.vc) (looked picking.cell picking.moment picking.value (code_in before.given picking.program) current) idle)
     (ne_eqb new.incarnation picking.incarnation (λ same. absurd (omega (arith, less, same))))
 
--- The virtual connection of a setup had no connection.
+-- The virtual connection of a setup had no connection before.
 pub was-free : (before : World) (ask : Ask) → refusal before (Setup ask) ≡ None → connection_in before.connections ask.vc ≡ None
 was-free before ask allowed =
     let one = passed_on (is_none (code_in before.live ask.program)) _ _ (unmapped _ (setup_fault before ask) allowed) in
@@ -135,7 +135,7 @@ tells-sets_up vc before ask reply after sound allowed w =
       counts = λ line. no-more (before.judged line);
     })
 
--- A connection of the same incarnation has the same cells at the ports.
+-- A connection with the same incarnation has the same cells at the ports.
 place-kept : (vc : Vc) (before : World) (one other : Connection) → one.incarnation ≡ other.incarnation → (o : Option PortState)
     → place_of before.shape.side vc before.given (Some one) o ≡ place_of before.shape.side vc before.given (Some other) o
 place-kept vc before one other same None = refl
@@ -145,7 +145,7 @@ place-kept vc before one other same (Some (picked picking)) =
     ap (λ incarnation. cond (is_same_vc vc picking.vc) (looked picking.cell picking.moment picking.value (code_in before.given picking.program) (incarnation == picking.incarnation)) idle)
     same
 
--- The connection is written anew, under its incarnation.
+-- The connection is written under its incarnation.
 rewritten : (vc other : Vc) (before : World) (old new : Connection) → is_same_vc vc other ≡ true
     → connection_in before.connections other ≡ Some old → new.incarnation ≡ old.incarnation
     → alone_with vc before (connection_in (with_connection before.connections other new) vc)
@@ -186,7 +186,7 @@ tells-reloads vc before other program reply after w =
       counts = λ line. no-more (before.judged line);
     })
 
--- A piece is what is handed out of the connection alone.
+-- A piece has the contracts and the entries of the connection on its own.
 piece-alike : (before : World) (other : Vc) (connection : Connection) (piece : PieceView) → IsPieceOf before other connection piece
     → outcome_of_piece piece ≡ piece_alone (Some (standing_of before.given connection))
 piece-alike before other connection piece is =
@@ -227,7 +227,7 @@ tells-cuts vc before other reply after w =
       counts = λ line. no-more (before.judged line);
     })
 
--- Release: no cell that was looked up is a connection's that stands.
+-- Release: no cell that was looked up belongs to an existing connection.
 
 place-ended : (vc : Vc) (before : World) (old : Option Connection) → (o : Option PortState)
     → place_of before.shape.side vc before.given None o ≡ ended (place_of before.shape.side vc before.given old o)

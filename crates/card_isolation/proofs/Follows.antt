@@ -1,4 +1,4 @@
--- How a world with the kept connections alone follows a world with others, one step after another.
+-- A world with only the kept connections follows a world with others, step by step.
 use Rattle.std.proofs.Common.{◌≡◌, ◌⊎◌, ℕ, Bool, true, false, List, [], Option, Some, None, MatchOption, option_map, refl, sym, ap, ◌∙◌, subst, inl, inr, arith}
 use Rattle.std.proofs.lemmas.Option.{same_Some}
 use Rattle.upc_cell.specs.declared.vc.Vc.{Vc}
@@ -27,8 +27,8 @@ use Rattle.card_isolation.proofs.Unseen.{IsUnseen}
 use Rattle.card_isolation.proofs.Shadow.{Holding, held, holding_of, HasOnlyKept, Shadows, tell-apart, AreOne, are-one, are-none}
 use Rattle.card_isolation.proofs.OwnSteps.{OwnStep}
 
--- How the shadow follows a step of the world: not at all, or by the same step, which is the same own event of
--- each kept connection.
+-- The shadow doesn't follow a step of the world, or takes the same step, which is the same own event of each kept
+-- connection.
 pub data Follows (kept : Vc → Bool) (world : World) (step : Step) (reply : Reply) (after shadow : World) : Type 0 where
   stays : ((vc : Vc) → kept vc ≡ true → own_event world.shape.side vc (notes_in vc world) reply step ≡ None) → Shadows kept after shadow
       → Follows kept world step reply after shadow
@@ -39,7 +39,7 @@ pub data Follows (kept : Vc → Bool) (world : World) (step : Step) (reply : Rep
       → Shadows kept after later
       → Follows kept world step reply after shadow
 
--- A step that isn't refused leads on.
+-- A step that isn't refused succeeds.
 pub leads-on : (before : World) (step : Step) (reply : Reply) (after : World) → refusal before step ≡ None → Succeeds before step reply after
     → WorldStep before step reply after
 leads-on before step reply after e success =
@@ -57,7 +57,7 @@ of-memory (Retire id) reply e = absurd (cc)
 of-memory (Reload vc program) reply e = absurd (cc)
 of-memory (Release vc) reply e = absurd (cc)
 
--- A world and its shadow: both are sound and have judged few cells, and a log leads to the shadow, so that each
+-- A world and its shadow: both satisfy the invariant and have judged few cells, and a log leads to the shadow, so each
 -- step has a reply there.
 pub record AreBeside (kept : Vc → Bool) (world shadow : World) : Type 0 where
   pub shadows : Shadows kept world shadow
@@ -69,12 +69,12 @@ pub record AreBeside (kept : Vc → Bool) (world shadow : World) : Type 0 where
   pub log : List Event
   pub leads : Leads shape log shadow
 
--- A virtual connection, for what each step tells of all alike: that the shape stays, and how counts grow.
+-- Any virtual connection, for the effects that are the same for all: the shape is unchanged, and the growth of counts.
 abbrev pub any_vc : World → Vc
 any_vc world = vc_of world.shape.side []
 
 module _ {kept : Vc → Bool} {world shadow : World} (beside : AreBeside kept world shadow) where
-  -- What no kept connection sees leaves the shadow as it is.
+  -- A step that no kept connection sees doesn't move the shadow.
   pub stays-shadow : (step : Step) (reply : Reply) (after : World) → WorldStep world step reply after → IsUnseen kept world step reply after
       → Follows kept world step reply after shadow
   stays-shadow step reply after w unseen =
@@ -92,7 +92,7 @@ module _ {kept : Vc → Bool} {world shadow : World} (beside : AreBeside kept wo
         ports = beside.shadows.ports;
       })
 
-  -- An own step of a kept connection is one of the shadow.
+  -- An own step of a kept connection is a step of the shadow.
   pub goes-own : (vc : Vc) → kept vc ≡ true → (step : Step) (reply answered : Reply) (after later : World) (act other : Act)
       (holds : Option Holding → Option Holding) (more : ℕ)
       → WorldStep world step reply after → WorldStep shadow step answered later → is_for_kept world.shape.side kept step ≡ true
@@ -133,7 +133,7 @@ module _ {kept : Vc → Bool} {world shadow : World} (beside : AreBeside kept wo
         ports = subst (λ (shape : Shape). HasOnlyKept shape.side kept later.ports) (sym (tells_too vc).shape) (own_too.ports kept is_kept beside.shadows.ports);
       })
 
-  -- A step that is no event of a connection's, and changes the programs alike.
+  -- A step that is no connection's event and changes the programs of both in the same way.
   pub goes-beside : (step : Step) (reply answered : Reply) (after later : World) → WorldStep world step reply after → WorldStep shadow step answered later
       → is_for_kept world.shape.side kept step ≡ true
       → ((vc : Vc) → own_event world.shape.side vc (notes_in vc world) reply step ≡ None)
@@ -160,7 +160,7 @@ module _ {kept : Vc → Bool} {world shadow : World} (beside : AreBeside kept wo
             (subst (λ (l : List PortState). HasOnlyKept shadow.shape.side kept l) (sym ports) beside.shadows.ports);
       })
 
-  -- What isn't refused in the shadow can be done there.
+  -- A step that the shadow doesn't refuse has a success there.
   pub granted : (step : Step) → LoadsAccepted step → refusal shadow step ≡ None
       → (answered : Reply) × (later : World) × Succeeds shadow step answered later × WorldStep shadow step answered later
   granted step accepted allowed =

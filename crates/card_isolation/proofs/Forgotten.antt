@@ -1,4 +1,4 @@
--- Cells without the ids of their programs: they are judged as the cells are.
+-- Cells without the ids of their programs have the same verdicts.
 use Rattle.std.proofs.Common.{◌≡◌, ℕ, ◌==◌, Bool, true, false, cond, List, [], ◌∷◌, ◌++◌, map, filter, Option, Some, None, refl, sym, ap, ◌∙◌}
 use Rattle.std.proofs.lemmas.List.{map-append}
 use Rattle.leaky.specs.declared.contract.Contract.{Contract}
@@ -43,7 +43,7 @@ pub last-forgotten : (earlier : ℕ) (cells : List NamedCell) → last_moment ea
 last-forgotten earlier [] = refl
 last-forgotten earlier (cell ∷ later) = last-forgotten cell.moment later
 
--- What is seen of the entries of these cells, after a history.
+-- The entries of these cells after a history, without ids.
 abbrev pub seen_entries : List Contract → List NamedCell → List NamedCell → List SeenEntry
 seen_entries contracts history cells = map seen (judged contracts empty_buckets history cells)
 

@@ -1,4 +1,4 @@
--- A connection's own events of a log are what it does alone; and so they are decided by its acts.
+-- A connection's own events in a log are those that it has on its own, so its acts determine them.
 use Rattle.std.proofs.Common.{◌≡◌, ℕ, ◌+◌, ◌^◌, zero, suc, ◌≤◌, false, List, [], ◌∷◌, ◌++◌, length, replicate, Option, Some, None, slice_get, refl, sym, ◌∙◌, subst, arith}
 use Rattle.upc_cell.specs.declared.side.Side.{Side}
 use Rattle.upc_cell.specs.declared.vc.Vc.{Vc}
@@ -15,13 +15,13 @@ use Rattle.card_isolation.proofs.Alone.{Place, idle, Alone, Plays, same-outcomes
 use Rattle.card_isolation.proofs.Views.{place_of, has_own_in, alone_in, notes_in, Goes, Tells, same-notes}
 use Rattle.card_isolation.proofs.Steps.{HasJudgedFew, step-tells}
 
--- One event, and those behind it.
+-- One event and the later ones.
 plays-behind : (journal : ℕ) (event : Option OwnEvent) (before after : Alone) (later : List OwnEvent)
     → Goes journal event before after → Plays journal after later → Plays journal before (behind event later)
 plays-behind journal None before after later same plays = subst (λ (a : Alone). Plays journal a later) same plays
 plays-behind journal (Some event) before after later does plays = (after, does, plays)
 
--- What follows in a log.
+-- The events of a log.
 module _ (vc : Vc) (shape : Shape) where
   plays-later : (so_far log : List Event) (before after : World) → Leads shape so_far before → Run before log after
       → before.shape ≡ shape → (taken : ℕ) → ((line : ℕ) → length (before.judged line) ≤ taken) → taken + length log ≤ 2 ^ 62
@@ -45,7 +45,7 @@ module _ (vc : Vc) (shape : Shape) where
       (own_events_after shape.side vc (notes_after shape.side vc (notes_in vc before) event) log) goes
       (subst (λ (n : Notes). Plays shape.journal (alone_in vc next) (own_events_after shape.side vc n log)) (sym notes) later)
 
--- At first.
+-- Initially.
 
 no-place : (side : Side) (vc : Vc) (ports port : ℕ) → place_of side vc [] None (slice_get (replicate ports outside) port) ≡ idle
 no-place side vc zero port = refl
@@ -73,7 +73,7 @@ plays-log vc shape log world leads within =
     subst (λ (p : ℕ → Place). Plays shape.journal (record { connection = None; places = p }) (own_events_after shape.side vc opening_notes log)) places
     (subst (λ (n : Notes). Plays shape.journal (alone_in vc opening) (own_events_after shape.side vc n log)) notes plays)
 
--- No port has a cell at first, so that any numbers will do.
+-- Initially no port has a cell, so any numbers match.
 nothing-matches : Matches opening_arrivals nothing nothing
 nothing-matches = record {
   connection = refl;

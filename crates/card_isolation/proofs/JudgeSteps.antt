@@ -1,4 +1,4 @@
--- What a Judge tells of a connection, and a Pick that is refused.
+-- The effect of a Judge on a connection, and of a Pick that is refused.
 use Rattle.std.proofs.Common.{◌≡◌, ℕ, ◌^◌, suc, ◌<◌, ◌≤◌, ◌==◌, Bool, true, false, cond, if◌then◌else◌, List, [], ◌∷◌, ◌++◌, map, length, drop, set, Option, Some, None, is_none, slice_get, option_map, nat_lt, nat_le, refl, sym, ap, ◌∙◌, subst, arith}
 use Rattle.std.proofs.lemmas.List.{map-append, drop-map, length-map, length_push}
 use Rattle.std.proofs.lemmas.Option.{same_Some}
@@ -29,7 +29,7 @@ use Rattle.card_isolation.proofs.Alone.{Standing, Place, idle, came, looked, Alo
 use Rattle.card_isolation.proofs.Views.{event_of, standing_of, is_current, place_of, has_own_in, alone_of, alone_in, notes_in, Goes, Tells, no-more, same-notes, same-alone, goes-by, tells-at}
 use Rattle.card_isolation.proofs.PortSteps.{places-set, noted-set}
 
--- A cell is refused on the card as it is alone: so far no line has judged so many cells that it is full.
+-- A cell is refused on the card exactly if the connection on its own refuses it, while no line is full.
 
 few : (journal : ℕ) (judged : List Verdict) → length judged < 2 ^ 62 → nat_le (2 ^ 62) (length judged) ≡ false
 few journal judged less = grind (arith)
@@ -62,7 +62,7 @@ picking-alike world picking (Some connection) less =
     ap (λ (o : Option Answer). if connection.incarnation == picking.incarnation then o else Some PickReleased)
     (cell-alike world connection picking.moment (less connection.line))
 
--- What is answered to a cell that isn't judged is its outcome.
+-- The answer to a cell that isn't judged is its outcome.
 
 abbrev pub IsPlain : Answer → Type 0
 IsPlain answer = (codes : List Loading) → outcome_of codes answer ≡ was_not_judged answer
@@ -93,13 +93,13 @@ picking-plain world picking (Some connection) answer e =
     ] in
     choice (connection.incarnation == picking.incarnation) e
 
--- The cell of a port is answered: what is noted of the port.
+-- The port's cell is answered: the reader's state of the port.
 noted-answered : (vc : Vc) (before : World) (port : ℕ) (old : PortState) → slice_get before.ports port ≡ Some old
     → (λ other. cond (other == port) false (has_own_in before.shape.side vc (slice_get before.ports other)))
     ≡ (notes_in vc (with_port before port outside)).has_own
 noted-answered vc before port old had = sym (noted-set vc before port old outside had)
 
--- One more line verdict at most.
+-- At most one more verdict on each line.
 one-more : (judged : ℕ → List Verdict) (line : ℕ) (verdict : Verdict) (other : ℕ)
     → length (with_verdict judged line verdict other) ≤ suc (length (judged other))
 one-more judged line verdict other =
@@ -140,7 +140,7 @@ module _ (vc : Vc) (before : World) (less : (line : ℕ) → length (before.judg
   place_none : own ≡ false → (alone_in vc before).places port ≡ idle
   place_none e = place_here ∙ ap (λ b. cond b looked_is idle) e
 
-  -- On the connection itself the card refuses as it does alone.
+  -- For this connection the card refuses as the connection on its own does.
   refusal_own : (refused : Option Answer) → own ≡ true → picking_refusal before picking (connection_in before.connections picking.vc) ≡ refused
       → refusal_alone journal_is (alone_in vc before).connection picking.moment (is_current here picking) ≡ refused
   refusal_own refused e is =
@@ -148,7 +148,7 @@ module _ (vc : Vc) (before : World) (less : (line : ℕ) → length (before.judg
       ∙ ap (λ (v : Vc). picking_refusal before picking (connection_in before.connections v)) (vc_same vc picking.vc e)
       ∙ is
 
-  -- Its cell is refused.
+  -- The cell is refused.
   tells-unjudged : (answer : Answer) → picking_refusal before picking (connection_in before.connections picking.vc) ≡ Some answer
       → Tells vc before (Judge port) (Answered answer) (with_port before port outside)
   tells-unjudged answer is =
@@ -183,7 +183,7 @@ module _ (vc : Vc) (before : World) (less : (line : ℕ) → length (before.judg
         counts = λ line. no-more (before.judged line);
       }
 
-  -- Its cell is judged on the connection that was found.
+  -- The cell is judged on the connection that was found.
   module _ (connection : Connection) (found : connection_in before.connections picking.vc ≡ Some connection) (allowed : picking_refusal before picking (connection_in before.connections picking.vc) ≡ None) where
     abbrev verdict_is : Verdict
     verdict_is = verdict_on connection (cell_of_picking picking)
@@ -227,7 +227,7 @@ module _ (vc : Vc) (before : World) (less : (line : ℕ) → length (before.judg
         ∙ ap (λ (h : List NamedCell). Some (record standing_is { history = h })) (sym (map-append forgotten connection.history (cell_of_picking picking ∷ [])))
         )
 
-    -- What the ports have of it doesn't change with its history.
+    -- The connection's part of the ports doesn't depend on its history.
     place_longer : (o : Option PortState) → place_of side_is vc before.given (Some longer) o ≡ place_of side_is vc before.given (Some connection) o
     place_longer None = refl
     place_longer (Some outside) = refl
@@ -293,7 +293,7 @@ tells-judges vc before less port reply after allowed w =
     (judged_world before port w.picking w.connection) w.answer w.world
     (tells-judged vc before less port w.picking w.had w.connection w.found none)
 
--- At no time for it a port stays as it was.
+-- NotNow changes no port.
 tells-not_now : (vc : Vc) (before : World) (step : Step) (refused : Reply) → Some NotNow ≡ Some refused → Tells vc before step refused before
 tells-not_now vc before step refused e =
     subst (λ (r : Reply). Tells vc before step r before) (same_Some NotNow refused e) (record {

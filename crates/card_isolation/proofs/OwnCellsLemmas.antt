@@ -1,4 +1,4 @@
--- The judged cells among a connection's own events are those that the log has of it.
+-- The judged cells among a connection's own events are its judged cells in the log.
 use Rattle.std.proofs.Common.{◌≡◌, ◌⊎◌, ℕ, ◌+◌, ◌^◌, suc, ◌≤◌, Bool, true, false, cond, List, [], ◌∷◌, ◌++◌, map, filter, length, Option, Some, None, MatchOption, slice_get, option_map, refl, sym, ap, ◌∙◌, subst, inl, inr, arith}
 use Rattle.std.specs.List.{cons_option}
 use Rattle.std.proofs.lemmas.Option.{same_Some}
@@ -34,7 +34,7 @@ use Rattle.card_isolation.proofs.JudgeSteps.{no-connection, picking-plain}
 use Rattle.card_core.proofs.CellLemmas.{vc-after}
 use Rattle.card_isolation.proofs.Isolated.{no-own}
 
--- The judged cell of an event, if it is one and the connection's.
+-- The judged cell of an event, if it has one and it is the connection's.
 
 abbrev of_event : Option OwnEvent → List ToldCell
 of_event None = []
@@ -68,7 +68,7 @@ reply-of shape vc event later =
     ] in
     choice (judged_in event.reply)
 
--- An event that tells of no judged cell.
+-- An event without a judged cell.
 
 plain-own : (own : Bool) (act : Act) (outcome : Outcome) → judged_outcome outcome ≡ None → of_event (own_where own act outcome) ≡ []
 plain-own true act outcome none = ap (λ (o : Option ToldCell). cons_option o []) none
@@ -90,7 +90,7 @@ plain-event side vc notes (Answered answer) (Pick port) e = plain-own (notes.has
 plain-event side vc notes (Answered answer) (Judge port) e = plain-own (notes.has_own port) _ _ (plain-answer notes.codes answer e)
 plain-event side vc notes _ _ e = refl
 
--- A refusal tells of no judged cell.
+-- A refusal has no judged cell.
 
 plain-told : (answer : Answer) → outcome_of [] answer ≡ was_not_judged answer → told answer ≡ None
 plain-told (Judged line number moment value program verdict cell) e = absurd (cc)
@@ -139,7 +139,7 @@ starved-untold (Retire id) reply e = absurd (cc)
 starved-untold (Reload other program) reply e = absurd (cc)
 starved-untold (Release other) reply e = absurd (cc)
 
--- Each event tells of a judged cell of the connection exactly where it is its own event.
+-- An event has a judged cell of the connection exactly if it is its own event.
 
 abbrev TellsAlike : Vc → World → Step → Reply → Type 0
 TellsAlike vc world step reply =
@@ -194,7 +194,7 @@ step-alike vc world step reply after sound w =
     ] in
     choice (refusal world step) refl w
 
--- And so do the events of a log.
+-- The same for the events of a log.
 module _ (vc : Vc) (shape : Shape) where
   own-later : (so_far log : List Event) (world end : World) → Leads shape so_far world → Run world log end → world.shape ≡ shape
       → (taken : ℕ) → ((line : ℕ) → length (world.judged line) ≤ taken) → taken + length log ≤ 2 ^ 62

@@ -1,4 +1,4 @@
--- What an own step of a connection is and leaves, in any world.
+-- An own step of a connection, and its effects, in any world.
 use Rattle.std.proofs.Common.{◌≡◌, ◌⊎◌, ℕ, ◌+◌, Bool, true, false, List, length, set, Option, Some, None, MatchOption, slice_get, option_map, refl, sym, ap, ◌∙◌, subst, inl, inr, arith}
 use Rattle.upc_cell.specs.declared.side.Side.{Side}
 use Rattle.upc_cell.specs.declared.vc.Vc.{Vc}
@@ -27,9 +27,9 @@ use Rattle.card_isolation.proofs.JudgeSteps.{no-connection}
 use Rattle.card_isolation.proofs.Unseen.{none-picked, none-judged}
 use Rattle.card_isolation.proofs.Shadow.{Holding, held, holding_of, has_kept_in, HasOnlyKept, kept-too, only-kept-set, HasEntered, HasPicked}
 
--- An own step: which act it is, what the connection holds then, and how many incarnations more were given.
--- It is no event of another connection, no other connection changes, and each port has a kept connection's
--- cell or none, where it was so before and this connection is kept.
+-- An own step: its act, what the connection holds afterwards, and how many more incarnations were given. It isn't an
+-- event of another connection, and changes no other connection. If this connection is kept and each port had a kept
+-- connection's cell or none, this is still so.
 pub record OwnStep (vc : Vc) (before : World) (step : Step) (reply : Reply) (after : World) (act : Act) (holds : Option Holding → Option Holding) (more : ℕ) : Type 0 where
   pub outcome : Outcome
   pub event : own_event before.shape.side vc (notes_in vc before) reply step ≡ Some (event_with act outcome)
@@ -57,14 +57,14 @@ new_program program old = option_map (λ (h : Holding). record h { program = pro
 abbrev pub no_holding : Option Holding → Option Holding
 no_holding old = None
 
--- What is known of the reply and the world that a step led to.
+-- The reply and the world after a step, replaced by equal ones.
 own-at : (vc : Vc) (before : World) (step : Step) (one other : Reply) (after later : World) (act : Act) (holds : Option Holding → Option Holding) (more : ℕ)
     → one ≡ other → after ≡ later → OwnStep vc before step other later act holds more → OwnStep vc before step one after act holds more
 own-at vc before step one other after later act holds more same leads own =
     subst (λ (r : Reply). OwnStep vc before step r after act holds more) (sym same)
     (subst (λ (w : World). OwnStep vc before step other w act holds more) (sym leads) own)
 
--- A virtual connection that is apart from one is apart from one that is the same.
+-- A virtual connection that differs from one differs from any equal one.
 away : (vc own other : Vc) → is_same_vc vc own ≡ true → is_same_vc other vc ≡ false → is_same_vc other own ≡ false
 away vc own other same apart = subst (λ (v : Vc). is_same_vc other v ≡ false) (vc_same vc own same) apart
 

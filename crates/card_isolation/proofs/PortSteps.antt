@@ -1,4 +1,4 @@
--- What Enter and Pick tell of a connection.
+-- The effect of Enter and Pick on a connection.
 use Rattle.std.proofs.Common.{◌≡◌, ℕ, Bool, true, false, cond, List, Option, Some, None, slice_get, option_map, refl, sym, ap, ◌∙◌, subst}
 use Rattle.std.proofs.lemmas.Bool.{eq-eqb}
 use Rattle.upc_cell.specs.declared.side.Side.{Side}
@@ -18,7 +18,7 @@ use Rattle.card_isolation.proofs.Connections.{found-same}
 use Rattle.card_isolation.proofs.Alone.{Standing, Place, idle, came, looked, Alone, IsNamed, LooksUp, found_alone, is_idle}
 use Rattle.card_isolation.proofs.Views.{event_of, standing_of, is_current, place_of, has_own_in, alone_in, notes_in, Goes, Tells, no-more, same-notes, same-alone, goes-by, tells-at}
 
--- A port has another state: what the connection has of it, and what is noted of it.
+-- A port has a new state: the connection's part of it, and the reader's state of it.
 
 pub places-set : (vc : Vc) (before : World) (port : ℕ) (old new : PortState) → slice_get before.ports port ≡ Some old
     → alone_in vc (with_port before port new)
@@ -38,7 +38,7 @@ pub noted-set : (vc : Vc) (before : World) (port : ℕ) (old new : PortState) �
     ≡ with_at (notes_in vc before).has_own port (has_own_in before.shape.side vc (Some new))
 noted-set vc before port old new had = seen-set (has_own_in before.shape.side vc) before.ports port new old had
 
--- A port that is let in is outside.
+-- A cell may enter only a port without a cell.
 pub let_in : (o : Option PortState) → enter_refusal o ≡ None → o ≡ Some outside
 let_in None e = absurd (cc)
 let_in (Some outside) e = refl
@@ -70,7 +70,7 @@ tells-enters vc before port cell moment reply after allowed w =
       counts = λ line. no-more (before.judged line);
     })
 
--- What is looked up under the connection that was found.
+-- A look-up with the connection that was found.
 looks-up : (connection : Option Standing) (standing : Standing) (place : Place) (cell : List ℕ) (moment : ℕ) (after : Place)
     → connection ≡ Some standing → place ≡ came cell moment → IsNamed standing cell moment after → LooksUp connection place after
 looks-up connection standing place cell moment after found at named =

@@ -1,4 +1,4 @@
--- A connection alone, by the numbers of its arrivals in place of the ports.
+-- A connection on its own, by the numbers of its arrivals instead of the ports.
 use Rattle.std.proofs.Common.{◌≡◌, ◌≢◌, ℕ, ◌<◌, false, cond, List, [], ◌∷◌, Option, Some, None, refl, sym, ap, ◌∙◌, subst, inl, inr, arith}
 use Rattle.std.proofs.lemmas.Bool.{eq-eqb, ne_eqb, cases_eq}
 use Rattle.card_isolation.specs.Act.{Act, sets_up, reloads, releases, cuts, enters, looks_up, judges}
@@ -16,7 +16,7 @@ with_at-here values at other value is = ap (λ b. cond b value (values other)) (
 with_at-other : {X : Type 0} (values : ℕ → X) (at other : ℕ) (value : X) → other ≢ at → with_at values at value other ≡ values other
 with_at-other values at other value apart = ap (λ b. cond b value (values other)) (ne_eqb other at apart)
 
--- By the numbers of the arrivals the connection is as it is by ports.
+-- The state by numbers of arrivals matches the state by ports.
 pub record Matches (arrivals : Arrivals) (ports numbers : Alone) : Type 0 where
   pub connection : numbers.connection ≡ ports.connection
   pub places : (port : ℕ) → is_idle (ports.places port) ≡ false → numbers.places (arrivals.latest port) ≡ ports.places port
@@ -24,7 +24,7 @@ pub record Matches (arrivals : Arrivals) (ports numbers : Alone) : Type 0 where
   pub apart : (one other : ℕ) → is_idle (ports.places one) ≡ false → is_idle (ports.places other) ≡ false
       → arrivals.latest one ≡ arrivals.latest other → one ≡ other
 
--- The connection changed, and no port.
+-- The connection changed, and no port did.
 with-connection : (arrivals : Arrivals) (ports numbers : Alone) (one other : Option Standing) → other ≡ one → Matches arrivals ports numbers
     → Matches arrivals (record ports { connection = one }) (record numbers { connection = other })
 with-connection arrivals ports numbers one other same m = record {
@@ -34,7 +34,7 @@ with-connection arrivals ports numbers one other same m = record {
   apart = m.apart;
 }
 
--- The cell of a port changed, and with it that of its number.
+-- The cell of a port changed, and so did that of its number.
 with-place : (arrivals : Arrivals) (ports numbers : Alone) (one other : Option Standing) (port : ℕ) (place : Place) → other ≡ one
     → is_idle (ports.places port) ≡ false → Matches arrivals ports numbers
     → Matches arrivals (record { connection = one; places = with_at ports.places port place })
@@ -124,7 +124,7 @@ with-ended arrivals ports numbers m = record {
   apart = λ one other e e_too. m.apart one other (ended-busy (ports.places one) e) (ended-busy (ports.places other) e_too);
 }
 
--- What an event does by ports it does by numbers.
+-- An event has the same effect by numbers as by ports.
 pub record DoesToo (journal : ℕ) (arrivals : Arrivals) (numbers : Alone) (act : Act) (outcome : Outcome) (after : Alone) : Type 0 where
   pub next : Alone
   pub does : Does journal numbers (record { act = with_number arrivals act; outcome = outcome }) next

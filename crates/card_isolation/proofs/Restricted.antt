@@ -1,4 +1,4 @@
--- Beside a world with others goes one with the kept connections alone, whatever the step.
+-- For each step of a world, a world with only the kept connections follows.
 use Rattle.std.proofs.Common.{◌≡◌, ◌⊎◌, ℕ, zero, suc, ◌<◌, Bool, true, false, List, [], ◌∷◌, length, Option, Some, None, MatchOption, slice_get, refl, sym, ap, ◌∙◌, inl, inr, arith}
 use Rattle.std.proofs.lemmas.Option.{same_Some, slice_get_within}
 use Rattle.upc_cell.specs.declared.vc.Vc.{Vc}
@@ -127,7 +127,7 @@ module _ {kept : Vc → Bool} {world shadow : World} (beside : AreBeside kept wo
   succeeded (Release other) reply after ws e w = follows-releases beside other reply after e w
   succeeded (Cut other) reply after ws e w = follows-cuts beside other reply after e w
 
-  -- A step that changes nothing, and is no event of a connection's.
+  -- A step that changes nothing and is no connection's event.
   unchanged : (step : Step) (reply told : Reply) (after : World) → WorldStep world step reply after → reply ≡ told → after ≡ world
       → ((vc : Vc) → own_event world.shape.side vc (notes_in vc world) told step ≡ None) → Follows kept world step reply after shadow
   unchanged step reply told after ws is same none =

@@ -1,4 +1,4 @@
--- Kept connections are served as on a card that has no other, and so is each connection.
+-- Kept connections, and so each connection, are served as on a card that has no other connections.
 use Rattle.std.proofs.Common.{◌≡◌, ℕ, zero, ◌+◌, ◌^◌, suc, ◌≤◌, Bool, true, List, [], ◌∷◌, ◌++◌, length, replicate, Option, Some, None, slice_get, All, refl, sym, ap, ◌∙◌, subst, inl, inr, arith}
 use Rattle.std.proofs.lemmas.List.Elements.{All-cons, All-nil}
 use Rattle.std.proofs.lemmas.Option.{same_Some}
@@ -19,7 +19,7 @@ use Rattle.card_isolation.proofs.Follows.{stays, goes_too, any_vc, AreBeside}
 use Rattle.card_isolation.proofs.Restricted.{step-follows}
 use Rattle.card_isolation.proofs.Isolated.{no-own}
 
--- What a shadow's own log is, where the world's goes on so.
+-- The shadow's own log, if the world's log continues like this.
 record GoesAlone (shape : Shape) (kept : Vc → Bool) (world shadow : World) (log : List Event) : Type 0 where
   pub restricted : List Event
   pub end : World
@@ -34,7 +34,7 @@ left-out : (event : Event) (log restricted : List Event) → LeavesOutSteps rest
 left-out event log [] leaves = tt
 left-out event log (first ∷ later) leaves = inr leaves
 
--- The own events of a log are those of its first event, and those behind it.
+-- The own events of a log are that of its first event, if it is one, and those of the rest.
 first-own : (side : Side) (vc : Vc) (notes after : Notes) (event : Event) (later : List Event) (own : Option OwnEvent)
     → own_event side vc notes event.reply event.step ≡ own → notes_after side vc notes event ≡ after
     → own_events_after side vc notes (event ∷ later) ≡ behind own (own_events_after side vc after later)
@@ -159,7 +159,7 @@ kept-served shape log kept is within =
           ∙ ap (λ (n : Notes). own_events_after shape.side vc n log) (notes vc);
     }
 
--- One connection is served as where it alone is kept.
+-- One connection is served as if only this one is kept.
 pub served-alone : EachIsServedAsAlone
 served-alone shape log vc is within =
     let served : AreServedAlike shape (λ other. is_same_vc vc other) log = kept-served shape log (λ other. is_same_vc vc other) is within in

@@ -1,12 +1,12 @@
--- A world with the kept connections alone, beside a world with others: what both have in common.
+-- A world with only the kept connections, its shadow, next to a world with others: the parts that they share.
 --
 -- The shadow of a world is a world of the same shape. It has
---   the same programs, put in and live, under the same ids;
---   each kept connection as the world has it, on the same line and with the same program, and no other;
---   at each port the cell that the world has there, where that is a kept connection's, and else none;
+--   the same given and live programs, under the same ids;
+--   each kept connection of the world, on the same line and with the same program, and no other connection;
+--   at each port the cell that the world has there, if it is a kept connection's, and otherwise none;
 --   no more incarnations given.
--- Incarnations may differ, and so may the counts of a line. The lines are the same, so a line that is open in
--- the world is open in the shadow too.
+-- The incarnations and the counts of a line may differ. The lines are the same, so a line that is open in the world is
+-- open in the shadow too.
 use Rattle.std.proofs.Common.{◌≡◌, ℕ, zero, suc, ◌≤◌, ◌==◌, Bool, true, false, cond, not, ◌&&◌, List, [], ◌∷◌, set, Option, Some, None, is_some, slice_get, option_map, refl, sym, ap, ◌∙◌, subst}
 use Rattle.std.specs.List.{list_any, list_all}
 use Rattle.std.proofs.lemmas.Bool.{and_parts}
@@ -30,7 +30,7 @@ use Rattle.card_core.proofs.StoreSteps.{tested-connection}
 use Rattle.card_isolation.proofs.Connections.{connection-passes}
 use Rattle.card_isolation.proofs.Views.{is_current, place_of, has_own_in, alone_in, notes_in, Goes, Tells}
 
--- What a connection holds of the card: its line, and its program.
+-- A connection's part of the card: its line and its program.
 pub record Holding : Type 0 where
   pub line : ℕ
   pub program : Id
@@ -63,13 +63,13 @@ pub record Shadows (kept : Vc → Bool) (world shadow : World) : Type 0 where
   pub others : (vc : Vc) → kept vc ≡ false → connection_in shadow.connections vc ≡ None
   pub ports : HasOnlyKept shadow.shape.side kept shadow.ports
 
--- Who is kept.
+-- Which connections are kept.
 
--- A virtual connection that is the same as a kept one is kept.
+-- A virtual connection that equals a kept one is kept.
 pub kept-too : (kept : Vc → Bool) (vc other : Vc) → kept vc ≡ true → is_same_vc vc other ≡ true → kept other ≡ true
 kept-too kept vc other is same = subst (λ (v : Vc). kept v ≡ true) (vc_same vc other same) is
 
--- A kept one and one that isn't are apart.
+-- A kept one differs from one that isn't kept.
 pub tell-apart : (kept : Vc → Bool) (vc other : Vc) (b : Bool) → kept vc ≡ b → kept other ≡ not b → is_same_vc vc other ≡ false
 tell-apart kept vc other b is isnt =
     let choice : (same : Bool) → is_same_vc vc other ≡ same → same ≡ false = elim [
@@ -81,7 +81,7 @@ tell-apart kept vc other b is isnt =
     ] in
     choice (is_same_vc vc other) refl
 
--- A port has a cell of a kept connection where it has one of its own.
+-- A port that has a cell of one kept connection has a cell of a kept connection.
 pub own-kept : (side : Side) (kept : Vc → Bool) (vc : Vc) → kept vc ≡ true → (o : Option PortState) → has_own_in side vc o ≡ true
     → has_kept_in side kept o ≡ true
 own-kept side kept vc is None own = absurd (cc)
@@ -96,7 +96,7 @@ kept-own side kept (Some outside) has = absurd (cc)
 kept-own side kept (Some (entered cell moment)) has = (vc_of side cell, has, vc_itself (vc_of side cell))
 kept-own side kept (Some (picked picking)) has = (picking.vc, has, vc_itself picking.vc)
 
--- A port that has no cell of a kept connection has none of one.
+-- A port without a cell of a kept connection has no cell of any one of them.
 pub none-kept : (side : Side) (kept : Vc → Bool) (vc : Vc) → kept vc ≡ true → (o : Option PortState) → has_kept_in side kept o ≡ false
     → has_own_in side vc o ≡ false
 none-kept side kept vc is o none =
@@ -106,7 +106,7 @@ none-kept side kept vc is o none =
     ] in
     choice (has_own_in side vc o) refl
 
--- A port that was written has a cell of a kept connection, or none.
+-- After a write a port has a cell of a kept connection, or none.
 pub only-kept-set : (side : Side) (kept : Vc → Bool) (ports : List PortState) (port : ℕ) (old new : PortState) → slice_get ports port ≡ Some old
     → (has_kept_in side kept (Some new) ≡ false → new ≡ outside) → HasOnlyKept side kept ports → HasOnlyKept side kept (set ports port new)
 only-kept-set side kept ports port old new had fits only other state at none =
@@ -120,7 +120,7 @@ only-kept-set side kept ports port old new had fits only other state at none =
     ] in
     choice (other == port) (sym seen ∙ at)
 
--- A port has a cell of the connection where its place isn't idle.
+-- If the connection's part of a port isn't idle, the port has a cell of it.
 own-place : (side : Side) (vc : Vc) (given : List Loading) (found : Option Connection) → (o : Option PortState)
     → has_own_in side vc o ≡ not (is_idle (place_of side vc given found o))
 own-place side vc given found None = refl
@@ -142,7 +142,7 @@ same-own vc world shadow alone port =
     ∙ ap (λ (a : Alone). not (is_idle (a.places port))) alone
     ∙ sym (own-place world.shape.side vc world.given (connection_in world.connections vc) (slice_get world.ports port))
 
--- Where a port of the world has no cell of a kept connection, that of the shadow has none.
+-- If a port of the world has no cell of a kept connection, the shadow's port has no cell.
 pub none-too : (kept : Vc → Bool) (world shadow : World) → Shadows kept world shadow → (port : ℕ)
     → has_kept_in world.shape.side kept (slice_get world.ports port) ≡ false
     → has_kept_in shadow.shape.side kept (slice_get shadow.ports port) ≡ false
@@ -158,7 +158,7 @@ none-too kept world shadow s port none =
     ] in
     choice (has_kept_in shadow.shape.side kept (slice_get shadow.ports port)) refl
 
--- What a place tells of its port.
+-- The port, from the connection's part of it.
 
 abbrev pub is_came : Place → Bool
 is_came idle = false
@@ -235,7 +235,7 @@ picked-too vc world shadow alone port here =
     (is_current (connection_in world.connections vc) here.picking)) idle)) here.own in
     looked-picked vc shadow port (slice_get shadow.ports port) refl (ap (λ (a : Alone). is_looked (a.places port)) alone ∙ place)
 
--- Where no port of the world has a cell, none of the shadow has.
+-- If no port of the world has a cell, no port of the shadow has one.
 
 outside-all : (ports : List PortState) → ((port : ℕ) (state : PortState) → slice_get ports port ≡ Some state → state ≡ outside)
     → list_all is_outside ports ≡ true
@@ -261,7 +261,7 @@ idle-too kept world shadow s all =
     (ap (has_kept_in shadow.shape.side kept) (sym at)
     ∙ none-too kept world shadow s port (none-inside world.shape.side kept world.ports all port)))
 
--- The shadow has a kept connection where the world has it.
+-- The shadow has a kept connection if the world has it.
 
 is_there : {X Y : Type 0} (f : X → Y) (o : Option X) → is_some (option_map f o) ≡ is_some o
 is_there f None = refl
@@ -274,7 +274,7 @@ found-too vc world shadow holding =
     ∙ ap (λ (o : Option Holding). is_some o) holding
     ∙ is_there held (connection_in world.connections vc)
 
--- What no connection of the world holds, none of the shadow holds.
+-- If no connection of the world holds something, none of the shadow does.
 pub unheld-too : (kept : Vc → Bool) (world shadow : World) → Shadows kept world shadow → IsSound shadow → (test : Holding → Bool)
     → list_any (λ here. test (held here.1)) world.connections ≡ false → list_any (λ here. test (held here.1)) shadow.connections ≡ false
 unheld-too kept world shadow s sound test none =
@@ -298,7 +298,7 @@ unheld-too kept world shadow s sound test none =
     ] in
     choice (list_any holds shadow.connections) refl
 
--- An own event of both with one act is one event, and leaves the connection alike.
+-- An own event of both with the same act is the same event, with the same effect on the connection.
 
 pub record AreOne (vc : Vc) (world shadow : World) (step : Step) (reply answered : Reply) (after later : World) : Type 0 where
   pub event : own_event shadow.shape.side vc (notes_in vc shadow) answered step ≡ own_event world.shape.side vc (notes_in vc world) reply step
@@ -331,7 +331,7 @@ are-one vc world shadow step reply answered after later one other shape alone te
           (subst (λ (a : Act). Next world.shape.journal (alone_in vc world) a (alone_in vc later)) act does_too.next) does.next;
     }
 
--- So does a step that is no own event of either.
+-- A step that is no own event of either has the same effect on both.
 pub are-none : (vc : Vc) (world shadow : World) (step : Step) (reply answered : Reply) (after later : World)
     → alone_in vc shadow ≡ alone_in vc world → Tells vc world step reply after → Tells vc shadow step answered later
     → own_event world.shape.side vc (notes_in vc world) reply step ≡ None

@@ -1,4 +1,4 @@
--- What each step tells of a connection, and what a whole log does.
+-- The effect of each step on a connection, and that of a whole log.
 use Rattle.std.proofs.Common.{◌≡◌, ◌⊎◌, ℕ, ◌^◌, ◌<◌, length, Option, Some, None, MatchOption, slice_get, option_map, refl, sym, ◌∙◌, subst, inl, inr}
 use Rattle.std.proofs.lemmas.Option.{same_Some}
 use Rattle.upc_cell.specs.declared.vc.Vc.{Vc}
@@ -18,7 +18,7 @@ use Rattle.card_isolation.proofs.PortSteps.{tells-enters, tells-picks}
 use Rattle.card_isolation.proofs.JudgeSteps.{tells-judges, tells-judge_refused, tells-pick_refused}
 use Rattle.card_isolation.proofs.DeskSteps.{tells-loads, tells-retires, tells-sets_up, tells-reloads, tells-cuts, tells-releases}
 
--- No line has judged so many cells that it is full.
+-- No line is full of judged cells.
 abbrev pub HasJudgedFew : World → Type 0
 HasJudgedFew world = (line : ℕ) → length (world.judged line) < 2 ^ 62
 
@@ -34,7 +34,7 @@ succeeded vc before (Reload other program) reply after sound few allowed w = tel
 succeeded vc before (Release other) reply after sound few allowed w = tells-releases vc before other reply after w
 succeeded vc before (Cut other) reply after sound few allowed w = tells-cuts vc before other reply after w
 
--- A refusal of the desk tells nothing.
+-- A refusal of the desk changes nothing.
 
 refused-tells : (vc : Vc) (before : World) (step : Step) (fault : DeskFault) → Tells vc before step (Refused fault) before
 refused-tells vc before step fault = record {
@@ -101,7 +101,7 @@ rejected vc before (Cut other) refused reply after few e w =
     tells-at vc before (Cut other) reply refused after before w.answer w.world
     (desk-refused vc before (Cut other) (missing_fault before other) refused e)
 
--- Nor does a step that finds no memory.
+-- A step that fails to allocate changes nothing.
 starved : (vc : Vc) (before : World) (step : Step) (reply : Reply) (after : World) → FindsNoMemory before step reply after
     → Tells vc before step reply after
 starved vc before (Setup ask) reply after w =

@@ -19,7 +19,7 @@ use Rattle.card_isolation.proofs.Connections.{with-others, without-others}
 use Rattle.card_isolation.proofs.Views.{notes_in}
 use Rattle.card_isolation.proofs.Shadow.{held, holding_of, has_kept_in, none-kept, tell-apart}
 
--- The step is no event of a kept connection's, and leaves the programs, and what kept connections hold.
+-- The step is no event of a kept connection, and changes neither the programs nor what kept connections hold.
 pub record IsUnseen (kept : Vc → Bool) (before : World) (step : Step) (reply : Reply) (after : World) : Type 0 where
   pub none : (vc : Vc) → kept vc ≡ true → own_event before.shape.side vc (notes_in vc before) reply step ≡ None
   pub given : after.given ≡ before.given
@@ -27,14 +27,14 @@ pub record IsUnseen (kept : Vc → Bool) (before : World) (step : Step) (reply :
   pub holding : (vc : Vc) → kept vc ≡ true → holding_of vc after ≡ holding_of vc before
   pub used : before.used ≤ after.used
 
--- What is known of the reply and the world that a step led to.
+-- The reply and the world after a step, replaced by equal ones.
 pub unseen-at : (kept : Vc → Bool) (before : World) (step : Step) (one other : Reply) (after later : World)
     → one ≡ other → after ≡ later → IsUnseen kept before step other later → IsUnseen kept before step one after
 unseen-at kept before step one other after later same leads unseen =
     subst (λ (r : Reply). IsUnseen kept before step r after) (sym same)
     (subst (λ (w : World). IsUnseen kept before step other w) (sym leads) unseen)
 
--- Steps for a connection that is not kept.
+-- Steps for a connection that isn't kept.
 
 module _ (kept : Vc → Bool) (before : World) where
   pub unseen-enters : (port : ℕ) (cell : List ℕ) (moment : ℕ) (reply : Reply) (after : World) → kept (vc_of before.shape.side cell) ≡ false
@@ -102,7 +102,7 @@ module _ (kept : Vc → Bool) (before : World) where
         used = omega (arith);
       })
 
--- Whatever is answered at a port that has no cell of the connection.
+-- Any answer at a port without a cell of the connection.
 
 pub none-picked : (side : Side) (vc : Vc) (notes : Notes) (port : ℕ) → notes.has_own port ≡ false → (reply : Reply)
     → own_event side vc notes reply (Pick port) ≡ None
@@ -115,7 +115,7 @@ pub none-judged : (side : Side) (vc : Vc) (notes : Notes) (port : ℕ) → notes
 none-judged side vc notes port none (Answered answer) = ap (λ b. own_where b (judges port) (outcome_of notes.codes answer)) none
 none-judged side vc notes port none _ = refl
 
--- The step is no event of a kept connection's, and changes no more than its port.
+-- The step is no event of a kept connection, and changes at most its port.
 abbrev pub unseen-here : (kept : Vc → Bool) (before : World) (step : Step) (reply : Reply) (ports : List PortState)
     → ((vc : Vc) → kept vc ≡ true → own_event before.shape.side vc (notes_in vc before) reply step ≡ None)
     → IsUnseen kept before step reply (record before { ports = ports })
@@ -187,14 +187,14 @@ unseen-judges kept before port reply after none w =
     ] in
     choice (refusal before (Judge port)) refl w
 
--- A step that changes nothing, and is no event of a connection's.
+-- A step that changes nothing and is no connection's event.
 pub unseen-unchanged : (kept : Vc → Bool) (before : World) (step : Step) (reply told : Reply) (after : World) → reply ≡ told → after ≡ before
     → ((vc : Vc) → own_event before.shape.side vc (notes_in vc before) told step ≡ None) → IsUnseen kept before step reply after
 unseen-unchanged kept before step reply told after answer leads none =
     unseen-at kept before step reply told after before answer leads
     (unseen-here kept before step told before.ports (λ vc is. none vc))
 
--- A step that comes at no time for it.
+-- A step that doesn't fit the state of its port.
 pub unseen-not_now : (kept : Vc → Bool) (before : World) (step : Step) (reply : Reply) (after : World) → refusal before step ≡ Some NotNow
     → left_by before step ≡ before → WorldStep before step reply after → IsUnseen kept before step reply after
 unseen-not_now kept before step reply after e left w =

@@ -1,4 +1,4 @@
--- What one connection has of a world, and what a step tells of it.
+-- One connection's part of a world, and the effect of a step on it.
 use Rattle.std.proofs.Common.{◌≡◌, ℕ, ◌≤◌, ◌==◌, suc, Bool, false, if◌then◌else◌, List, map, length, Option, Some, None, slice_get, option_map, sym, ap, ◌∙◌, subst, arith}
 use Rattle.upc_cell.specs.declared.side.Side.{Side}
 use Rattle.upc_cell.specs.declared.vc.Vc.{Vc}
@@ -16,7 +16,7 @@ use Rattle.card_isolation.proofs.Alone.{Standing, Place, idle, came, looked, Alo
 abbrev pub event_of : Step → Reply → Event
 event_of step reply = record { step = step; reply = reply }
 
--- The connection without what others may have a part in.
+-- The connection without the values that it shares with others.
 abbrev pub standing_of : List Loading → Connection → Standing
 standing_of given connection = record {
   contracts = connection.contracts;
@@ -30,7 +30,7 @@ abbrev pub is_current : Option Connection → Picking → Bool
 is_current None picking = false
 is_current (Some connection) picking = connection.incarnation == picking.incarnation
 
--- What a port in this state has of the connection.
+-- The connection's part of a port in this state.
 abbrev pub place_of : Side → Vc → List Loading → Option Connection → Option PortState → Place
 place_of side vc given found None = idle
 place_of side vc given found (Some outside) = idle
@@ -52,23 +52,23 @@ alone_of side vc given found ports = record {
   places = λ port. place_of side vc given found (slice_get ports port);
 }
 
--- What the connection has of the world.
+-- The connection's part of the world.
 abbrev pub alone_in : Vc → World → Alone
 alone_in vc world = alone_of world.shape.side vc world.given (connection_in world.connections vc) world.ports
 
--- What a reader's notes are where a log has led to the world.
+-- The reader's state after a log that leads to the world.
 abbrev pub notes_in : Vc → World → Notes
 notes_in vc world = record {
   codes = world.given;
   has_own = λ port. has_own_in world.shape.side vc (slice_get world.ports port);
 }
 
--- What is done by an event that is the connection's, or none.
+-- The effect of an event on the connection, if it is its own.
 abbrev pub Goes : ℕ → Option OwnEvent → Alone → Alone → Type 0
 Goes journal None before after = after ≡ before
 Goes journal (Some event) before after = Does journal before event after
 
--- What a step tells of a connection.
+-- The effect of a step on a connection.
 pub record Tells (vc : Vc) (before : World) (step : Step) (reply : Reply) (after : World) : Type 0 where
   pub shape : after.shape ≡ before.shape
   pub notes : notes_after before.shape.side vc (notes_in vc before) (event_of step reply) ≡ notes_in vc after
@@ -78,26 +78,26 @@ pub record Tells (vc : Vc) (before : World) (step : Step) (reply : Reply) (after
 pub no-more : (given : List Verdict) → length given ≤ suc (length given)
 no-more given = omega arith
 
--- The reply and the world that a step led to are those that are known.
+-- The reply and the world after a step, replaced by equal ones.
 pub tells-at : (vc : Vc) (before : World) (step : Step) (one other : Reply) (after later : World)
     → one ≡ other → after ≡ later → Tells vc before step other later → Tells vc before step one after
 tells-at vc before step one other after later same leads tells =
     subst (λ (r : Reply). Tells vc before step r after) (sym same)
     (subst (λ (w : World). Tells vc before step other w) (sym leads) tells)
 
--- Notes are the same where their parts are.
+-- States of the reader with equal parts are equal.
 pub same-notes : (one other : Notes) → one.codes ≡ other.codes → ((port : ℕ) → one.has_own port ≡ other.has_own port) → one ≡ other
 same-notes one other codes ports =
     ap (λ (c : List Loading). record one { codes = c }) codes
     ∙ ap (λ (has : ℕ → Bool). record other { has_own = has }) (pointwise one.has_own other.has_own ports)
 
--- The connection is the same where both of its parts are.
+-- States of the connection with equal parts are equal.
 pub same-alone : (one other : Alone) → one.connection ≡ other.connection → one.places ≡ other.places → one ≡ other
 same-alone one other connection places =
     ap (λ (c : Option Standing). record one { connection = c }) connection
     ∙ ap (λ (p : ℕ → Place). record other { places = p }) places
 
--- The event is not the connection's, and what it has of the world is as before.
+-- The event isn't the connection's own, and its part of the world is unchanged.
 pub goes-by : (journal : ℕ) (event other : Option OwnEvent) (before one after : Alone) → event ≡ other → after ≡ one
     → Goes journal other before one → Goes journal event before after
 goes-by journal event other before one after same leads goes =

@@ -7,15 +7,15 @@ use Rattle.card_core.specs.Log.{Event, IsLog}
 use Rattle.card_isolation.specs.OwnEvents.{OwnEvent, own_events, acts_of}
 use Rattle.card_isolation.specs.ByArrival.{by_arrival}
 
--- The acts for the connection and their outcomes, without the ports of its cells.
+-- The connection's own events, with numbers of arrivals instead of ports.
 abbrev pub account_of : Side → Vc → List Event → List OwnEvent
 account_of side vc log = by_arrival (own_events side vc log)
 
--- Take two logs, of cards whose cells have the same header and whose journals hold as many entries. If
--- the acts for a virtual connection are the same, in the same order, so are their outcomes, whatever else was
--- done on either card: before it and in between, for other connections, at whichever ports, with as many
--- lines and programs as there are. Neither log has more than 2^62 events: after 2^62 cells of a line a card
--- answers that its journal is full.
+-- Take two logs of at most 2^62 events each, of cards with the same side and the same journal limit. If the acts for a
+-- virtual connection are the same, in the same order, so are their outcomes. The cards may differ in their numbers of
+-- lines, ports and programs, in the ports at which the cells arrive, and in everything that is done for other
+-- connections, before and between these acts. The limit of 2^62 is there since a line that has judged 2^62 cells
+-- answers JournalFull.
 abbrev pub ConnectionsAreIsolated : Type 0
 ConnectionsAreIsolated = (shape other : Shape) (log another : List Event) (vc : Vc)
     → IsLog shape log → IsLog other another

@@ -1,6 +1,5 @@
--- The events of a log that are one connection's own, and the law that nothing else in the log changes
--- their outcomes. Read them in the order Act, Outcome, OwnEvents, OwnCells, ByArrival,
--- Isolation, Restriction.
+-- The own events of one connection in a log, and the law that nothing else in the log changes their outcomes. Read Act,
+-- Outcome, OwnEvents, OwnCells, ByArrival, Isolation and Restriction, in this order.
 pub mod Act
 pub mod Outcome
 pub mod OwnEvents

@@ -1,6 +1,5 @@
--- The outcome of an act, without the values that a card may choose or shares among all its connections: ids,
--- incarnations, line numbers, and the counts of a line. In place of an id there is the code that was put in
--- under it.
+-- The outcome of an act, without the values that a card may choose or that its connections share: ids, incarnations,
+-- line numbers, and the counts of a line. Instead of an id it has the code that was loaded under it.
 use Rattle.std.specs.Prelude.{ℕ, Bool, List, Option, map}
 use Rattle.bpf_code.specs.declared.instr.Instr.{Instr}
 use Rattle.leaky.specs.declared.contract.Contract.{Contract}
@@ -11,8 +10,8 @@ use Rattle.card_core.specs.declared.answer.Answer.{Answer}
 use Rattle.card_core.specs.declared.answer.Answer.TheVariants.{Judged}
 use Rattle.card_core.specs.World.{Loading, code_in}
 
--- An entry of a journal without the id of its program: when the cell came, whether its CLP was 1, which
--- value its program gave, and its verdict.
+-- An entry of a journal without the id of its program: the moment of arrival, whether the CLP was 1, the value that the
+-- program gave, and the verdict.
 pub record SeenEntry : Type 0 where
   pub moment : ℕ
   pub clp : Bool
@@ -28,9 +27,9 @@ seen entry = record {
   verdict = entry.verdict;
 }
 
--- It was done; a program of this code was named before; a piece with these contracts and entries was
--- returned; the cell, which came at this moment, was judged with this value by a program of this code,
--- with this verdict, and leaves so; or the cell was answered this, and was not judged.
+-- The act was done; or it was done, and the earlier program had this code; or it returned a piece with these contracts
+-- and entries; or the cell, which arrived at this moment, was judged with this value from a program of this code, with
+-- this verdict, and leaves in this form; or the cell wasn't judged and got this answer.
 pub data Outcome : Type 0 where
   done : Outcome
   named_before : Option (List Instr) → Outcome
@@ -38,7 +37,7 @@ pub data Outcome : Type 0 where
   was_judged : ℕ → ℕ → Option (List Instr) → Verdict → List ℕ → Outcome
   was_not_judged : Answer → Outcome
 
--- The outcome of a cell with this answer, if these codes were put in.
+-- The outcome of a cell with this answer, if these codes were loaded.
 abbrev pub outcome_of : List Loading → Answer → Outcome
 outcome_of codes (Judged line number moment value program verdict cell) =
     was_judged moment value (code_in codes program) verdict cell

@@ -1,5 +1,4 @@
--- The judged cells among a connection's own events are those that the log has of it: none is missing, and
--- none is another's.
+-- The judged cells among a connection's own events are exactly the judged cells of this connection in the log.
 use Rattle.std.specs.Prelude.{◌≡◌, ◌≤◌, ◌^◌, ℕ, List, length, map, filter, filter_map, Option, Some, None}
 use Rattle.upc_cell.specs.declared.vc.Vc.{Vc}
 use Rattle.upc_cell.specs.Connection.{vc_of, is_same_vc}
@@ -18,7 +17,7 @@ pub record ToldCell : Type 0 where
   pub verdict : Verdict
   pub cell : List ℕ
 
--- This part of an answer.
+-- The answer without these.
 abbrev pub told_cell : JudgedView → ToldCell
 told_cell judged = record {
   moment = judged.moment;
@@ -27,7 +26,7 @@ told_cell judged = record {
   cell = judged.cell;
 }
 
--- The judged cell that is the outcome, if it is one.
+-- The judged cell of an outcome, if it has one.
 abbrev pub judged_outcome : Outcome → Option ToldCell
 judged_outcome (was_judged moment value code verdict cell) = Some (record {
   moment = moment;
@@ -41,11 +40,11 @@ judged_outcome _ = None
 abbrev pub judged_own : List OwnEvent → List ToldCell
 judged_own events = filter_map (λ event. judged_outcome event.outcome) events
 
--- The judged cells of the log that are of this virtual connection, by the header with which they leave.
+-- The judged cells of this virtual connection in the log, by the headers of the leaving cells.
 abbrev pub judged_on : Shape → Vc → List Event → List ToldCell
 judged_on shape vc log = map told_cell (filter (λ judged. is_same_vc vc (vc_of shape.side judged.cell)) (judged_cells log))
 
--- They are the same, in the same order, in each log of at most 2^62 events.
+-- In each log of at most 2^62 events both lists are the same.
 abbrev pub JudgedCellsAreOwn : Type 0
 JudgedCellsAreOwn = (shape : Shape) (log : List Event) (vc : Vc) → IsLog shape log → length log ≤ 2 ^ 62
     → judged_own (own_events shape.side vc log) ≡ judged_on shape vc log

@@ -1,27 +1,27 @@
-//! Laws over the logs of a card. These functions do nothing: the contract of each is a law.
+//! Laws of the logs of a card. Each function does nothing; its contract is the law.
 
 ghost use Rattle.card_isolation.specs.Isolation.{ConnectionsAreIsolated};
 ghost use Rattle.card_isolation.specs.OwnCells.{JudgedCellsAreOwn};
 ghost use Rattle.card_isolation.specs.Restriction.{EachIsServedAsAlone, KeptConnectionsAreServedAlike};
 
-/// The outcomes of a connection's cells, cuts and releases depend only on what was done for it.
+/// The outcomes of the acts for a connection depend only on these acts.
 pub fn connections_are_isolated()
     ensures { ConnectionsAreIsolated }
 {}
 
-/// For any log and any set of connections, the card may have a log for these connections alone, with the same
-/// acts and the same outcomes for each of them.
+/// For any log and any set of connections, the card may have a log without the other connections, with the same acts
+/// and the same outcomes for each connection of the set.
 pub fn kept_connections_are_served_alike()
     ensures { KeptConnectionsAreServedAlike }
 {}
 
-/// For any log and any connection, the card may have a log without the other connections, with the same acts
-/// and the same outcomes for this one.
+/// For any log and any connection, the card may have a log without the other connections, with the same acts and the
+/// same outcomes for this one.
 pub fn each_is_served_as_alone()
     ensures { EachIsServedAsAlone }
 {}
 
-/// The judged cells among a connection's own events are those that the log has of it.
+/// The judged cells among a connection's own events are its judged cells in the log.
 pub fn judged_cells_are_own()
     ensures { JudgedCellsAreOwn }
 {}

@@ -17,7 +17,7 @@ columns_total-of seats = ap total (map-map total (λ (seat : SeatView). seat.tal
 pub columns_on-of : (seats : List SeatView) (line : ℕ) → columns_on (columns_of seats) line ≡ seats_on seats line
 columns_on-of seats line = ap total (map-map (column_on line) (λ (seat : SeatView). seat.tallies) seats)
 
--- The first uneven line is the same for equal sums.
+-- A line that is even for one sum is even for an equal one.
 even-along : (lines : List LineView) (one other : ℕ → Tally) → ((line : ℕ) → one line ≡ other line)
     → (number : ℕ) → IsEven lines one number → IsEven lines other number
 even-along lines one other same number even line at = even line at ∙ same number

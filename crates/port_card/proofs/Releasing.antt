@@ -1,4 +1,4 @@
--- The result of a release: the piece, or why it is refused.
+-- The result of a release: the piece, or the error.
 use Rattle.std.proofs.Common.{◌≡◌, ◌≢◌, Some, Ok, Err, sym, ap, subst, ◌∙◌}
 use Rattle.std.specs.Prelude.{MatchResult, IfOk, IfErr}
 use Rattle.std.specs.declared.result.Result.{Result}

@@ -1,4 +1,4 @@
--- What contracts say about the answers of a running card.
+-- The answers of a running card, as contracts state them.
 use Rattle.std.specs.Prelude.{◌≡◌, ◌<◌, ◌^◌, ◌≤◌, ℕ, ⊤, List}
 use Rattle.bpf_code.specs.declared.instr.Instr.{Instr}
 use Rattle.bpf_verify.specs.Accepted.{IsAccepted}
@@ -11,15 +11,15 @@ use Rattle.card_core.specs.declared.fault.DeskFault.TheVariants.{NoProgram, NoCo
 use Rattle.card_core.specs.Sections.{JudgedView}
 use Rattle.card_core.specs.Steps.{Gives, cell_after}
 
--- Some accepted code gives this value for the cell.
+-- Some accepted code has this value for the cell.
 pub record IsGiven (cell : List ℕ) (value : ℕ) : Type 0 where
   pub code : List Instr
   pub accepted : IsAccepted code
   pub gives : Gives code cell value
 
--- About a judged cell that arrived at this moment: the answer has that moment, which is at most 2^62; the cell that
--- leaves is tagged or unchanged, as the verdict says; a value that is no contract number is refused; some accepted
--- code gives the value for the cell.
+-- A judged cell that arrived at this moment: the moment is in the answer and is at most 2^62. The cell leaves tagged if
+-- the verdict is Tag, otherwise unchanged. If the value is no contract's number, the verdict is Refuse. Some accepted
+-- code has this value for the cell.
 pub record IsTold (cell : List ℕ) (moment : ℕ) (judged : JudgedView) : Type 0 where
   pub same_moment : judged.moment ≡ moment
   pub in_time : moment ≤ 2 ^ 62
@@ -27,7 +27,8 @@ pub record IsTold (cell : List ℕ) (moment : ℕ) (judged : JudgedView) : Type 
   pub unnamed : IsNoNumber judged.value → judged.verdict ≡ Refuse
   pub given : IsGiven cell judged.value
 
--- A cell is refused for its moment only if the moment is too late, or earlier than the one in the answer.
+-- If the answer is MomentTooLate, the moment is above 2^62. If it is MomentBack, the moment is before the one in the
+-- answer.
 abbrev pub BlamesRightly : ℕ → Answer → Type 0
 BlamesRightly moment MomentTooLate = 2 ^ 62 < moment
 BlamesRightly moment (MomentBack last) = moment < last

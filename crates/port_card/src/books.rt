@@ -1,4 +1,4 @@
-//! The sums by verdict. Each is counted by two ledgers, that of the lines and that of the seats.
+//! The sums by verdict. Each is counted in two ledgers, that of the lines and that of the seats.
 
 ghost use Rattle.std.specs.Prelude.{◌≡◌, ◌+◌, ◌<◌, ◌≤◌, ◌^◌, ◌↔◌, IsTrue};
 

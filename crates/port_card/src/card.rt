@@ -105,8 +105,8 @@ impl<S: Ledgers> Card<S> {
     /// Answers a cell that arrives at the port of this seat at `moment`, in ticks. Doesn't allocate.
     ///
     /// The read lock of the programs is held from the look-up to the end. The directory's lock is held only for the
-    /// look-up, the locks of the line and the books only for judging. `gate.between` is called between the two, while
-    /// only the read lock is held.
+    /// look-up, the locks of the line and the books only for the judgement. `gate.between` is called between the two,
+    /// while only the read lock is held.
     ///
     /// The answer is `NoConnection` if the cell belongs to no connection and `Stale` if the connection's program
     /// isn't live. Otherwise it is the answer of `judge_at` in `card_core`, or `JournalFull` if one of the card's
@@ -119,7 +119,7 @@ impl<S: Ledgers> Card<S> {
         moment: u64,
         gate: &G,
     ) -> Answer
-        // The seat counts the cell, on its line and by its verdict, exactly if it was judged.
+        // The seat counts the cell, on its line and by its verdict, exactly if the cell was judged.
         ensures tallied { seat.new ≡ seat_after seat.old (told result) }
         ensures there { IfSome (told result) (λ judged. judged.line < self.now.lines) }
 
@@ -141,7 +141,7 @@ impl<S: Ledgers> Card<S> {
         counted_line.judge(&mut books, seat, vc, &seating, &named, moment)
     }
 
-    /// Where the connection is, if there is one. The directory's lock is let go before this returns.
+    /// Returns the seating of the connection, if there is one. The directory's lock is free again when this returns.
     fn find<R: Wait>(&self, rt: &R, vc: Vc) -> Option<Seating>
         ensures { IfSome result (λ seating. seating.line < self.now.lines) }
     {

@@ -50,8 +50,8 @@ impl<S: Ledgers> CountedLine<S> {
         self.marks.none()
     }
 
-    /// Judges a named cell on the line, and counts it if it was judged. Returns `JournalFull` if one of the card's
-    /// sums is 2^62, whatever the verdict would be.
+    /// Judges a cell on the line, and counts it if it was judged. Returns `JournalFull` if one of the card's sums is
+    /// 2^62, whatever the verdict would be.
     pub(crate) fn judge(
         &mut self,
         books: &mut Books<S>,
@@ -70,10 +70,10 @@ impl<S: Ledgers> CountedLine<S> {
         ensures full { (HasRoom books.old → ⊥) → (result ≡ Answer.JournalFull) × (self.new.line ≡ self.old.line) }
         ensures kept { HasRoom books.old → IsLine self.old.line }
 
-        // The seat counts a judged cell and no other.
+        // The seat counts the cell exactly if it was judged.
         ensures tallied { seat.new ≡ seat_after seat.old (told result) }
 
-        // The answer to a judged cell, and when a moment may be blamed.
+        // The answer to a judged cell. The moment is the error only if it is too late or goes back.
         ensures there { IfSome (told result) (λ judged. judged.line ≡ seating.now.line) }
         ensures moment { IfSome (told result) (λ judged. judged.moment ≡ moment) }
         ensures value { IfSome (told result) (λ judged. judged.value ≡ named.now.value) }
@@ -126,7 +126,7 @@ impl<S: Ledgers> CountedLine<S> {
         setup(&mut seatings.directory, &mut self.line, number, ask)
     }
 
-    /// Ends the connection that the directory has on this line, and returns its journal.
+    /// Releases the connection that the directory has on this line, and returns its journal.
     pub(crate) fn release(
         &mut self,
         seatings: &mut Seatings<S>,

@@ -28,7 +28,7 @@ impl<S: Ledgers> Desk<S> {
         Desk { of: PhantomData }
     }
 
-    /// Puts a program into a free slot, under an id that was never given before. Waits until no cell is between its
+    /// Loads a program into a free slot, under an id that was never given before. Waits until no cell is between its
     /// look-up and its judgement. Doesn't allocate.
     ///
     /// # Errors
@@ -47,8 +47,8 @@ impl<S: Ledgers> Desk<S> {
         put(&mut card.store.write(rt), program)
     }
 
-    /// Takes a program out that no connection names. It waits until no cell is between its look-up
-    /// and its judgement. Doesn't allocate.
+    /// Retires a program that no connection names. Waits until no cell is between its look-up and its judgement.
+    /// Doesn't allocate.
     ///
     /// # Errors
     ///
@@ -61,7 +61,7 @@ impl<S: Ledgers> Desk<S> {
         card.seatings.lock(rt).retire(&mut store, id)
     }
 
-    /// Sets a connection up on a free line; which one is open.
+    /// Sets up a connection on a free line. The contract doesn't fix which one.
     ///
     /// # Errors
     ///
@@ -90,8 +90,8 @@ impl<S: Ledgers> Desk<S> {
         counted_line.setup(seatings, number, ask)
     }
 
-    /// Gives a connection another program, and answers the one that it had. Its buckets and its
-    /// journal stay. Doesn't allocate.
+    /// Gives a connection another program and returns the earlier one. Its buckets and its journal are unchanged.
+    /// Doesn't allocate.
     ///
     /// # Errors
     ///
@@ -109,12 +109,11 @@ impl<S: Ledgers> Desk<S> {
         card.seatings.lock(rt).reload(&store, vc, program)
     }
 
-    /// Ends a connection, and answers its journal. Takes no memory.
+    /// Releases a connection and returns its last journal. Doesn't allocate.
     ///
     /// # Errors
     ///
-    /// `NoConnection` if there is none; otherwise `Stale` if its line doesn't serve it. Nothing
-    /// changes.
+    /// `NoConnection` if there is none; otherwise `Stale` if its line doesn't serve it. Nothing changes.
     pub fn release<R: Wait>(&mut self, rt: &R, card: &Card<S>, vc: Vc) -> Result<Piece, DeskFault>
         ensures piece { IfOk result (λ piece. piece.owner.vc ≡ vc) }
         ensures run { IfOk result (λ piece. IsPiece piece) }
@@ -129,8 +128,7 @@ impl<S: Ledgers> Desk<S> {
         counted_line.release(seatings, vc, &seating)
     }
 
-    /// Hands out a connection's journal, and begins a new one. The room for the new one is taken
-    /// first.
+    /// Returns a connection's journal and begins a new one. Allocates the new one first.
     ///
     /// # Errors
     ///
@@ -158,7 +156,7 @@ ghost use Rattle.gen_arena.specs.Insert.{Inserts};
 ghost use Rattle.gen_arena.specs.Live.{live_value};
 ghost use Rattle.gen_arena.specs.Past.{KeepsPast};
 
-/// Puts a program into a free slot of this store.
+/// Loads a program into a free slot of this store.
 fn put(store: &mut Store, program: Program) -> Result<Id, (DeskFault, Program)>
     // As the locked section of `card_core`, on this store.
     ensures loaded { IfOk result (λ id. Inserts store.old store.new id program) }

@@ -1,4 +1,4 @@
-//! Invariants of the values behind a card's locks.
+//! Invariants of the data behind a card's locks.
 
 ghost use Rattle.line_record.specs.Directory.{IsDirectory};
 ghost use Rattle.line_record.specs.Line.{IsLine};
@@ -16,7 +16,7 @@ pub fn lines_hold_runs(line: &Line)
     let _ = line.owner();
 }
 
-/// Directory: no two connections share a line.
+/// Directory: no two connections have the same line.
 // no edit: the body only reads, and edits of the type turn its invariant
 pub fn connections_are_apart(directory: &Directory)
     ensures { IsDirectory directory.now }

@@ -41,7 +41,7 @@ impl<S: Ledgers> Seatings<S> {
         })
     }
 
-    /// Where the connection is, if there is one.
+    /// Returns the seating of the connection, if there is one.
     #[inline]
     pub(crate) fn find(&self, vc: Vc) -> Option<Seating>
         ensures seating { result ≡ seating_at self.now.directory vc }
@@ -51,7 +51,7 @@ impl<S: Ledgers> Seatings<S> {
         pick(&self.directory, vc)
     }
 
-    /// Removes a program that no connection names.
+    /// Retires a program that no connection names.
     pub(crate) fn retire(&self, store: &mut Store, id: Id) -> Result<Program, DeskFault>
         // As the locked section of `card_core`, on this store.
         ensures retired { IfOk result (λ program. Removes store.old store.new id program) }
@@ -71,7 +71,7 @@ impl<S: Ledgers> Seatings<S> {
         retired
     }
 
-    /// The number of a free line for the setup that is asked for.
+    /// Returns the number of a free line for the requested setup.
     pub(crate) fn admit(&self, store: &Store, ask: &Ask) -> Result<u16, DeskFault>
         ensures admitted { MatchResult result
             (λ line. Admits store.now self.now.directory ask.now line)
@@ -82,7 +82,7 @@ impl<S: Ledgers> Seatings<S> {
         admit(store, &self.directory, ask)
     }
 
-    /// Gives a connection another program, and returns the one that it had.
+    /// Gives a connection another program and returns the earlier one.
     pub(crate) fn reload(&mut self, store: &Store, vc: Vc, program: Id) -> Result<Id, DeskFault>
         // As the locked section of `card_core`, on this directory.
         ensures no_program { IsErrOf result DeskFault.NoProgram

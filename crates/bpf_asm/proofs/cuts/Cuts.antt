@@ -1,4 +1,4 @@
--- What is cut from the front of tokens.
+-- Tokens cut from the front of a text.
 use Rattle.std.proofs.Common.{◌≡◌, ◌≢◌, ℕ, ◌-◌, ◌%◌, ◌^◌, true, false, ◌&&◌, ◌==◌, if◌then◌else◌, List, [], ◌∷◌, Some, None, refl, ap, ◌∙◌, eq-eqb}
 use Rattle.std.proofs.lemmas.Bool.{ne_eqb}
 use Rattle.bpf_asm.specs.inner.Reading.{cut_mark, cut_name, cut_number, is_ended}
@@ -8,17 +8,17 @@ use Rattle.bpf_asm.specs.declared.token.LentToken.TheVariants.{Name, Number, Fau
 use Rattle.std.specs.Borrow.{Bor}
 use Rattle.bpf_asm.specs.Tokens.{Token, name, number, faulty, mark, signed, signed_behind, tokens_of, tokens_read}
 
--- No token.
+-- A text without tokens.
 pub read_none : (text : List ℕ) → tokens_of text ≡ [] → tokens_read text ≡ []
 unfolding tokens_read signed
 read_none text e = ap signed e
 
--- One token, and what is behind it.
+-- One token, and those after it.
 pub read_cons : (text rest : List ℕ) (token : Token) → tokens_of text ≡ token ∷ tokens_of rest → tokens_read text ≡ signed_behind token (tokens_read rest)
 unfolding tokens_read signed
 read_cons text rest token e = ap signed e
 
--- A mark stands in front, whatever is behind it.
+-- A mark other than `#` remains at the front, whatever follows.
 pub cut_mark-found : (octet : ℕ) (tokens : List Token) → octet ≢ 35 → signed_behind (mark octet) tokens ≡ mark octet ∷ tokens
 cut_mark-found octet [] h = refl
 cut_mark-found octet (name octets ∷ tokens) h = refl
@@ -42,7 +42,7 @@ mark_behind found octet (mark minus ∷ mark other ∷ tokens) h = rw h refl
 mark_behind found octet (mark minus ∷ number value ∷ tokens) h =
     elim (found == 35 && minus == 45) as (λ t. cut_mark octet (if t then mark found ∷ number ((2 ^ 32 - value) % 2 ^ 32) ∷ tokens else mark found ∷ mark minus ∷ number value ∷ tokens) ≡ None) [ true ↦ rw h refl | false ↦ rw h refl ]
 
--- What is cut where nothing is left.
+-- A cut of a text without tokens.
 pub mark_none : (octet : ℕ) (text : List ℕ) → tokens_of text ≡ [] → cut_mark octet (tokens_read text) ≡ None
 mark_none octet text e = rw (read_none text e) refl
 
@@ -52,19 +52,19 @@ number_none text e = rw (read_none text e) refl
 pub name_none : (text : List ℕ) → tokens_of text ≡ [] → cut_name (tokens_read text) ≡ None
 name_none text e = rw (read_none text e) refl
 
--- An octet that is the one.
+-- The octet is the one to cut.
 pub mark_found : (octet found : ℕ) (text rest : List ℕ) (token : LentToken) → octet ≢ 35 → found ≡ octet → token ≡ Mark found → tokens_of text ≡ token_seen token ∷ tokens_of rest → cut_mark octet (tokens_read text) ≡ Some (tokens_read rest)
 mark_found octet found text rest token h f m e =
     let whole : tokens_of text ≡ mark octet ∷ tokens_of rest = e ∙ ap (λ (t : LentToken). token_seen t ∷ tokens_of rest) m ∙ ap (λ (n : ℕ). mark n ∷ tokens_of rest) f in
     rw (read_cons text rest (mark octet) whole, cut_mark-found octet (tokens_read rest) h, eq-eqb octet octet refl) refl
 
--- One that is another.
+-- The octet is another one.
 pub mark_other : (octet found : ℕ) (text rest : List ℕ) (token : LentToken) → (found ≡ octet → ⊥) → token ≡ Mark found → tokens_of text ≡ token_seen token ∷ tokens_of rest → cut_mark octet (tokens_read text) ≡ None
 mark_other octet found text rest token f m e =
     let whole : tokens_of text ≡ mark found ∷ tokens_of rest = e ∙ ap (λ (t : LentToken). token_seen t ∷ tokens_of rest) m in
     rw (read_cons text rest (mark found) whole) (mark_behind found octet (tokens_read rest) (ne_eqb found octet f))
 
--- A token that is no octet.
+-- The token isn't an octet.
 pub mark_default : (octet : ℕ) (text rest : List ℕ) (token : LentToken) → ((found : ℕ) → token ≡ Mark found → ⊥) → tokens_of text ≡ token_seen token ∷ tokens_of rest → cut_mark octet (tokens_read text) ≡ None
 mark_default octet text rest (Name octets) h e = rw (read_cons text rest (name octets.now) e) refl
 mark_default octet text rest (Number value) h e = rw (read_cons text rest (number value) e) refl
@@ -117,7 +117,7 @@ name_default text rest (Number value) h e = rw (read_cons text rest (number valu
 name_default text rest Faulty h e = rw (read_cons text rest faulty e) refl
 name_default text rest (Mark found) h e = rw (read_cons text rest (mark found) e) (name_behind found (tokens_read rest))
 
--- Behind `#`.
+-- After `#`.
 pub hash_found : (found : ℕ) (text rest : List ℕ) (token : LentToken) → found ≡ 35 → token ≡ Mark found → tokens_of text ≡ token_seen token ∷ tokens_of rest → tokens_read text ≡ signed_behind (mark 35) (tokens_read rest)
 hash_found found text rest token f m e =
     let whole : tokens_of text ≡ mark 35 ∷ tokens_of rest = e ∙ ap (λ (t : LentToken). token_seen t ∷ tokens_of rest) m ∙ ap (λ (n : ℕ). mark n ∷ tokens_of rest) f in

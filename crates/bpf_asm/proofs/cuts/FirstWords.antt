@@ -22,7 +22,7 @@ in_cons text rest token e = read_cons (without_comment text) (without_comment re
 in_mark : (first : ℕ) (rest : List ℕ) → is_word first ≡ false → (first == 59) ≡ false → is_blank first ≡ false → tokens_in (first ∷ rest) ≡ signed_behind (mark first) (tokens_in rest)
 in_mark first rest w e b = in_cons (first ∷ rest) rest (mark first) (line_mark (first ∷ rest) (omega arith) w e b)
 
--- The first octet is the mark's.
+-- The first octet is the mark.
 pub mark_front : (octet : ℕ) (text : List ℕ) → is_mark octet ≡ true → 0 < length text → get_or text 0 0 ≡ octet → line_tokens text ≡ mark octet ∷ line_tokens (drop 1 text)
 mark_front octet [] m some e = absurd (omega arith)
 mark_front octet (first ∷ rest) m some e =
@@ -32,7 +32,7 @@ mark_front octet (first ∷ rest) m some e =
     subst (λ (o : ℕ). line_tokens (first ∷ rest) ≡ mark o ∷ line_tokens rest) e
     (line_mark (first ∷ rest) (omega arith) (not-true _ parts.0) (not-true _ more.0) (not-true _ more.1))
 
--- It is cut.
+-- The mark is cut.
 pub mark_cut : (octet : ℕ) (text rest : List ℕ) → octet ≢ 35 → line_tokens text ≡ mark octet ∷ line_tokens rest → cut_mark octet (tokens_in text) ≡ Some (tokens_in rest)
 mark_cut octet text rest h e = rw (in_cons text rest (mark octet) e, cut_mark-found octet (tokens_in rest) h, eq-eqb octet octet refl) refl
 
@@ -46,7 +46,7 @@ pub other_front : (octet : ℕ) (text : List ℕ) → 0 < length text → is_bla
 other_front octet [] some b n = absurd (omega arith)
 other_front octet (first ∷ rest) some b n = other_by octet first rest (is_word first) (first == 59) refl refl b n
 
--- Where there is no token, there is no word.
+-- Without a token there is no word.
 pub none_no_word : (text : List ℕ) → line_tokens text ≡ [] → HasNoWord (tokens_in text)
 unfolding tokens_in
 none_no_word text e = (name_none (without_comment text) e, number_none (without_comment text) e)
@@ -58,7 +58,7 @@ no_word_by first rest false e w b = (
   rw (in_mark first rest w e b) (number_behind first (tokens_in rest)),
 )
 
--- If the first octet is none of a word, there is no word.
+-- If the first octet doesn't belong to words, there is no word.
 pub no_word : (text : List ℕ) → 0 < length text → is_word (get_or text 0 0) ≡ false → is_blank (get_or text 0 0) ≡ false → HasNoWord (tokens_in text)
 no_word [] some w b = absurd (omega arith)
 no_word (first ∷ rest) some w b = no_word_by first rest (first == 59) refl w b
@@ -75,15 +75,15 @@ in_digit word text rest h d e =
 in_name : (word text rest : List ℕ) → 0 < length word → is_digit (get_or word 0 0) ≡ false → line_tokens text ≡ word_token word ∷ line_tokens rest → tokens_in text ≡ signed_behind (name word) (tokens_in rest)
 in_name word text rest h d e = in_cons text rest (name word) (e ∙ ap (λ (t : Token). t ∷ line_tokens rest) (sym (name_word word h d)))
 
--- A word that begins with a digit is no name.
+-- A word that begins with a digit is not a name.
 pub digit_no_name : (word text rest : List ℕ) → 0 < length word → is_digit (get_or word 0 0) ≡ true → line_tokens text ≡ word_token word ∷ line_tokens rest → cut_name (tokens_in text) ≡ None
 digit_no_name word text rest h d e = rw (in_digit word text rest h d e) (number_no_name (number_of word) (tokens_in rest))
 
--- Any other is one.
+-- Any other word is a name.
 pub name_cut : (word text rest : List ℕ) → 0 < length word → is_digit (get_or word 0 0) ≡ false → line_tokens text ≡ word_token word ∷ line_tokens rest → cut_name (tokens_in text) ≡ Some (word, tokens_in rest)
 name_cut word text rest h d e = ap cut_name (in_name word text rest h d e)
 
--- And no number.
+-- And it is not a number.
 pub name_no_number : (word text rest : List ℕ) → 0 < length word → is_digit (get_or word 0 0) ≡ false → line_tokens text ≡ word_token word ∷ line_tokens rest → cut_number (tokens_in text) ≡ None
 name_no_number word text rest h d e = ap cut_number (in_name word text rest h d e)
 
@@ -91,6 +91,6 @@ name_no_number word text rest h d e = ap cut_number (in_name word text rest h d 
 pub number_cut : (word text rest : List ℕ) (value : ℕ) → 0 < length word → is_digit (get_or word 0 0) ≡ true → number_of word ≡ Some value → line_tokens text ≡ word_token word ∷ line_tokens rest → cut_number (tokens_in text) ≡ Some (value, tokens_in rest)
 number_cut word text rest value h d n e = rw (in_digit word text rest h d e, n) refl
 
--- Where it spells none, there is no number.
+-- If it spells no number, there is no number.
 pub faulty_no_number : (word text rest : List ℕ) → 0 < length word → is_digit (get_or word 0 0) ≡ true → number_of word ≡ None → line_tokens text ≡ word_token word ∷ line_tokens rest → cut_number (tokens_in text) ≡ None
 faulty_no_number word text rest h d n e = rw (in_digit word text rest h d e, n) refl

@@ -1,4 +1,4 @@
--- What a text begins with, as far as its first octet tells.
+-- The first token of a text, from its first octet.
 use Rattle.std.proofs.Common.{◌≡◌, ℕ, ◌<◌, Bool, true, false, ◌&&◌, ◌==◌, if◌then◌else◌, List, [], ◌∷◌, Option, Some, None, length, get_or, drop, refl, sym, ap, ◌∙◌, arith}
 use Rattle.std.specs.List.{cons_option, filter_map}
 use Rattle.text_io.specs.Words.{is_blank, is_digit}
@@ -41,7 +41,7 @@ word-begun : (octet : ℕ) (rest : List ℕ) → is_word octet ≡ true
 unfolding tokens_of pieces_of
 word-begun octet rest w = begun octet (pieces_of rest) w
 
--- Which is no mark.
+-- A number is not a mark.
 number-no_mark : (octet : ℕ) (found : Option ℕ) (tokens : List Token) → cut_mark octet (signed_behind (number_token found) tokens) ≡ None
 number-no_mark octet (Some value) tokens = refl
 number-no_mark octet None tokens = refl
@@ -58,7 +58,7 @@ read-begun : (text : List ℕ) (token : Token) (tokens : List Token) → tokens_
 unfolding tokens_read signed
 read-begun text token tokens e = ap signed e
 
--- Where a word stands no mark is cut.
+-- If the text begins with a word, no mark is cut.
 no_mark : (text : List ℕ) → 0 < length text → is_word (get_or text 0 0) ≡ true → (octet : ℕ) → cut_mark octet (tokens_read text) ≡ None
 no_mark [] some w octet = absurd (omega arith)
 no_mark (first ∷ rest) some w octet =
@@ -69,13 +69,13 @@ read-same : (text skipped : List ℕ) → tokens_of skipped ≡ tokens_of text �
 unfolding tokens_read
 read-same text skipped e = ap signed e
 
--- Nor before a comment.
+-- The same for the text before its comment.
 pub word_no_cut : (text : List ℕ) → 0 < length text → is_word (get_or text 0 0) ≡ true → (octet : ℕ) → cut_mark octet (tokens_in text) ≡ None
 unfolding tokens_in
 word_no_cut [] some w octet = absurd (omega arith)
 word_no_cut (first ∷ rest) some w octet = rw (apart_comment first rest (word_apart first w)) (no_mark (first ∷ without_comment rest) (omega arith) w octet)
 
--- Where there is no token, no mark is cut.
+-- Without a token no mark is cut.
 pub none_no_cut : (text : List ℕ) → line_tokens text ≡ [] → (octet : ℕ) → cut_mark octet (tokens_in text) ≡ None
 unfolding tokens_in
 none_no_cut text e octet = mark_none octet (without_comment text) e
@@ -84,7 +84,7 @@ pub line_same : (text skipped : List ℕ) → line_tokens skipped ≡ line_token
 unfolding tokens_in
 line_same text skipped e = read-same (without_comment text) (without_comment skipped) e
 
--- A text that begins with no blank has a token.
+-- A text that doesn't begin with a blank has a token.
 first-token : (first : ℕ) (rest : List ℕ) (b : Bool) → is_word first ≡ b → is_blank first ≡ false → is_ended (tokens_read (first ∷ rest)) ≡ false
 first-token first rest true w blank =
     let begins = word-begun first rest w in
@@ -93,7 +93,7 @@ first-token first rest false w blank =
     let begins = mark_first (first ∷ rest) (omega arith) w blank in
     ap is_ended (read-begun (first ∷ rest) (mark first) (tokens_of (drop 1 (first ∷ rest))) begins) ∙ some_behind (mark first) (signed (tokens_of (drop 1 (first ∷ rest))))
 
--- Where there is no token, none is left.
+-- Without a token the end is reached.
 pub spent_none : (text : List ℕ) → line_tokens text ≡ [] → true ≡ is_ended (tokens_in text)
 unfolding tokens_in
 spent_none text e = sym (ap is_ended (read_none (without_comment text) e))
@@ -103,7 +103,7 @@ unfolding tokens_in
 spent_by first rest true e blank = rw (comment_first first rest e) (sym (ap is_ended (read_none [] (tokens_of-none [] refl))))
 spent_by first rest false e blank = rw (apart_comment first rest e) (sym (first-token first (without_comment rest) (is_word first) refl blank))
 
--- After blanks the first octet tells whether a token is left: none is where a comment begins.
+-- After blanks the first octet decides whether a token is left: there is none if a comment begins.
 pub spent_first : (text : List ℕ) → 0 < length text → is_blank (get_or text 0 0) ≡ false → (get_or text 0 0 == 59) ≡ is_ended (tokens_in text)
 spent_first [] some blank = absurd (omega arith)
 spent_first (first ∷ rest) some blank = spent_by first rest (first == 59) refl blank

@@ -1,4 +1,4 @@
--- What a token or an operand that was cut from the front says of the tokens.
+-- The tokens, from the token or operand that was cut from the front.
 use Rattle.std.proofs.Common.{◌≡◌, ◌⊎◌, ℕ, Bool, true, false, ◌==◌, if◌then◌else◌, List, [], ◌∷◌, ◌++◌, Option, Some, None, codes, refl, ap, ◌∙◌, inl, inr}
 use Rattle.std.specs.Option.{option_map_or}
 use Rattle.std.specs.Str.{bytes_eq}
@@ -12,12 +12,12 @@ use Rattle.bpf_code.specs.declared.instr.By.TheVariants.{Imm, X}
 pub some_same : {A : Type 0} (a b : A) → Some a ≡ Some b → a ≡ b
 some_same a b e = cc
 
--- What was read before.
+-- If a reading in two steps succeeds, both steps do.
 pub next_some : {A B : Type 0} (found : Option A) (next : A → Option B) (value : B) → (found >>= next) ≡ Some value → (x : A) × (found ≡ Some x) × (next x ≡ Some value)
 next_some None next value e = cc
 next_some (Some x) next value e = (x, refl, e)
 
--- One of two was read.
+-- One of two readings succeeded.
 pub else_some : {A : Type 0} (one other : Option A) (value : A) → or_else one other ≡ Some value → (one ≡ Some value) ⊎ (other ≡ Some value)
 else_some None other value e = inr e
 else_some (Some x) other value e = inl e

@@ -1,4 +1,4 @@
--- The map of labels, one line after the other.
+-- The map of labels, line by line.
 use Rattle.std.proofs.Common.{◌≡◌, ◌⊎◌, ℕ, zero, suc, ◌+◌, Bool, true, false, if◌then◌else◌, List, [], ◌∷◌, ◌++◌, length, Option, Some, None, Result, Ok, Err, IfOk, refl, sym, ap, ◌∙◌, subst, inl, inr, append_assoc, length-append}
 use Rattle.std.specs.Str.{bytes_eq}
 use Rattle.std.specs.Option.{is_none}
@@ -10,11 +10,11 @@ use Rattle.bpf_asm.specs.inner.Counts.{statement_count}
 use Rattle.bpf_asm.specs.StatementSpelling.{Statement}
 use Rattle.bpf_asm.specs.inner.Drafts.{AgreesWith, IsReadTo, IsTwice}
 
--- A line that is there is one.
+-- Equal optional lines are equal lines.
 pub some_line : (one other : Line) → Some one ≡ Some other → one ≡ other
 some_line one other e = cc
 
--- So is a name.
+-- Equal optional names are equal names.
 pub some_name : (one other : List ℕ) → Some one ≡ Some other → one ≡ other
 some_name one other e = cc
 
@@ -24,7 +24,7 @@ some_place one other e = cc
 some_none : (place : ℕ) → Some place ≡ None → ⊥
 some_none place e = cc
 
--- A name that is there is not none.
+-- A name isn't None.
 pub no_name : (name : List ℕ) → Some name ≡ None → ⊥
 no_name name e = cc
 
@@ -33,13 +33,13 @@ pub statements_of-append : (lines more : List Line) → statements_of (lines ++ 
 unfolding statements_of
 statements_of-append lines more = filter_map-append (λ (line : Line). line.statement) lines more
 
--- A line of a front is one of the whole.
+-- A line of a prefix is a line of the whole.
 pub label_kept : (lines more : List Line) (at : ℕ) (name : List ℕ) → HasLabel lines at name → HasLabel (lines ++ more) at name
 label_kept [] more at name h = cc
 label_kept (line ∷ lines) more zero name h = h
 label_kept (line ∷ lines) more (suc at) name h = label_kept lines more at name h
 
--- A line of the whole is the last or one of the front.
+-- A line of the whole is the last or one before it.
 pub label_split : (lines : List Line) (line : Line) (at : ℕ) (name : List ℕ) → HasLabel (lines ++ line ∷ []) at name → HasLabel lines at name ⊎ ((at ≡ length lines) × (line.label ≡ Some name))
 label_split [] line zero name h = let same : line ≡ h.0 = some_line _ _ h.1 in inr (refl, ap (λ (l : Line). l.label) same ∙ h.2)
 label_split [] line (suc at) name h = cc
@@ -47,7 +47,7 @@ label_split (first ∷ lines) line zero name h = inl h
 label_split (first ∷ lines) line (suc at) name h =
     elim (label_split lines line at name h) [ inl f ↦ inl f | inr l ↦ inr (ap suc l.0, l.1) ]
 
--- What stands in a front stands in the whole.
+-- A label of a prefix names the same place in the whole.
 pub stands_kept : (lines more : List Line) (name : List ℕ) (place : ℕ) → StandsFor lines name place → StandsFor (lines ++ more) name place
 stands_kept lines more name place s = record {
   before = s.before;
@@ -58,26 +58,26 @@ stands_kept lines more name place s = record {
   counted = s.counted;
 }
 
--- The last line's label stands for the number of statements before it.
+-- The last line's label names the place after the statements before it.
 stands_last : (lines : List Line) (line : Line) (name : List ℕ) → line.label ≡ Some name → StandsFor (lines ++ line ∷ []) name (length (statements_of lines))
 stands_last lines line name e = record { before = lines; here = line; behind = []; split = refl; named = e; counted = refl }
 
--- How many statements one line has.
+-- The number of statements of one line.
 pub statements_one : (line : Line) (s : Option Statement) → line.statement ≡ s → length (statements_of (line ∷ [])) ≡ statement_count s
 unfolding statements_of
 statements_one line None e = rw e refl
 statements_one line (Some s) e = rw e refl
 
--- One line more.
+-- One more line.
 pub count_more : (lines : List Line) (line : Line) → length (statements_of (lines ++ line ∷ [])) ≡ length (statements_of lines) + statement_count line.statement
 count_more lines line =
     ap length (statements_of-append lines (line ∷ [])) ∙ length-append (statements_of lines) (statements_of (line ∷ [])) ∙ ap (λ (n : ℕ). length (statements_of lines) + n) (statements_one line line.statement refl)
 
--- A label of the whole is one of the front, where the last line has none.
+-- If the last line has no label, each label is one of an earlier line.
 pub no_last : (lines : List Line) (line : Line) (at : ℕ) (name : List ℕ) → line.label ≡ None → HasLabel (lines ++ line ∷ []) at name → HasLabel lines at name
 no_last lines line at name n h = elim (label_split lines line at name h) [ inl f ↦ f | inr l ↦ absurd (no_name name (sym l.1 ∙ n)) ]
 
--- A label stands once, where the last line's is new.
+-- If the last line's label is new, no label occurs twice.
 pub both_once : (lines : List Line) (line : Line) (label : List ℕ) (one other : ℕ) (name : List ℕ) → line.label ≡ Some label → ((at : ℕ) → ¬ HasLabel lines at label) → EachLabelOnce lines → HasLabel lines one name ⊎ ((one ≡ length lines) × (line.label ≡ Some name)) → HasLabel lines other name ⊎ ((other ≡ length lines) × (line.label ≡ Some name)) → one ≡ other
 both_once lines line label one other name is new once (inl f) (inl g) = once one other name f g
 both_once lines line label one other name is new once (inl f) (inr g) = let same : name ≡ label = some_name _ _ (sym g.1 ∙ is) in absurd (new one (rw same at f))
@@ -99,12 +99,12 @@ put_unknown lines line label name places at is old unknown false b e (inr l) =
     let both : false ≡ true = sym b ∙ (bytes_eq-Decides label name).1 same in
     cc
 
--- The line at which a list falls apart has its label.
+-- The line at which a list is split has its label.
 pub stands_label : (before : List Line) (here : Line) (behind : List Line) (name : List ℕ) → here.label ≡ Some name → HasLabel (before ++ here ∷ behind) (length before) name
 stands_label [] here behind name e = (here, refl, e)
 stands_label (first ∷ before) here behind name e = stands_label before here behind name e
 
--- A label that stands for a place is some line's.
+-- A label that names a place is the label of some line.
 pub stands_has : (lines : List Line) (name : List ℕ) (place : ℕ) → StandsFor lines name place → (at : ℕ) × HasLabel lines at name
 stands_has lines name place s = (length s.before, subst (λ (ls : List Line). HasLabel ls (length s.before) name) (sym s.split) (stands_label s.before s.here s.behind name s.named))
 
@@ -150,11 +150,11 @@ agrees_label lines line label find found places is new put a = record {
 pub twice_is : (lines : List Line) (line : Line) (label : List ℕ) (find : List ℕ → Option ℕ) (places : ℕ) → line.label ≡ Some label → is_none (find label) ≡ false → AgreesWith lines find places → IsTwice lines line
 twice_is lines line label find places is old a = twice_by lines line label (find label) is old (a.stands label)
 
--- Nothing is read.
+-- No line is read.
 pub read_none : (source : List (List ℕ)) → IsReadTo source source [] 0
 read_none source = record { done = []; split = refl; said = refl; counted = refl }
 
--- One line more is read.
+-- One more line is read.
 pub read_more : (source left : List (List ℕ)) (octets : List ℕ) (lines : List Line) (line : Line) (count : ℕ) → IsLine octets line → IsReadTo source (octets ∷ left) lines count → IsReadTo source left (lines ++ line ∷ []) (count + 1)
 read_more source left octets lines line count is r = record {
   done = r.done ++ octets ∷ [];
@@ -163,17 +163,17 @@ read_more source left octets lines line count is r = record {
   counted = ap (λ (n : ℕ). n + 1) r.counted ∙ sym (length-append r.done (octets ∷ []));
 }
 
--- What one clause of an answer tells of another.
+-- A clause about a result implies another.
 pub if_ok : {A E : Type 0} (r : Result A E) (P Q : A → Type 0) → ((v : A) → P v → Q v) → IfOk r P → IfOk r Q
 if_ok (Ok v) P Q f h = f v h
 if_ok (Err e) P Q f h = tt
 
--- What two of them tell.
+-- Two clauses about a result imply another.
 pub if_ok_both : {A E : Type 0} (r : Result A E) (P R Q : A → Type 0) → ((v : A) → P v → R v → Q v) → IfOk r P → IfOk r R → IfOk r Q
 if_ok_both (Ok v) P R Q f h g = f v h g
 if_ok_both (Err e) P R Q f h g = tt
 
--- Nothing is there.
+-- There is no value.
 pub none_is : {A : Type 0} (o : Option A) → is_none o ≡ true → o ≡ None
 none_is None e = refl
 none_is (Some v) e = cc

@@ -1,4 +1,4 @@
--- What a source means, and its fault, from its lines.
+-- The meaning or the fault of a source, from its lines.
 use Rattle.std.proofs.Common.{◌≡◌, ◌⊎◌, ℕ, ◌+◌, List, Some, None, Result, Ok, Err, IfErr, inl, inr}
 use Rattle.bpf_asm.specs.Faults.{IsFault, IsFirstOperandFault, IsOutOfMemory}
 use Rattle.bpf_asm.specs.Grammar.{AreLines, Line}
@@ -10,7 +10,7 @@ use Rattle.bpf_asm.specs.declared.fault.AsmFault.{AsmFault}
 use Rattle.bpf_asm.specs.declared.fault.AsmKind.TheVariants.{DanglingLabel}
 use Rattle.bpf_code.specs.declared.instr.Instr.{Instr}
 
--- What one clause of an answer's fault tells of another.
+-- A clause about an error implies another.
 pub if_err : {A E : Type 0} (r : Result A E) (P Q : E → Type 0) → ((e : E) → P e → Q e) → IfErr r P → IfErr r Q
 if_err (Ok v) P Q f h = tt
 if_err (Err e) P Q f h = f e h

@@ -1,4 +1,4 @@
--- The draft of lines, one line after the other.
+-- The draft of lines, line by line.
 use Rattle.std.proofs.Common.{◌≡◌, ◌⊎◌, ℕ, ◌+◌, Bool, true, false, List, [], ◌∷◌, ◌++◌, length, filter, Option, Some, None, refl, sym, ap, ◌∙◌, inl, inr, append_assoc, append-nil}
 use Rattle.std.proofs.lemmas.List.{length-map, map-append}
 use Rattle.std.proofs.lemmas.List.Elements.{filter-append}
@@ -17,7 +17,7 @@ none_apart : {A : Type 0} (front : List A) (x : A) (back : List A) → [] ≡ fr
 none_apart [] x back e = cc
 none_apart (y ∷ front) x back e = cc
 
--- A place in a list with one element more is in the list, or is the last.
+-- An element of a list with one more at its end is in the list, or is the last.
 split_last : {A : Type 0} (all front : List A) (x y : A) (back : List A) → all ++ x ∷ [] ≡ front ++ y ∷ back → ((rest : List A) × (all ≡ front ++ y ∷ rest)) ⊎ ((front ≡ all) × (y ≡ x))
 split_last [] [] x y back e = let same : y ≡ x = cc in inr (refl, same)
 split_last [] (z ∷ front) x y back e = let rest : [] ≡ front ++ y ∷ back = cc in absurd (none_apart front y back rest)

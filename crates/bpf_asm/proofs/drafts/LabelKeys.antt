@@ -1,4 +1,4 @@
--- The keys of the map of labels are equal exactly where the names are.
+-- The keys of the map of labels are equal exactly if the names are.
 use Rattle.std.proofs.Common.{Ordering, ◌≡◌, ℕ, Bool, true, false, List, refl, ap, ◌∙◌}
 use Rattle.std.specs.Ordering.{is_eq, nat_cmp, ordering_then}
 use Rattle.std.specs.declared.cmp.Ordering.TheVariants.{Less, Equal, Greater}

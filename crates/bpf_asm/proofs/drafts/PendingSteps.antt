@@ -1,4 +1,4 @@
--- Labels that no instruction follows, one line after the other.
+-- Labels that no instruction follows, line by line.
 use Rattle.std.proofs.Common.{◌≡◌, ◌⊎◌, ℕ, zero, suc, ◌<◌, ◌≤◌, List, [], ◌∷◌, ◌++◌, length, drop, Option, Some, None, refl, sym, ap, ◌∙◌, subst, inl, inr, arith, append-nil, length-append}
 use Rattle.std.proofs.lemmas.List.{drop_all, drop-append-le}
 use Rattle.bpf_asm.specs.Grammar.{Line}
@@ -20,7 +20,7 @@ no_more lines line s e n =
     let sum = length-append (statements_of lines) (statements_of (line ∷ [])) in
     omega arith
 
--- Behind an instruction no label is pending.
+-- After an instruction no label is pending.
 pub pending_none : (lines : List Line) (line : Line) (s : Statement) → line.statement ≡ Some s → IsPending (lines ++ line ∷ []) None
 pending_none lines line s e at d =
     let within = label_within (lines ++ line ∷ []) at d.0 d.1 in
@@ -43,13 +43,13 @@ drop_empty : (lines : List Line) (line : Line) (at : ℕ) → at ≤ length line
 drop_empty lines line at h e =
     ap statements_of (drop-append-le at lines (line ∷ []) h) ∙ statements_of-append (drop at lines) (line ∷ []) ∙ ap (λ (ss : List Statement). statements_of (drop at lines) ++ ss) (none_of line e) ∙ append-nil (statements_of (drop at lines))
 
--- A label that was pending still is.
+-- A pending label remains pending without an instruction.
 dangling_kept : (lines : List Line) (line : Line) (at : ℕ) → line.statement ≡ None → IsDangling lines at → IsDangling (lines ++ line ∷ []) at
 dangling_kept lines line at e d =
     let within = label_within lines at d.0 d.1 in
     (d.0, label_kept lines (line ∷ []) at d.0 d.1, drop_empty lines line at (omega arith) e ∙ d.2)
 
--- A label that is pending was so, or is the last line's.
+-- A pending label was pending before, or is that of the last line.
 dangling_split : (lines : List Line) (line : Line) (at : ℕ) → line.statement ≡ None → IsDangling (lines ++ line ∷ []) at → IsDangling lines at ⊎ ((at ≡ length lines) × ((name : List ℕ) × (line.label ≡ Some name)))
 dangling_split lines line at e d =
     elim (label_split lines line at d.0 d.1) [
@@ -57,7 +57,7 @@ dangling_split lines line at e d =
       | inr l ↦ inr (l.0, (d.0, l.1))
     ]
 
--- A label that is pending first stays so.
+-- The first pending label remains the first.
 pub pending_kept : (lines : List Line) (line : Line) (first : ℕ) → line.statement ≡ None → IsPending lines (Some first) → IsPending (lines ++ line ∷ []) (Some first)
 pending_kept lines line first e p = (
   omega (arith, length-append lines (line ∷ []), p.0),
@@ -69,7 +69,7 @@ last_label : (lines : List Line) (line : Line) (name : List ℕ) → line.label 
 last_label [] line name e = (line, refl, e)
 last_label (first ∷ lines) line name e = last_label lines line name e
 
--- The last line's label is pending.
+-- The label of the last line is pending.
 pub pending_new : (lines : List Line) (line : Line) (name : List ℕ) → line.label ≡ Some name → line.statement ≡ None → IsPending lines None → IsPending (lines ++ line ∷ []) (Some (length lines))
 pending_new lines line name l e p = (
   omega (arith, length-append lines (line ∷ [])),
@@ -77,11 +77,11 @@ pending_new lines line name l e p = (
   λ earlier h d. elim (dangling_split lines line earlier e d) [ inl f ↦ p earlier f | inr m ↦ let same = m.0 in absurd (omega arith) ],
 )
 
--- No label, none pending.
+-- Without a label none is pending.
 pub pending_plain : (lines : List Line) (line : Line) → line.label ≡ None → line.statement ≡ None → IsPending lines None → IsPending (lines ++ line ∷ []) None
 pending_plain lines line l e p at d =
     elim (dangling_split lines line at e d) [ inl f ↦ p at f | inr m ↦ no_label m.1.0 (sym m.1.1 ∙ l) ]
 
--- At a value that is this one.
+-- The same for an equal value.
 pub pending_at : (lines : List Line) (one other : Option ℕ) → one ≡ other → IsPending lines one → IsPending lines other
 pending_at lines one other e p = subst (λ (o : Option ℕ). IsPending lines o) e p

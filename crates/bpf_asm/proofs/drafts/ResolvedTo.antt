@@ -1,4 +1,4 @@
--- The labels of a draft turned into offsets, one instruction after the other.
+-- The labels of a draft are replaced by offsets, one instruction after the other.
 use Rattle.std.proofs.Common.{◌≡◌, ℕ, ◌+◌, ◌<◌, Bool, true, false, List, [], ◌∷◌, ◌++◌, length, set, drop, get_or, filter, cond, refl, sym, ap, ◌∙◌, subst, arith, append_assoc, length-append}
 use Rattle.std.proofs.lemmas.List.{drop_more, length-map, map-append, set_at}
 use Rattle.bpf_asm.specs.Faults.{IsFirstOperandFault, IsStatementFault}
@@ -16,7 +16,7 @@ use Rattle.bpf_asm.specs.inner.Drafts.{EachStands, IsResolvedTo, drafted, first_
 use Rattle.bpf_asm.proofs.drafts.Resolving.{mean_have, mean_length, mean_more}
 use Rattle.bpf_code.specs.declared.instr.Instr.{Instr}
 
--- Where a list has an element that passes a test, it falls apart at the first one.
+-- If some element of a list passes a test, the list splits at the first such element.
 record FirstKept (back : List Unresolved) (u : Unresolved) (more : List Unresolved) : Type 0 where
   plains : List Unresolved
   rest : List Unresolved
@@ -46,7 +46,7 @@ plain_parts : (b : Bool) (v : Unresolved) (vs : List Unresolved) → is_unresolv
 plain_parts true v vs b e = cc
 plain_parts false v vs b e = (b, e)
 
--- Instructions without labels mean their first forms.
+-- Instructions without labels mean themselves.
 plains_mean : (lines : List Line) (place : ℕ) (plains : List Unresolved) → filter is_unresolved plains ≡ [] → MeanFrom lines place (statements_seen plains) (first_forms plains)
 plains_mean lines place [] e = refl
 plains_mean lines place (v ∷ plains) e =
@@ -61,13 +61,13 @@ mean_append lines place (s ∷ ss) more (i ∷ code) behind m n =
     let moved : place + length (s ∷ ss) ≡ place + 1 + length ss = omega arith in
     (m.0, mean_append lines (place + 1) ss more code behind m.1 (subst (λ (p : ℕ). MeanFrom lines p more behind) moved n))
 
--- Instructions without labels behind others.
+-- Instructions without labels after others.
 plains_behind : (lines : List Line) (front plains : List Unresolved) (done : List Instr) → filter is_unresolved plains ≡ [] → MeanFrom lines 0 (statements_seen front) done → MeanFrom lines 0 (statements_seen (front ++ plains)) (done ++ first_forms plains)
 plains_behind lines front plains done none m =
     rw (map-append (λ (v : Unresolved). statement_seen v.statement) front plains)
     (mean_append lines 0 (statements_seen front) (statements_seen plains) done (first_forms plains) m (plains_mean lines (0 + length (statements_seen front)) plains none))
 
--- Where a draft is resolved up to an instruction with labels.
+-- The next instruction with labels of a draft that is resolved up to it.
 pub record IsNext (lines : List Line) (code : List Instr) (u : Unresolved) (more : List Unresolved) : Type 0 where
   pub front : List Unresolved
   pub rest : List Unresolved
@@ -103,22 +103,22 @@ next_by lines code u more r f =
 pub next_is : (lines : List Line) (code : List Instr) (u : Unresolved) (more : List Unresolved) → IsResolvedTo lines code (u ∷ more) → IsNext lines code u more
 next_is lines code u more r = next_by lines code u more r (first_kept r.back u more r.labelled)
 
--- The next one of those that are left from a place on.
+-- The first of the unresolved instructions that are left.
 pub next_at : (lines : List Line) (code : List Instr) (items : List Unresolved) (at : ℕ) (d : Unresolved) → at < length items → IsResolvedTo lines code (drop at items) → IsNext lines code (get_or items at d) (drop (at + 1) items)
 next_at lines code items at d h r = next_is lines code (get_or items at d) (drop (at + 1) items) (subst (λ (us : List Unresolved). IsResolvedTo lines code us) (drop_more items at d h) r)
 
--- It stands in the code.
+-- The next one is within the code.
 pub next_within : (lines : List Line) (code : List Instr) (u : Unresolved) (more : List Unresolved) → IsNext lines code u more → u.place < length code
 next_within lines code u more n =
     let count = ap length n.forms ∙ length-append n.done (drafted u.statement ∷ first_forms n.rest) in
     let place = n.counted in
     omega arith
 
--- So does the next one of those that are left from a place on.
+-- The first of those that are left is within the code.
 pub next_at_within : (lines : List Line) (code : List Instr) (items : List Unresolved) (at : ℕ) (d : Unresolved) (count : ℕ) → at < length items → count ≡ length code → IsResolvedTo lines code (drop at items) → (get_or items at d).place < count
 next_at_within lines code items at d count h e r = let within = next_within lines code (get_or items at d) (drop (at + 1) items) (next_at lines code items at d h r) in omega arith
 
--- It is resolved.
+-- The next one is resolved.
 pub next_resolved : (lines : List Line) (code : List Instr) (u : Unresolved) (more : List Unresolved) (i : Instr) → Means lines u.place (statement_seen u.statement) i → IsNext lines code u more → IsResolvedTo lines (set code u.place i) more
 next_resolved lines code u more i here n =
     let all : (n.front ++ u ∷ []) ++ n.rest ≡ n.front ++ u ∷ n.rest = append_assoc n.front (u ∷ []) n.rest in
@@ -136,7 +136,7 @@ next_resolved lines code u more i here n =
       labelled = n.labelled;
     }
 
--- It can't be resolved.
+-- The next one can't be resolved.
 pub next_fault : (lines : List Line) (code : List Instr) (u : Unresolved) (more : List Unresolved) (kind : AsmKind) (fault : AsmFault) → fault.line ≡ u.line → fault.kind ≡ kind → IsStatementFault lines u.place (statement_seen u.statement) kind → IsNext lines code u more → IsFirstOperandFault lines fault
 next_fault lines code u more kind fault l k f n =
     let s = n.each n.front u n.rest refl in

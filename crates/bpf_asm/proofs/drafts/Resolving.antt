@@ -1,4 +1,4 @@
--- Statements turned into instructions, one after the other.
+-- Statements become instructions, one after the other.
 use Rattle.std.proofs.Common.{◌≡◌, ℕ, suc, ◌+◌, List, [], ◌∷◌, ◌++◌, length, Option, Some, None, refl, ap, ◌∙◌, subst, arith}
 use Rattle.std.specs.Option.{option_to_list}
 use Rattle.bpf_asm.specs.Faults.{HasOffsets, HaveOffsets, IsOperandFault, IsStatementFault}
@@ -17,12 +17,12 @@ use Rattle.bpf_code.specs.declared.instr.Test.{Test}
 pub jump_fault : (lines : List Line) (place : ℕ) (target : List ℕ) (kind : AsmKind) → IsOperandFault lines place (record { label = target; most = 4294967295 }) kind → IsStatementFault lines place (jump target) kind
 jump_fault lines place target kind f = record { left = []; operand = record { label = target; most = 4294967295 }; right = []; order = refl; well = tt; faulty = f }
 
--- Of the first label of a branch.
+-- The fault of the first label of a branch.
 pub first_side : (lines : List Line) (place : ℕ) (test : Test) (by : By) (met unmet : Option (List ℕ)) (kind : AsmKind) → IsSideFault lines place met kind → IsStatementFault lines place (branch test by met unmet) kind
 first_side lines place test by None unmet kind f = absurd f
 first_side lines place test by (Some target) unmet kind f = record { left = []; operand = record { label = target; most = 255 }; right = side unmet; order = refl; well = tt; faulty = f }
 
--- Of the second one.
+-- The fault of the second label of a branch.
 pub second_side : (lines : List Line) (place : ℕ) (test : Test) (by : By) (met unmet : Option (List ℕ)) (jt : ℕ) (kind : AsmKind) → IsSide lines place met jt → IsSideFault lines place unmet kind → IsStatementFault lines place (branch test by met unmet) kind
 second_side lines place test by met None jt kind m f = absurd f
 second_side lines place test by None (Some target) jt kind m f = record { left = []; operand = record { label = target; most = 255 }; right = []; order = refl; well = tt; faulty = f }
@@ -42,7 +42,7 @@ means_has lines place (plain j) i m = tt
 means_has lines place (jump target) i m = ((m.0, m.2), tt)
 means_has lines place (branch test by met unmet) i m = both_have lines place (side met) (side unmet) (side_has lines place met m.0 m.3) (side_has lines place unmet m.1 m.4)
 
--- So do those of all statements.
+-- The operands of all statements that mean a code have offsets.
 pub mean_have : (lines : List Line) (place : ℕ) (ss : List Statement) (code : List Instr) → MeanFrom lines place ss code → HaveOffsets lines place ss
 mean_have lines place [] code m = tt
 mean_have lines place (s ∷ ss) [] m = absurd m
@@ -54,7 +54,7 @@ mean_length lines place [] code m = ap length m
 mean_length lines place (s ∷ ss) [] m = absurd m
 mean_length lines place (s ∷ ss) (i ∷ code) m = ap suc (mean_length lines (place + 1) ss code m.1)
 
--- One statement more.
+-- One more statement.
 pub mean_more : (lines : List Line) (place : ℕ) (ss : List Statement) (code : List Instr) (s : Statement) (i : Instr) → MeanFrom lines place ss code → Means lines (place + length ss) s i → MeanFrom lines place (ss ++ s ∷ []) (code ++ i ∷ [])
 mean_more lines place [] [] s i m here = let z : place + 0 ≡ place = omega arith in (subst (λ (p : ℕ). Means lines p s i) z here, refl)
 mean_more lines place [] (j ∷ code) s i m here = cc
@@ -69,6 +69,6 @@ unfolding statements_of
 statements_line line None e = rw e refl
 statements_line line (Some s) e = rw e refl
 
--- The statements of one line more.
+-- The statements of one more line.
 pub statements_more : (lines : List Line) (line : Line) → statements_of (lines ++ line ∷ []) ≡ statements_of lines ++ option_to_list line.statement
 statements_more lines line = statements_of-append lines (line ∷ []) ∙ ap (λ (ss : List Statement). statements_of lines ++ ss) (statements_line line line.statement refl)

@@ -1,4 +1,4 @@
--- A source, one line after the other.
+-- A source, line by line.
 use Rattle.std.proofs.Common.{◌≡◌, ◌⊎◌, ℕ, ◌+◌, List, [], ◌∷◌, ◌++◌, length, sym, ap, ◌∙◌, subst, inl, inr, append-nil, length-append}
 use Rattle.bpf_asm.specs.Faults.{IsFirstLineFault, IsLineFault, IsOutOfMemory}
 use Rattle.bpf_asm.specs.Grammar.{AreLines, Line}
@@ -21,7 +21,7 @@ line_fault TooFar lines octets f = f lines
 line_fault DanglingLabel lines octets f = f lines
 line_fault NoMemory lines octets f = tt
 
--- A line's own fault, behind lines that have none.
+-- A fault of a line, after lines that have none.
 pub first_by : (source left : List (List ℕ)) (octets : List ℕ) (lines : List Line) (count : ℕ) (kind : AsmKind) (fault : AsmFault) → IsReadTo source (octets ∷ left) lines count → EachLabelOnce lines → IsLineFault lines octets kind → (fault.line ≡ count + 1) × (fault.kind ≡ kind) → IsFirstLineFault source fault
 first_by source left octets lines count kind fault r once f at = record {
   before = r.done;
@@ -54,7 +54,7 @@ taken_by source left octets lines draft count r n t = record {
   drafts = t.drafts;
 }
 
--- One line more.
+-- One more line.
 pub taken_more : (source left : List (List ℕ)) (octets : List ℕ) (old draft : Draft) (count : ℕ) → IsDraftTo source (octets ∷ left) old count → ((lines : List Line) → length lines ≡ count → Drafts lines old → Takes lines draft octets) → IsDraftTo source left draft (count + 1)
 taken_more source left octets old draft count r t = taken_by source left octets r.lines draft count r.read r.counted (t r.lines r.counted r.drafts)
 

@@ -1,4 +1,4 @@
--- Spellings whose parts don't run into one another read as they were written.
+-- A spelling whose parts don't run into each other reads as it was written.
 use Rattle.std.proofs.Common.{◌≡◌, ℕ, ◌<◌, ◌^◌, Bool, true, false, not, ◌&&◌, ◌==◌, List, [], ◌∷◌, ◌++◌, decimal, refl, sym, ap, ◌∙◌, append-nil, arith, inl, inr, ◌+◌, ◌-◌, zero, suc, cond, length, get_or, take, one-add}
 use Rattle.std.specs.List.{before_first}
 use Rattle.std.proofs.lemmas.Bool.{and_cases, and_left, and_parts, and_from, and_right, eqb-true, not-true}
@@ -12,18 +12,18 @@ use Rattle.bpf_asm.specs.inner.WordRuns.{all_word}
 use Rattle.bpf_asm.proofs.octets.Decimals.{tokens_of-decimal, decimal_word}
 use Rattle.bpf_asm.proofs.octets.Pieces.{ends_word, tokens_of-append}
 
--- A part may run into what is behind it.
+-- Whether a part may run into what follows it.
 abbrev pub part_ends : Part → Bool
 part_ends (text octets) = ends_word octets
 part_ends _ = true
 
--- A part may run into what is before it.
+-- Whether a part may run into what comes before it.
 abbrev pub part_begins : Part → Bool
 part_begins (text []) = true
 part_begins (text (octet ∷ rest)) = is_word octet
 part_begins _ = true
 
--- No part runs into the next one.
+-- Whether no part runs into the next one.
 abbrev pub is_apart : List Part → Bool
 is_apart [] = true
 is_apart (part ∷ []) = true
@@ -35,7 +35,7 @@ ReadsPart (text octets) = Unit {0}
 ReadsPart (num value) = value < 2 ^ 32
 ReadsPart (label octets) = (tokens_of octets ≡ name octets ∷ []) × (all_word octets ≡ true)
 
--- Each part does.
+-- Each part reads as its token.
 abbrev pub ReadParts : List Part → Type 0
 ReadParts [] = Unit {0}
 ReadParts (part ∷ parts) = ReadsPart part × ReadParts parts
@@ -72,11 +72,11 @@ parts_read (part ∷ next ∷ parts) h r =
     ∙ ap (λ (ts : List Token). ts ++ tokens_of (spelling_octets (next ∷ parts))) (part_read part r.0)
     ∙ ap (λ (ts : List Token). part_tokens part ++ ts) later
 
--- The octet ends no line and begins no comment.
+-- Whether the octet neither ends a line nor begins a comment.
 abbrev pub is_inline : ℕ → Bool
 is_inline octet = not (octet == 10) && (not (octet == 13) && not (octet == 59))
 
--- No octet does.
+-- Whether this is so for every octet.
 abbrev pub all_inline : List ℕ → Bool
 all_inline [] = true
 all_inline (octet ∷ rest) = is_inline octet && all_inline rest
@@ -97,7 +97,7 @@ other_by octet n true e f h =
 other_octet : (octet n : ℕ) → is_word n ≡ false → is_word octet ≡ true → not (octet == n) ≡ true
 other_octet octet n f h = other_by octet n (octet == n) refl f h
 
--- Octets of words are neither.
+-- Octets of words neither end a line nor begin a comment.
 word_inline : (octet : ℕ) → is_word octet ≡ true → is_inline octet ≡ true
 word_inline octet h = and_from _ _ (other_octet octet 10 refl h) (and_from _ _ (other_octet octet 13 refl h) (other_octet octet 59 refl h))
 
@@ -107,13 +107,13 @@ words_inline (octet ∷ rest) h =
     let both = and_parts (is_word octet) (all_word rest) h in
     and_from _ _ (word_inline octet both.0) (words_inline rest both.1)
 
--- The texts of parts have no such octets.
+-- Whether the texts of the parts have only such octets.
 abbrev pub texts_inline : List Part → Bool
 texts_inline [] = true
 texts_inline (text octets ∷ parts) = all_inline octets && texts_inline parts
 texts_inline (_ ∷ parts) = texts_inline parts
 
--- Nor have their octets.
+-- Then so have the octets of the whole spelling.
 pub parts_inline : (parts : List Part) → texts_inline parts ≡ true → ReadParts parts → all_inline (spelling_octets parts) ≡ true
 parts_inline [] h r = refl
 parts_inline (text octets ∷ parts) h r =
@@ -124,19 +124,19 @@ parts_inline (num value ∷ parts) h r =
 parts_inline (label octets ∷ parts) h r =
     all_inline-append octets (spelling_octets parts) (words_inline octets r.0.1) (parts_inline parts h r.1)
 
--- An octet that is inline is none of the three.
+-- Such an octet is none of the three.
 inline_tests : (octet : ℕ) → is_inline octet ≡ true → ((octet == 10) ≡ false) × ((octet == 13) ≡ false) × ((octet == 59) ≡ false)
 inline_tests octet h =
     let both = and_parts (not (octet == 10)) (not (octet == 13) && not (octet == 59)) h in
     let inner = and_parts (not (octet == 13)) (not (octet == 59)) both.1 in
     (not-true _ both.0, not-true _ inner.0, not-true _ inner.1)
 
--- An octet that doesn't pass stands before the first that does.
+-- An octet that fails the test comes before the first that passes.
 pub before_more : (octet : ℕ) (rest : List ℕ) (count : ℕ) (t : Bool) → t ≡ false → take (cond (not t) (1 + count) 0) (octet ∷ rest) ≡ octet ∷ take count rest
 before_more octet rest count true e = cc
 before_more octet rest count false e = rw one-add refl
 
--- Without comments.
+-- A line of such octets has no comment.
 pub inline_whole : (octets : List ℕ) → all_inline octets ≡ true → before_first (λ octet. octet == 59) octets ≡ octets
 inline_whole [] h = refl
 inline_whole (octet ∷ rest) h =
@@ -155,13 +155,13 @@ inline_at [] at h = refl
 inline_at (octet ∷ line) zero h = let both = and_parts (is_inline octet) (all_inline line) h in (inline_tests octet both.0).1
 inline_at (octet ∷ line) (suc at) h = let both = and_parts (is_inline octet) (all_inline line) h in inline_at line at both.1
 
--- Such a line is the first of a text where a line feed ends it.
+-- Such a line is the first of a text if a line feed ends it.
 pub source_lines-line : (line rest : List ℕ) → all_inline line ≡ true → source_lines (line ++ 10 ∷ rest) ≡ line ∷ source_lines rest
 source_lines-line line rest h =
     let whole : without_return line ≡ line = rw (inline_at line (length line - 1) h) refl in
     line_ended line rest (inline_free line h) ∙ ap (λ l. l ∷ source_lines rest) whole
 
--- No token is `-`.
+-- Whether no token is `-`.
 abbrev pub no_minus : List Token → Bool
 no_minus [] = true
 no_minus (mark octet ∷ tokens) = not (octet == 45) && no_minus tokens
@@ -181,7 +181,7 @@ behind_same octet (mark minus ∷ number value ∷ tokens) h =
     let no : (octet == 35 && minus == 45) ≡ false = and_right _ _ (not-true _ both.0) in
     rw no refl
 
--- Such tokens stay as they are.
+-- Such tokens are read unchanged.
 pub signed_same : (tokens : List Token) → no_minus tokens ≡ true → signed tokens ≡ tokens
 unfolding signed
 signed_same [] h = refl

@@ -8,7 +8,7 @@ use Rattle.bpf_code.specs.declared.instr.Test.{Test}
 use Rattle.bpf_code.specs.declared.instr.Instr.{Instr}
 use Rattle.bpf_code.specs.declared.instr.Instr.TheVariants.{Jump, Branch}
 
--- The answer to whether the instruction at a place leaves a code with so many instructions behind it.
+-- Whether the instruction at this place leaves the code, if this many instructions follow it.
 abbrev pub Answers : ℕ → ℕ → Instr → Bool → Type 0
 Answers b place i t = MatchBool t (Leaves (place + 1 + b) place i) (StaysWithin (place + 1 + b) place i)
 
@@ -16,7 +16,7 @@ jump_by : (b k place : ℕ) (t : Bool) → leb b k ≡ t → Answers b place (Ju
 jump_by b k place true e = let h : b ≤ k = leb-true b k e in (place + 1 + k, refl, omega arith)
 jump_by b k place false e = let h : k < b = leb-false b k e in λ target j. omega arith
 
--- A jump leaves the code where its offset is no less than what is behind it.
+-- A jump leaves the code exactly if its offset is at least the number of instructions that follow.
 pub jump_leaves : (b k place : ℕ) (i : Instr) → i ≡ Jump k → Answers b place i (leb b k)
 jump_leaves b k place i e = rw e (jump_by b k place (leb b k) refl)
 
@@ -24,7 +24,7 @@ met_by : (b jt jf place : ℕ) (test : Test) (by : By) (t : Bool) → leb b jt �
 met_by b jt jf place test by true e h = (place + 1 + jt, inl refl, omega arith)
 met_by b jt jf place test by false e h = let l : jt < b = leb-false b jt e in absurd (omega arith)
 
--- So does a branch by its first offset.
+-- The same for a branch, by its first offset.
 pub branch_leaves_first : (b jt jf place : ℕ) (test : Test) (by : By) (i : Instr) → i ≡ Branch test by jt jf → b ≤ jt → Answers b place i (leb b jt)
 branch_leaves_first b jt jf place test by i e h = rw e (met_by b jt jf place test by (leb b jt) refl h)
 
@@ -35,16 +35,16 @@ unmet_by : (b jt jf place : ℕ) (test : Test) (by : By) (t : Bool) → leb b jf
 unmet_by b jt jf place test by true e h = let l : b ≤ jf = leb-true b jf e in (place + 1 + jf, inr refl, omega arith)
 unmet_by b jt jf place test by false e h = let l : jf < b = leb-false b jf e in stays_both b jt jf place test by h l
 
--- And by its second one.
+-- The same for a branch, by its second offset.
 pub branch_leaves_second : (b jt jf place : ℕ) (test : Test) (by : By) (i : Instr) → i ≡ Branch test by jt jf → jt < b → Answers b place i (leb b jf)
 branch_leaves_second b jt jf place test by i e h = rw e (unmet_by b jt jf place test by (leb b jf) refl h)
 
--- An answer of yes, of the code as a whole.
+-- If it is true, the instruction leaves the code.
 pub leaves_if : (count place : ℕ) (i : Instr) (t : Bool) → place < count → t ≡ true → Answers (count - place - 1) place i t → Leaves count place i
 leaves_if count place i true h e a = let all : place + 1 + (count - place - 1) ≡ count = omega arith in rw all at a
 leaves_if count place i false h e a = cc
 
--- An answer of no.
+-- If it is false, the instruction stays within the code.
 pub stays_if : (count place : ℕ) (i : Instr) (t : Bool) → place < count → t ≡ false → Answers (count - place - 1) place i t → StaysWithin count place i
 stays_if count place i true h e a = cc
 stays_if count place i false h e a = let all : place + 1 + (count - place - 1) ≡ count = omega arith in rw all at a

@@ -17,16 +17,16 @@ use Rattle.bpf_code.specs.declared.instr.Test.TheVariants.{Eq, Gt, Ge, Set}
 abbrev pub line_parts : ℕ → Instr → List Part
 line_parts place i = label (label_at place) ∷ text (codes ": ") ∷ first_spelling (spellings (statement_at place i))
 
--- There is some spelling.
+-- Whether there is some spelling.
 abbrev pub is_some_row : List (List Part) → Bool
 is_some_row [] = false
 is_some_row (row ∷ rows) = true
 
--- The parts of a row don't run into one another, end no line, begin no comment and have no sign.
+-- Whether the parts of a row don't run into each other, end no line, begin no comment and have no sign.
 abbrev pub is_good : List Part → Bool
 is_good parts = is_apart parts && (texts_inline parts && no_minus (spelling_tokens parts))
 
--- The instruction has a row, and that row is a good one.
+-- The instruction has a row with this property.
 pub row_good : (place : ℕ) (i : Instr) → (is_good (line_parts place i) && is_some_row (spellings (statement_at place i))) ≡ true
 unfolding spellings tokens_of pieces_of word_token number_of value_behind
 row_good place (LoadAbs Word k) = refl

@@ -1,4 +1,4 @@
--- A listing, one line after the other.
+-- A listing, line by line.
 use Rattle.std.proofs.Common.{◌≡◌, ℕ, ◌+◌, ◌<◌, ◌≤◌, List, ◌∷◌, ◌++◌, length, get_or, drop, refl, sym, ap, ◌∙◌, append_assoc, append-nil}
 use Rattle.std.proofs.lemmas.List.{at_drop_more, at_drop_all}
 use Rattle.bpf_asm.specs.Listing.{line_text, listing_from}
@@ -8,7 +8,7 @@ pub listing_from-cons : (place : ℕ) (i : Instr) (code : List Instr) → listin
 unfolding listing_from
 listing_from-cons place i code = refl
 
--- One line more is written.
+-- One more line is written.
 pub written_more : (text whole : List ℕ) (code : List Instr) (at : ℕ) (d : Instr) → at < length code → text ++ listing_from at (drop at code) ≡ whole → (text ++ line_text at (get_or code at d)) ++ listing_from (at + 1) (drop (at + 1) code) ≡ whole
 written_more text whole code at d h e =
     append_assoc text (line_text at (get_or code at d)) (listing_from (at + 1) (drop (at + 1) code))

@@ -17,16 +17,16 @@ use Rattle.bpf_asm.proofs.listings.Places.{AllPlaces}
 use Rattle.bpf_code.specs.declared.instr.Instr.{Instr}
 use Rattle.bpf_code.specs.declared.instr.Instr.TheVariants.{LoadAbs, LoadInd, LoadImm, LoadMem, LoadLen, LdxImm, LdxMem, LdxLen, LdxMsh, Store, StoreX, Alu, Neg, Jump, Branch, RetK, RetA, Tax, Txa}
 
--- What a listing's line says.
+-- The line of a listing.
 abbrev line_at : ℕ → Instr → Line
 line_at place i = record { label = Some (label_at place); statement = Some (statement_at place i) }
 
--- What the lines of a listing say, from a place on.
+-- The lines of a listing, from this place on.
 lines_in : ℕ → List Instr → List Line
 lines_in place [] = []
 lines_in place (i ∷ code) = line_at place i ∷ lines_in (place + 1) code
 
--- The instructions from a place on can be listed, in a code of so many.
+-- The instructions from this place on can be listed, in a code of this many.
 abbrev IsListable : ℕ → ℕ → List Instr → Type 0
 IsListable count place [] = Unit {0}
 IsListable count place (i ∷ code) = (FitsFields i × StaysWithin count place i) × IsListable count (place + 1) code
@@ -57,7 +57,7 @@ colon_token : tokens_of (codes ": ") ≡ mark 58 ∷ []
 unfolding tokens_of pieces_of
 colon_token = refl
 
--- One line reads as what it says.
+-- One line parses as the line of the listing.
 line_said : (place : ℕ) (i : Instr) → FitsFields i → StaysWithin (2 ^ 64) place i → place < 2 ^ 64 → (all_inline (spelling_octets (line_parts place i)) ≡ true) × IsLine (spelling_octets (line_parts place i)) (line_at place i)
 unfolding IsLine tokens_in tokens_read
 line_said place i w s h =
@@ -73,7 +73,7 @@ line_said place i w s h =
     let behind : spelling_tokens parts ≡ name (label_at place) ∷ mark 58 ∷ spelling_tokens row = ap (λ (ts : List Token). name (label_at place) ∷ (ts ++ spelling_tokens row)) colon_token in
     (inline, (spelling_tokens row, tokens ∙ behind, row_first (spellings (statement_at place i)) both.1))
 
--- The lines of a listing read as what they say.
+-- The lines of a listing parse as these.
 lines_said : (place : ℕ) (code : List Instr) → IsListable (2 ^ 64) place code → place + length code ≤ 2 ^ 64 → AreLines (source_lines (listing_from place code)) (lines_in place code)
 unfolding lines_in source_lines listing_from
 lines_said place [] l h = refl
@@ -120,7 +120,7 @@ some_statement place [] at h e = omega arith
 some_statement place (i ∷ code) zero h e = cc
 some_statement place (i ∷ code) (suc at) h e = some_statement (place + 1) code at (omega arith) e
 
--- Each label stands for its place.
+-- Each label names its place.
 label_stands : (place : ℕ) (code : List Instr) (at : ℕ) → at < length code → StandsFor (lines_in place code) (label_at (place + at)) at
 unfolding lines_in statements_of
 label_stands place [] at h = absurd (omega arith)

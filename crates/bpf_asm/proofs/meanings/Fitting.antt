@@ -21,7 +21,7 @@ use Rattle.bpf_code.specs.declared.instr.Instr.TheVariants.{LoadAbs, LoadInd, Lo
 use Rattle.text_io.specs.Words.{is_blank, is_digit}
 use Rattle.bpf_code.proofs.Public.{code_octets-plainly}
 
--- A number that a token holds has at most 32 bits.
+-- Whether the number of a token, if it is one, has at most 32 bits.
 abbrev is_small : Token → Bool
 is_small (number value) = nat_lt value (2 ^ 32)
 is_small _ = true
@@ -51,7 +51,7 @@ word_small (octet ∷ rest) =
     elim (is_digit octet) as (λ t. is_small (if t then number_token (number_of (octet ∷ rest)) else name (octet ∷ rest)) ≡ true)
     [ true ↦ within_small (value_of (octet ∷ rest)) | false ↦ refl ]
 
--- The token of a piece, if it is one, is small.
+-- Whether the token of a piece, if it has one, is small.
 abbrev found_small : Option Token → Bool
 found_small None = true
 found_small (Some token) = is_small token
@@ -72,7 +72,7 @@ pieces_small : (pieces : List (List ℕ)) → all_small (filter_map token_of pie
 pieces_small [] = refl
 pieces_small (piece ∷ pieces) = found_more (token_of piece) (filter_map token_of pieces) (piece_small piece) (pieces_small pieces)
 
--- So are numbers below zero.
+-- So are negative numbers.
 rest_small : (value : ℕ) → is_small (number ((2 ^ 32 - value) % 2 ^ 32)) ≡ true
 rest_small value = lt-ltb ((2 ^ 32 - value) % 2 ^ 32) (2 ^ 32) (omega arith)
 
@@ -105,7 +105,7 @@ line_small : (octets : List ℕ) → all_small (tokens_in octets) ≡ true
 unfolding tokens_in tokens_read tokens_of
 line_small octets = signed_small (tokens_of (without_comment octets)) (pieces_small (pieces_of (without_comment octets)))
 
--- So are those of a spelling.
+-- The numbers of a spelling are small.
 abbrev NumbersFit : List Part → Type 0
 NumbersFit [] = Unit {0}
 NumbersFit (text octets ∷ parts) = NumbersFit parts
@@ -182,7 +182,7 @@ row_fits (branch test by (Some met) None) ts h o = sided_fits (test_name test �
 row_fits (branch test by None (Some unmet)) ts h o = sided_fits (inverse_names test) by unmet ts h o
 row_fits (branch test by None None) ts h o = absurd o
 
--- Those of each statement of lines.
+-- The numbers of each statement fit.
 abbrev StatementsFit : List Statement → Type 0
 StatementsFit [] = Unit {0}
 StatementsFit (s ∷ ss) = StatementFits s × StatementsFit ss
@@ -225,6 +225,6 @@ mean_fit lines from (s ∷ ss) (j ∷ code) f m (suc place) i e = mean_fit lines
 pub meaning-fits : (source : List ℕ) (code : List Instr) → IsMeaning source code → (place : ℕ) (i : Instr) → StandsAt code place i → FitsFields i
 meaning-fits source code m = mean_fit m.lines 0 (statements_of m.lines) code (lines_fit (source_lines source) m.lines m.said) m.mean.meant
 
--- So the octets of its code spell it plainly.
+-- So the octets of its code spell it, with 0 in all unused fields.
 pub meaning-plainly : (source : List ℕ) (code : List Instr) → IsMeaning source code → SpellsPlainly (code_octets code) code
 meaning-plainly source code m = code_octets-plainly code (meaning-fits source code m)

@@ -48,7 +48,7 @@ line_faulty : (ts : List Token) (label : Option (List ℕ)) (s : Option Statemen
 line_faulty ts None s h = ap has_faulty h.1 ∙ body_faulty h.0 s h.2
 line_faulty ts (Some l) s h = ap has_faulty h.1 ∙ body_faulty h.0 s h.2
 
--- A line of the grammar has no number that is none.
+-- A line of the grammar has no bad number.
 pub line_numbers : (octets : List ℕ) (line : Line) → IsLine octets line → HasBadNumber octets → ⊥
 unfolding IsLine tokens_in tokens_read HasBadNumber
 line_numbers octets line is bad =
@@ -56,7 +56,7 @@ line_numbers octets line is bad =
     let both : true ≡ false = sym bad ∙ sym (signed_faulty (tokens_of (without_comment octets))) ∙ fine in
     cc
 
--- Lines fall apart as their octets do.
+-- Lines split as their octets do.
 pub record Parts (before : List (List ℕ)) (here : List ℕ) (lines : List Line) : Type 0 where
   pub front : List Line
   pub line : Line

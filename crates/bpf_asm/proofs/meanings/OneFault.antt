@@ -12,7 +12,7 @@ use Rattle.bpf_asm.proofs.drafts.Agreement.{stands_has, statements_of-append}
 use Rattle.bpf_asm.proofs.meanings.NeverBoth.{line_never, line_numbers, offset_in, operand_never, parts_of, some_here}
 use Rattle.bpf_asm.proofs.meanings.OneMeaning.{lines_once, stands_once}
 
--- Of two places in a list, they are one, or the first is in front of the second, or the second of the first.
+-- Two places in a list are the same, or one is before the other.
 InFront : {A : Type 0} → List A → A → List A → Type 0
 InFront {A} one x other = (more : List A) × (other ≡ one ++ x ∷ more)
 

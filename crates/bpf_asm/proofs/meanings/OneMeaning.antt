@@ -15,13 +15,13 @@ use Rattle.bpf_code.specs.declared.instr.Instr.TheVariants.{Jump, Branch}
 same_line : (one other : Line) → Some one ≡ Some other → one ≡ other
 same_line one other e = cc
 
--- A line says one thing.
+-- A line parses in at most one way.
 pub line_once : (octets : List ℕ) (one other : Line) → IsLine octets one → IsLine octets other → one ≡ other
 unfolding IsLine
 line_once octets one other a b =
     same_line one other (sym (line_back (tokens_in octets) one.label one.statement a) ∙ line_back (tokens_in octets) other.label other.statement b)
 
--- So do lines.
+-- Lines parse in at most one way.
 pub lines_once : (octets : List (List ℕ)) (some other : List Line) → AreLines octets some → AreLines octets other → some ≡ other
 lines_once [] some other a b = a ∙ sym b
 lines_once (here ∷ octets) [] other a b = absurd a
@@ -29,7 +29,7 @@ lines_once (here ∷ octets) (one ∷ some) [] a b = absurd b
 lines_once (here ∷ octets) (one ∷ some) (two ∷ other) a b =
     ap (λ (line : Line). line ∷ some) (line_once here one two a.0 b.0) ∙ ap (λ (lines : List Line). two ∷ lines) (lines_once octets some other a.1 b.1)
 
--- A label's place by its line.
+-- The place that a label names, from the number of its line.
 stands_place : (lines : List Line) (name : List ℕ) (place : ℕ) → StandsFor lines name place → (at : ℕ) × HasLabel lines at name × (place ≡ length (statements_of (take at lines)))
 stands_place lines name place s =
     let front : take (length s.before) lines ≡ s.before = ap (λ (ls : List Line). take (length s.before) ls) s.split ∙ take_at s.before (s.here ∷ s.behind) (length s.before) refl in (
@@ -38,7 +38,7 @@ stands_place lines name place s =
       s.counted ∙ ap (λ (ls : List Line). length (statements_of ls)) (sym front),
     )
 
--- A label that stands once stands for one place.
+-- A label that occurs once names one place.
 pub stands_once : (lines : List Line) (name : List ℕ) (one other : ℕ) → EachLabelOnce lines → StandsFor lines name one → StandsFor lines name other → one ≡ other
 stands_once lines name one other once a b =
     let first = stands_place lines name one a in

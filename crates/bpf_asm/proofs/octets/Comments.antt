@@ -1,4 +1,4 @@
--- A line before its comment, one octet, word or blank after the other.
+-- A line before its comment: by one octet, word or blank more.
 use Rattle.std.proofs.Common.{◌≡◌, ℕ, suc, ◌+◌, ◌<◌, ◌≤◌, Bool, true, false, ◌==◌, List, [], ◌∷◌, ◌++◌, length, get_or, take, drop, refl, sym, ap, ◌∙◌, arith, length-take, take-append-drop}
 use Rattle.std.specs.List.{position_or_len}
 use Rattle.std.proofs.lemmas.Bool.{and_parts, eqb-true}
@@ -11,7 +11,7 @@ use Rattle.text_io.specs.Words.{is_blank}
 use Rattle.bpf_asm.proofs.octets.Pieces.{tokens_of-blank, tokens_of-mark, tokens_of-words}
 use Rattle.bpf_asm.proofs.octets.Reading.{some_word, tokens_of-none}
 
--- An octet that passes a test which `;` fails is no `;`.
+-- An octet that passes a test which `;` fails isn't `;`.
 other_octet : (octet : ℕ) (t : Bool) (test : ℕ → Bool) → t ≡ (octet == 59) → test 59 ≡ false → test octet ≡ true → t ≡ false
 other_octet octet true test e fails passes =
     let same : octet ≡ 59 = eqb-true octet 59 (sym e) in
@@ -49,26 +49,26 @@ run_by : (octet : ℕ) (rest : List ℕ) (t : Bool) → (octet == 59) ≡ t → 
 run_by octet rest true e h = rw (comment_first octet rest e) refl
 run_by octet rest false e h = rw (apart_comment octet rest e) h
 
--- What begins with no word does not before its comment.
+-- A text that doesn't begin with a word doesn't do so before its comment.
 comment_run : (text : List ℕ) → is_run text ≡ false → is_run (without_comment text) ≡ false
 comment_run [] h = refl
 comment_run (octet ∷ rest) h = run_by octet rest (octet == 59) refl h
 
--- No octets have no token.
+-- A text without octets has no token.
 pub line_none : (text : List ℕ) → length text ≡ 0 → line_tokens text ≡ []
 line_none [] h = tokens_of-none [] refl
 line_none (octet ∷ rest) h = absurd (omega arith)
 
--- A comment has none.
+-- A comment has no token.
 pub line_comment : (text : List ℕ) → 0 < length text → (get_or text 0 0 == 59) ≡ true → line_tokens text ≡ []
 line_comment [] h e = absurd (omega arith)
 line_comment (octet ∷ rest) h e = rw (comment_first octet rest e) (tokens_of-none [] refl)
 
--- A blank has none.
+-- A blank has no token.
 line_tokens-blank : (octet : ℕ) (rest : List ℕ) → is_blank octet ≡ true → line_tokens (octet ∷ rest) ≡ line_tokens rest
 line_tokens-blank octet rest b = rw (apart_comment octet rest (blank_apart octet b)) (tokens_of-blank octet (without_comment rest) b)
 
--- One blank more.
+-- One more blank.
 pub line_blank_more : (text : List ℕ) (at : ℕ) → at < length text → line_tokens (drop at text) ≡ line_tokens text → is_blank (get_or text at 0) ≡ true → line_tokens (drop (at + 1) text) ≡ line_tokens text
 line_blank_more text at h e b = sym (line_tokens-blank (get_or text at 0) (drop (at + 1) text) b) ∙ sym (at_drop_more line_tokens text at 0 h) ∙ e
 

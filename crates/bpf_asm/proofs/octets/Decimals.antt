@@ -1,4 +1,4 @@
--- Decimal numbers read back.
+-- Decimal numbers are read back.
 use Rattle.std.proofs.Common.{◌≡◌, ℕ, ◌+◌, ◌*◌, ◌/◌, ◌%◌, ◌^◌, ◌<◌, ◌≤◌, Bool, true, false, ◌&&◌, ◌||◌, ◌==◌, nat_lt, if◌then◌else◌, List, [], ◌∷◌, ◌++◌, Some, None, decimal, refl, ap, ◌∙◌, arith}
 use Rattle.std.proofs.lemmas.Bool.{and_from, and_parts, and_right, lt-ltb}
 use Rattle.std.proofs.lemmas.Fmt.{decimal_by_steps}
@@ -9,7 +9,7 @@ use Rattle.bpf_asm.specs.inner.WordRuns.{all_word}
 use Rattle.bpf_asm.proofs.octets.Pieces.{tokens_of-word}
 use Rattle.bpf_asm.proofs.octets.OctetTests.{digit_no_sign, digit_of-digit, digit_within, digit_word}
 
--- One digit more.
+-- One more digit.
 value_behind-snoc : (base high : ℕ) (digits : List ℕ) (octet value : ℕ) → value_behind base high digits ≡ Some value → nat_lt (digit_of octet) base ≡ true → value_behind base high (digits ++ octet ∷ []) ≡ Some (value * base + digit_of octet)
 unfolding value_behind
 value_behind-snoc base high [] octet value e h = let same : high ≡ value = cc in rw (h, same) refl
@@ -34,7 +34,7 @@ digits_word (first ∷ digits) a =
     let both = and_parts (is_digit first) (all_digit digits) a in
     and_from _ _ (digit_word first both.0) (digits_word digits both.1)
 
--- Decimal digits, some of them, of this value.
+-- One or more decimal digits with this value.
 abbrev pub IsDecimal : ℕ → List ℕ → Type 0
 IsDecimal value [] = ⊥
 IsDecimal value (octet ∷ rest) = (value_behind 10 0 (octet ∷ rest) ≡ Some value) × (all_digit (octet ∷ rest) ≡ true)
@@ -62,7 +62,7 @@ more_decimal value (octet ∷ rest) h d =
 pub decimal_digits : (value : ℕ) → value < 2 ^ 64 → IsDecimal value (decimal value)
 decimal_digits value h = decimal_by_steps IsDecimal one_decimal more_decimal value h
 
--- Such digits are no hexadecimal number.
+-- Such digits aren't a hexadecimal number.
 value_of-digits : (value : ℕ) (digits : List ℕ) → IsDecimal value digits → value_of digits ≡ Some value
 value_of-digits value [] d = absurd d
 value_of-digits value (octet ∷ []) d = d.0

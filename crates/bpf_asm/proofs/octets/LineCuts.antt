@@ -1,4 +1,4 @@
--- A text falls into its first line and what is behind it.
+-- A text is its first line and the rest.
 use Rattle.std.proofs.Common.{◌≡◌, ℕ, ◌+◌, ◌<◌, true, false, not, ◌==◌, List, [], ◌∷◌, ◌++◌, length, map, get_or, take, drop, refl, sym, ap, ◌∙◌, arith, take-append-drop}
 use Rattle.std.proofs.lemmas.Bool.{and_parts, not-true}
 use Rattle.std.proofs.lemmas.List.{drop_all, drop_more, take_all}
@@ -20,7 +20,7 @@ last octet (next ∷ line) n =
     let both = and_parts (not (octet == 10)) (no_feed (next ∷ line)) n in
     rw (not-true _ both.0) (ap (begun_with octet) (last next line both.1))
 
--- A line that a line feed ends.
+-- A line that ends with a line feed.
 pub line_ended : (line rest : List ℕ) → no_feed line ≡ true → source_lines (line ++ 10 ∷ rest) ≡ without_return line ∷ source_lines rest
 unfolding source_lines
 line_ended line rest n = ap (map said) (ended line rest n)
@@ -31,14 +31,14 @@ unfolding source_lines
 line_last [] h n = absurd (omega arith)
 line_last (octet ∷ line) h n = ap (map said) (last octet line n)
 
--- At a line feed.
+-- The first line ends at a line feed.
 pub line_cut : (text : List ℕ) (at : ℕ) → at < length text → no_feed (take at text) ≡ true → get_or text at 0 ≡ 10 → source_lines text ≡ without_return (take at text) ∷ source_lines (drop (at + 1) text)
 line_cut text at h n f =
     let split : text ≡ take at text ++ 10 ∷ drop (at + 1) text =
     sym (take-append-drop at text) ∙ ap (λ (r : List ℕ). take at text ++ r) (drop_more text at 0 h ∙ ap (λ (o : ℕ). o ∷ drop (at + 1) text) f) in
     ap source_lines split ∙ line_ended (take at text) (drop (at + 1) text) n
 
--- At the end.
+-- The first line ends at the end of the text.
 pub line_rest : (text : List ℕ) (at : ℕ) → 0 < length text → at ≡ length text → no_feed (take at text) ≡ true → source_lines text ≡ text ∷ source_lines (drop at text)
 unfolding source_lines
 line_rest text at h e n =
@@ -46,7 +46,7 @@ line_rest text at h e n =
     let none : drop at text ≡ [] = drop_all at text (omega arith) in
     line_last text h (sym (ap no_feed whole) ∙ n) ∙ ap (λ (r : List ℕ). text ∷ source_lines r) (sym none)
 
--- No line in no text.
+-- An empty text has no line.
 pub lines_none : (text : List ℕ) → length text ≡ 0 → source_lines text ≡ []
 unfolding source_lines
 lines_none [] h = refl

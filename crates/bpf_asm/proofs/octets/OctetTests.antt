@@ -1,4 +1,4 @@
--- Tests and what they mean.
+-- Tests of octets and numbers.
 use Rattle.std.proofs.Common.{◌≡◌, ℕ, ◌+◌, ◌-◌, ◌<◌, ◌≤◌, Bool, true, false, ◌||◌, nat_le, ◌==◌, refl, sym, ◌∙◌, zero, suc, arith}
 use Rattle.std.proofs.lemmas.Bool.{and_parts, eqb-true, leb-true}
 use Rattle.std.proofs.lemmas.Bool.Decides.{nat_tests}
@@ -12,11 +12,11 @@ digit_bounds octet h =
     let both = and_parts (nat_le 48 octet) (nat_le octet 57) h in
     (leb-true 48 octet both.0, leb-true octet 57 both.1)
 
--- What is from 48 to 57 is a digit.
+-- An octet from 48 to 57 is a digit.
 pub digit_within : (octet : ℕ) → 48 ≤ octet → octet ≤ 57 → is_digit octet ≡ true
 digit_within octet low high = grind (arith, nat_tests)
 
--- A digit is no sign of a hexadecimal number.
+-- A digit is not the sign of a hexadecimal number.
 pub digit_no_sign : (octet : ℕ) → is_digit octet ≡ true → (octet == 120 || octet == 88) ≡ false
 digit_no_sign octet h = let b = digit_bounds octet h in grind (arith, nat_tests)
 
@@ -36,6 +36,6 @@ pub not_zero : (count : ℕ) (t : Bool) → t ≡ (count == 0) → t ≡ false �
 not_zero zero t e f = let both : true ≡ false = sym e ∙ f in cc
 not_zero (suc count) t e f = omega arith
 
--- One that doesn't.
+-- A test for 0 that passes.
 pub is_zero : (count : ℕ) (t : Bool) → t ≡ (count == 0) → t ≡ true → count ≡ 0
 is_zero count t e f = eqb-true count 0 (sym e ∙ f)

@@ -1,4 +1,4 @@
--- How a line falls into its pieces and tokens.
+-- The pieces and tokens of a line.
 use Rattle.std.proofs.Common.{◌≡◌, ℕ, Bool, true, false, ◌&&◌, if◌then◌else◌, List, [], ◌∷◌, ◌++◌, refl, ap, ◌∙◌, ◌==◌, ◌<◌, length, inl, inr, arith}
 use Rattle.std.specs.List.{filter_map}
 use Rattle.std.proofs.lemmas.List.Elements.{filter_map-append}
@@ -37,14 +37,14 @@ joined-append : (octet : ℕ) (piece : List ℕ) (pieces more : List (List ℕ))
 joined-append octet piece pieces more =
     elim (is_word octet && is_run piece) as (λ t. (if t then (octet ∷ piece) ∷ (pieces ++ more) else (octet ∷ []) ∷ piece ∷ (pieces ++ more)) ≡ (if t then (octet ∷ piece) ∷ pieces else (octet ∷ []) ∷ piece ∷ pieces) ++ more) [ true ↦ refl | false ↦ refl ]
 
--- A text of some octets has some piece.
+-- A text that isn't empty has some piece.
 joined-some : (octet : ℕ) (pieces more : List (List ℕ)) (next : ℕ) → joined octet (joined next pieces ++ more) ≡ joined octet (joined next pieces) ++ more
 joined-some octet [] more next = joined-append octet (next ∷ []) [] more
 joined-some octet (piece ∷ pieces) more next =
     elim (is_word next && is_run piece) as (λ t. joined octet ((if t then (next ∷ piece) ∷ pieces else (next ∷ []) ∷ piece ∷ pieces) ++ more) ≡ joined octet (if t then (next ∷ piece) ∷ pieces else (next ∷ []) ∷ piece ∷ pieces) ++ more)
     [ true ↦ joined-append octet (next ∷ piece) pieces more | false ↦ joined-append octet (next ∷ []) (piece ∷ pieces) more ]
 
--- Texts of which the first doesn't run into the second fall apart.
+-- Two texts have the pieces of each, if the first doesn't run into the second.
 pub pieces_of-append : (text more : List ℕ) → (ends_word text && is_run more) ≡ false → pieces_of (text ++ more) ≡ pieces_of text ++ pieces_of more
 unfolding pieces_of
 pieces_of-append [] more h = refl
@@ -54,7 +54,7 @@ pieces_of-append (octet ∷ []) more h =
 pieces_of-append (octet ∷ next ∷ rest) more h =
     ap (joined octet) (pieces_of-append (next ∷ rest) more h) ∙ joined-some octet (pieces_of rest) (pieces_of more) next
 
--- And so do their tokens.
+-- The same for their tokens.
 pub tokens_of-append : (text more : List ℕ) → (ends_word text && is_run more) ≡ false → tokens_of (text ++ more) ≡ tokens_of text ++ tokens_of more
 unfolding tokens_of
 tokens_of-append text more h = ap (filter_map token_of) (pieces_of-append text more h) ∙ filter_map-append token_of (pieces_of text) (pieces_of more)
@@ -78,23 +78,23 @@ tokens_of-word octet rest h =
 blank_by : (octet n : ℕ) → is_word n ≡ false → (octet == n) ≡ true → is_word octet ≡ false
 blank_by octet n f e = let same : octet ≡ n = eqb-true octet n e in rw same f
 
--- A blank is no octet of a word.
+-- A blank doesn't belong to words.
 pub blank_no_word : (octet : ℕ) → is_blank octet ≡ true → is_word octet ≡ false
 blank_no_word octet h = elim (or_cases (octet == 32) (octet == 9) h) [ inl e ↦ blank_by octet 32 refl e | inr e ↦ blank_by octet 9 refl e ]
 
--- An octet that is neither of a word nor blank is a token.
+-- An octet that neither belongs to words nor is a blank is a token.
 pub tokens_of-mark : (octet : ℕ) (rest : List ℕ) → is_word octet ≡ false → is_blank octet ≡ false → tokens_of (octet ∷ rest) ≡ mark octet ∷ tokens_of rest
 unfolding tokens_of pieces_of
 tokens_of-mark octet rest w b = tokens_of-append (octet ∷ []) rest (and_left _ _ w) ∙ ap (λ (ts : List Token). ts ++ tokens_of rest) {y = mark octet ∷ []} (rw (w, b) refl)
 
--- A blank is none.
+-- A blank is no token.
 pub tokens_of-blank : (octet : ℕ) (rest : List ℕ) → is_blank octet ≡ true → tokens_of (octet ∷ rest) ≡ tokens_of rest
 unfolding tokens_of pieces_of
 tokens_of-blank octet rest b =
     let w = blank_no_word octet b in
     tokens_of-append (octet ∷ []) rest (and_left _ _ w) ∙ ap (λ (ts : List Token). ts ++ tokens_of rest) {y = []} (rw (w, b) refl)
 
--- A word is one, where what is behind it is none.
+-- A word is one token if no word follows it directly.
 pub tokens_of-words : (word rest : List ℕ) → 0 < length word → all_word word ≡ true → is_run rest ≡ false → tokens_of (word ++ rest) ≡ word_token word ∷ tokens_of rest
 tokens_of-words [] rest h w r = absurd (omega arith)
 tokens_of-words (octet ∷ word) rest h w r =

@@ -1,4 +1,4 @@
--- Words and numbers, one octet after the other.
+-- Words and numbers, octet by octet.
 use Rattle.std.proofs.Common.{◌≡◌, ℕ, ◌+◌, ◌*◌, ◌<◌, ◌≤◌, ◌^◌, true, false, ◌&&◌, nat_lt, if◌then◌else◌, List, [], ◌∷◌, ◌++◌, length, get_or, take, drop, Option, Some, None, refl, sym, ap, ◌∙◌, arith, zero, suc, ◌==◌, ◌||◌, length-take, take-append-drop}
 use Rattle.std.proofs.lemmas.Bool.{and_from, and_parts, le-ltb, lt-ltb}
 use Rattle.std.proofs.lemmas.List.{at_drop_all, at_drop_more, drop_more, take_more}
@@ -14,34 +14,34 @@ all_word-snoc (first ∷ word) octet w h =
     let both = and_parts (is_word first) (all_word word) w in
     and_from _ _ both.0 (all_word-snoc word octet both.1 h)
 
--- One octet more of a word.
+-- One more octet of a word.
 pub word_more : (text : List ℕ) (at : ℕ) → at < length text → all_word (take at text) ≡ true → is_word (get_or text at 0) ≡ true → all_word (take (at + 1) text) ≡ true
 word_more text at h w o = ap all_word (take_more text at 0 h) ∙ all_word-snoc (take at text) (get_or text at 0) w o
 
--- An octet that is none of a word.
+-- An octet that doesn't belong to words.
 pub word_stops : (text : List ℕ) (at : ℕ) → at < length text → is_word (get_or text at 0) ≡ false → is_run (drop at text) ≡ false
 word_stops text at h o = at_drop_more is_run text at 0 h ∙ o
 
--- One blank more.
+-- One more blank.
 pub blank_more : (text : List ℕ) (at : ℕ) → at < length text → tokens_of (drop at text) ≡ tokens_of text → is_blank (get_or text at 0) ≡ true → tokens_of (drop (at + 1) text) ≡ tokens_of text
 blank_more text at h e b = sym (tokens_of-blank (get_or text at 0) (drop (at + 1) text) b) ∙ sym (at_drop_more tokens_of text at 0 h) ∙ e
 
--- An octet that is no blank.
+-- An octet that isn't a blank.
 pub blank_stops : (text : List ℕ) (at : ℕ) → at < length text → is_blank (get_or text at 0) ≡ false → is_blank (get_or (drop at text) 0 0) ≡ false
 blank_stops text at h b = ap (λ (xs : List ℕ). is_blank (get_or xs 0 0)) (drop_more text at 0 h) ∙ b
 
--- No octets have no token.
+-- A text without octets has no token.
 pub tokens_of-none : (text : List ℕ) → length text ≡ 0 → tokens_of text ≡ []
 unfolding tokens_of pieces_of
 tokens_of-none [] h = refl
 tokens_of-none (octet ∷ rest) h = absurd (omega arith)
 
--- A text that begins with an octet which is neither of a word nor blank.
+-- A text that begins with an octet that neither belongs to words nor is a blank.
 pub mark_first : (text : List ℕ) → 0 < length text → is_word (get_or text 0 0) ≡ false → is_blank (get_or text 0 0) ≡ false → tokens_of text ≡ mark (get_or text 0 0) ∷ tokens_of (drop 1 text)
 mark_first [] h w b = absurd (omega arith)
 mark_first (octet ∷ rest) h w b = tokens_of-mark octet rest w b
 
--- A run that begins with an octet of a word has one octet at least.
+-- A run that begins with an octet of a word isn't empty.
 pub some_word : (text : List ℕ) (at : ℕ) → is_word (get_or text 0 0) ≡ true → is_run (drop at text) ≡ false → 0 < length text → 0 < at
 some_word [] at w r h = absurd (omega arith)
 some_word (octet ∷ rest) zero w r h = let both : true ≡ false = sym w ∙ r in cc
@@ -53,19 +53,19 @@ word_first text at h n w a r =
     let some = some_word text at w r h in
     ap tokens_of (sym (take-append-drop at text)) ∙ tokens_of-words (take at text) (drop at text) (omega (arith, length-take at text)) a r
 
--- What is read of a word of two octets or more.
+-- A word of two or more octets.
 pub hexadecimal_read : (word : List ℕ) → 2 ≤ length word → is_hexadecimal word ≡ (get_or word 0 0 == 48 && (get_or word 1 0 == 120 || get_or word 1 0 == 88))
 hexadecimal_read [] h = absurd (omega arith)
 hexadecimal_read (octet ∷ []) h = absurd (omega arith)
 hexadecimal_read (octet ∷ sign ∷ rest) h = refl
 
--- A shorter one is decimal.
+-- A shorter word is decimal.
 pub hexadecimal_short : (word : List ℕ) → length word < 2 → is_hexadecimal word ≡ false
 hexadecimal_short [] h = refl
 hexadecimal_short (octet ∷ []) h = refl
 hexadecimal_short (octet ∷ sign ∷ rest) h = absurd (omega arith)
 
--- The token of a word by its first octet.
+-- The token of a word, from its first octet.
 pub word_token_read : (word : List ℕ) → 0 < length word → word_token word ≡ (if is_digit (get_or word 0 0) then number_token (number_of word) else name word)
 unfolding word_token
 word_token_read [] h = absurd (omega arith)
@@ -91,13 +91,13 @@ value_in-some : (base : ℕ) (digits : List ℕ) → 0 < length digits → value
 value_in-some base [] h = absurd (omega arith)
 value_in-some base (octet ∷ rest) h = refl
 
--- One digit more.
+-- One more digit.
 pub value_more : (base high : ℕ) (digits : List ℕ) (at : ℕ) (whole : Option ℕ) → at < length digits → digit_of (get_or digits at 0) < base → value_behind base high (drop at digits) ≡ whole → value_behind base (high * base + digit_of (get_or digits at 0)) (drop (at + 1) digits) ≡ whole
 value_more base high digits at whole h d e =
     let l = lt-ltb (digit_of (get_or digits at 0)) base d in
     sym (at_drop_more (value_behind base high) digits at 0 h ∙ value_behind-step base high (get_or digits at 0) (drop (at + 1) digits) ∙ rw l refl) ∙ e
 
--- An octet that is no digit.
+-- An octet that isn't a digit.
 pub value_stops : (base high : ℕ) (digits : List ℕ) (at : ℕ) → at < length digits → base ≤ digit_of (get_or digits at 0) → value_behind base high (drop at digits) ≡ value_behind base 0 digits → None ≡ within_word (value_in base digits)
 value_stops base high digits at h d e =
     let l = le-ltb (digit_of (get_or digits at 0)) base d in

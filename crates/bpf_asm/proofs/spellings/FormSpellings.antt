@@ -1,4 +1,4 @@
--- A form that is read behind a name is one of the spellings of a statement.
+-- A form that is read after a name is one of the spellings of a statement.
 use Rattle.std.proofs.Common.{◌≡◌, ℕ, List, [], ◌∷◌, ◌++◌, Option, Some, None, codes, refl, sym, ap, ◌∙◌, inl, inr, append-nil}
 use Rattle.bpf_asm.specs.Grammar.{IsOneOf}
 use Rattle.bpf_asm.specs.Numbers.{number_of, value_behind}
@@ -15,25 +15,25 @@ use Rattle.bpf_code.specs.declared.instr.Test.{Test}
 use Rattle.bpf_asm.proofs.cuts.TokenCuts.{some_same, next_some, else_some, end_is, name_is, word_is, operand_tokens, operand_is, target_is}
 use Rattle.bpf_asm.proofs.spellings.FormTokens.{constant_is, absolute_is, indexed_is, scratch_is, length_is, header_is, header_tokens}
 
--- The spellings of a statement, at tokens and a statement that are these.
+-- The spellings of a statement, for equal tokens and an equal statement.
 pub at_row : (ts row : List Token) (s found : Statement) → ts ≡ row → s ≡ found → IsOneOf row (spellings s) → IsOneOf ts (spellings found)
 at_row ts row s found e f h = rw (e, sym f) h
 
--- A number that makes a statement.
+-- A number that gives a statement.
 makes : {A : Type 0} (found : Option A) (f : A → Statement) (s : Statement) → (found >>= (λ (k : A). Some (f k))) ≡ Some s → (k : A) × (found ≡ Some k) × (f k ≡ s)
 makes {A} found f s e = let n = next_some found (λ (k : A). Some (f k)) s e in (n.0, n.1, some_same (f n.0) s n.2)
 
--- A name before tokens.
+-- A name in front of tokens.
 abbrev pub Named : List ℕ → List Token → Statement → Type 0
 Named octets ts s = IsOneOf (name octets ∷ ts) (spellings s)
 
--- A statement with its number, behind a name.
+-- A statement with its number, after a name.
 pub numbered : (octets : List ℕ) (ts : List Token) (s : Statement) (found : Option ℕ) (f : ℕ → Statement) (row : ℕ → List Token) → (found >>= (λ k. Some (f k))) ≡ Some s → ((k : ℕ) → found ≡ Some k → ts ≡ row k) → ((k : ℕ) → Named octets (row k) (f k)) → Named octets ts s
 numbered octets ts s found f row e is h =
     let n = makes found f s e in
     at_row (name octets ∷ ts) (name octets ∷ row n.0) (f n.0) s (ap (λ (r : List Token). name octets ∷ r) (is n.0 n.1)) n.2 (h n.0)
 
--- A statement behind a name alone.
+-- A statement that is only a name.
 pub lone : (octets : List ℕ) (ts : List Token) (s made : Statement) → ended made ts ≡ Some s → Named octets [] made → Named octets ts s
 lone octets ts s made e h =
     let f = end_is made s ts e in

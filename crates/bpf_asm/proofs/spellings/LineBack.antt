@@ -1,4 +1,4 @@
--- Tokens are a line exactly where they are read as it.
+-- Tokens are a line exactly if they are read as that line.
 use Rattle.std.proofs.Common.{◌≡◌, ◌⊎◌, ℕ, Bool, true, false, if◌then◌else◌, List, [], ◌∷◌, ◌++◌, Option, Some, None, refl, ap, ◌∙◌, subst, inl, inr}
 use Rattle.bpf_asm.specs.Grammar.{IsLineOf, IsOneOf, Line, label_tokens}
 use Rattle.bpf_asm.specs.inner.Reading.{◌>>=◌, body_in, cut_label, cut_mark, cut_name, is_ended, line_in, statement_in}
@@ -19,7 +19,7 @@ body_back label ts s h =
     let e = reads_back ts s h in
     rw (some_ended ts s e, e) refl
 
--- What is a line is read as it.
+-- The tokens of a line are read as that line.
 pub line_back : (ts : List Token) (label : Option (List ℕ)) (statement : Option Statement) → IsLineOf ts (record { label = label; statement = statement }) → line_in ts ≡ Some (record { label = label; statement = statement })
 unfolding line_in
 line_back ts None None h = let e : ts ≡ [] = h.1 ∙ h.2 in rw e refl
@@ -50,7 +50,7 @@ body_true ts label whole line w e =
       | inr b ↦ subst (λ (l : Line). IsLineOf whole l) b.2 (ts, w, b.1)
     ]
 
--- What is read as a line is one.
+-- Tokens that are read as a line are that line.
 pub line_true : (ts : List Token) (line : Line) → line_in ts ≡ Some line → IsLineOf ts line
 unfolding line_in
 line_true ts line e =

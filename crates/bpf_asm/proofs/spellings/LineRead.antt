@@ -1,4 +1,4 @@
--- A line, one octet or token after the other.
+-- A line, octet by octet or token by token.
 use Rattle.std.proofs.Common.{◌≡◌, ℕ, Bool, true, false, List, [], ◌∷◌, Some, None, refl, sym, ap, ◌∙◌}
 use Rattle.bpf_asm.specs.Faults.{IsLineFault}
 use Rattle.bpf_asm.specs.Grammar.{IsLine, Line}
@@ -18,26 +18,26 @@ faulty_more text rest (Number value) whole n e h = sym (ap has_faulty e) ∙ h
 faulty_more text rest Faulty whole n e h = absurd (n refl)
 faulty_more text rest (Mark octet) whole n e h = sym (ap has_faulty e) ∙ h
 
--- One that is none of these.
+-- A faulty token.
 pub faulty_found : (text rest : List ℕ) (token : LentToken) (whole : Bool) → token ≡ Faulty → line_tokens text ≡ token_seen token ∷ line_tokens rest → has_faulty (line_tokens text) ≡ whole → true ≡ whole
 faulty_found text rest token whole m e h =
     sym (ap has_faulty e ∙ ap (λ (t : LentToken). has_faulty (token_seen t ∷ line_tokens rest)) m) ∙ h
 
--- None.
+-- No token.
 pub faulty_none : (text : List ℕ) (whole : Bool) → line_tokens text ≡ [] → has_faulty (line_tokens text) ≡ whole → false ≡ whole
 faulty_none text whole e h = sym (ap has_faulty e) ∙ h
 
--- A line that has a number which is none.
+-- A line with a bad number.
 pub bad_number_is : (line : List ℕ) (before : List Line) → has_faulty (line_tokens line) ≡ true → IsLineFault before line BadNumber
 unfolding HasBadNumber
 bad_number_is line before h = h
 
--- What was read is the line.
+-- The line that was read is the line of the grammar.
 pub said_line : (line : List ℕ) (said : Line) → line_in (tokens_in line) ≡ Some said → IsLine line said
 unfolding IsLine
 said_line line said read = line_true (tokens_in line) said read
 
--- What wasn't read is none.
+-- A line that couldn't be read isn't in the grammar.
 pub bad_line_is : (line : List ℕ) (before : List Line) → has_faulty (line_tokens line) ≡ false → line_in (tokens_in line) ≡ None → IsLineFault before line BadLine
 unfolding IsLine HasBadNumber
 bad_line_is line before h none = (

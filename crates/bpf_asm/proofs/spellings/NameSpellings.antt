@@ -1,4 +1,4 @@
--- What is read behind the name of a row of the tables is one of the spellings of a statement.
+-- A statement that is read after a name of the tables has these tokens as one of its spellings.
 use Rattle.std.proofs.Common.{◌≡◌, ◌⊎◌, ℕ, Bool, true, false, if◌then◌else◌, List, [], ◌∷◌, Option, Some, None, codes, refl, ap, ◌∙◌, inl, inr}
 use Rattle.std.specs.Str.{bytes_eq}
 use Rattle.std.proofs.lemmas.Slice.Eq.{bytes_eq-Decides}
@@ -16,7 +16,7 @@ use Rattle.bpf_asm.proofs.cuts.TokenCuts.{some_same, next_some, operand_tokens}
 use Rattle.bpf_asm.proofs.spellings.FormTokens.{scratch_is, header_is, header_tokens}
 use Rattle.bpf_asm.proofs.spellings.FormSpellings.{Named, numbered, lone, packet_sound, word_sound, index_sound, return_sound, jump_sound, both_operands, arithmetic_sound, one_tokens, two_tokens, inverse_sound, branch_sound}
 
--- The value is the name's in some row.
+-- Some row of the table has this name and this value.
 abbrev IsEntry : {A : Type 0} → List ℕ → A → List (List ℕ × A) → Type 0
 IsEntry octets value [] = ⊥
 IsEntry octets value (row ∷ rows) = ((octets ≡ row.0) × (row.1 ≡ value)) ⊎ IsEntry octets value rows

@@ -10,7 +10,7 @@ use Rattle.bpf_code.specs.declared.instr.Op.TheVariants.{Add, Sub, Mul, Div, Or,
 use Rattle.bpf_code.specs.declared.instr.Size.TheVariants.{Word, Half, Octet}
 use Rattle.bpf_code.specs.declared.instr.Test.TheVariants.{Eq, Gt, Ge, Set}
 
--- What is one of the spellings of a statement has no such word.
+-- A spelling of a statement has no faulty token.
 pub no_faulty : (ts : List Token) (s : Statement) → IsOneOf ts (spellings s) → has_faulty ts ≡ false
 unfolding spellings tokens_of pieces_of word_token number_of value_behind
 no_faulty ts (plain (LoadAbs Word k)) h = elim h [ inl e ↦ rw e refl | inr e ↦ absurd e ]

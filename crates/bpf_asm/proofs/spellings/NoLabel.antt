@@ -11,7 +11,7 @@ use Rattle.bpf_code.specs.declared.instr.Op.TheVariants.{Add, Sub, Mul, Div, Or,
 use Rattle.bpf_code.specs.declared.instr.Size.TheVariants.{Word, Half, Octet}
 use Rattle.bpf_code.specs.declared.instr.Test.TheVariants.{Eq, Gt, Ge, Set}
 
--- What is one of the spellings of a statement has no label in front.
+-- A spelling of a statement has no label in front.
 pub no_label : (ts : List Token) (s : Statement) → IsOneOf ts (spellings s) → cut_label ts ≡ None
 unfolding spellings tokens_of pieces_of word_token number_of value_behind
 no_label ts (plain (LoadAbs Word k)) h = elim h [ inl e ↦ rw e refl | inr e ↦ absurd e ]

@@ -11,7 +11,7 @@ use Rattle.bpf_code.specs.declared.instr.Op.TheVariants.{Add, Sub, Mul, Div, Or,
 use Rattle.bpf_code.specs.declared.instr.Size.TheVariants.{Word, Half, Octet}
 use Rattle.bpf_code.specs.declared.instr.Test.TheVariants.{Eq, Gt, Ge, Set}
 
--- What is one of the spellings of a statement is read as it.
+-- A spelling of a statement is read as that statement.
 pub reads_back : (ts : List Token) (s : Statement) → IsOneOf ts (spellings s) → statement_in ts ≡ Some s
 unfolding spellings statement_in named_in op_of test_of inverse_of moved_in other_in tokens_of pieces_of word_token number_of value_behind
 reads_back ts (plain (LoadAbs Word k)) h = elim h [ inl e ↦ rw e refl | inr e ↦ absurd e ]

@@ -1,4 +1,4 @@
--- What is read as a statement is one of its spellings.
+-- Tokens that are read as a statement are one of its spellings.
 use Rattle.std.proofs.Common.{◌≡◌, ℕ, List, ◌∷◌, Some, refl, inl, inr}
 use Rattle.bpf_asm.specs.Grammar.{IsOneOf}
 use Rattle.bpf_asm.specs.inner.Reading.{arithmetic_in, branch_in, branch_or, cut_name, form_of, inverse_in, inverse_of, inverse_or, moved_in, named_in, op_of, other_in, statement_in, test_of}
@@ -25,7 +25,7 @@ named_sound octets ts s e =
       ]
     ]
 
--- What is read as a statement is one of its spellings.
+-- Tokens that are read as a statement are one of its spellings.
 pub reads_true : (ts : List Token) (s : Statement) → statement_in ts ≡ Some s → IsOneOf ts (spellings s)
 unfolding statement_in
 reads_true ts s e =

@@ -17,15 +17,15 @@ use Rattle.bpf_asm.proofs.totality.OffsetOrFault.{means-or_fault}
 use Rattle.bpf_asm.proofs.drafts.Resolving.{mean_have, mean_more, statements_more}
 use Rattle.bpf_code.specs.declared.instr.Instr.{Instr}
 
--- All statements mean instructions, or an operand has the first fault.
+-- All statements mean instructions, or some operand is the first without an offset.
 abbrev pub MeanOrFaulty : List Line → Type 0
 MeanOrFaulty lines = ((code : List Instr) × MeanFrom lines 0 (statements_of lines) code) ⊎ ((fault : AsmFault) × IsFirstOperandFault lines fault)
 
--- The statements of one line more.
+-- The statements of one more line.
 next_line : (before : List Line) (line : Line) (s : Option Statement) → line.statement ≡ s → statements_of (before ++ line ∷ []) ≡ statements_of before ++ option_to_list s
 next_line before line s e = statements_more before line ∙ ap (λ (o : Option Statement). statements_of before ++ option_to_list o) e
 
--- They mean instructions too, or an operand has the first fault.
+-- The same with one more line.
 mean_line : (lines before : List Line) (line : Line) (behind : List Line) (code : List Instr) (s : Option Statement) → line.statement ≡ s → lines ≡ before ++ line ∷ behind → MeanFrom lines 0 (statements_of before) code → ((more : List Instr) × MeanFrom lines 0 (statements_of (before ++ line ∷ [])) more) ⊎ ((fault : AsmFault) × IsFirstOperandFault lines fault)
 mean_line lines before line behind code None none split m =
     let same : statements_of (before ++ line ∷ []) ≡ statements_of before = next_line before line None none ∙ append-nil (statements_of before) in
@@ -55,7 +55,7 @@ mean_line lines before line behind code (Some s) stands split m =
           )
     ]
 
--- So do the lines that are left.
+-- The same for the lines that are left.
 mean_behind : (lines before behind : List Line) (code : List Instr) → lines ≡ before ++ behind → MeanFrom lines 0 (statements_of before) code → MeanOrFaulty lines
 mean_behind lines before [] code split m =
     let all : before ≡ lines = sym (append-nil before) ∙ sym split in
@@ -66,12 +66,12 @@ mean_behind lines before (line ∷ behind) code split m =
       | inr bad ↦ inr bad
     ]
 
--- Nothing means no code.
+-- No statements mean the empty code.
 mean_none : (lines : List Line) → MeanFrom lines 0 (statements_of []) []
 unfolding statements_of
 mean_none lines = refl
 
--- The statements of lines mean instructions, or an operand has the first fault.
+-- The same for the statements of all lines.
 mean-or_fault : (lines : List Line) → MeanOrFaulty lines
 mean-or_fault lines = mean_behind lines [] lines [] refl (mean_none lines)
 

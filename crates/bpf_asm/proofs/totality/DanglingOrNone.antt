@@ -1,4 +1,4 @@
--- Some label is the first behind which no instruction stands, or none is such.
+-- Some label is the first that no instruction follows, or there is none.
 use Rattle.std.proofs.Common.{◌≡◌, ◌⊎◌, ℕ, zero, suc, ◌<◌, List, [], ◌∷◌, Option, Some, None, refl, sym, ap, ◌∙◌, inl, inr, arith}
 use Rattle.bpf_asm.specs.Grammar.{Line}
 use Rattle.bpf_asm.specs.Labels.{IsDangling, statements_of}
@@ -6,12 +6,12 @@ use Rattle.bpf_asm.specs.inner.Pending.{IsPending}
 use Rattle.bpf_asm.specs.StatementSpelling.{Statement}
 use Rattle.bpf_asm.proofs.drafts.Agreement.{no_name, some_line}
 
--- There is a statement or none.
+-- There is a statement, or there is none.
 none-or_some : (ss : List Statement) → (ss ≡ []) ⊎ ¬ (ss ≡ [])
 none-or_some [] = inl refl
 none-or_some (s ∷ ss) = inr (λ e. cc)
 
--- The first line's label has no instruction behind it, or has one.
+-- An instruction follows the first line's label, or none does.
 first_dangles : (line : Line) (lines : List Line) (label : Option (List ℕ)) → line.label ≡ label → IsDangling (line ∷ lines) 0 ⊎ ¬ IsDangling (line ∷ lines) 0
 first_dangles line lines None none = inr (λ d. no_name d.0 (sym d.1.2 ∙ sym (ap (λ (l : Line). l.label) (some_line line d.1.0 d.1.1)) ∙ none))
 first_dangles line lines (Some label) named =
@@ -20,7 +20,7 @@ first_dangles line lines (Some label) named =
       | inr some ↦ inr (λ d. some d.2)
     ]
 
--- A label that dangles first, or none.
+-- The first label that no instruction follows, or none.
 pub dangling-or_none : (lines : List Line) → (pending : Option ℕ) × IsPending lines pending
 dangling-or_none [] = (None, λ at d. cc)
 dangling-or_none (line ∷ lines) =

@@ -1,4 +1,4 @@
--- A label stands for a place, or no line has it.
+-- A label names a place, or no line has it.
 use Rattle.std.proofs.Common.{◌≡◌, ◌⊎◌, ℕ, zero, suc, Bool, true, false, List, [], ◌∷◌, length, Option, Some, None, refl, sym, ap, ◌∙◌, inl, inr}
 use Rattle.std.specs.Str.{bytes_eq}
 use Rattle.std.proofs.lemmas.Slice.Eq.{bytes_eq-Decides}
@@ -6,7 +6,7 @@ use Rattle.bpf_asm.specs.Grammar.{Line}
 use Rattle.bpf_asm.specs.Labels.{HasLabel, StandsFor, statements_of}
 use Rattle.bpf_asm.proofs.drafts.Agreement.{some_line, some_name}
 
--- A label is this name or isn't.
+-- The label is this name, or it isn't.
 named_by : (label : Option (List ℕ)) (name : List ℕ) → (label ≡ Some name) ⊎ ¬ (label ≡ Some name)
 named_by None name = inr (λ e. cc)
 named_by (Some label) name = by_test (bytes_eq label name) refl
@@ -18,17 +18,17 @@ named_by (Some label) name = by_test (bytes_eq label name) refl
         let both : true ≡ false = sym same ∙ h in
         cc)
 
--- No line has the name, where neither the first nor one of the others has it.
+-- If neither the first nor another line has the name, no line has it.
 no_label : (line : Line) (lines : List Line) (name : List ℕ) → ¬ (line.label ≡ Some name) → ((at : ℕ) → ¬ HasLabel lines at name) → (at : ℕ) → ¬ HasLabel (line ∷ lines) at name
 no_label line lines name not none zero h = not (ap (λ (l : Line). l.label) (some_line line h.0 h.1) ∙ h.2)
 no_label line lines name not none (suc at) h = none at h
 
--- Nothing stands before the first line.
+-- There is no statement before the first line.
 none_before : 0 ≡ length (statements_of [])
 unfolding statements_of
 none_before = refl
 
--- A label stands for a place, or no line has it.
+-- A label names a place, or no line has it.
 pub stands-or_unknown : (lines : List Line) (name : List ℕ) → ((place : ℕ) × StandsFor lines name place) ⊎ ((at : ℕ) → ¬ HasLabel lines at name)
 stands-or_unknown [] name = inr (λ at h. cc)
 stands-or_unknown (line ∷ lines) name =

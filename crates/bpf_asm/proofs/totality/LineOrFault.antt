@@ -1,4 +1,4 @@
--- A line says something or has a fault of its own, whatever stands before it.
+-- A line is in the grammar or has a fault, whatever comes before it.
 use Rattle.std.proofs.Common.{◌≡◌, ◌⊎◌, ℕ, Bool, true, false, List, Option, Some, None, refl, sym, ◌∙◌, inl, inr}
 use Rattle.bpf_asm.specs.Faults.{IsLineFault}
 use Rattle.bpf_asm.specs.Grammar.{IsLine, Line}
@@ -9,26 +9,26 @@ use Rattle.bpf_asm.specs.declared.fault.AsmKind.{AsmKind}
 use Rattle.bpf_asm.specs.declared.fault.AsmKind.TheVariants.{BadLine, BadNumber}
 use Rattle.bpf_asm.proofs.spellings.LineBack.{line_back, line_true}
 
--- A line that says this or has a fault.
+-- The line parses or has a fault.
 abbrev pub SaysOrFaulty : List ℕ → Type 0
 SaysOrFaulty octets = ((line : Line) × IsLine octets line) ⊎ ((kind : AsmKind) × ((before : List Line) → IsLineFault before octets kind))
 
--- Some number is none.
+-- Some number is bad.
 bad_by : (octets : List ℕ) → has_faulty (tokens_of (without_comment octets)) ≡ true → HasBadNumber octets
 unfolding HasBadNumber
 bad_by octets h = h
 
--- Each number is one.
+-- No number is bad.
 not_bad : (octets : List ℕ) → has_faulty (tokens_of (without_comment octets)) ≡ false → ¬ HasBadNumber octets
 unfolding HasBadNumber
 not_bad octets h bad = let both : true ≡ false = sym bad ∙ h in cc
 
--- What is read says this.
+-- A line that is read parses as this.
 read_is : (octets : List ℕ) (line : Line) → line_in (tokens_in octets) ≡ Some line → IsLine octets line
 unfolding IsLine
 read_is octets line e = line_true (tokens_in octets) line e
 
--- What isn't read says nothing.
+-- A line that isn't read isn't in the grammar.
 unread : (octets : List ℕ) (line : Line) → line_in (tokens_in octets) ≡ None → ¬ IsLine octets line
 unfolding IsLine
 unread octets line none is =
@@ -36,12 +36,12 @@ unread octets line none is =
     let both : Some line ≡ None = sym read ∙ none in
     cc
 
--- By both answers.
+-- By both tests.
 decided : (octets : List ℕ) (bad : Bool) (read : Option Line) → has_faulty (tokens_of (without_comment octets)) ≡ bad → line_in (tokens_in octets) ≡ read → SaysOrFaulty octets
 decided octets true read h e = inr (BadNumber, λ before. bad_by octets h)
 decided octets false None h e = inr (BadLine, λ before. (not_bad octets h, λ line is. unread octets line e is))
 decided octets false (Some line) h e = inl (line, read_is octets line e)
 
--- A line says something or has a fault.
+-- A line is in the grammar or has a fault.
 pub line-or_fault : (octets : List ℕ) → SaysOrFaulty octets
 line-or_fault octets = decided octets (has_faulty (tokens_of (without_comment octets))) (line_in (tokens_in octets)) refl refl

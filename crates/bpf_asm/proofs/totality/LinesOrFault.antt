@@ -1,4 +1,4 @@
--- The lines of a source are lines of the grammar with each label once, or a line has a fault of its own.
+-- Either the lines of a source are in the grammar and no label occurs twice, or a line has a fault.
 use Rattle.std.proofs.Common.{◌≡◌, ◌⊎◌, ℕ, ◌+◌, List, [], ◌∷◌, ◌++◌, Option, Some, None, refl, inl, inr}
 use Rattle.bpf_asm.specs.Faults.{IsFirstLineFault, IsLineFault}
 use Rattle.bpf_asm.specs.Grammar.{AreLines, IsLine, Line}
@@ -12,11 +12,11 @@ use Rattle.bpf_asm.proofs.totality.LabelOrUnknown.{stands-or_unknown}
 use Rattle.bpf_asm.proofs.totality.LineOrFault.{line-or_fault}
 use Rattle.bpf_asm.proofs.drafts.Sources.{all_read, first_by}
 
--- A line behind these that says something, with no label of theirs, or that has a fault.
+-- A line after these parses and has none of their labels, or has a fault.
 abbrev pub AddsOrFaulty : List Line → List ℕ → Type 0
 AddsOrFaulty lines octets = ((line : Line) × IsLine octets line × EachLabelOnce (lines ++ line ∷ [])) ⊎ ((kind : AsmKind) × IsLineFault lines octets kind)
 
--- A line that says something has a new label or none, or a label of an earlier line.
+-- A line that parses has a new label or none, or the label of an earlier line.
 said-or_twice : (lines : List Line) (octets : List ℕ) (line : Line) (label : Option (List ℕ)) → EachLabelOnce lines → IsLine octets line → line.label ≡ label → AddsOrFaulty lines octets
 said-or_twice lines octets line None once is none =
     inl (line, is, λ one other name f g. once one other name (no_last lines line one name none f) (no_last lines line other name none g))
@@ -26,7 +26,7 @@ said-or_twice lines octets line (Some label) once is named =
       | inr new ↦ inl (line, is, λ one other name f g. both_once lines line label one other name named new once (label_split lines line one name f) (label_split lines line other name g))
     ]
 
--- So each line is added or has a fault.
+-- Each line is added or has a fault.
 line_behind : (lines : List Line) (octets : List ℕ) → EachLabelOnce lines → AddsOrFaulty lines octets
 line_behind lines octets once =
     elim (line-or_fault octets) [
@@ -38,7 +38,7 @@ line_behind lines octets once =
 abbrev pub LinesOrFaulty : List (List ℕ) → Type 0
 LinesOrFaulty source = ((lines : List Line) × AreLines source lines × EachLabelOnce lines) ⊎ ((fault : AsmFault) × IsFirstLineFault source fault)
 
--- So are the lines that are left.
+-- The same for the lines that are left.
 lines_behind : (source left : List (List ℕ)) (lines : List Line) (count : ℕ) → IsReadTo source left lines count → EachLabelOnce lines → LinesOrFaulty source
 lines_behind source [] lines count read once = inl (lines, all_read source [] lines count refl read, once)
 lines_behind source (octets ∷ left) lines count read once =
@@ -47,6 +47,6 @@ lines_behind source (octets ∷ left) lines count read once =
       | inr bad ↦ let fault : AsmFault = record { line = count + 1; kind = bad.0 } in inr (fault, first_by source left octets lines count bad.0 fault read once bad.1 (refl, refl))
     ]
 
--- A source has lines of the grammar with each label once, or a line with a fault.
+-- Either the lines of a source are in the grammar and no label occurs twice, or a line has a fault.
 pub lines-or_fault : (source : List (List ℕ)) → LinesOrFaulty source
 lines-or_fault source = lines_behind source source [] 0 (read_none source) (λ one other label f g. cc)

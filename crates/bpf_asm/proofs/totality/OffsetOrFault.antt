@@ -14,7 +14,7 @@ use Rattle.bpf_asm.proofs.drafts.Resolving.{first_side, jump_fault, second_side}
 use Rattle.bpf_code.specs.declared.instr.Instr.{Instr}
 use Rattle.bpf_code.specs.declared.instr.Instr.TheVariants.{Jump, Branch}
 
--- A label that stands for a place.
+-- A label that names a place.
 reached : (lines : List Line) (place : ℕ) (operand : Operand) (target : ℕ) → StandsFor lines operand.label target → HasOffset lines place operand ⊎ ((kind : AsmKind) × IsOperandFault lines place operand kind)
 reached lines place operand target stands =
     elim (cases_lt place target) [

@@ -1,4 +1,4 @@
--- What the assembler holds of the lines that it has read: the draft of a code.
+-- The draft of a code: the assembler's state after the lines that it has read.
 use Rattle.std.specs.Prelude.{◌≡◌, ◌+◌, ◌++◌, ℕ, Bool, true, false, List, [], ◌∷◌, length, map, filter, Option, Some, None}
 use Rattle.bpf_asm.specs.Grammar.{AreLines, IsLine, Line}
 use Rattle.bpf_asm.specs.Labels.{EachLabelOnce, HasLabel, StandsFor, most_branch, statements_of}
@@ -19,26 +19,27 @@ use Rattle.bpf_asm.specs.declared.statement.LentStatement.TheVariants.{Plain, Ju
 use Rattle.bpf_code.specs.declared.instr.Instr.{Instr}
 use Rattle.bpf_code.specs.declared.instr.Instr.TheVariants.{Jump, Branch}
 
--- Places of names are those of the labels in lines.
+-- The places of names are those of the labels in the lines, and the next place is the number of statements. No label
+-- occurs twice.
 pub record AgreesWith (lines : List Line) (find : List ℕ → Option ℕ) (places : ℕ) : Type 0 where
   pub counted : places ≡ length (statements_of lines)
   pub once : EachLabelOnce lines
   pub stands : (name : List ℕ) (place : ℕ) → find name ≡ Some place → StandsFor lines name place
   pub unknown : (name : List ℕ) → find name ≡ None → (at : ℕ) → ¬ HasLabel lines at name
 
--- The instruction of a statement, with offsets of 0 where it has labels.
+-- The instruction of a statement, with offsets of 0 if it has labels.
 abbrev pub drafted : LentStatement → Instr
 drafted (Plain i) = i
 drafted (LabelJump target) = Jump 0
 drafted (LabelBranch test by met unmet) = Branch test by 0 0
 
--- The statement has labels.
+-- Whether the statement has labels.
 abbrev pub has_labels : LentStatement → Bool
 has_labels (Plain i) = false
 has_labels (LabelJump target) = true
 has_labels (LabelBranch test by met unmet) = true
 
--- The instruction has labels.
+-- Whether the instruction has labels.
 abbrev pub is_unresolved : Unresolved → Bool
 is_unresolved u = has_labels u.statement
 
@@ -46,11 +47,11 @@ is_unresolved u = has_labels u.statement
 abbrev pub statements_seen : List Unresolved → List Statement
 statements_seen all = map (λ (u : Unresolved). statement_seen u.statement) all
 
--- The first forms of instructions.
+-- The instructions of these statements, with offsets of 0.
 abbrev pub first_forms : List Unresolved → List Instr
 first_forms all = map (λ (u : Unresolved). drafted u.statement) all
 
--- An instruction stands in lines behind others: at its line and at its place.
+-- The instruction is in the lines, after these others, at its line and its place.
 pub record StandsBehind (lines : List Line) (front : List Unresolved) (u : Unresolved) : Type 0 where
   pub before : List Line
   pub here : Line
@@ -61,11 +62,11 @@ pub record StandsBehind (lines : List Line) (front : List Unresolved) (u : Unres
   pub earlier : statements_of before ≡ statements_seen front
   pub place : u.place ≡ length front
 
--- Each of these instructions stands in lines behind those in front of it.
+-- Each of these instructions is in the lines, after those before it.
 abbrev pub EachStands : List Line → List Unresolved → Type 0
 EachStands lines all = (front : List Unresolved) (u : Unresolved) (back : List Unresolved) → all ≡ front ++ u ∷ back → StandsBehind lines front u
 
--- A code and its instructions with labels are the draft of lines.
+-- The code and the instructions with labels are the draft of these lines.
 pub record IsDraft (lines : List Line) (code : List Instr) (unresolved : List Unresolved) : Type 0 where
   pub all : List Unresolved
   pub statements : statements_of lines ≡ statements_seen all
@@ -73,8 +74,8 @@ pub record IsDraft (lines : List Line) (code : List Instr) (unresolved : List Un
   pub forms : code ≡ first_forms all
   pub labelled : unresolved ≡ filter is_unresolved all
 
--- In a draft of lines the labels are resolved up to some instruction; behind it stand first forms, and
--- these instructions have labels.
+-- In a draft of these lines the labels of some first instructions are resolved. The others are still drafted, and these
+-- are those of them that have labels.
 pub record IsResolvedTo (lines : List Line) (code : List Instr) (unresolved : List Unresolved) : Type 0 where
   pub front : List Unresolved
   pub back : List Unresolved
@@ -85,68 +86,69 @@ pub record IsResolvedTo (lines : List Line) (code : List Instr) (unresolved : Li
   pub forms : code ≡ done ++ first_forms back
   pub labelled : unresolved ≡ filter is_unresolved back
 
--- The assembler's draft is that of lines.
+-- The assembler's draft is that of these lines.
 pub record Drafts (lines : List Line) (draft : Draft) : Type 0 where
   pub agree : AgreesWith lines (place_of draft.labels) (length draft.code.items)
   pub pending : IsPending lines draft.dangling
   pub code : IsDraft lines draft.code.items draft.unresolved.items
 
--- The instruction of a line, which is kept where it has labels.
+-- The instruction, if it is to be kept.
 abbrev pub kept_of : Bool → Unresolved → List Unresolved
 kept_of true u = u ∷ []
 kept_of false u = []
 
--- The instruction at a line and a place, where it has labels.
+-- The instruction at this line and place, if it has labels.
 abbrev pub unresolved_of : ℕ → ℕ → LentStatement → List Unresolved
 unresolved_of line place statement = kept_of (has_labels statement) (record { line = line; place = place; statement = statement })
 
--- The line has a label of an earlier line.
+-- An earlier line has the label of this line.
 abbrev pub IsTwice : List Line → Line → Type 0
 IsTwice lines line = (label : List ℕ) × (line.label ≡ Some label) × (earlier : ℕ) × HasLabel lines earlier label
 
--- Why a line wasn't added to these.
+-- A line may fail with this error when it is added to these: LabelTwice if an earlier line has its label. NoMemory is
+-- allowed for any line.
 abbrev pub IsAddFault : List Line → Line → AsmKind → Type 0
 IsAddFault lines line LabelTwice = IsTwice lines line
 IsAddFault lines line NoMemory = Unit {0}
 IsAddFault lines line _ = ⊥
 
--- Why a line wasn't taken behind these.
+-- A line may fail with this error when it is read after these: a fault of the line. NoMemory is allowed for any line.
 abbrev pub IsTakeFault : List Line → List ℕ → AsmKind → Type 0
 IsTakeFault lines octets NoMemory = Unit {0}
 IsTakeFault lines octets kind = IsLineFault lines octets kind
 
--- The fault is of this kind and at this line.
+-- The fault is of this kind and at this line. NoMemory has no line.
 abbrev pub IsFaultAt : ℕ → AsmKind → AsmFault → Type 0
 IsFaultAt line NoMemory fault = IsOutOfMemory fault
 IsFaultAt line kind fault = (fault.line ≡ line) × (fault.kind ≡ kind)
 
--- A line that says something is added to the lines.
+-- The line is in the grammar, and it was added to the lines.
 pub record Takes (lines : List Line) (draft : Draft) (octets : List ℕ) : Type 0 where
   pub line : Line
   pub said : IsLine octets line
   pub drafts : Drafts (lines ++ line ∷ []) draft
 
--- The lines that were read of a source, and what is left of it.
+-- This many lines of the source were read, parsed as these, and these are left.
 pub record IsReadTo (source left : List (List ℕ)) (lines : List Line) (count : ℕ) : Type 0 where
   pub done : List (List ℕ)
   pub split : source ≡ done ++ left
   pub said : AreLines done lines
   pub counted : count ≡ length done
 
--- The draft is that of so many lines of a source, and this is left of it.
+-- The draft is that of this many lines of the source, and these are left.
 pub record IsDraftTo (source left : List (List ℕ)) (draft : Draft) (count : ℕ) : Type 0 where
   pub lines : List Line
   pub read : IsReadTo source left lines count
   pub counted : length lines ≡ count
   pub drafts : Drafts lines draft
 
--- The draft is that of a source.
+-- The draft is that of the whole source.
 pub record IsDraftOf (source : List ℕ) (draft : Draft) : Type 0 where
   pub lines : List Line
   pub said : AreLines (source_lines source) lines
   pub drafts : Drafts lines draft
 
--- The fault of a side of a branch: that of its label, where it has one.
+-- The fault of one side of a branch: that of its label, if it has one.
 abbrev pub IsSideFault : List Line → ℕ → Option (List ℕ) → AsmKind → Type 0
 IsSideFault lines place None kind = ⊥
 IsSideFault lines place (Some target) kind = IsOperandFault lines place (record { label = target; most = most_branch }) kind

@@ -3,7 +3,7 @@ use Rattle.std.specs.Prelude.{ℕ, ◌<◌, List, Option, MatchOption, length}
 use Rattle.bpf_asm.specs.Grammar.{Line}
 use Rattle.bpf_asm.specs.Labels.{IsDangling}
 
--- The first line of these with such a label, if there is one.
+-- The first of these lines with such a label, or None if there is none.
 abbrev pub IsPending : List Line → Option ℕ → Type 0
 IsPending lines pending =
     MatchOption pending ((at : ℕ) → ¬ IsDangling lines at)

@@ -1,5 +1,5 @@
--- How the tokens of a line are read as a statement: the table of spellings turned round. That it is the
--- table is a law.
+-- Reading a statement from the tokens of a line: the inverse of the table of spellings, as the lemmas `reads_back` and
+-- `reads_true` prove.
 use Rattle.std.specs.Prelude.{◌≡◌, ℕ, Bool, true, false, ◌==◌, if◌then◌else◌, List, [], ◌∷◌, Option, Some, None, codes}
 use Rattle.std.specs.Option.{option_and_then, option_map_or}
 use Rattle.std.specs.Str.{bytes_eq}
@@ -17,98 +17,98 @@ use Rattle.bpf_code.specs.declared.instr.Test.{Test}
 use Rattle.bpf_code.specs.declared.instr.Test.TheVariants.{Eq, Gt, Ge, Set}
 
 infixl 10 ◌>>=◌
--- What is read next, where there is something.
+-- Reads on after what was found, if something was.
 abbrev pub ◌>>=◌ : {A B : Type 0} → Option A → (A → Option B) → Option B
 found >>= next = option_and_then next found
 
--- What is read, or else something else.
+-- The first reading, or the other if the first fails.
 abbrev pub or_else : {A : Type 0} → Option A → Option A → Option A
 or_else None other = other
 or_else (Some value) other = Some value
 
--- No token is left.
+-- Whether no token is left.
 abbrev pub is_ended : List Token → Bool
 is_ended [] = true
 is_ended (token ∷ tokens) = false
 
--- The value, where no token is left.
+-- The value, if no token is left.
 abbrev pub ended : {A : Type 0} → A → List Token → Option A
 ended value tokens = if is_ended tokens then Some value else None
 
--- What is behind an octet.
+-- The tokens after this octet.
 abbrev pub cut_mark : ℕ → List Token → Option (List Token)
 cut_mark octet (mark found ∷ tokens) = if found == octet then Some tokens else None
 cut_mark octet _ = None
 
--- A number, and what is behind it.
+-- A number, and the tokens after it.
 abbrev pub cut_number : List Token → Option (ℕ × List Token)
 cut_number (number value ∷ tokens) = Some (value, tokens)
 cut_number _ = None
 
--- A name, and what is behind it.
+-- A name, and the tokens after it.
 abbrev pub cut_name : List Token → Option (List ℕ × List Token)
 cut_name (name octets ∷ tokens) = Some (octets, tokens)
 cut_name _ = None
 
--- Neither a name nor a number comes first.
+-- The first token is neither a name nor a number.
 abbrev pub HasNoWord : List Token → Type 0
 HasNoWord tokens = (cut_name tokens ≡ None) × (cut_number tokens ≡ None)
 
--- What is behind this name.
+-- The tokens after this name.
 abbrev pub cut_word : List ℕ → List Token → Option (List Token)
 cut_word word tokens = cut_name tokens >>= (λ (p : List ℕ × List Token). if bytes_eq p.0 word then Some p.1 else None)
 
--- `#k`, and what is behind it.
+-- `#k`, and the tokens after it.
 abbrev pub cut_constant : List Token → Option (ℕ × List Token)
 cut_constant tokens = cut_mark 35 tokens >>= cut_number
 
--- What is behind `#len`.
+-- The tokens after `#len`.
 abbrev pub cut_length : List Token → Option (List Token)
 cut_length tokens = cut_mark 35 tokens >>= cut_word (codes "len")
 
--- `#len` and no more.
+-- `#len` and the end.
 abbrev pub length_in : List Token → Option Bool
 length_in tokens = cut_length tokens >>= ended true
 
--- `#k` and no more.
+-- `#k` and the end.
 abbrev pub constant_in : List Token → Option ℕ
 constant_in tokens = cut_constant tokens >>= (λ (p : ℕ × List Token). ended p.0 p.1)
 
--- `k]` and no more.
+-- `k]` and the end.
 abbrev pub bracket_in : List Token → Option ℕ
 bracket_in tokens = cut_number tokens >>= (λ (p : ℕ × List Token). cut_mark 93 p.1 >>= ended p.0)
 
--- `[k]` and no more.
+-- `[k]` and the end.
 abbrev pub absolute_in : List Token → Option ℕ
 absolute_in tokens = cut_mark 91 tokens >>= bracket_in
 
--- `[x+k]` and no more.
+-- `[x+k]` and the end.
 abbrev pub indexed_in : List Token → Option ℕ
 indexed_in tokens = cut_mark 91 tokens >>= cut_word (codes "x") >>= cut_mark 43 >>= bracket_in
 
--- `M[k]` and no more.
+-- `M[k]` and the end.
 abbrev pub scratch_in : List Token → Option ℕ
 scratch_in tokens = cut_word (codes "M") tokens >>= absolute_in
 
--- What is behind a number of this value.
+-- The tokens after a number of this value.
 abbrev pub cut_value : ℕ → List Token → Option (List Token)
 cut_value value tokens = cut_number tokens >>= (λ (p : ℕ × List Token). if p.0 == value then Some p.1 else None)
 
--- `4*([k]&0xf)` and no more.
+-- `4*([k]&0xf)` and the end.
 abbrev pub header_in : List Token → Option ℕ
 header_in tokens =
     cut_value 4 tokens >>= cut_mark 42 >>= cut_mark 40 >>= cut_mark 91 >>= cut_number
     >>= (λ (p : ℕ × List Token). cut_mark 93 p.1 >>= cut_mark 38 >>= cut_value 15 >>= cut_mark 41 >>= ended p.0)
 
--- An operand, and what is behind it.
+-- An operand, and the tokens after it.
 abbrev pub cut_operand : List Token → Option (By × List Token)
 cut_operand tokens = or_else (cut_constant tokens >>= (λ (p : ℕ × List Token). Some (Imm p.0, p.1))) (cut_word (codes "x") tokens >>= (λ ts. Some (X, ts)))
 
--- `, label`, and what is behind it.
+-- `, label`, and the tokens after it.
 abbrev pub cut_target : List Token → Option (List ℕ × List Token)
 cut_target tokens = cut_mark 44 tokens >>= cut_name
 
--- The loads of a part of the packet.
+-- The loads from the packet.
 abbrev pub packet : Size → List Token → Option Statement
 packet size ts =
     or_else (absolute_in ts >>= (λ k. Some (plain (LoadAbs size k))))
@@ -147,7 +147,7 @@ return_in ts =
 abbrev pub arithmetic_in : Op → List Token → Option Statement
 arithmetic_in op ts = cut_operand ts >>= (λ (p : By × List Token). ended (plain (Alu op p.0)) p.1)
 
--- What is behind the first label of a branch.
+-- The branch after its first label.
 abbrev pub second_in : Test → By → List ℕ → List Token → Option Statement
 second_in test by met ts =
     or_else (ended (branch test by (Some met) None) ts)
@@ -159,13 +159,13 @@ branch_in test ts =
     cut_operand ts >>= (λ (p : By × List Token). cut_target p.1
     >>= (λ (q : List ℕ × List Token). second_in test p.0 q.0 q.1))
 
--- The forms of branches that go on behind themselves where the test holds.
+-- The forms of branches that jump if the test is false.
 abbrev pub inverse_in : Test → List Token → Option Statement
 inverse_in test ts =
     cut_operand ts >>= (λ (p : By × List Token). cut_target p.1
     >>= (λ (q : List ℕ × List Token). ended (branch test p.0 None (Some q.0)) q.1))
 
--- What a table has for a name.
+-- The entry of a table for a name.
 abbrev pub entry_of : {A : Type 0} → List ℕ → List (List ℕ × A) → Option A
 entry_of octets [] = None
 entry_of octets (row ∷ rows) = if bytes_eq octets row.0 then Some row.1 else entry_of octets rows
@@ -186,15 +186,15 @@ test_rows = (codes "jeq", Eq) ∷ (codes "jgt", Gt) ∷ (codes "jge", Ge) ∷ (c
 unfoldable pub test_of : List ℕ → Option Test
 test_of octets = entry_of octets test_rows
 
--- The mnemonics of branches that go on behind themselves where the test holds.
+-- The mnemonics of branches that jump if the test is false.
 abbrev pub inverse_rows : List (List ℕ × Test)
 inverse_rows = (codes "jne", Eq) ∷ (codes "jneq", Eq) ∷ (codes "jlt", Ge) ∷ (codes "jle", Gt) ∷ []
 
--- The test that a mnemonic is the opposite of.
+-- The test whose opposite the mnemonic names.
 unfoldable pub inverse_of : List ℕ → Option Test
 inverse_of octets = entry_of octets inverse_rows
 
--- A form of a mnemonic with an M[k].
+-- The form of a mnemonic with M[k].
 abbrev pub scratch_form : (ℕ → Statement) → List Token → Option Statement
 scratch_form statement ts = scratch_in ts >>= (λ k. Some (statement k))
 
@@ -219,7 +219,7 @@ other_forms =
     ∷ (codes "tax", ended (plain Tax))
     ∷ (codes "txa", ended (plain Txa)) ∷ []
 
--- What the table's form for a mnemonic reads.
+-- The statement that a table's form reads after a mnemonic.
 abbrev pub form_in : List (List ℕ × (List Token → Option Statement)) → List ℕ → List Token → Option Statement
 form_in forms octets ts = entry_of octets forms >>= (λ form. form ts)
 
@@ -235,7 +235,7 @@ other_in octets ts = form_in other_forms octets ts
 abbrev pub form_of : List ℕ → List Token → Option Statement
 form_of octets ts = or_else (moved_in octets ts) (other_in octets ts)
 
--- All but arithmetic and the branches that have both sides.
+-- All but arithmetic and the branches that jump if the test is true.
 abbrev pub inverse_or : List ℕ → List Token → Option Statement
 inverse_or octets ts = option_map_or (λ test. inverse_in test ts) (inverse_of octets) (form_of octets ts)
 
@@ -243,24 +243,24 @@ inverse_or octets ts = option_map_or (λ test. inverse_in test ts) (inverse_of o
 abbrev pub branch_or : List ℕ → List Token → Option Statement
 branch_or octets ts = option_map_or (λ test. branch_in test ts) (test_of octets) (inverse_or octets ts)
 
--- The statement of a mnemonic and what is behind it.
+-- The statement of a mnemonic and the tokens after it.
 unfoldable pub named_in : List ℕ → List Token → Option Statement
 named_in octets ts = option_map_or (λ op. arithmetic_in op ts) (op_of octets) (branch_or octets ts)
 
--- The statement of tokens.
+-- The statement of these tokens.
 unfoldable pub statement_in : List Token → Option Statement
 statement_in ts = cut_name ts >>= (λ (p : List ℕ × List Token). named_in p.0 p.1)
 
--- A label, and what is behind it.
+-- A label, and the tokens after it.
 abbrev pub cut_label : List Token → Option (List ℕ × List Token)
 cut_label tokens = cut_name tokens >>= (λ (p : List ℕ × List Token). cut_mark 58 p.1 >>= (λ rest. Some (p.0, rest)))
 
--- What is behind the label of a line, if it has one.
+-- The line with this label and the statement of the other tokens, if there are any.
 abbrev pub body_in : Option (List ℕ) → List Token → Option Line
 body_in label tokens =
     if is_ended tokens then Some (record { label = label; statement = None }) else (
     statement_in tokens >>= (λ s. Some (record { label = label; statement = Some s })))
 
--- The line of tokens.
+-- The line of these tokens.
 unfoldable pub line_in : List Token → Option Line
 line_in tokens = option_map_or (λ (p : List ℕ × List Token). body_in (Some p.0) p.1) (cut_label tokens) (body_in None tokens)

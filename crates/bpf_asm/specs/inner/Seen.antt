@@ -1,4 +1,4 @@
--- The tokens and statements that the assembler holds, as the definitions have them.
+-- The tokens and statements of the assembler, in terms of the definitions.
 use Rattle.std.specs.Prelude.{option_copied, option_map}
 use Rattle.bpf_asm.specs.Tokens.{Token, name, number, faulty, mark}
 use Rattle.bpf_asm.specs.StatementSpelling.{Statement, plain, jump, branch}
@@ -9,19 +9,19 @@ use Rattle.bpf_asm.specs.declared.statement.LentStatement.TheVariants.{Plain, Ju
 use Rattle.bpf_asm.specs.declared.token.LentToken.{LentToken}
 use Rattle.bpf_asm.specs.declared.token.LentToken.TheVariants.{Name, Number, Faulty, Mark}
 
--- A token that is lent from a line.
+-- A token that borrows from a line.
 abbrev pub token_seen : LentToken → Token
 token_seen (Name octets) = name octets.now
 token_seen (Number value) = number value
 token_seen Faulty = faulty
 token_seen (Mark octet) = mark octet
 
--- A statement whose labels are lent from a line.
+-- A statement whose labels borrow from a line.
 abbrev pub statement_seen : LentStatement → Statement
 statement_seen (Plain i) = plain i
 statement_seen (Jump target) = jump target.now
 statement_seen (Branch test by met unmet) = branch test by (option_copied met) (option_copied unmet)
 
--- A line whose label and statement are lent from the source.
+-- A line whose label and statement borrow from the source.
 abbrev pub line_seen : LentLine → Line
 line_seen said = record { label = option_copied said.label; statement = option_map statement_seen said.statement }

@@ -1,4 +1,4 @@
--- What the core's helpers do to its parts.
+-- The effects of the core's private functions on its parts.
 use Rattle.std.specs.Prelude.{◌≡◌, ◌≢◌, ℕ, ◌+◌, false, List, [], Some, None, Result, MatchOption, MatchResult, slice_get, slice_set}
 use Rattle.upc_cell.specs.declared.vc.Vc.{Vc}
 use Rattle.upc_cell.specs.declared.side.Side.{Side}
@@ -21,7 +21,7 @@ use Rattle.card_core.specs.declared.fault.DeskFault.{DeskFault}
 use Rattle.card_core.specs.declared.fault.DeskFault.TheVariants.{Stale as DeskStale}
 use Rattle.card_core.specs.Sections.{IsNaming, judging_refusal, JudgesAt, holder, IsUnready, MayBecomeReady, IsUncut}
 
--- The directory has a seating for the cell's connection, and its program names a contract for the cell.
+-- The directory has a seating for the cell's connection, and that connection's program gave this value for the cell.
 pub record IsFound (store : List (Slot (List Instr))) (directory : DirectoryView) (side : Side) (came : Came) (found : Found) : Type 0 where
   pub moment : found.moment ≡ came.moment
   pub own : found.vc ≡ vc_of side came.cell
@@ -34,7 +34,7 @@ IsMissed store directory vc NoConnection = seating_at directory vc ≡ None
 IsMissed store directory vc Stale = (seating : Seating) × (seating_at directory vc ≡ Some seating) × (live_value store seating.program ≡ None)
 IsMissed store directory vc _ = ⊥
 
--- A section did this to one of the lines, and all others are unchanged.
+-- One line changed in this way, and all others are unchanged.
 pub record ChangesLine (old : List LineView) (number : ℕ) (Did : LineView → LineView → Type 0) (new : List LineView) : Type 0 where
   pub line : LineView
   pub there : slice_get old number ≡ Some line
@@ -42,7 +42,7 @@ pub record ChangesLine (old : List LineView) (number : ℕ) (Did : LineView → 
   pub did : Did line next
   pub after : new ≡ slice_set old number next
 
--- A picked cell is judged on the line, or there is a reason to refuse it.
+-- A picked cell is judged on the line, or it is refused for a reason and the line is unchanged.
 abbrev pub JudgesOrRefuses : Found → Answer → LineView → LineView → Type 0
 JudgesOrRefuses found answer old new = MatchOption (judging_refusal old found.vc found.seating found.moment)
     (JudgesAt old found.seating found.named found.moment answer new)
@@ -63,20 +63,20 @@ pub record IsReleased (old new : DirectoryView) (vc : Vc) (piece : PieceView) (l
   pub used : new.used ≡ old.used
   pub freed : next ≡ free_line line.journal line.state.counts false
 
--- The requested connection is set up on the line, or there is a reason to refuse it.
+-- The requested connection is set up on the line, or it is refused for a reason.
 abbrev pub SetsUpOrRefuses : DirectoryView → DirectoryView → ℕ → Ask → Result Owner (DeskFault × Ask) → LineView → LineView → Type 0
 SetsUpOrRefuses old new number ask result line next = MatchResult result
     (λ owner. IsSetUp old new number ask owner line next)
     (λ refused. IsUnready line refused.0 × (refused.1 ≡ ask) × (new ≡ old)
     × (refused.0 ≡ DeskStale → next ≡ line) × MayBecomeReady line next)
 
--- The connection ends on the line, or the line isn't its own.
+-- The connection is released from the line, or the line doesn't serve it and nothing changes.
 abbrev pub ReleasesOrRefuses : DirectoryView → DirectoryView → Vc → Seating → Result PieceView DeskFault → LineView → LineView → Type 0
 ReleasesOrRefuses old new vc seating result line next = MatchResult result
     (λ piece. IsReleased old new vc piece line next)
     (λ fault. (fault ≡ DeskStale) × (line.owner ≢ Some (holder vc seating)) × (new ≡ old) × (next ≡ line))
 
--- The line's journal is returned, or there is a reason not to.
+-- The line's journal is returned, or the cut is refused for a reason and the line is unchanged.
 abbrev pub CutsOrRefuses : Vc → Seating → Result PieceView DeskFault → LineView → LineView → Type 0
 CutsOrRefuses vc seating result line next = MatchResult result
     (λ piece. IsJournalOf line piece × (next ≡ record line { start = line.state; entries = [] }))

@@ -1,4 +1,4 @@
--- How a core keeps its ports.
+-- The ports of a core.
 use Rattle.std.specs.Prelude.{◌≡◌, ℕ, ◌<◌, ◌≤◌, Bool, true, false, List, length, map, Option, Some, None, slice_get}
 use Rattle.card_core.specs.declared.port.Port.{Port}
 use Rattle.card_core.specs.declared.port.Port.TheVariants.{Outside, Entered, Picked}
@@ -57,8 +57,8 @@ found_in (Some Outside) = None
 found_in (Some (Entered came)) = None
 found_in (Some (Picked found)) = Some found
 
--- The invariant of a core: the directory is for as many lines as there are, at most 4096, and each picked cell has the
--- number of one of them.
+-- The invariant of a core: the directory has as many lines as there are, at most 4096, and the line of each picked cell
+-- is one of them.
 pub record IsCore (directory : DirectoryView) (lines : List LineView) (ports : List Port) : Type 0 where
   pub sized : directory.lines ≡ length lines
   pub most : directory.lines ≤ 4096

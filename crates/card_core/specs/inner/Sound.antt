@@ -1,5 +1,4 @@
--- An invariant of every world that a log leads to. Each step is proved to keep it, and the proofs of the
--- core use it.
+-- An invariant of all worlds that logs lead to. Each step preserves it, and the proofs of the core use it.
 use Rattle.std.specs.Prelude.{◌≡◌, ℕ, ◌^◌, ◌<◌, ◌≤◌, List, [], length, Some, IsSome, All, Contains, slice_get}
 use Rattle.upc_cell.specs.declared.vc.Vc.{Vc}
 use Rattle.upc_cell.specs.Connection.{vc_of}
@@ -14,8 +13,8 @@ use Rattle.card_core.specs.declared.shape.Shape.{Shape}
 use Rattle.card_core.specs.World.{World, Connection, Picking, picked, code_in, times_given, connection_in}
 use Rattle.card_core.specs.Log.{Event, Leads}
 
--- The programs: no id has a generation that its slot was not given yet, so that the next one is new;
--- every live code was given under its id, and every given code is accepted.
+-- The programs: no id has a generation above the number of times that its slot was given, so the next generation is
+-- new. Each live code was given under its id, and each given code is accepted.
 pub record SoundPrograms (world : World) : Type 0 where
   pub once : (id : Id) (code : List Instr) → code_in world.given id ≡ Some code
       → id.generation ≤ times_given world.given id.slot
@@ -23,9 +22,9 @@ pub record SoundPrograms (world : World) : Type 0 where
       → code_in world.given id ≡ Some code
   pub accepted : (id : Id) (code : List Instr) → code_in world.given id ≡ Some code → IsAccepted code
 
--- One connection: its line is one of the card's, its incarnation one of those that were given, its
--- program is live, it has a contract, its history's moments don't go back and are at most 2^62, and the
--- counts that its line had when it was set up and those of its history's verdicts are together the line's.
+-- One connection: its line is one of the card's, its incarnation is one of those given, its program is live, it has a
+-- contract, and the moments of its history never go back and are at most 2^62. Some counts at its setup, plus those of
+-- its history's verdicts, are the line's counts.
 pub record SoundConnection (world : World) (connection : Connection) : Type 0 where
   pub within : connection.line < world.shape.lines
   pub first : 1 ≤ connection.incarnation
@@ -38,7 +37,7 @@ pub record SoundConnection (world : World) (connection : Connection) : Type 0 wh
   pub opening : Tally
   pub counted : tallied opening (judged connection.contracts empty_buckets [] connection.history) ≡ tally_of (world.judged connection.line)
 
--- The connections: each virtual connection occurs at most once in their list, and no two share a line or an
+-- The connections: each virtual connection occurs at most once in their list, and no two have the same line or
 -- incarnation.
 pub record SoundConnections (world : World) : Type 0 where
   pub once : (here : Vc × Connection) → Contains world.connections here
@@ -54,8 +53,8 @@ pub record SoundConnections (world : World) : Type 0 where
       → connection_in world.connections other ≡ Some another
       → connection.incarnation ≡ another.incarnation → one ≡ other
 
--- A cell that was picked: its program is live, its incarnation was given before, and its virtual
--- connection's connection, if it has that incarnation still, has the line that was found.
+-- A picked cell: its program is live, its incarnation was given, and if its virtual connection still has that
+-- incarnation, it has the line that was found.
 pub record SoundPicking (world : World) (picking : Picking) : Type 0 where
   pub own : picking.vc ≡ vc_of world.shape.side picking.cell
   pub live : IsSome (code_in world.live picking.program)

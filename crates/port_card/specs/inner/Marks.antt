@@ -4,7 +4,7 @@ use Rattle.leaky.specs.declared.verdict.Verdict.{Verdict}
 use Rattle.line_record.specs.declared.tally.Tally.{Tally}
 use Rattle.line_record.specs.Tally.{nothing, counted, plus}
 
--- Shares of four ledgers, one for each verdict: how many parts each has, and their amounts.
+-- Shares of four ledgers, one for each verdict: the number of parts of each, and their amounts.
 pub record MarksView : Type 0 where
   pub parts : ℕ
   pub tally : Tally

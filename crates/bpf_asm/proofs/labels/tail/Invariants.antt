@@ -1,4 +1,4 @@
--- The octets that were read and those that are left make the number of the whole name.
+-- The octets read so far and those that are left give the number of the whole name.
 use Rattle.std.proofs.Common.{◌≡◌, drop}
 use Rattle.bpf_asm.specs.inner.LabelPlaces.{number_after, tail_number}
 use Rattle.bpf_asm.proofs.labels.tail.Given as goal

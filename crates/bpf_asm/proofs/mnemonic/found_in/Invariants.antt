@@ -1,4 +1,4 @@
--- What is left of the table has what the whole of it has.
+-- The rest of the table has the same entry as the whole table.
 use Rattle.std.proofs.Common.{◌≡◌, map, length}
 use Rattle.bpf_asm.specs.inner.Reading.{entry_of}
 use Rattle.bpf_asm.proofs.mnemonic.found_in.Given as goal

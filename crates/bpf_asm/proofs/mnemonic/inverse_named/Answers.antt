@@ -1,4 +1,4 @@
--- The table's rows are the definition's.
+-- The rows of the table are those of the definition.
 use Rattle.std.proofs.Common.{rules, arith}
 use Rattle.std.proofs.lemmas.Grind.{common_steps}
 use Rattle.bpf_asm.specs.inner.Reading.{inverse_of}

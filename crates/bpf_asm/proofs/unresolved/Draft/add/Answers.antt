@@ -8,7 +8,7 @@ use Rattle.bpf_asm.specs.inner.Drafts.{AgreesWith, drafted}
 use Rattle.bpf_asm.proofs.drafts.DraftSteps.{draft_add, draft_skip}
 use Rattle.bpf_asm.proofs.unresolved.Draft.add.Goals as goal
 
--- What two clauses of a call tell of its mapped result.
+-- Two clauses of a call imply one about its mapped result.
 on_ok_both : {A B E F : Type 0} (m : Result A E) (r : Result B F) (P Q R : Type 0) → is_ok m ≡ is_ok r → (P → Q → R) → OnOk r P → OnOk r Q → OnOk m R
 on_ok_both (Err e) r P Q R same f p q = tt
 on_ok_both (Ok v) (Err e) P Q R same f p q = cc
