@@ -261,8 +261,10 @@ def hidden_types(definition):
         found = re.match(r"Rattle\.(\w+)\.specs\.declared\.", module)
         if found and found.group(1) in set(crates()) and re.match(r"[A-Z]", name) and "TheVariants" not in module:
             public = public_names(found.group(1))
-            if public is not None and name not in public[0]:
-                yield name
+            # The members of a trait are the record `Ghosts` in the trait's module.
+            known_as = module.rpartition(".")[2] if name == "Ghosts" else name
+            if public is not None and known_as not in public[0]:
+                yield known_as
 
 
 def faults(specs, promised, allowed):

@@ -8,4 +8,5 @@ pub mod LineWords
 pub mod Printing
 pub mod Answering
 pub mod Gathered
+pub mod Serving
 pub mod inner

@@ -1,10 +1,10 @@
 //! `upc ports`: a script whose cells come to ports that are threads of their own.
 
-ghost use Rattle.std.specs.Prelude.{◌≡◌, ◌≢◌, ◌<◌, [], IfOk, OnErr, ℕ, List, Ok, Err, length};
-ghost use Rattle.text_io.specs.Devices.{Adds, TakesEnough};
-ghost use Rattle.text_io.specs.Limits.{most_ahead};
-ghost use Rattle.text_io.specs.Failures.{read_failures, write_failures};
+ghost use Rattle.std.specs.Prelude.{◌≡◌, ◌≢◌, ◌<◌, IfOk, OnErr, ℕ, List, Err, length};
+ghost use Rattle.text_io.specs.Devices.{Adds};
+ghost use Rattle.text_io.specs.Failures.{write_failures};
 ghost use Rattle.text_io.specs.Printing.{IsFront};
+ghost use Rattle.text_io.specs.Serving.{IsServed};
 ghost use Rattle.port_card.specs.Names.{AreFor};
 ghost use Rattle.upc_ports.specs.PortsText.{IsClosedText, IsPortsText};
 ghost use Rattle.upc_ports.specs.inner.Dealing.{AreLinesOf, from_first_cell};
@@ -149,42 +149,30 @@ fn run_lines<G: Gate + Sync, R: Threads + Wait + Sync, O: Output>(
     give_last(output, &mut answers, done_after(&closing))
 }
 
-/// Runs a script with a thread for each port, without waiting at any gate. See [`run_ports_with`].
+/// Runs a script with a thread for each port and without a gate. See [`run_ports_with`].
 pub fn run_ports<R: Threads + Wait + Sync, I: Input, O: Output>(
     rt: &R,
     alloc: Global,
     input: &mut I,
     output: &mut O,
 ) -> Result<Done, RunFault>
-    // What was written is the text of the whole input as far as it is specified, or a beginning of it.
-    ensures text { I.is_known → O.is_known → IfOk result (λ done.
-        Adds (λ text. IsPortsText (I.rest input.old) text done) (O.held output.old) (O.held output.new)) }
-    ensures front { I.is_known → O.is_known → OnErr result
-        (Adds (IsFront (IsPortsText (I.rest input.old))) (O.held output.old) (O.held output.new)) }
-
-    // No more of the input was taken than what had to be answered, and what a window holds.
-    ensures left { I.is_known → IfOk result (λ done. TakesEnough
-        (λ octets. (text : List ℕ) × IsPortsText octets text done) most_ahead (I.rest input.old) (I.rest input.new)) }
-    ensures whole { I.is_known → result ≡ Ok Done.Whole → I.rest input.new ≡ [] }
-
-    ensures reading { I.failures input.new ≡ read_failures result (I.failures input.old) }
-    ensures writing { O.failures output.new ≡ write_failures result (O.failures output.old) }
+    ensures { IsServed IsPortsText I.Input input.old input.new O.Output output.old output.new result }
 {
     run_ports_with(rt, alloc, input, output, &NoWait)
 }
 
-/// Runs a script whose cells come to ports that are threads of their own, each waiting at this gate
-/// between the look-up and the judgement of each cell.
+/// Runs a script with a thread for each port. Each port waits at this gate between the look-up and the judgement of
+/// each cell.
 ///
-/// The lines before the first cell line are answered one by one. From there on each port lets its cells arrive,
-/// in the script's order, while the desk answers all other lines, in theirs. When all have ended, the
-/// answers are written in the script's order, and after them the totals of the verdicts, over all lines
-/// of the card for their whole life.
+/// The lines before the first cell line are answered one by one. From there on each port takes its cells, in the
+/// script's order, while the desk answers all other lines, in the script's order too. When all have ended, the
+/// answers are written in the script's order. After them come the totals of the verdicts, over all lines of the card
+/// for their whole life.
 ///
 /// # Errors
 ///
-/// `ReadFailed` and `WriteFailed` where that device failed, once; `NoMemory` where memory was refused,
-/// once every thread that was started has ended. What was written is then a beginning of the text.
+/// `ReadFailed` or `WriteFailed` if that device failed; the run ends at the first failure. `NoMemory` if an
+/// allocation fails, after every thread that was started has ended. The output is then a prefix of a text.
 pub fn run_ports_with<G: Gate + Sync, R: Threads + Wait + Sync, I: Input, O: Output>(
     rt: &R,
     alloc: Global,
@@ -192,19 +180,8 @@ pub fn run_ports_with<G: Gate + Sync, R: Threads + Wait + Sync, I: Input, O: Out
     output: &mut O,
     gate: &G,
 ) -> Result<Done, RunFault>
-    // What was written is the text of the whole input as far as it is specified, or a beginning of it.
-    ensures text { I.is_known → O.is_known → IfOk result (λ done.
-        Adds (λ text. IsPortsText (I.rest input.old) text done) (O.held output.old) (O.held output.new)) }
-    ensures front { I.is_known → O.is_known → OnErr result
-        (Adds (IsFront (IsPortsText (I.rest input.old))) (O.held output.old) (O.held output.new)) }
-
-    // No more of the input was taken than what had to be answered, and what a window holds.
-    ensures left { I.is_known → IfOk result (λ done. TakesEnough
-        (λ octets. (text : List ℕ) × IsPortsText octets text done) most_ahead (I.rest input.old) (I.rest input.new)) }
-    ensures whole { I.is_known → result ≡ Ok Done.Whole → I.rest input.new ≡ [] }
-
-    ensures reading { I.failures input.new ≡ read_failures result (I.failures input.old) }
-    ensures writing { O.failures output.new ≡ write_failures result (O.failures output.old) }
+    // The text leaves open the answers to the lines.
+    ensures { IsServed IsPortsText I.Input input.old input.new O.Output output.old output.new result }
 {
     let mut script = Script::new(alloc);
     match answer_lines(alloc, input, output, &mut script) {

@@ -1,11 +1,9 @@
 //! `upc check`: assembles and checks a source.
 
-ghost use Rattle.std.specs.Prelude.{IfOk, OnOk, OnErr, option_map, ◌≡◌, ◌++◌, ℕ, List, [], Ok};
+ghost use Rattle.std.specs.Prelude.{◌≡◌, ◌++◌, IfOk, OnOk, option_map};
 ghost use Rattle.upc_programs.specs.Check.{IsCheckText, Tells, TellsCode, TellsSource, accepted_text};
-ghost use Rattle.text_io.specs.Devices.{Adds, TakesEnough};
-ghost use Rattle.text_io.specs.Limits.{most_ahead};
-ghost use Rattle.text_io.specs.Failures.{read_failures, write_failures};
-ghost use Rattle.text_io.specs.Printing.{IsFront};
+ghost use Rattle.text_io.specs.Devices.{Adds};
+ghost use Rattle.text_io.specs.Serving.{IsServed};
 
 use crate::answer_texts::{add_accepted, add_octets};
 use bpf_asm::{AsmFault, AsmKind, assemble};
@@ -92,19 +90,7 @@ pub fn check_source<I: Input, O: Output>(
     input: &mut I,
     output: &mut O,
 ) -> Result<Done, RunFault>
-    // The output is the text of the whole input, or a prefix of it.
-    ensures text { I.is_known → O.is_known → IfOk result (λ done.
-        Adds (λ text. IsCheckText (I.rest input.old) text done) (O.held output.old) (O.held output.new)) }
-    ensures front { I.is_known → O.is_known → OnErr result
-        (Adds (IsFront (IsCheckText (I.rest input.old))) (O.held output.old) (O.held output.new)) }
-
-    // The run reads what it answers and at most a window more.
-    ensures left { I.is_known → IfOk result (λ done. TakesEnough
-        (λ octets. (text : List ℕ) × IsCheckText octets text done) most_ahead (I.rest input.old) (I.rest input.new)) }
-    ensures whole { I.is_known → result ≡ Ok Done.Whole → I.rest input.new ≡ [] }
-
-    ensures reading { I.failures input.new ≡ read_failures result (I.failures input.old) }
-    ensures writing { O.failures output.new ≡ write_failures result (O.failures output.old) }
+    ensures { IsServed IsCheckText I.Input input.old input.new O.Output output.old output.new result }
 {
     let found = match gather(alloc, input, MOST_SOURCE_OCTETS) {
         Ok(found) => found,

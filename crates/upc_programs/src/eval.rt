@@ -1,12 +1,10 @@
 //! `upc eval`: the value of a program on each cell.
 
-ghost use Rattle.std.specs.Prelude.{◌≡◌, ◌∷◌, ◌++◌, [], Some, None, IfOk, OnOk, OnErr, option_map, ℕ, List, Ok};
-ghost use Rattle.text_io.specs.Devices.{Adds, TakesEnough};
-ghost use Rattle.text_io.specs.Limits.{most_ahead};
+ghost use Rattle.std.specs.Prelude.{◌≡◌, ◌∷◌, [], Some, None, IfOk, OnOk, option_map};
 ghost use Rattle.text_io.specs.Answering.{Answers};
+ghost use Rattle.text_io.specs.Devices.{Adds};
+ghost use Rattle.text_io.specs.Serving.{IsServed};
 ghost use Rattle.upc_programs.specs.Eval.{CellLine, ProgramLine, TellsValue, EvalSteps, IsEvalText, eval_rules};
-ghost use Rattle.text_io.specs.Failures.{read_failures, write_failures};
-ghost use Rattle.text_io.specs.Printing.{IsFront};
 
 use crate::answer_texts::{add_accepted, add_no_program, add_value};
 use bpf_interp::run;
@@ -180,19 +178,7 @@ pub fn eval_bytes<I: Input, O: Output>(
     input: &mut I,
     output: &mut O,
 ) -> Result<Done, RunFault>
-    // The output is the text of the whole input, or a prefix of it.
-    ensures text { I.is_known → O.is_known → IfOk result (λ done.
-        Adds (λ text. IsEvalText (I.rest input.old) text done) (O.held output.old) (O.held output.new)) }
-    ensures front { I.is_known → O.is_known → OnErr result
-        (Adds (IsFront (IsEvalText (I.rest input.old))) (O.held output.old) (O.held output.new)) }
-
-    // The run reads what it answers and at most a window more.
-    ensures left { I.is_known → IfOk result (λ done. TakesEnough
-        (λ octets. (text : List ℕ) × IsEvalText octets text done) most_ahead (I.rest input.old) (I.rest input.new)) }
-    ensures whole { I.is_known → result ≡ Ok Done.Whole → I.rest input.new ≡ [] }
-
-    ensures reading { I.failures input.new ≡ read_failures result (I.failures input.old) }
-    ensures writing { O.failures output.new ≡ write_failures result (O.failures output.old) }
+    ensures { IsServed IsEvalText I.Input input.old input.new O.Output output.old output.new result }
 {
     let mut evaluation = Evaluation {
         alloc,

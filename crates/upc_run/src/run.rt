@@ -1,10 +1,7 @@
 //! `upc run`: a card, and the commands and cells of a script.
 
-ghost use Rattle.std.specs.Prelude.{◌≡◌, ◌++◌, [], Some, IfOk, OnOk, OnErr, ℕ, List, Ok};
-ghost use Rattle.text_io.specs.Devices.{Adds, TakesEnough};
-ghost use Rattle.text_io.specs.Limits.{most_ahead};
-ghost use Rattle.text_io.specs.Failures.{read_failures, write_failures};
-ghost use Rattle.text_io.specs.Printing.{IsFront};
+ghost use Rattle.std.specs.Prelude.{IfOk};
+ghost use Rattle.text_io.specs.Serving.{IsServed};
 ghost use Rattle.text_io.specs.Words.{words_of};
 ghost use Rattle.upc_run.specs.RunText.{IsRunText};
 ghost use Rattle.upc_run.specs.inner.Policing.{OpensAs};
@@ -17,8 +14,7 @@ use std::alloc::{AllocError, Global};
 use text_io::{Done, Input, LineWords, Machine, Output, RunFault, Turn, answer_lines, line_words};
 use upc_words::add_too_long;
 
-/// Opens the card that the first line with words asks for; none if it opens no card; then
-/// the answer is the line's fault.
+/// Opens the card that the first line with words describes, and answers the line. Returns none if there is an error.
 fn open(alloc: Global, line: &[u8], answers: &mut Vec<u8>) -> Result<Option<ScriptCard>, AllocError>
     ensures { IfOk result (λ card. OpensAs (words_of line.now) card answers.old.items answers.new.items) }
 {
@@ -38,7 +34,7 @@ fn open(alloc: Global, line: &[u8], answers: &mut Vec<u8>) -> Result<Option<Scri
     }
 }
 
-/// The subcommand as a machine: no card yet, or the card.
+/// The subcommand as a machine, before and after the card line.
 #[derive(Drop)]
 struct Policing {
     alloc: Global,
@@ -51,8 +47,8 @@ impl Policing {
     ghost use Rattle.upc_run.specs.RunText.{run_rules};
     ghost use Rattle.upc_run.specs.inner.Policing.{ShowsRun};
 
-    /// Answers a line before there is a card. It is a function of its own, so that later lines don't
-    /// pay for the stack that making a card needs.
+    /// Answers a line before there is a card. It isn't inlined, so that later lines don't pay for the stack that
+    /// making a card needs.
     #[inline(never)]
     fn answer_first(&mut self, line: &[u8], answers: &mut Vec<u8>) -> Result<Turn, AllocError>
         requires { self.old.card ≡ None }
@@ -108,31 +104,19 @@ impl Machine for Policing {
     ghost is_total = { run-total };
 }
 
-/// Answers the lines of a script: the first line with words opens a card, and each later one is a command
-/// to its desk or a cell, and is answered by what the card replies.
+/// Answers the lines of a script. The first line with words opens a card. Each later one is a command for its desk or
+/// a cell, and its answer is the card's reply.
 ///
 /// # Errors
 ///
-/// `ReadFailed` and `WriteFailed` if that device failed, once; `NoMemory` if an allocation failed.
-/// What was written is then a beginning of the text.
+/// `ReadFailed` or `WriteFailed` if that device failed; the run ends at the first failure. `NoMemory` if an
+/// allocation fails. The output is then a prefix of the text.
 pub fn run_script<I: Input, O: Output>(
     alloc: Global,
     input: &mut I,
     output: &mut O,
 ) -> Result<Done, RunFault>
-    // What was written is the text of the whole input, or a beginning of it.
-    ensures text { I.is_known → O.is_known → IfOk result (λ done.
-        Adds (λ text. IsRunText (I.rest input.old) text done) (O.held output.old) (O.held output.new)) }
-    ensures front { I.is_known → O.is_known → OnErr result
-        (Adds (IsFront (IsRunText (I.rest input.old))) (O.held output.old) (O.held output.new)) }
-
-    // No more of the input was taken than what had to be answered, and what a window holds.
-    ensures left { I.is_known → IfOk result (λ done. TakesEnough
-        (λ octets. (text : List ℕ) × IsRunText octets text done) most_ahead (I.rest input.old) (I.rest input.new)) }
-    ensures whole { I.is_known → result ≡ Ok Done.Whole → I.rest input.new ≡ [] }
-
-    ensures reading { I.failures input.new ≡ read_failures result (I.failures input.old) }
-    ensures writing { O.failures output.new ≡ write_failures result (O.failures output.old) }
+    ensures { IsServed IsRunText I.Input input.old input.new O.Output output.old output.new result }
 {
     let mut policing = Policing { alloc, card: None };
     answer_lines(alloc, input, output, &mut policing)

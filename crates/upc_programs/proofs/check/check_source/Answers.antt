@@ -1,5 +1,5 @@
 -- Before the first write, the empty text is a prefix of some text.
-use Rattle.std.proofs.Common.{ℕ, List, option_map, subst, sym}
+use Rattle.std.proofs.Common.{ℕ, List, option_map, rules, subst, sym}
 use Rattle.std.proofs.lemmas.Result.{IfOk-weaker}
 use Rattle.text_io.specs.Devices.{TakesEnough}
 use Rattle.text_io.specs.Limits.{most_ahead}
@@ -9,23 +9,45 @@ use Rattle.upc_programs.specs.Check.{IsCheckText}
 use Rattle.upc_programs.proofs.CheckText.{enough, some-check_text}
 use Rattle.upc_programs.proofs.check.check_source.Goals as goal
 
-pub returns-in-Err-clause-front : goal.returns-in-Err-clause-front
-returns-in-Err-clause-front g c = λ _ _.
+pub returns-in-Err : goal.returns-in-Err
+returns-in-Err g c =
     let octets = g.I.Input.rest c.args.input.now in
-    nothing-begins (IsCheckText octets) (g.O.Output.held c.args.output.now) (some-check_text octets)
+    record {
+      text = search rules;
+      front = λ _ _. nothing-begins (IsCheckText octets) (g.O.Output.held c.args.output.now) (some-check_text octets);
+      left = search rules;
+      whole = search rules;
+      reading = search rules;
+      writing = search rules;
+    }
 
-pub returns-in-Err-answer_gathered-clause-front : goal.returns-in-Err-answer_gathered-clause-front
-returns-in-Err-answer_gathered-clause-front g c = λ _ _.
+pub returns-in-Err-answer_gathered : goal.returns-in-Err-answer_gathered
+returns-in-Err-answer_gathered g c =
     let octets = g.I.Input.rest c.args.input.now in
-    nothing-begins (IsCheckText octets) (g.O.Output.held c.args.output.now) (some-check_text octets)
+    record {
+      text = search rules;
+      front = λ _ _. nothing-begins (IsCheckText octets) (g.O.Output.held c.args.output.now) (some-check_text octets);
+      left = search rules;
+      whole = search rules;
+      reading = search rules;
+      writing = search rules;
+    }
 
-pub returns-clause-left : goal.returns-clause-left
-returns-clause-left g c = λ known.
+pub returns : goal.returns
+returns g c =
     let octets = g.I.Input.rest c.args.input.now in
     let left = g.I.Input.rest c.gather.new.input in
     let told = c.in-Ok-answer_gathered.ensures in
-    let taken : TakesEnough (λ needed. (text : List ℕ) × IsCheckText needed text c.in-Ok-answer_gathered.done) most_ahead octets left =
-    enough octets left (option_map (λ source. source.items) c.in-Ok.found) told.0 c.in-Ok-answer_gathered.done
-    (c.in-Ok.ensures.whole known) (c.in-Ok.ensures.left known) told.2 in
-    let P : Done → Type 0 = λ done. TakesEnough (λ needed. (text : List ℕ) × IsCheckText needed text done) most_ahead octets left in
-    IfOk-weaker c.give_last.result _ _ (λ done same. subst P (sym same) taken) c.give_last.ensures.done
+    record {
+      text = search rules;
+      front = search rules;
+      left = λ known.
+          let taken : TakesEnough (λ needed. (text : List ℕ) × IsCheckText needed text c.in-Ok-answer_gathered.done) most_ahead octets left =
+          enough octets left (option_map (λ source. source.items) c.in-Ok.found) told.0 c.in-Ok-answer_gathered.done
+          (c.in-Ok.ensures.whole known) (c.in-Ok.ensures.left known) told.2 in
+          let P : Done → Type 0 = λ done. TakesEnough (λ needed. (text : List ℕ) × IsCheckText needed text done) most_ahead octets left in
+          IfOk-weaker c.give_last.result _ _ (λ done same. subst P (sym same) taken) c.give_last.ensures.done;
+      whole = search rules;
+      reading = search rules;
+      writing = search rules;
+    }
