@@ -1,5 +1,5 @@
--- The box of a program, and the three types by which it goes to C: the box itself, its parts, the hidden program. All
--- three are a pointer and an allocator, and own the same.
+-- The box of a program, and the three types in which it goes to C: the box itself, its parts, and the hidden program.
+-- All three are a pointer and an allocator, and own the same.
 use Rattle.std.specs.Prelude.{◌≡◌, ◌≢◌, Option, None, Some}
 use mathlib.Core.List.{[]}
 use mathlib.Core.Path.{refl}
@@ -26,7 +26,7 @@ hidden = Hidden.the_row
 abbrev pub allocator : RattleType
 allocator = Heap.the_row
 
--- What an option that isn't `None` has.
+-- The value of an option that isn't None.
 pub known : {X : Type 0} (option : Option X) → option ≢ None → (x : X) × (option ≡ Some x)
 known None there = absurd (there refl)
 known (Some x) there = (x, refl)

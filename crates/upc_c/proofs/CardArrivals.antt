@@ -1,4 +1,4 @@
--- The whole way of a cell at port 0, which is outside before and afterwards.
+-- All steps of a cell at port 0, which has no cell before and afterwards.
 use Rattle.std.proofs.Common.{◌≡◌, ◌⊎◌, inl, inr, ℕ, zero, suc, Bool, true, false, List, [], ◌∷◌, ◌++◌, Option, Some, None, replicate, refl, ap, ◌∙◌, subst}
 use Rattle.std.specs.Option.{MatchOption, option_map}
 use Rattle.std.specs.Prelude.{slice_get, slice_set, if◌then◌else◌, is_none}
@@ -21,19 +21,19 @@ use Rattle.card_core.specs.declared.step.Step.TheVariants.{Enter, Pick, Judge}
 use Rattle.upc_cell.specs.Connection.{vc_of}
 use Rattle.upc_c.specs.inner.ReachedCore.{IsIdle, IsReached}
 
--- What is written to port 0, where there is one, is there.
+-- A state that is written to port 0, if it exists, is there.
 written : (ports : List PortState) (before state : PortState) → slice_get ports 0 ≡ Some before → slice_get (slice_set ports 0 state) 0 ≡ Some state
 written [] before state e = let no : None ≡ Some before = e in cc
 written (port ∷ ports) before state e = refl
 
--- A world whose ports are those of another, but for this state of port 0.
+-- The ports are those of the other world, except for this state of port 0.
 abbrev With : World → PortState → World → Type 0
 With before state after = after.ports ≡ slice_set before.ports 0 state
 
 there : (before after : World) (state had : PortState) → slice_get before.ports 0 ≡ Some had → With before state after → slice_get after.ports 0 ≡ Some state
 there before after state had e with = ap (λ (ports : List PortState). slice_get ports 0) with ∙ written before.ports had state e
 
--- What a step does where it isn't refused.
+-- A step that isn't refused.
 abbrev Taken : World → Step → Reply → World → Type 0
 Taken before step reply after = Succeeds before step reply after ⊎ FindsNoMemory before step reply after
 
@@ -44,7 +44,7 @@ enters before after cell moment reply idle step =
     (λ refused. IsRefused before (Enter 0 cell moment) refused reply after) in
     subst P idle step
 
--- A cell enters a port that is outside, and no other reply comes.
+-- A cell enters a port without a cell, and no other reply is possible.
 entered-there : (before after : World) (cell : List ℕ) (moment : ℕ) → Taken before (Enter 0 cell moment) Entered after
     → With before (entered cell moment) after
 entered-there before after cell moment (inl e) = ap (λ (w : World). w.ports) e.world
@@ -66,7 +66,7 @@ picks before after cell moment reply had step =
     (λ refused. IsRefused before (Pick 0) refused reply after) in
     subst P had step
 
--- Who is answered at the pick leaves the port.
+-- After an answer at the pick the port has no cell.
 pick-answered : (missing : Bool) (before after : World) (cell : List ℕ) (moment : ℕ) (answer : Answer)
     → slice_get before.ports 0 ≡ Some (entered cell moment) → PickedBy missing before (Answered answer) after → With before outside after
 pick-answered true before after cell moment answer had is =
@@ -74,14 +74,14 @@ pick-answered true before after cell moment answer had is =
 pick-answered false before after cell moment answer had (inl p) = let no : Answered answer ≡ Picked = p.answer in cc
 pick-answered false before after cell moment answer had (inr l) = let no = l.answer in cc
 
--- Who is picked is at the port.
+-- After a successful pick the port has the picked cell.
 pick-picked : (missing : Bool) (before after : World) (cell : List ℕ) (moment : ℕ) → PickedBy missing before Picked after
     → (picking : Picking) × With before (picked picking) after
 pick-picked true before after cell moment is = let no : Picked ≡ Answered UnknownCell = is.answer in cc
 pick-picked false before after cell moment (inl p) = (_, ap (λ (w : World). w.ports) p.world)
 pick-picked false before after cell moment (inr l) = let no = l.answer in cc
 
--- Who is judged leaves the port.
+-- After the judgement the port has no cell.
 judge-answered : (refusal : Option Answer) (before after : World) (picking : Picking) (answer : Answer)
     → slice_get before.ports 0 ≡ Some (picked picking)
     → MatchOption (option_map Answered refusal) (Taken before (Judge 0) (Answered answer) after)
@@ -98,7 +98,7 @@ judged before after picking answer had step =
     (λ refused. IsRefused before (Judge 0) refused (Answered answer) after) in
     judge-answered (picking_refusal before picking (connection_in before.connections picking.vc)) before after picking answer had (subst P had step)
 
--- The events of a cell's way, answered at the pick or by the judging.
+-- The events of a cell, with the answer at the pick or at the judgement.
 abbrev at_pick : List ℕ → ℕ → Answer → List Event
 at_pick cell moment answer =
     record { step = Enter 0 cell moment; reply = Entered } ∷ record { step = Pick 0; reply = Answered answer } ∷ []
@@ -134,7 +134,7 @@ judging-idle before after cell moment answer idle run =
     let left = judged two three picking.0 answer found run.2.2.1 in
     same-idle three after run.2.2.2 (there two three outside (picked picking.0) found left)
 
--- The log goes on by the events of the cell.
+-- The log with the events of the cell.
 pub answers-reached : (old new : CoreView) (cell : List ℕ) (moment : ℕ) (answer : Answer) → IsReached old
     → Answers old 0 cell moment answer new → IsReached new
 answers-reached old new cell moment answer reached (inl follows) = ∥∥₁_map reached (λ r.
@@ -158,13 +158,13 @@ answers-reached old new cell moment answer reached (inr follows) = ∥∥₁_map
       idle = judging-idle r.world gone.after cell moment answer r.idle gone.stepped;
     })
 
--- A cell is never sent away.
+-- NotNow is never the answer.
 pub always-now : (old new : CoreView) (cell : List ℕ) (moment : ℕ) → IsReached old → Follows old (Enter 0 cell moment) NotNow new → ⊥
 always-now old new cell moment reached follows = ∥∥₁_elim reached (λ x y. absurd x) (λ r.
     let gone = follows r.shape r.log r.world r.leads r.agrees in
     never-now r.world gone.after cell moment (enters r.world gone.after cell moment NotNow r.idle gone.stepped))
 
--- A card has a port.
+-- A card has port 0.
 some-port : (programs lines ports journal : Bool)
     → (if programs then Some Programs else if lines then Some Lines else if ports then Some Ports else if journal then Some Journal else None) ≡ None
     → ports ≡ false

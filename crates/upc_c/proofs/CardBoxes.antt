@@ -1,4 +1,4 @@
--- The box of a card, and the three types by which it goes to C: the box itself, its parts, the hidden card. All
+-- The box of a card, and the three types in which it goes to C: the box itself, its parts, and the hidden card. All
 -- three are a pointer and an allocator, and own the same.
 use mathlib.Core.List.{[]}
 use mir.Syntax.{impl, tnil, dnil}

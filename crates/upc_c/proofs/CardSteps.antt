@@ -1,4 +1,4 @@
--- Steps of a card that steps have led to.
+-- Steps of a card that other steps have led to.
 use Rattle.std.proofs.Common.{◌≡◌, ◌⊎◌, inl, inr, Bool, true, false, List, [], ◌∷◌, ◌++◌, Option, Some, None, refl, sym, ap, ◌∙◌, subst}
 use Rattle.std.specs.Option.{MatchOption, option_map}
 use Rattle.std.specs.Prelude.{slice_get}
@@ -20,7 +20,7 @@ use Rattle.upc_c.specs.declared.card.UpcCard.{UpcCard}
 use Rattle.upc_c.specs.declared.fault.UpcFault.{UpcFault}
 use Rattle.upc_c.specs.inner.ReachedCore.{IsReached}
 
--- A step of the desk succeeds, finds no memory, or is refused by a fault.
+-- A step of the desk succeeds, fails to allocate, or is refused with an error.
 pub cases : (P : Type 0) (wrap : DeskFault → Reply) (found : Option DeskFault) (before after : World) (step : Step) (reply : Reply)
     → (Succeeds before step reply after → P) → (FindsNoMemory before step reply after → P)
     → ((fault : DeskFault) → IsRefused before step (wrap fault) reply after → P)
@@ -37,7 +37,7 @@ is_of_desk (Pick port) = false
 is_of_desk (Judge port) = false
 is_of_desk _ = true
 
--- A step of the desk leaves the ports.
+-- A step of the desk leaves the ports unchanged.
 abbrev Leaves : World → World → Type 0
 Leaves before after = after.ports ≡ before.ports
 
@@ -67,7 +67,7 @@ ports-left before after (Cut vc) reply desk =
     cases (Leaves before after) (λ fault. Refused fault) (missing_fault before vc) before after (Cut vc) reply
     (λ s. ap (λ (w : World). w.ports) s.world) (λ l. same-ports before after l.world) (λ fault r. same-ports before after r.world)
 
--- The log goes on by the step.
+-- The log with this step.
 pub reached-on : (old new : CoreView) (step : Step) (reply : Reply) → is_of_desk step ≡ true → IsReached old → Follows old step reply new
     → IsReached new
 reached-on old new step reply desk reached follows = ∥∥₁_map reached (λ r.
@@ -81,12 +81,12 @@ reached-on old new step reply desk reached follows = ∥∥₁_map reached (λ r
       idle = ap (λ (ports : List PortState). slice_get ports 0) (ports-left r.world gone.after step reply desk gone.stepped) ∙ r.idle;
     })
 
--- The same of the core that was taken out of a card.
+-- The same for the core that was taken out of a card.
 pub reached-by : (core old new : CoreView) (step : Step) (reply : Reply) → is_of_desk step ≡ true → old ≡ core → IsReached core
     → Follows old step reply new → IsReached new
 reached-by core old new step reply desk same reached follows = reached-on old new step reply desk (subst IsReached (sym same) reached) follows
 
--- A card whose core answered a step with a refusal has refused it.
+-- If the core refuses the step, the card does.
 pub refuses-by : (before after : UpcCard) (core old new : CoreView) (step : Step) (reply : Reply) (reason : DeskFault) (fault : UpcFault)
     → card_in before ≡ Some core → old ≡ core → card_in after ≡ Some new → Follows old step reply new → RefusalKeeps reply step old new
     → reason_of reply ≡ Some reason → fault ≡ told_desk reason → IsDeskFault before after step fault

@@ -1,4 +1,4 @@
--- The contracts of a connection, made one after another.
+-- The contracts of a connection, one by one.
 use Rattle.std.proofs.Common.{◌≡◌, inl, inr, ℕ, ◌+◌, ◌<◌, List, [], ◌∷◌, ◌++◌, length, take, drop, get_or, sym, subst, arith, add-one, length-append, drop-cons}
 use Rattle.std.proofs.Math.Seq.{take-suc}
 use Rattle.leaky.specs.declared.contract.Contract.{Contract}
@@ -7,7 +7,7 @@ use Rattle.upc_c.specs.GivenContract.{AreAContract, IsContract, IsContractFault}
 use Rattle.upc_c.specs.declared.contract.UpcContract.{UpcContract}
 use Rattle.upc_c.specs.declared.fault.UpcFault.{UpcFault}
 
--- So many of the contracts are made, and the first fault is that of the others.
+-- This many contracts are made, and the first error is that of the others.
 pub record MadeOf (given : List UpcContract) (made : List Contract) (count : ℕ) : Type 0 where
   pub contracts : AreContracts (take count given) made
   pub others : (fault : UpcFault) → IsFirstContractFault (drop count given) fault → IsFirstContractFault given fault
@@ -34,7 +34,7 @@ made-one_more given made count other contract below so_far is sound =
       many = omega (arith, length-append made (contract ∷ []), so_far.many);
     }
 
--- The first fault is that of the first contract that is none.
+-- The first error is that of the first contract with an error.
 pub faulty-first : (given : List UpcContract) (made : List Contract) (count : ℕ) (other : UpcContract) (fault : UpcFault)
     → count < length given → MadeOf given made count → IsContractFault (get_or given count other) fault → IsFirstContractFault given fault
 faulty-first given made count other fault below so_far faulty =

@@ -1,4 +1,4 @@
--- The entries of a journal, written to the room one after another.
+-- The entries of a journal, written to the buffer one by one.
 use Rattle.std.proofs.Common.{◌≡◌, ℕ, ◌+◌, ◌<◌, ◌≤◌, List, [], ◌∷◌, ◌++◌, length, take, drop, map, set, get_or, refl, sym, ap, ◌∙◌, subst, arith, take-append-drop, take_all, length-set, drop-set-lt, le_of_eq}
 use Rattle.std.proofs.lemmas.Grind.{drop_more_same}
 use Rattle.std.proofs.lemmas.List.{map-append, take_more, take_more_set}
@@ -6,7 +6,7 @@ use Rattle.line_record.specs.declared.entry.Entry.{Entry}
 use Rattle.upc_c.specs.CardJournal.{AreWritten, told_entry}
 use Rattle.upc_c.specs.declared.entry.UpcEntry.{UpcEntry}
 
--- The first entries are at the front of the room, and after them it is as before.
+-- The first entries are at the front of the buffer, and the rest of the buffer is unchanged.
 pub record WrittenOf (entries : List Entry) (before room : List UpcEntry) (count : ℕ) : Type 0 where
   pub sized : length room ≡ length before
   pub front : take count room ≡ map told_entry (take count entries)

@@ -1,4 +1,4 @@
--- A journal that is handed out has the cells that were judged since the last cut.
+-- A journal that is returned has the cells judged since the last cut.
 use Rattle.std.proofs.Common.{◌≡◌, ◌⊎◌, inl, inr, ℕ, ◌≤◌, true, List, Some, Result, Ok, Err, IfOk, length, refl, sym, ap, ◌∙◌, subst}
 use Rattle.std.proofs.Math.Bridge.{le_prop}
 use mathlib.Core.Logic.{∥∥₁_elim}
@@ -71,7 +71,7 @@ pub of-desk : (when : HandOut) (vc : Vc) → is_of_desk (step_of when vc) ≡ tr
 of-desk AtEnd vc = refl
 of-desk GoingOn vc = refl
 
--- The card was as it was when the step was asked for.
+-- The card is unchanged up to the step.
 pub journal-fault-from : (first before after : UpcCard) (path channel : ℕ) (vc : Vc) (when : HandOut) (room : List UpcEntry) (found : UpcFault)
     → card_in before ≡ card_in first → IsVc path channel vc
     → IsDeskFault before after (step_of when vc) found ⊎ IsLongerOn before vc (length room) found

@@ -1,4 +1,4 @@
--- What the line of a connection tells of the worlds with which its core agrees.
+-- The line of a connection, in each world that the core agrees with.
 use Rattle.std.proofs.Common.{◌≡◌, ℕ, ◌<◌, ◌≤◌, Option, Some, None, length, refl, sym, ap, ◌∙◌, subst}
 use Rattle.std.specs.Prelude.{option_map, slice_get}
 use Rattle.card_core.specs.Agreement.{CoreView, CoreAgrees, seating_of}
@@ -21,7 +21,7 @@ abbrev connection-or : Option Connection → Connection → Connection
 connection-or None other = other
 connection-or (Some connection) other = connection
 
--- The directory has what the world has.
+-- The directory has the connections of the world.
 line-of : (core : CoreView) (world : World) (vc : Vc) (found : Option Connection) → CoreAgrees core world
     → connection_in world.connections vc ≡ found → line_at core vc ≡ line_of_seating core.lines (option_map seating_of found)
 line-of core world vc found agrees is = ap (line_of_seating core.lines) (agrees.seatings.seatings vc ∙ ap (option_map seating_of) is)
@@ -59,7 +59,7 @@ missing-by core world vc (Some connection) agrees is at =
 pub missing-in : (core : CoreView) (vc : Vc) → line_at core vc ≡ None → IsMissingIn core vc
 missing-in core vc at = λ world agrees. missing-by core world vc (connection_in world.connections vc) agrees refl at
 
--- A journal that isn't there has no cell.
+-- Without a journal there is no cell.
 pub short-missing : (core : CoreView) (vc : Vc) (most : ℕ) → IsMissingIn core vc → IsShortIn core vc most
 short-missing core vc most none = record {
   few = λ world agrees connection found. let no : None ≡ Some connection = sym (none world agrees) ∙ found in cc;

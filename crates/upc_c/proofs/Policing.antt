@@ -1,4 +1,4 @@
--- What is told of a judged cell.
+-- The answer to a judged cell, as C gets it.
 use Rattle.std.proofs.Common.{◌≡◌, ℕ, List, Ok, sym, subst}
 use Rattle.card_core.specs.Sections.{answer_to}
 use Rattle.card_core.specs.Steps.{cell_after}
@@ -10,7 +10,7 @@ use Rattle.upc_c.specs.CardDesk.{id_of}
 use Rattle.upc_c.specs.declared.card.UpcCard.{UpcCard}
 use Rattle.upc_c.specs.declared.id.UpcId.{UpcId}
 
--- The octets were the cell's, the numbers are those of the id, and the octets are the leaving cell's.
+-- The octets were those of the cell, the numbers are those of the id, and the octets are those of the leaving cell.
 pub arrives-so : (before after : UpcCard) (octets cell leaving : List ℕ) (moment : ℕ) (j : Judgement) (id : UpcId)
     → cell ≡ octets → j.program ≡ id_of id → leaving ≡ cell_after j.verdict cell → Arrives before after cell moment (answer_to cell (Ok j))
     → Arrives before after octets moment (Judged j.line j.number j.moment j.value (id_of id) j.verdict leaving)

@@ -1,4 +1,4 @@
--- A card that is as it was may take the same steps.
+-- A card that is unchanged takes the same steps.
 use Rattle.std.proofs.Common.{◌≡◌, inl, inr, sym, ◌∙◌}
 use Rattle.card_core.specs.declared.reply.Reply.{Reply}
 use Rattle.card_core.specs.declared.step.Step.{Step}
@@ -18,7 +18,7 @@ takes-from first before after step reply same taken = record {
   kept = taken.kept;
 }
 
--- The fault that is told is the one that was found.
+-- The error for C is the one that was found.
 pub desk-fault-from : (first before after : UpcCard) (step : Step) (found told : UpcFault) → card_in before ≡ card_in first → told ≡ found
     → IsDeskFault before after step found → IsDeskFault first after step told
 desk-fault-from first before after step found told same is (inl none) = inl (sym same ∙ none.0, is ∙ none.1)

@@ -1,4 +1,4 @@
--- A cell that arrives at a card that C holds.
+-- A cell that arrives at a card that C has.
 use Rattle.std.specs.Prelude.{◌≡◌, ◌⊎◌, ℕ, List, length, Option, Some, None}
 use Rattle.card_core.specs.Agreement.{CoreView}
 use Rattle.card_core.specs.Arrival.{Answers}
@@ -14,7 +14,7 @@ use Rattle.upc_c.specs.declared.arrival.UpcAnswer.{UpcAnswer}
 use Rattle.upc_c.specs.declared.card.UpcCard.{UpcCard}
 use Rattle.upc_c.specs.declared.fault.UpcFault.{UpcFault}
 
--- The cell has gone its whole way at port 0 of the card, and this answers it.
+-- The card took all steps of the cell at port 0, with this answer.
 pub record Arrives (before after : UpcCard) (cell : List ℕ) (moment : ℕ) (answer : Answer) : Type 0 where
   pub old : CoreView
   pub new : CoreView
@@ -22,7 +22,7 @@ pub record Arrives (before after : UpcCard) (cell : List ℕ) (moment : ℕ) (an
   pub has : card_in after ≡ Some new
   pub answers : Answers old 0 cell moment answer new
 
--- The cell was judged: this is the answer, and these are the octets of the leaving cell.
+-- The cell was judged with this answer, and these are the octets of the leaving cell.
 pub record IsPoliced (before after : UpcCard) (cell : List ℕ) (moment : ℕ) (told : UpcAnswer) (leaving : List ℕ) : Type 0 where
   pub sized : length cell ≡ 52
   pub verdict : Verdict
@@ -30,7 +30,7 @@ pub record IsPoliced (before after : UpcCard) (cell : List ℕ) (moment : ℕ) (
   pub arrives : Arrives before after cell moment
       (Judged told.line told.number told.moment told.value (id_of told.program) verdict leaving)
 
--- Why a cell isn't judged, as a fault for C. A judged cell has no such fault.
+-- The error for C if the cell wasn't judged, or None if it was.
 abbrev pub reason_of_answer : Answer → Option UpcFault
 reason_of_answer (Judged line number moment value program verdict cell) = None
 reason_of_answer NoConnection = Some (plain_fault 8 1 0)
@@ -41,8 +41,8 @@ reason_of_answer MomentTooLate = Some (plain_fault 8 5 0)
 reason_of_answer JournalFull = Some (plain_fault 8 6 0)
 reason_of_answer NoMemory = Some out_of_memory
 
--- Why the cell of these octets wasn't judged: the number of octets, and the card is as it was; then that there is
--- no card; then what the card answers to it.
+-- The error for C: the octets aren't a cell, and the card is unchanged; else there is no card; else the card's answer
+-- is not a judgement.
 abbrev pub IsArrivalFault : UpcCard → UpcCard → List ℕ → ℕ → UpcFault → Type 0
 IsArrivalFault before after cell moment fault =
     (IsCellFault cell fault × (card_in after ≡ card_in before))

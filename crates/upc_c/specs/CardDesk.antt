@@ -1,4 +1,4 @@
--- The desk of a card that C holds: its programs and connections.
+-- The desk of a card that C has: its programs and connections.
 use Rattle.std.specs.Prelude.{◌≡◌, ◌⊎◌, ◌<◌, ℕ, List, [], ◌∷◌, length, Option, Some, None, ⊤}
 use Rattle.bpf_code.specs.OctetSpelling.{SpellsCode}
 use Rattle.bpf_code.specs.declared.instr.Instr.{Instr}
@@ -25,7 +25,7 @@ use Rattle.upc_c.specs.declared.contract.UpcContract.{UpcContract}
 use Rattle.upc_c.specs.declared.fault.UpcFault.{UpcFault}
 use Rattle.upc_c.specs.declared.id.UpcId.{UpcId}
 
--- The id of these numbers.
+-- The id with these numbers.
 abbrev pub id_of : UpcId → Id
 id_of given = record { slot = given.slot; generation = given.generation }
 
@@ -33,7 +33,7 @@ id_of given = record { slot = given.slot; generation = given.generation }
 abbrev pub told_id : Id → UpcId
 told_id id = record { slot = id.slot; generation = id.generation }
 
--- Why the desk refuses, as a fault for C.
+-- An error of the desk as an error for C.
 abbrev pub told_desk : DeskFault → UpcFault
 told_desk desk.NoProgram = plain_fault 10 1 0
 told_desk desk.NoConnection = plain_fault 10 2 0
@@ -47,14 +47,14 @@ told_desk desk.Busy = plain_fault 10 9 0
 told_desk desk.NoMemory = out_of_memory
 told_desk desk.Stale = plain_fault 10 11 0
 
--- Why a reply refuses a step of the desk, if it does.
+-- The error of the desk in a reply, if it has one.
 abbrev pub reason_of : Reply → Option DeskFault
 reason_of (NotLoaded fault code) = Some fault
 reason_of (NotSetUp fault ask) = Some fault
 reason_of (Refused fault) = Some fault
 reason_of _ = None
 
--- The card has answered the step with a refusal, and the fault has its reason.
+-- The card took the step and refused it, and this is the error for C.
 pub record Refuses (before after : UpcCard) (step : Step) (fault : UpcFault) : Type 0 where
   pub reply : Reply
   pub taken : Takes before after step reply
@@ -62,49 +62,49 @@ pub record Refuses (before after : UpcCard) (step : Step) (fault : UpcFault) : T
   pub refused : reason_of reply ≡ Some reason
   pub told : fault ≡ told_desk reason
 
--- Why a step of the desk isn't taken: there is no card, or the card refuses it.
+-- The error of a step of the desk: there is no card, or the card refuses the step.
 abbrev pub IsDeskFault : UpcCard → UpcCard → Step → UpcFault → Type 0
 IsDeskFault before after step fault =
     ((card_in before ≡ None) × (fault ≡ card_missing)) ⊎ Refuses before after step fault
 
--- The program that the octets spell was put in under this id.
+-- The program that the octets spell was loaded under this id.
 abbrev pub IsLoaded : UpcCard → UpcCard → List ℕ → UpcId → Type 0
 IsLoaded before after octets id = (code : List Instr) × SpellsCode octets code × IsAccepted code
     × Takes before after (Load code) (Loaded (id_of id))
 
--- Why no program was put in: the octets are none; or the step isn't taken.
+-- The error if no program was loaded: the octets don't spell a program, or the step has an error.
 abbrev pub IsLoadFault : UpcCard → UpcCard → List ℕ → UpcFault → Type 0
 IsLoadFault before after octets fault =
     IsDecodeRefusal octets fault ⊎ IsCheckRefusal octets fault
     ⊎ ((code : List Instr) × SpellsCode octets code × IsAccepted code × IsDeskFault before after (Load code) fault)
 
--- The contracts of these numbers, one for each and in their order.
+-- The contracts with these numbers, in order.
 abbrev pub AreContracts : List UpcContract → List Contract → Type 0
 AreContracts [] [] = ⊤
 AreContracts [] (contract ∷ later) = ⊥
 AreContracts (given ∷ others) [] = ⊥
 AreContracts (given ∷ others) (contract ∷ later) = IsContract given contract × AreContracts others later
 
--- The first of them that is no contract is so for this reason.
+-- The first of these that is no contract has this error.
 abbrev pub IsFirstContractFault : List UpcContract → UpcFault → Type 0
 IsFirstContractFault [] fault = ⊥
 IsFirstContractFault (given ∷ others) fault =
     IsContractFault given fault ⊎ (AreAContract given × IsFirstContractFault others fault)
 
--- There are more contracts than a connection may have.
+-- A connection has at most four contracts: UPC_MANY_CONTRACTS.
 abbrev pub too_many_contracts : UpcFault
 too_many_contracts = plain_fault 1 11 0
 
--- Why numbers are not the contracts of a connection: there are more than four; or the first that is none.
+-- The error if these are not the contracts of a connection: there are more than four, or the first that is no contract.
 abbrev pub IsContractsFault : List UpcContract → UpcFault → Type 0
 IsContractsFault given fault =
     ((4 < length given) × (fault ≡ too_many_contracts)) ⊎ IsFirstContractFault given fault
 
--- The path is above the highest at the card's side.
+-- The path is above the highest at the card's side: UPC_LARGE_PATH.
 abbrev pub path_too_large : UpcFault
 path_too_large = plain_fault 1 10 0
 
--- The card has no such path.
+-- There is a card, and the path is above the highest at its side.
 abbrev pub HasNoPath : UpcCard → ℕ → Type 0
 HasNoPath card path = (shape : Shape) × IsShapeIn card shape × (last_vpi shape.side < path)
 
@@ -113,7 +113,7 @@ pub record IsVc (vpi vci : ℕ) (vc : Vc) : Type 0 where
   pub path : vc.vpi ≡ vpi
   pub channel : vc.vci ≡ vci
 
--- What the desk is asked for by these numbers.
+-- The request to the desk with these numbers.
 pub record IsAsk (path channel : ℕ) (named : UpcId) (given : List UpcContract) (ask : Ask) : Type 0 where
   pub vc : IsVc path channel ask.vc
   pub program : ask.program ≡ id_of named
@@ -124,7 +124,8 @@ abbrev pub IsSetUp : UpcCard → UpcCard → ℕ → ℕ → UpcId → List UpcC
 IsSetUp before after path channel program given = (ask : Ask) × IsAsk path channel program given ask
     × ((owner : Owner) × Takes before after (Setup ask) (SetUp owner))
 
--- Why no connection was set up: the contracts; then that there is no card, the path, or that the step is refused.
+-- The error if no connection was set up: that of the contracts; or there is no card; or the card has no such path; or
+-- the step has an error.
 abbrev pub IsSetupFault : UpcCard → UpcCard → ℕ → ℕ → UpcId → List UpcContract → UpcFault → Type 0
 IsSetupFault before after path channel program given fault =
     IsContractsFault given fault
@@ -132,17 +133,17 @@ IsSetupFault before after path channel program given fault =
     ⊎ (HasNoPath before path × (fault ≡ path_too_large))
     ⊎ ((ask : Ask) × IsAsk path channel program given ask × IsDeskFault before after (Setup ask) fault)
 
--- The program was taken out.
+-- The program was retired.
 abbrev pub IsRetired : UpcCard → UpcCard → UpcId → Type 0
 IsRetired before after id = (code : List Instr) × Takes before after (Retire (id_of id)) (Retired code)
 
--- The connection got the program, in place of this one.
+-- The connection got this program instead of the earlier one.
 abbrev pub IsReloaded : UpcCard → UpcCard → ℕ → ℕ → UpcId → UpcId → Type 0
 IsReloaded before after path channel program earlier = (vc : Vc) × IsVc path channel vc
     × Takes before after (Reload vc (id_of program)) (Reloaded (id_of earlier))
 
--- Why no connection of this path and channel could take the step: there is no card, or no such path on it, or the
--- step is refused.
+-- The error of a step for the connection of this path and channel: there is no card; or the card has no such path; or
+-- the step has an error.
 abbrev pub IsConnectionFault : UpcCard → UpcCard → ℕ → ℕ → (Vc → Step) → UpcFault → Type 0
 IsConnectionFault before after path channel step fault =
     ((card_in before ≡ None) × (fault ≡ card_missing))

@@ -1,4 +1,4 @@
--- A card that C holds, and the steps that it takes.
+-- A card that C has, and its steps.
 use Rattle.std.specs.Prelude.{◌≡◌, Option, Some}
 use Rattle.card_core.specs.Agreement.{CoreView, Follows}
 use Rattle.card_core.specs.Kept.{RefusalKeeps}
@@ -9,26 +9,26 @@ use Rattle.upc_c.specs.Faults.{plain_fault}
 use Rattle.upc_c.specs.declared.card.UpcCard.{UpcCard}
 use Rattle.upc_c.specs.declared.fault.UpcFault.{UpcFault}
 
--- The core of the card that C holds, if there is one.
+-- The core of the card, if there is one.
 abbrev pub card_in : UpcCard → Option CoreView
 card_in held = held.inner.core
 
--- There is a card already, and another can't be put in its place.
+-- There is a card already, and it can't be replaced: UPC_CARD_THERE.
 abbrev pub card_there : UpcFault
 card_there = plain_fault 1 8 0
 
--- There is no card.
+-- There is no card: UPC_NO_CARD.
 abbrev pub card_missing : UpcFault
 card_missing = plain_fault 1 9 0
 
--- The card has this shape.
+-- There is a card, and it has this shape.
 pub record IsShapeIn (card : UpcCard) (shape : Shape) : Type 0 where
   pub core : CoreView
   pub had : card_in card ≡ Some core
   pub same : shape ≡ core.shape
 
--- The card was there and is there, and has taken the step with this reply: its core has followed it, and a
--- refusal has left of the core what it leaves.
+-- There is a card before and after, and it took the step with this reply. Its core is the one after the step, and after
+-- a refusal it is as `RefusalKeeps` states.
 pub record Takes (before after : UpcCard) (step : Step) (reply : Reply) : Type 0 where
   pub old : CoreView
   pub new : CoreView

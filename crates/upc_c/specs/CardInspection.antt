@@ -1,4 +1,4 @@
--- What C can read of a connection on a card without a step.
+-- Reads of a connection on a card, without a step.
 use Rattle.std.specs.Prelude.{◌≡◌, ◌⊎◌, ℕ, length, Some, None}
 use Rattle.card_core.specs.Agreement.{CoreView, CoreAgrees}
 use Rattle.card_core.specs.World.{World, Connection, connection_in, kept_cells}
@@ -12,7 +12,7 @@ use Rattle.upc_c.specs.declared.card.UpcCard.{UpcCard}
 use Rattle.upc_c.specs.declared.counts.UpcCounts.{UpcCounts}
 use Rattle.upc_c.specs.declared.fault.UpcFault.{UpcFault}
 
--- The counts of these numbers.
+-- The counts of a line, as C gets them.
 abbrev pub counts_of : Tally → UpcCounts
 counts_of tally = record {
   passed = tally.passed;
@@ -21,13 +21,13 @@ counts_of tally = record {
   refused = tally.refused;
 }
 
--- The world has this connection, and this is so of it.
+-- The world has this connection, and this holds of it.
 abbrev pub HasConnection : World → Vc → (Connection → Type 0) → Type 0
 HasConnection world vc IsSo =
     (connection : Connection) × (connection_in world.connections vc ≡ Some connection) × IsSo connection
 
--- The card has the connection of this path and channel, and this is so of it in each world with which the card's
--- core agrees.
+-- There is a card, and in each world that its core agrees with it has the connection of this path and channel, and this
+-- holds of it.
 pub record OfConnection (card : UpcCard) (path channel : ℕ) (IsSo : World → Connection → Type 0) : Type 0 where
   pub vc : Vc
   pub numbers : IsVc path channel vc
@@ -35,12 +35,12 @@ pub record OfConnection (card : UpcCard) (path channel : ℕ) (IsSo : World → 
   pub had : card_in card ≡ Some core
   pub so : (world : World) → CoreAgrees core world → HasConnection world vc (IsSo world)
 
--- The connection's journal has this many cells: those that were judged since the last cut.
+-- The connection's journal has this many cells: those judged since the last cut.
 abbrev pub HasInJournal : UpcCard → ℕ → ℕ → ℕ → Type 0
 HasInJournal card path channel cells =
     OfConnection card path channel (λ world connection. length (kept_cells connection) ≡ cells)
 
--- The connection's line has these counts: those of all verdicts that were ever given on it.
+-- The connection's line has these counts: those of all verdicts ever given on it.
 abbrev pub HasCounted : UpcCard → ℕ → ℕ → UpcCounts → Type 0
 HasCounted card path channel counts =
     OfConnection card path channel (λ world connection. counts ≡ counts_of (tally_of (world.judged connection.line)))
@@ -53,7 +53,7 @@ pub record IsMissing (card : UpcCard) (path channel : ℕ) : Type 0 where
   pub had : card_in card ≡ Some core
   pub none : (world : World) → CoreAgrees core world → connection_in world.connections vc ≡ None
 
--- Why nothing can be read of the connection: there is no card, or no such path on it, or no such connection.
+-- The error of a read of the connection: there is no card; or the card has no such path; or it has no such connection.
 abbrev pub IsLookUpFault : UpcCard → ℕ → ℕ → UpcFault → Type 0
 IsLookUpFault card path channel fault =
     ((card_in card ≡ None) × (fault ≡ card_missing))

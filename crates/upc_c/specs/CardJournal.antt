@@ -17,7 +17,7 @@ use Rattle.upc_c.specs.declared.entry.UpcEntry.{UpcEntry}
 use Rattle.upc_c.specs.declared.fault.UpcFault.{UpcFault}
 use Rattle.upc_c.specs.declared.journal.UpcJournal.{UpcJournal}
 
--- What C gets of a judged cell.
+-- A journal entry, as C gets it.
 abbrev pub told_entry : Entry → UpcEntry
 told_entry entry = record {
   moment = entry.moment;
@@ -27,13 +27,13 @@ told_entry entry = record {
   verdict = number_of entry.verdict;
 }
 
--- The entries fill the front of the room, in their order, and after them the room is as before.
+-- The entries fill the front of the buffer, in order, and the rest of the buffer is unchanged.
 pub record AreWritten (entries : List Entry) (before after : List UpcEntry) : Type 0 where
   pub fits : length entries ≤ length before
   pub written : after ≡ map told_entry entries ++ drop (length entries) before
 
--- What C gets of a journal besides: how many cells it has, and the counts of its line before the first and after
--- the last of them.
+-- The rest of a journal, as C gets it: the number of its cells, and the counts of its line before the first cell and
+-- after the last.
 abbrev pub told_journal : PieceView → UpcJournal
 told_journal piece = record {
   cells = length piece.entries;
@@ -41,8 +41,8 @@ told_journal piece = record {
   after = counts_of piece.end.counts;
 }
 
--- The card has taken the step on the connection of this path and channel, which returned its journal: the room
--- has its entries, and `told` the rest.
+-- The card took the step on the connection of this path and channel, and the step returned a journal. The buffer has
+-- its entries, and `told` has the rest.
 pub record IsHandedOut (before after : UpcCard) (path channel : ℕ) (step : Vc → Step) (reply : PieceView → Reply) (room written : List UpcEntry) (told : UpcJournal) : Type 0 where
   pub vc : Vc
   pub numbers : IsVc path channel vc
@@ -51,22 +51,22 @@ pub record IsHandedOut (before after : UpcCard) (path channel : ℕ) (step : Vc 
   pub entries : AreWritten piece.entries room written
   pub tells : told ≡ told_journal piece
 
--- The connection has ended, and C gets its last journal.
+-- The connection was released, and C gets its last journal.
 abbrev pub IsReleased : UpcCard → UpcCard → ℕ → ℕ → List UpcEntry → List UpcEntry → UpcJournal → Type 0
 IsReleased before after path channel room written told =
     IsHandedOut before after path channel Release Released room written told
 
--- The connection goes on with an empty journal, and C gets the one that it had.
+-- The connection has an empty journal now, and C gets the one before.
 abbrev pub IsCut : UpcCard → UpcCard → ℕ → ℕ → List UpcEntry → List UpcEntry → UpcJournal → Type 0
 IsCut before after path channel room written told =
     IsHandedOut before after path channel Cut CutOff room written told
 
--- The journal of the connection has more cells than the room, and the fault's place is their number.
+-- The connection's journal has more cells than the buffer has entries. The place of the error is the number of cells.
 abbrev pub IsLongerThan : UpcCard → ℕ → ℕ → List UpcEntry → UpcFault → Type 0
 IsLongerThan card path channel room fault =
     (cells : ℕ) × HasInJournal card path channel cells × (length room < cells) × (fault ≡ no_room cells)
 
--- Why no journal was returned: as for any step on a connection; or the room is too small.
+-- The error if no journal was returned: that of the step, or the buffer is too small.
 abbrev pub IsJournalFault : UpcCard → UpcCard → ℕ → ℕ → (Vc → Step) → List UpcEntry → UpcFault → Type 0
 IsJournalFault before after path channel step room fault =
     IsConnectionFault before after path channel step fault ⊎ IsLongerThan before path channel room fault

@@ -1,4 +1,4 @@
--- Which cards C may have.
+-- The cards that C may make.
 use Rattle.std.specs.Prelude.{◌≡◌, ◌⊎◌, ◌<◌, Some}
 use Rattle.card_core.specs.Agreement.{CoreView, CoreAgrees}
 use Rattle.card_core.specs.Shapes.{shape_fault}
@@ -11,7 +11,7 @@ use Rattle.upc_c.specs.Faults.{plain_fault, out_of_memory, unknown_side}
 use Rattle.upc_c.specs.declared.fault.UpcFault.{UpcFault}
 use Rattle.upc_c.specs.declared.shape.UpcShape.{UpcShape}
 
--- The shape of these numbers.
+-- The shape with these numbers.
 pub record IsShapeOf (given : UpcShape) (shape : Shape) : Type 0 where
   pub side : given.side ≡ side_number shape.side
   pub programs : shape.programs ≡ given.programs
@@ -19,11 +19,11 @@ pub record IsShapeOf (given : UpcShape) (shape : Shape) : Type 0 where
   pub ports : shape.ports ≡ given.ports
   pub journal : shape.journal ≡ given.journal
 
--- The core is that of an empty card of these numbers.
+-- The core is that of an empty card with these numbers.
 abbrev pub IsEmptyCard : UpcShape → CoreView → Type 0
 IsEmptyCard given core = (shape : Shape) × IsShapeOf given shape × CoreAgrees core (opening_world shape)
 
--- Why a card can't be made, as a fault for C.
+-- The reason why a card can't be made, as an error for C.
 abbrev pub told_card : CardFault → UpcFault
 told_card Programs = plain_fault 9 1 0
 told_card Lines = plain_fault 9 2 0
@@ -31,8 +31,8 @@ told_card Ports = plain_fault 9 3 0
 told_card Journal = plain_fault 9 4 0
 told_card NoMemory = out_of_memory
 
--- There is no card of these numbers: the side is neither, then the first number that is out of its limits; or
--- memory ran out.
+-- The error if no card was made: the side is unknown; else the first number is out of its limits; or an allocation
+-- failed.
 abbrev pub IsNoCard : UpcShape → UpcFault → Type 0
 IsNoCard given fault =
     ((1 < given.side) × (fault ≡ unknown_side))

@@ -8,12 +8,12 @@ use Rattle.upc_c.specs.Faults.{plain_fault, unknown_side}
 use Rattle.upc_c.specs.declared.cell.UpcFields.{UpcFields}
 use Rattle.upc_c.specs.declared.fault.UpcFault.{UpcFault}
 
--- The number that C has of a side.
+-- The number of a side in C.
 abbrev pub side_number : Side → ℕ
 side_number Uni = 0
 side_number Nni = 1
 
--- Generic flow control, which the user network interface alone has.
+-- Generic flow control, which only the user network interface has. Otherwise 0.
 abbrev pub gfc_at : Side → List ℕ → ℕ
 gfc_at Uni octets = gfc_of octets
 gfc_at Nni octets = 0
@@ -28,11 +28,11 @@ fields_at side octets = record {
   clp = clp_of octets;
 }
 
--- Octets are no cell: cell 1 WrongLength, with how many there are.
+-- The octets aren't a cell: cell 1 WrongLength, with their number.
 abbrev pub IsCellFault : List ℕ → UpcFault → Type 0
 IsCellFault octets fault = (length octets ≢ 52) × (fault ≡ plain_fault 2 1 (length octets))
 
--- Why there are no fields: the number of octets, then the side.
+-- The error if there are no fields: the octets aren't a cell; else the side is unknown.
 abbrev pub IsFieldsFault : List ℕ → ℕ → UpcFault → Type 0
 IsFieldsFault octets side fault =
     IsCellFault octets fault ⊎ ((length octets ≡ 52) × (1 < side) × (fault ≡ unknown_side))

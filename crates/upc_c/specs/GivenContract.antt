@@ -1,4 +1,4 @@
--- The contracts of C's numbers.
+-- Contracts from the numbers that C gives.
 use Rattle.std.specs.Prelude.{◌≡◌, ◌⊎◌, ◌^◌, ◌<◌, ◌≤◌, ℕ}
 use Rattle.leaky.specs.declared.gcra.Gcra.{Gcra}
 use Rattle.leaky.specs.declared.contract.Contract.{Contract}
@@ -7,7 +7,7 @@ use Rattle.upc_c.specs.Faults.{plain_fault, unknown_kind}
 use Rattle.upc_c.specs.declared.contract.UpcContract.{UpcContract}
 use Rattle.upc_c.specs.declared.fault.UpcFault.{UpcFault}
 
--- The rate of these two numbers.
+-- The rate with this increment and limit.
 abbrev pub IsRate : ℕ → ℕ → Gcra → Type 0
 IsRate increment limit gcra = (gcra.increment ≡ increment) × (gcra.limit ≡ limit)
 
@@ -19,14 +19,14 @@ IsPeak given gcra = IsRate given.peak_increment given.peak_limit gcra
 abbrev pub IsSustained : UpcContract → Gcra → Type 0
 IsSustained given gcra = IsRate given.sustained_increment given.sustained_limit gcra
 
--- The contract of these numbers. CBR.1 has one rate, and the other two numbers are free.
+-- The contract with these numbers. CBR.1 has one rate and ignores the other two numbers.
 abbrev pub IsContract : UpcContract → Contract → Type 0
 IsContract given (Cbr1 peak) = (given.kind ≡ 1) × IsPeak given peak
 IsContract given (Vbr1 peak sustained) = (given.kind ≡ 2) × IsPeak given peak × IsSustained given sustained
 IsContract given (Vbr2 peak sustained) = (given.kind ≡ 3) × IsPeak given peak × IsSustained given sustained
 IsContract given (Vbr3 peak sustained) = (given.kind ≡ 4) × IsPeak given peak × IsSustained given sustained
 
--- An increment of 1 to 2^48 ticks and a limit of at most 2^48 ticks are a rate.
+-- The two numbers are a rate: the increment is 1 to 2^48 ticks, and the limit at most 2^48 ticks.
 pub record AreARate (increment limit : ℕ) : Type 0 where
   pub least : 0 < increment
   pub most : increment ≤ 2 ^ 48
@@ -38,13 +38,14 @@ pub record AreAContract (given : UpcContract) : Type 0 where
   pub peak : AreARate given.peak_increment given.peak_limit
   pub sustained : 1 < given.kind → AreARate given.sustained_increment given.sustained_limit
 
--- Why the two numbers of a bucket are none: gcra 1 ZeroIncrement, else gcra 2 TooLarge.
+-- The error if the two numbers of a bucket are no rate: gcra 1 ZeroIncrement, else gcra 2 TooLarge.
 abbrev pub IsRateFault : ℕ → ℕ → ℕ → UpcFault → Type 0
 IsRateFault bucket increment limit fault =
     ((increment ≡ 0) × (fault ≡ plain_fault 6 1 bucket))
     ⊎ ((0 < increment) × ((2 ^ 48 < increment) ⊎ (2 ^ 48 < limit)) × (fault ≡ plain_fault 6 2 bucket))
 
--- Why numbers are no contract: their kind, then the first bucket with numbers that are no rate.
+-- The error if the numbers are no contract: that of the kind; else that of the first bucket with numbers that are no
+-- rate.
 abbrev pub IsContractFault : UpcContract → UpcFault → Type 0
 IsContractFault given fault =
     (((given.kind ≡ 0) ⊎ (4 < given.kind)) × (fault ≡ unknown_kind))

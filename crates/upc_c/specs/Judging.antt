@@ -1,4 +1,4 @@
--- The verdict on a cell, from the levels that C keeps.
+-- The verdict on a cell, from the levels that C stores.
 use Rattle.std.specs.Prelude.{◌≡◌, ◌⊎◌, ◌+◌, ◌^◌, ◌<◌, ◌≤◌, ℕ, Bool}
 use Rattle.leaky.specs.Contract.{Buckets, verdict_of, buckets_after}
 use Rattle.leaky.specs.KeptState.{IsChargedBy}
@@ -11,14 +11,14 @@ use Rattle.upc_c.specs.declared.contract.UpcContract.{UpcContract}
 use Rattle.upc_c.specs.declared.fault.UpcFault.{UpcFault}
 use Rattle.upc_c.specs.declared.meter.UpcLevels.{UpcLevels}
 
--- The number that C has of a verdict.
+-- The number of a verdict in C.
 abbrev pub number_of : Verdict → ℕ
 number_of Pass = 0
 number_of Tag = 1
 number_of Discard = 2
 number_of Refuse = 3
 
--- Theoretical arrival times that cells up to the last moment leave.
+-- Theoretical arrival times that can occur: each is at most 2^62 + 2^49.
 pub record AreLevels (levels : UpcLevels) : Type 0 where
   pub first : levels.first ≤ 2 ^ 62 + 2 ^ 49
   pub second : levels.second ≤ 2 ^ 62 + 2 ^ 49
@@ -28,8 +28,8 @@ pub record Shows (levels : UpcLevels) (buckets : Buckets) : Type 0 where
   pub first : levels.first ≡ buckets.first.level + buckets.first.charged
   pub second : levels.second ≡ buckets.second.level + buckets.second.charged
 
--- For all buckets that have these levels and that were not charged after the moment, the verdict
--- is the contract's, and the new levels are those of the buckets after the cell.
+-- For any buckets that have these levels and weren't charged after this moment, the verdict is the contract's, and the
+-- new levels are those of the buckets after the cell.
 pub record IsJudged (contract : Contract) (levels : UpcLevels) (clp : Bool) (moment number : ℕ) (left : UpcLevels) : Type 0 where
   pub verdict : (buckets : Buckets) → Shows levels buckets → IsChargedBy buckets moment
       → number ≡ number_of (verdict_of contract buckets clp moment)
@@ -37,7 +37,7 @@ pub record IsJudged (contract : Contract) (levels : UpcLevels) (clp : Bool) (mom
       → Shows left (buckets_after contract buckets clp moment)
   pub kept : AreLevels left
 
--- Why a cell can't be judged: the contract, then the levels, then the moment.
+-- The error if a cell can't be judged: that of the contract; else of the levels; else of the moment.
 abbrev pub IsMeterFault : UpcContract → UpcLevels → ℕ → UpcFault → Type 0
 IsMeterFault given levels moment fault =
     IsContractFault given fault

@@ -1,4 +1,4 @@
--- What is answered of programs and of sources.
+-- The errors and results of programs and sources.
 use Rattle.std.specs.Prelude.{◌≡◌, ◌⊎◌, ◌<◌, ◌≤◌, ◌++◌, ℕ, List, length, drop}
 use Rattle.bpf_asm.specs.Faults.{IsFault, IsOutOfMemory}
 use Rattle.bpf_asm.specs.Listing.{IsListFault, listing_of}
@@ -17,13 +17,14 @@ use Rattle.upc_c.specs.Faults.{no_room}
 use Rattle.upc_c.specs.Telling.{told_asm, told_decode, told_list, told_verify}
 use Rattle.upc_c.specs.declared.fault.UpcFault.{UpcFault}
 
--- The text was written to the front of the room, and `count` is the number of its octets.
+-- The text is at the front of the buffer, the rest of the buffer is unchanged, and `count` is the number of octets of
+-- the text.
 pub record IsWritten (text before after : List ℕ) (count : ℕ) : Type 0 where
   pub fits : length text ≤ length before
   pub written : after ≡ text ++ drop (length text) before
   pub counted : count ≡ length text
 
--- The text doesn't fit the room, and the fault's place is the number of octets that are needed.
+-- The text doesn't fit in the buffer. The place of the error is the number of octets that are needed.
 abbrev pub IsNoRoom : List ℕ → List ℕ → UpcFault → Type 0
 IsNoRoom text room fault = (length room < length text) × (fault ≡ no_room (length text))
 
@@ -31,29 +32,29 @@ IsNoRoom text room fault = (length room < length text) × (fault ≡ no_room (le
 abbrev pub IsProgram : List ℕ → Type 0
 IsProgram octets = (code : List Instr) × SpellsCode octets code × IsAccepted code
 
--- The octets are no code, or memory ran out.
+-- The octets don't spell a code, or an allocation failed.
 abbrev pub IsDecodeRefusal : List ℕ → UpcFault → Type 0
 IsDecodeRefusal octets fault = (found : DecodeFault) × IsFaultOf octets found × (fault ≡ told_decode found)
 
--- The octets are a code, and the check refuses it.
+-- The octets spell a code that the check refuses.
 abbrev pub IsCheckRefusal : List ℕ → UpcFault → Type 0
 IsCheckRefusal octets fault =
     (code : List Instr) × SpellsCode octets code × (found : Fault) × FailsFirst code found × (fault ≡ told_verify found)
 
--- The source means no code, or memory ran out.
+-- The source means no code, or an allocation failed.
 abbrev pub IsAsmRefusal : List ℕ → UpcFault → Type 0
 IsAsmRefusal source fault =
     (found : AsmFault) × (IsFault source found ⊎ IsOutOfMemory found) × (fault ≡ told_asm found)
 
--- These octets are of the code that the source means.
+-- These are the octets of the code that the source means.
 abbrev pub IsAssembled : List ℕ → List ℕ → Type 0
 IsAssembled source octets = (code : List Instr) × IsMeaning source code × (octets ≡ code_octets code)
 
--- This text is the listing of the code that the octets spell.
+-- The text is the listing of the code that the octets spell.
 abbrev pub IsListed : List ℕ → List ℕ → Type 0
 IsListed octets text = (code : List Instr) × SpellsCode octets code × (text ≡ listing_of code)
 
--- The octets are a code without a listing, or memory ran out.
+-- The octets spell a code without a listing, or an allocation failed.
 abbrev pub IsListRefusal : List ℕ → UpcFault → Type 0
 IsListRefusal octets fault =
     (code : List Instr) × SpellsCode octets code × (found : ListFault) × IsListFault code found × (fault ≡ told_list found)

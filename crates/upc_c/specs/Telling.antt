@@ -1,4 +1,4 @@
--- The faults of the libraries below, as C gets them.
+-- The errors of the libraries below, as C gets them.
 use Rattle.std.specs.Prelude.{ℕ}
 use Rattle.bpf_asm.specs.declared.fault.AsmFault.{AsmFault}
 use Rattle.bpf_asm.specs.declared.fault.AsmKind.{AsmKind}
@@ -12,13 +12,13 @@ use Rattle.bpf_verify.specs.declared.fault.Fault.TheVariants as verify
 use Rattle.upc_c.specs.Faults.{plain_fault, out_of_memory, ragged}
 use Rattle.upc_c.specs.declared.fault.UpcFault.{UpcFault}
 
--- Why octets are no code.
+-- An error of decoding.
 abbrev pub told_decode : DecodeFault → UpcFault
 told_decode decode.Ragged = ragged
 told_decode (decode.UnknownCode at code) = record { kind = 3; number = 2; place = at; word = 0; code = code }
 told_decode decode.NoMemory = out_of_memory
 
--- Why a source is no code, by the kind of the fault and its line.
+-- An error of a source, from its kind and its line.
 abbrev pub told_asm_at : AsmKind → ℕ → UpcFault
 told_asm_at asm.BadLine line = plain_fault 4 1 line
 told_asm_at asm.BadNumber line = plain_fault 4 2 line
@@ -29,11 +29,11 @@ told_asm_at asm.TooFar line = plain_fault 4 6 line
 told_asm_at asm.DanglingLabel line = plain_fault 4 7 line
 told_asm_at asm.NoMemory line = out_of_memory
 
--- The same of a fault.
+-- An error of a source.
 abbrev pub told_asm : AsmFault → UpcFault
 told_asm fault = told_asm_at fault.kind fault.line
 
--- Why a code is no program.
+-- An error of the check of a program.
 abbrev pub told_verify : Fault → UpcFault
 told_verify verify.Empty = plain_fault 5 1 0
 told_verify verify.TooLong = plain_fault 5 2 0
@@ -44,7 +44,7 @@ told_verify (verify.JumpOutside at) = plain_fault 5 6 at
 told_verify verify.NoReturn = plain_fault 5 7 0
 told_verify (verify.Unwritten at word) = record { kind = 5; number = 8; place = at; word = word; code = 0 }
 
--- Why a code has no listing: a target that the check would refuse too.
+-- An error of a listing. A jump outside the code has the same error as in the check.
 abbrev pub told_list : ListFault → UpcFault
 told_list (list.JumpOutside at) = plain_fault 5 6 at
 told_list list.NoMemory = out_of_memory

@@ -1,4 +1,4 @@
--- What only proofs and the model of a type need.
+-- Definitions that only proofs and the model of a type use.
 pub mod Hidden
 pub mod ReachedCore
 pub mod ToldLine

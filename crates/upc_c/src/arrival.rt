@@ -1,4 +1,4 @@
-//! Cells that come to a card that C holds.
+//! Cells that arrive at a card that C has.
 
 ghost use Rattle.std.specs.Prelude.{◌≡◌, ◌≢◌, ◌⊎◌, ◌<◌, None, Some, Ok, IfOk, IfErr};
 ghost use Rattle.card_core.specs.Arrival.{Answers};
@@ -29,14 +29,14 @@ use upc_cell::Cell;
 #[repr(C)]
 #[derive(Clone, Copy, Debug)]
 pub struct UpcAnswer {
-    /// 0 for a cell that passes, 1 for one that was tagged, 2 for one that is discarded, 3 for one that is
-    /// refused, since its program named no contract.
+    /// 0 for a cell that passes, 1 for one that was tagged, 2 for one that is discarded, 3 for one that is refused,
+    /// since its program named no contract.
     pub verdict: u32,
     /// The number that the program gave: that of a contract, from 1, or any other, which names none.
     pub value: u32,
-    /// How many cells with this verdict were judged on the line, this one included.
+    /// The number of cells with this verdict that were judged on the line, this one included.
     pub number: u64,
-    /// When the cell came, in ticks.
+    /// The moment of arrival, in ticks.
     pub moment: u64,
     /// The program that gave the number.
     pub program: UpcId,
@@ -44,7 +44,7 @@ pub struct UpcAnswer {
     pub line: u16,
 }
 
-/// Why a cell isn't judged.
+/// Returns the error for C of a cell that isn't judged.
 fn told_unjudged(reason: Unjudged) -> UpcFault
     ensures told { reason_of_answer (unjudged_answer reason) ≡ Some result }
     ensures numbered { 0 < result.number }
@@ -60,7 +60,7 @@ fn told_unjudged(reason: Unjudged) -> UpcFault
     }
 }
 
-/// A cell goes its whole way at port 0 of a core that steps have led to.
+/// Takes all steps of a cell at port 0 of a core.
 fn arrive_at(core: &mut Core, cell: &Cell, moment: u64) -> Result<Judgement, Unjudged>
     requires { IsReached core.old }
     ensures answers { Answers core.old 0 cell.now moment (answer_to cell.now result) core.new }
@@ -72,7 +72,7 @@ fn arrive_at(core: &mut Core, cell: &Cell, moment: u64) -> Result<Judgement, Unj
     }
 }
 
-/// A cell goes its whole way on the card.
+/// Takes all steps of a cell on the card.
 fn arrive_on(
     alloc: Global,
     card: &mut UpcCard,
@@ -97,7 +97,7 @@ fn arrive_on(
     }
 }
 
-/// The octets become those of the leaving cell.
+/// Writes the octets of the leaving cell.
 fn leave(octets: &mut [u8], cell: &Cell, verdict: Verdict)
     requires { octets.old ≡ cell.now }
     ensures { octets.new ≡ cell_after verdict cell.now }
@@ -107,9 +107,8 @@ fn leave(octets: &mut [u8], cell: &Cell, verdict: Verdict)
     }
 }
 
-/// Judges the cell that 52 octets are, which came at this moment, on the connection that its header names,
-/// and writes its answer. If the verdict is to tag it, the octets become the tagged cell. Returns
-/// the fault's number, or 0.
+/// Judges the cell of 52 octets that arrived at this moment, on the connection in its header, and writes the answer. If
+/// the verdict is Tag, the octets become the tagged cell. Returns the number of the error, or 0.
 #[unsafe(no_mangle)]
 pub extern "C" fn upc_card_arrive(
     alloc: Global,

@@ -8,8 +8,8 @@ ghost use Rattle.upc_c.specs.Faults.{no_fault};
 use crate::fault::{NO_FAULT, OF_A_BURST, UpcFault, fault_at, told};
 use leaky::{BtFault, burst_tolerance};
 
-/// The burst tolerance in ticks for a maximum burst size of `mbs` cells, where the increment of the
-/// sustainable cell rate is `ts` and that of the peak cell rate `tp`. Returns the fault's number, or 0.
+/// Writes the burst tolerance in ticks for a maximum burst size of `mbs` cells. `ts` is the increment of the
+/// sustainable cell rate, `tp` that of the peak cell rate. Returns the number of the error, or 0.
 #[unsafe(no_mangle)]
 pub extern "C" fn upc_burst_tolerance(
     mbs: u64,

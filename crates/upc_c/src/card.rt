@@ -1,4 +1,4 @@
-//! A card that C holds.
+//! A card that C has.
 
 ghost use Rattle.std.specs.Option.{ForSome};
 ghost use Rattle.std.specs.Prelude.{◌≡◌, ◌↔◌, None};
@@ -6,14 +6,13 @@ ghost use Rattle.upc_c.specs.inner.ReachedCore.{IsReached};
 
 use crate::hidden::HiddenCard;
 
-/// A card, or none: all zeros are none. C keeps it in its place, copies it nowhere, and neither reads
-/// nor writes what is in it.
+/// A card, or none: all zeros are none. C must not move it, copy it, or read or write its content.
 #[repr(C)]
 #[derive(Drop)]
 pub struct UpcCard {
-    /// 0 where there is no card.
+    /// 0 if there is no card.
     pub(crate) live: u32,
-    /// Where the card is.
+    /// The address of the card.
     pub(crate) inner: HiddenCard,
     pub ghost marked: { (live ≡ 0) ↔ (inner.core ≡ None) },
     pub ghost reached: { ForSome inner.core IsReached },

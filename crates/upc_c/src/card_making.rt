@@ -1,4 +1,4 @@
-//! Cards that C makes and lets go.
+//! Cards that C makes and frees.
 
 ghost use Rattle.std.specs.Prelude.{◌≡◌, ◌≢◌, ◌<◌, Some, None, IfOk, IfErr};
 ghost use Rattle.card_core.specs.Agreement.{CoreView};
@@ -15,7 +15,7 @@ use crate::telling::out_of_memory;
 use card_core::{CardFault, Core};
 use std::alloc::Global;
 
-/// Why a card can't be made.
+/// Returns the error for C of a card that can't be made.
 fn told_card(found: CardFault) -> UpcFault
     ensures told { result ≡ told_card found }
     ensures numbered { 0 < result.number }
@@ -29,7 +29,7 @@ fn told_card(found: CardFault) -> UpcFault
     }
 }
 
-/// The core of an empty card of these numbers, in a box of its own.
+/// Makes the core of an empty card with these numbers, in a box.
 fn empty_core(alloc: Global, given: &UpcShape) -> Result<Box<Core>, UpcFault>
     ensures empty { IfOk result (λ core. IsEmptyCard given.now core.value) }
     ensures reached { IfOk result (λ core. IsReached core.value) }
@@ -46,7 +46,7 @@ fn empty_core(alloc: Global, given: &UpcShape) -> Result<Box<Core>, UpcFault>
     }
 }
 
-/// Makes an empty card, where there is none. Returns the fault's number, or 0.
+/// Makes an empty card, if there is none. Returns the number of the error, or 0.
 #[unsafe(no_mangle)]
 pub extern "C" fn upc_card_new(
     alloc: Global,
@@ -74,7 +74,7 @@ pub extern "C" fn upc_card_new(
     }
 }
 
-/// Lets the card go, with its programs and connections. Where there is none it does nothing.
+/// Frees the card, with its programs and connections. Without a card it does nothing.
 #[unsafe(no_mangle)]
 pub extern "C" fn upc_card_free(alloc: Global, card: &mut UpcCard)
     ensures { card_in card.new ≡ None }

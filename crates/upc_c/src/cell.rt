@@ -13,7 +13,7 @@ use upc_cell::{Cell, CellFault, Side};
 #[repr(C)]
 #[derive(Clone, Copy, Debug)]
 pub struct UpcFields {
-    /// The virtual path identifier: 0 to 255 at the user network interface, else 0 to 4095.
+    /// The virtual path identifier: 0 to 255 at the user network interface, otherwise 0 to 4095.
     pub vpi: u16,
     /// The virtual channel identifier.
     pub vci: u16,
@@ -21,11 +21,11 @@ pub struct UpcFields {
     pub gfc: u8,
     /// The payload type, 0 to 7.
     pub pti: u8,
-    /// The cell loss priority: 1 for a cell of low priority, else 0.
+    /// The cell loss priority: 1 for a cell of low priority, otherwise 0.
     pub clp: u8,
 }
 
-/// The cell of these octets.
+/// Returns the cell of these octets.
 #[inline]
 pub(crate) fn cell_of(octets: &[u8]) -> Result<Cell, UpcFault>
     ensures length { IfOk result (λ _. length octets.now ≡ 52) }
@@ -39,7 +39,7 @@ pub(crate) fn cell_of(octets: &[u8]) -> Result<Cell, UpcFault>
     }
 }
 
-/// The fields of a cell's header, read at this side.
+/// Returns the fields of a cell's header, read at this side.
 #[inline]
 fn fields_of(cell: &Cell, side: Side) -> UpcFields
     ensures { result ≡ fields_at side cell.now }
@@ -56,8 +56,8 @@ fn fields_of(cell: &Cell, side: Side) -> UpcFields
     }
 }
 
-/// Reads the header of the cell that these 52 octets are, at the user network interface (`side` 0) or
-/// between nodes of the network (1). Returns the fault's number, or 0.
+/// Reads the header of a cell of 52 octets, at the user network interface (`side` 0) or between nodes of the network
+/// (1). Returns the number of the error, or 0.
 #[unsafe(no_mangle)]
 pub extern "C" fn upc_cell_fields(
     octets: &[u8],
@@ -86,8 +86,7 @@ pub extern "C" fn upc_cell_fields(
     }
 }
 
-/// Tags the cell that these 52 octets are: its cell loss priority becomes 1. Returns the fault's number,
-/// or 0.
+/// Tags the cell of 52 octets: its cell loss priority becomes 1. Returns the number of the error, or 0.
 #[unsafe(no_mangle)]
 pub extern "C" fn upc_cell_tag(octets: &mut [u8], fault: &mut UpcFault) -> u32
     ensures number { result ≡ fault.new.number }

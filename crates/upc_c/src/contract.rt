@@ -1,4 +1,4 @@
-//! Contracts, as C holds them.
+//! Contracts, as C has them.
 
 ghost use Rattle.std.specs.Prelude.{◌≡◌, ◌≢◌, ◌<◌, IfOk, IfErr};
 ghost use Rattle.upc_c.specs.GivenContract.{IsContract, IsContractFault, IsRate, IsRateFault, AreARate, AreAContract};
@@ -17,14 +17,13 @@ pub struct UpcContract {
     pub peak_increment: u64,
     /// The limit of bucket 1: 0 to 2^48 ticks.
     pub peak_limit: u64,
-    /// The increment of bucket 2, the sustainable cell rate: 1 to 2^48 ticks. CBR.1 has none, and
-    /// this number and the next are free.
+    /// The increment of bucket 2, the sustainable cell rate: 1 to 2^48 ticks. CBR.1 ignores this number and the next.
     pub sustained_increment: u64,
     /// The limit of bucket 2: 0 to 2^48 ticks.
     pub sustained_limit: u64,
 }
 
-/// The rate of a bucket, by its number from 1.
+/// Returns the rate of a bucket, by its number from 1.
 #[inline]
 fn rate_of(bucket: usize, increment: u64, limit: u64) -> Result<Gcra, UpcFault>
     ensures rate { IfOk result (IsRate increment limit) }
@@ -39,7 +38,7 @@ fn rate_of(bucket: usize, increment: u64, limit: u64) -> Result<Gcra, UpcFault>
     }
 }
 
-/// The contract of these numbers.
+/// Returns the contract with these numbers.
 #[inline]
 pub(crate) fn contract_of(given: &UpcContract) -> Result<Contract, UpcFault>
     ensures contract { IfOk result (IsContract given.now) }
@@ -62,7 +61,7 @@ pub(crate) fn contract_of(given: &UpcContract) -> Result<Contract, UpcFault>
     })
 }
 
-/// Whether the numbers are a contract. Returns the fault's number, or 0.
+/// Checks whether the numbers are a contract. Returns the number of the error, or 0.
 #[unsafe(no_mangle)]
 pub extern "C" fn upc_contract_check(contract: &UpcContract, fault: &mut UpcFault) -> u32
     ensures number { result ≡ fault.new.number }

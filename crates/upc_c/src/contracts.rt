@@ -8,10 +8,10 @@ use crate::fault::{OF_THE_CALL, UpcFault, fault_at};
 use arrayvec::ArrayVec;
 use leaky::Contract;
 
-/// How many contracts a connection has at most.
+/// The greatest number of contracts of a connection.
 const MOST_CONTRACTS: usize = 4;
 
-/// The contracts of these numbers, in their order.
+/// Returns the contracts with these numbers, in order.
 pub(crate) fn contracts_of(given: &[UpcContract]) -> Result<ArrayVec<Contract, 4>, UpcFault>
     ensures contracts { IfOk result (λ contracts. AreContracts given.now contracts.items) }
     ensures fault { IfErr result (IsContractsFault given.now) }

@@ -5,7 +5,7 @@ ghost use Rattle.upc_c.specs.CardInspection.{counts_of};
 
 use line_record::Tally;
 
-/// How many cells of each verdict were judged on a line, on earlier connections too.
+/// The number of cells of each verdict that were judged on a line, including those of earlier connections.
 #[repr(C)]
 #[derive(Clone, Copy, Debug)]
 pub struct UpcCounts {
@@ -19,7 +19,7 @@ pub struct UpcCounts {
     pub refused: u64,
 }
 
-/// The counts as C has them.
+/// Returns the counts as C has them.
 pub(crate) fn counts_of(tally: Tally) -> UpcCounts
     ensures { result ≡ counts_of tally }
 {

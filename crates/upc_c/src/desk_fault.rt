@@ -1,4 +1,4 @@
-//! Why the desk refuses, as a fault for C.
+//! The errors of the desk, as C gets them.
 
 ghost use Rattle.std.specs.Prelude.{◌≡◌, ◌<◌};
 ghost use Rattle.upc_c.specs.CardDesk.{told_desk};
@@ -8,14 +8,14 @@ use crate::fault::{OF_THE_CALL, OF_THE_DESK, UpcFault, fault_at};
 use crate::telling::out_of_memory;
 use card_core::DeskFault;
 
-/// There is no card.
+/// Returns the error that there is no card.
 pub(crate) fn card_missing() -> UpcFault
     ensures { result ≡ card_missing }
 {
     fault_at(OF_THE_CALL, 9, 0)
 }
 
-/// Why a step of the desk is refused.
+/// Returns the error for C of a step that the desk refused.
 pub(crate) fn told_desk(found: DeskFault) -> UpcFault
     ensures told { result ≡ told_desk found }
     ensures numbered { 0 < result.number }

@@ -11,20 +11,19 @@ use line_record::Entry;
 #[repr(C)]
 #[derive(Clone, Copy, Debug)]
 pub struct UpcEntry {
-    /// When the cell came, in ticks.
+    /// The moment of arrival, in ticks.
     pub moment: u64,
     /// The program that gave the value.
     pub program: UpcId,
-    /// What the program gave: the number of a contract, from 1, or any other, which names none.
+    /// The number that the program gave: that of a contract, from 1, or any other, which names none.
     pub value: u32,
-    /// Its cell loss priority before it was judged, 0 or 1.
+    /// The cell loss priority on arrival, 0 or 1.
     pub clp: u32,
-    /// 0 for a cell that passes, 1 for one that was tagged, 2 for one that is discarded, 3 for one that is
-    /// refused.
+    /// 0 for a cell that passes, 1 for one that was tagged, 2 for one that is discarded, 3 for one that is refused.
     pub verdict: u32,
 }
 
-/// The entry as C has it.
+/// Returns the entry as C has it.
 fn told_entry(entry: &Entry) -> UpcEntry
     ensures { result ≡ told_entry entry.now }
 {
@@ -37,7 +36,7 @@ fn told_entry(entry: &Entry) -> UpcEntry
     }
 }
 
-/// Writes the entries to the front of the room.
+/// Writes the entries to the front of the buffer.
 pub(crate) fn write_entries(room: &mut [UpcEntry], entries: &[Entry])
     requires { length entries.now ≤ length room.old }
     ensures { AreWritten entries.now room.old room.new }

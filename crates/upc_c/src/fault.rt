@@ -1,34 +1,33 @@
-//! Faults, as C sees them.
+//! Errors, as C gets them.
 
 ghost use Rattle.std.specs.Prelude.{◌≡◌};
 ghost use Rattle.upc_c.specs.Faults.{no_fault, plain_fault};
 
-/// Why a call refused what it was given, or all zeros where it didn't.
+/// The error of a call, or all zeros if it has none.
 ///
-/// A kind and a number are a fault of `docs/FORMATS.md`; the header lists the kinds. What a fault
-/// doesn't have is 0.
+/// The kind and the number are those of an error in `docs/FORMATS.md`; the header lists the kinds. Fields that an error
+/// doesn't use are 0.
 #[repr(C)]
 #[derive(Clone, Copy, Debug)]
 pub struct UpcFault {
-    /// Whose fault it is: of the library, of decoding, of the assembler, and so on.
+    /// The part that found the error: the call itself, decoding, the assembler, and so on.
     pub kind: u32,
-    /// The fault's number among those of its kind, from 1.
+    /// The number of the error among those of its kind, from 1.
     pub number: u32,
-    /// The place of the instruction, counted from 0; the line of the source or the bucket of the
-    /// contract, counted from 1; or how many octets there are, or have to be.
+    /// The place of the instruction, from 0; or the line of the source or the bucket of the contract, from 1; or the
+    /// number of octets that there are, or have to be.
     pub place: usize,
     /// The index of a scratch word, 0 to 15.
     pub word: u32,
-    /// The code of an instruction that no row of the table has.
+    /// The code of an instruction that isn't in the table.
     pub code: u32,
 }
 
-/// What the library itself refuses: memory ran out, the room is too small, a kind of contract or levels
-/// that there are none of, a side that is neither.
+/// The errors of the call itself: an allocation failed, the buffer is too small, the kind of the contract is unknown,
+/// the levels are too late, the side is unknown, and so on.
 pub(crate) const OF_THE_CALL: u32 = 1;
 
-/// The faults of cells, codes, sources, checks, rates, burst tolerances, arrivals, shapes and the
-/// desk.
+/// The errors of cells, codes, sources, checks, rates, burst tolerances, arrivals, shapes and the desk.
 pub(crate) const OF_A_CELL: u32 = 2;
 
 pub(crate) const OF_DECODING: u32 = 3;
@@ -47,7 +46,7 @@ pub(crate) const OF_A_SHAPE: u32 = 9;
 
 pub(crate) const OF_THE_DESK: u32 = 10;
 
-/// Nothing is wrong.
+/// No error.
 pub(crate) const NO_FAULT: UpcFault = UpcFault {
     kind: 0,
     number: 0,
@@ -56,7 +55,7 @@ pub(crate) const NO_FAULT: UpcFault = UpcFault {
     code: 0,
 };
 
-/// The fault with this kind and number that has a place and nothing else.
+/// Returns the error with this kind, number and place, and nothing else.
 pub(crate) fn fault_at(kind: u32, number: u32, place: usize) -> UpcFault
     ensures { result ≡ plain_fault kind number place }
 {
@@ -69,7 +68,7 @@ pub(crate) fn fault_at(kind: u32, number: u32, place: usize) -> UpcFault
     }
 }
 
-/// Writes the fault for C, and returns its number.
+/// Writes the error for C and returns its number.
 pub(crate) fn told(fault: &mut UpcFault, found: UpcFault) -> u32
     ensures told { fault.new ≡ found }
     ensures number { result ≡ found.number }

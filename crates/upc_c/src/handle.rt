@@ -1,4 +1,4 @@
-//! The calls of a program that C holds.
+//! The calls for a program that C has.
 
 ghost use Rattle.std.specs.Prelude.{◌≡◌, ◌≢◌, ◌<◌, List, length, Some, None, IfOk, IfErr};
 ghost use Rattle.bpf_code.specs.OctetSpelling.{SpellsCode};
@@ -19,7 +19,7 @@ use bpf_verify::Program;
 use std::alloc::Global;
 use std::mem::replace;
 
-/// A program of its octets, in a box of its own.
+/// Makes the program of these octets, in a box.
 fn program_of(alloc: Global, octets: &[u8]) -> Result<Box<Program>, UpcFault>
     ensures code { IfOk result (λ program. SpellsCode octets.now program.value) }
     ensures accepted { IfOk result (λ program. IsAccepted program.value) }
@@ -33,7 +33,7 @@ fn program_of(alloc: Global, octets: &[u8]) -> Result<Box<Program>, UpcFault>
     }
 }
 
-/// Puts in the program that octets spell, where there is none. Returns the fault's number, or 0.
+/// Makes the program that the octets spell, if there is none. Returns the number of the error, or 0.
 #[unsafe(no_mangle)]
 pub extern "C" fn upc_program_new(
     alloc: Global,
@@ -64,7 +64,7 @@ pub extern "C" fn upc_program_new(
     }
 }
 
-/// Lets the program go. Where there is none it does nothing.
+/// Frees the program. Without a program it does nothing.
 #[unsafe(no_mangle)]
 pub extern "C" fn upc_program_free(alloc: Global, program: &mut UpcProgram)
     ensures { program_in program.new ≡ None }
@@ -83,7 +83,7 @@ pub extern "C" fn upc_program_free(alloc: Global, program: &mut UpcProgram)
     drop(inner.into_box());
 }
 
-/// Runs the program on a cell of 52 octets. Returns the fault's number, or 0.
+/// Runs the program on a cell of 52 octets. Returns the number of the error, or 0.
 #[unsafe(no_mangle)]
 pub extern "C" fn upc_program_run(
     alloc: Global,

@@ -1,17 +1,16 @@
-//! A program that C holds.
+//! A program that C has.
 
 ghost use Rattle.std.specs.Prelude.{◌≡◌, ◌↔◌, None};
 
 use crate::hidden::Hidden;
 
-/// A program, or none: all zeros are none. C keeps it in its place, copies it nowhere, and neither reads
-/// nor writes what is in it.
+/// A program, or none: all zeros are none. C must not move it, copy it, or read or write its content.
 #[repr(C)]
 #[derive(Drop)]
 pub struct UpcProgram {
-    /// 0 where there is no program.
+    /// 0 if there is no program.
     pub(crate) live: u32,
-    /// Where the program is.
+    /// The address of the program.
     pub(crate) inner: Hidden,
     pub ghost marked: { (live ≡ 0) ↔ (inner.code ≡ None) },
 }

@@ -1,4 +1,4 @@
-//! A program at a pointer whose type C doesn't see.
+//! A program behind a pointer whose type C doesn't see.
 
 mod card;
 mod parts;
@@ -13,7 +13,7 @@ use std::alloc::Global;
 use std::marker::Model;
 use std::ptr::null_mut;
 
-/// A program in a box of its own, or none. C holds it, and never looks at what it points to.
+/// A program in a box, or none. C has the pointer and never reads what it points to.
 #[repr(C)]
 #[derive(Drop)]
 pub struct Hidden {
@@ -34,14 +34,14 @@ impl Model for Hidden {
 impl Hidden {
     ghost use Rattle.std.specs.Prelude.{◌≡◌, ◌≢◌, Some, None};
 
-    /// A program.
+    /// Makes one with a program.
     pub(crate) fn of(program: Box<Program>) -> Hidden
         ensures { result.code ≡ Some program.value }
     {
         Hidden::of_parts(Parts::of(program))
     }
 
-    /// The program.
+    /// Returns the program, if there is one.
     pub(crate) fn into_box(self) -> Box<Program>
         requires { self.code ≢ None }
         ensures { self.code ≡ Some result.value }
@@ -49,7 +49,7 @@ impl Hidden {
         self.into_parts().into_box()
     }
 
-    /// No program.
+    /// Makes one without a program.
     pub(crate) fn none(alloc: Global) -> Hidden
         ensures { result.code ≡ None }
     {

@@ -1,21 +1,21 @@
-//! The names of programs, as C has them.
+//! The ids of programs, as C has them.
 
 ghost use Rattle.std.specs.Prelude.{◌≡◌};
 ghost use Rattle.upc_c.specs.CardDesk.{id_of, told_id};
 
 use gen_arena::Id;
 
-/// The name of a program on a card: the number of its slot, from 0, and how often that slot was given.
+/// The id of a program on a card: the number of its slot, from 0, and the number of times that the slot was given.
 #[repr(C)]
 #[derive(Clone, Copy, Debug)]
 pub struct UpcId {
     /// The number of the slot.
     pub slot: u16,
-    /// How often the slot was given, this time included.
+    /// The number of times that the slot was given, this time included.
     pub generation: u32,
 }
 
-/// The id of these numbers.
+/// Returns the id with these numbers.
 pub(crate) fn id_of(given: &UpcId) -> Id
     ensures { result ≡ id_of given.now }
 {
@@ -25,7 +25,7 @@ pub(crate) fn id_of(given: &UpcId) -> Id
     }
 }
 
-/// The numbers of an id.
+/// Returns the numbers of an id.
 pub(crate) fn numbers_of(id: Id) -> UpcId
     ensures id { id ≡ id_of result }
     ensures numbers { result ≡ told_id id }

@@ -1,4 +1,4 @@
-//! What C can read of a connection on a card without a step.
+//! Reads of a connection on a card, without a step.
 
 ghost use Rattle.std.specs.Prelude.{◌≡◌, ◌≢◌, ◌<◌, IfNone, IfSome, IfErr, IfOk};
 ghost use Rattle.upc_c.specs.CardHandle.{card_in};
@@ -17,16 +17,16 @@ use line_record::Tally;
 use std::alloc::Global;
 use upc_cell::Vc;
 
-/// What is read of the line that serves a connection.
+/// The values read from the line that serves a connection.
 #[derive(Clone, Copy)]
 pub(crate) struct ToldLine {
-    /// How many cells its journal has.
+    /// The number of cells in its journal.
     pub(crate) cells: usize,
-    /// The verdicts on all cells that were ever judged on it.
+    /// The counts of the verdicts on all cells ever judged on it.
     pub(crate) counts: Tally,
 }
 
-/// The line that serves the connection, where there is one.
+/// Returns the values of the line that serves the connection, if there is one.
 pub(crate) fn told_line(core: &Core, vc: Vc) -> Option<ToldLine>
     ensures told { IfSome result (IsToldOf core.now vc) }
     ensures none { IfNone result (IsMissingIn core.now vc) }
@@ -40,7 +40,7 @@ pub(crate) fn told_line(core: &Core, vc: Vc) -> Option<ToldLine>
     }
 }
 
-/// The line of this path and channel.
+/// Returns the values of the line of this path and channel.
 fn line_on(alloc: Global, card: &mut UpcCard, path: u16, channel: u16) -> Result<ToldLine, UpcFault>
     ensures told { IfOk result (IsTold card.old path channel) }
     ensures fault { IfErr result (IsLookUpFault card.old path channel) }
@@ -62,8 +62,8 @@ fn line_on(alloc: Global, card: &mut UpcCard, path: u16, channel: u16) -> Result
     }
 }
 
-/// Writes how many cells the journal of the connection on this path and channel has. A cut or a release
-/// writes as many entries. Returns the fault's number, or 0.
+/// Writes the number of cells in the journal of the connection on this path and channel. A cut or a release writes as
+/// many entries. Returns the number of the error, or 0.
 #[unsafe(no_mangle)]
 pub extern "C" fn upc_card_journal(
     alloc: Global,
@@ -89,8 +89,8 @@ pub extern "C" fn upc_card_journal(
     }
 }
 
-/// Writes the counts of the line that serves the connection on this path and channel. Returns the fault's
-/// number, or 0.
+/// Writes the counts of the line that serves the connection on this path and channel. Returns the number of the error,
+/// or 0.
 #[unsafe(no_mangle)]
 pub extern "C" fn upc_card_counts(
     alloc: Global,

@@ -1,4 +1,4 @@
-//! Journals of connections that C cuts or ends.
+//! Journals of connections that C cuts or releases.
 
 ghost use Rattle.std.specs.Prelude.{◌≡◌, ◌≢◌, ◌⊎◌, ◌<◌, ◌≤◌, length, IfOk, IfErr, OnErr, IfSome, IfNone};
 ghost use Rattle.card_core.specs.Agreement.{Follows};
@@ -24,28 +24,28 @@ use line_record::Piece;
 use std::alloc::Global;
 use upc_cell::Vc;
 
-/// What C gets of a journal beside its entries.
+/// The part of a journal besides its entries, as C gets it.
 #[repr(C)]
 #[derive(Clone, Copy, Debug)]
 pub struct UpcJournal {
-    /// How many cells it has: those since the last cut, or since the connection was set up.
+    /// The number of its cells: those judged since the last cut, or since the setup.
     pub cells: usize,
-    /// The counts of its line before the first of them.
+    /// The counts of its line before the first cell.
     pub before: UpcCounts,
-    /// The counts after the last of them.
+    /// The counts of its line after the last cell.
     pub after: UpcCounts,
 }
 
-/// When a journal is returned.
+/// The step that returns a journal.
 #[derive(Clone, Copy)]
 pub(crate) enum HandOut {
-    /// The connection ends: the step `Release`.
+    /// `Release`: the connection ends.
     AtEnd,
-    /// It goes on with an empty journal: the step `Cut`.
+    /// `Cut`: the connection remains, with an empty journal.
     GoingOn,
 }
 
-/// What C gets of a journal that was returned, beside its entries.
+/// Returns the part of a returned journal besides its entries.
 fn told_journal(piece: &Piece) -> UpcJournal
     ensures { result ≡ told_journal piece.now }
 {
@@ -67,7 +67,7 @@ fn hand_out(core: &mut Core, vc: Vc, when: HandOut) -> Result<Piece, DeskFault>
     }
 }
 
-/// Takes the step where the journal has at most `most` cells.
+/// Takes the step if the journal has at most `most` cells.
 fn hand_out_short(core: &mut Core, vc: Vc, when: HandOut, most: usize) -> Result<Piece, DeskFault>
     requires reached { IsReached core.old }
     requires short { IsShortIn core.old vc most }
@@ -79,7 +79,7 @@ fn hand_out_short(core: &mut Core, vc: Vc, when: HandOut, most: usize) -> Result
     hand_out(core, vc, when)
 }
 
-/// How many cells the connection's journal has, where that is more than `most`.
+/// Returns the number of cells in the connection's journal, if it is above `most`.
 fn too_many(core: &Core, vc: Vc, most: usize) -> Option<usize>
     ensures longer { IfSome result (IsLongerIn core.now vc most) }
     ensures fits { IfNone result (IsShortIn core.now vc most) }
@@ -93,7 +93,7 @@ fn too_many(core: &Core, vc: Vc, most: usize) -> Option<usize>
     Some(line.cells)
 }
 
-/// Takes the step on the card, where the journal has at most `most` cells.
+/// Takes the step on the card, if the journal has at most `most` cells.
 fn hand_out_on(
     alloc: Global,
     card: &mut UpcCard,
@@ -123,7 +123,7 @@ fn hand_out_on(
     }
 }
 
-/// Takes the step on this path and channel, and writes the journal's entries to the room.
+/// Takes the step on this path and channel, and writes the journal's entries to the buffer.
 fn hand_out_to(
     alloc: Global,
     card: &mut UpcCard,
@@ -155,8 +155,8 @@ fn hand_out_to(
     }
 }
 
-/// Ends the connection on this path and channel, writes the entries of its last journal to the front of the
-/// room, and writes the counts before and after them. Returns the fault's number, or 0.
+/// Releases the connection on this path and channel, writes the entries of its last journal to the front of the buffer,
+/// and writes the counts before and after them. Returns the number of the error, or 0.
 #[unsafe(no_mangle)]
 pub extern "C" fn upc_card_release(
     alloc: Global,
@@ -181,9 +181,9 @@ pub extern "C" fn upc_card_release(
     }
 }
 
-/// Empties the journal of the connection on this path and channel, writes its entries to the front of the
-/// room, and writes the counts before and after them. The buckets and the last moment stay. Returns the
-/// fault's number, or 0.
+/// Cuts the journal of the connection on this path and channel, writes its entries to the front of the buffer, and
+/// writes the counts before and after them. The buckets and the last moment are unchanged. Returns the number of the
+/// error, or 0.
 #[unsafe(no_mangle)]
 pub extern "C" fn upc_card_cut(
     alloc: Global,

@@ -1,4 +1,4 @@
-//! The library for C: what `include/upc.h` declares.
+//! The library for C, which `include/upc.h` declares.
 #![tactic(auto)]
 
 mod arrival;

@@ -1,4 +1,4 @@
-//! Programs that C puts into a card.
+//! Programs that C loads into a card.
 
 ghost use Rattle.std.specs.Prelude.{◌≡◌, ◌≢◌, ◌<◌, ◌%◌, length, IfOk, IfErr, OnErr};
 ghost use Rattle.card_core.specs.declared.reply.Reply.TheVariants.{Loaded};
@@ -38,8 +38,8 @@ fn load_on(alloc: Global, card: &mut UpcCard, program: Program) -> Result<Id, Up
     }
 }
 
-/// Puts the program that octets spell into the card, and writes its id, which no other program ever has.
-/// Returns the fault's number, or 0.
+/// Loads the program that the octets spell, and writes its id, which no other program ever has. Returns the number of
+/// the error, or 0.
 #[unsafe(no_mangle)]
 pub extern "C" fn upc_card_load(
     alloc: Global,

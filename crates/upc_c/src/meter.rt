@@ -1,4 +1,4 @@
-//! A meter on the caller's state.
+//! A meter whose state the caller stores.
 
 ghost use Rattle.std.specs.Prelude.{◌≡◌, ◌≢◌, ◌^◌, ◌<◌, ◌≤◌, ◌==◌, not, IfOk, IfErr};
 ghost use Rattle.leaky.specs.declared.contract.Contract.{Contract as TheContract};
@@ -24,7 +24,7 @@ pub struct UpcLevels {
     pub second: u64,
 }
 
-/// The number that C has of a verdict.
+/// Returns the number of a verdict in C.
 #[inline]
 pub(crate) fn number_of(verdict: Verdict) -> u32
     ensures { result ≡ number_of verdict }
@@ -37,7 +37,7 @@ pub(crate) fn number_of(verdict: Verdict) -> u32
     }
 }
 
-/// The contract by which a cell is judged, where it can be.
+/// Returns the contract by which a cell is judged, or the error.
 #[inline]
 fn judging(given: &UpcContract, levels: &UpcLevels, moment: u64) -> Result<Contract, UpcFault>
     ensures contract { IfOk result (IsContract given.now) }
@@ -57,7 +57,7 @@ fn judging(given: &UpcContract, levels: &UpcLevels, moment: u64) -> Result<Contr
     Ok(contract)
 }
 
-/// The verdict on a cell of this cell loss priority, and the levels that it leaves.
+/// Returns the verdict on a cell of this cell loss priority, and the levels after it.
 #[inline]
 fn judged(contract: &Contract, levels: &mut UpcLevels, clp: bool, moment: u64) -> u32
     requires levels { AreLevels levels.old }
@@ -76,8 +76,8 @@ fn judged(contract: &Contract, levels: &mut UpcLevels, clp: bool, moment: u64) -
     number_of(verdict)
 }
 
-/// Judges a cell of the cell loss priority 0, or of 1 where `clp` is any other number, at a moment of
-/// at most 2^62 ticks. The levels become those that the cell leaves. Returns the fault's number, or 0.
+/// Judges a cell of cell loss priority 0, or 1 if `clp` is any other number, at a moment of at most 2^62 ticks, and
+/// updates the levels. Returns the number of the error, or 0.
 #[unsafe(no_mangle)]
 pub extern "C" fn upc_judge(
     contract: &UpcContract,

@@ -1,4 +1,4 @@
-//! Programs in octets: their check, their source and their listing.
+//! Programs as octets: their check, their source and their listing.
 
 ghost use Rattle.std.specs.Prelude.{◌≡◌, ◌≢◌, ◌⊎◌, ◌<◌, ◌%◌, ℕ, List, length, IfOk, IfErr, IsErr};
 ghost use Rattle.bpf_code.specs.OctetSpelling.{SpellsCode};
@@ -14,7 +14,7 @@ use bpf_code::{Instr, decode, encode};
 use bpf_verify::{Program, verify};
 use std::alloc::Global;
 
-/// The code that octets spell.
+/// Returns the code that the octets spell.
 pub(crate) fn code_of(alloc: Global, octets: &[u8]) -> Result<Vec<Instr>, UpcFault>
     ensures code { IfOk result (λ code. SpellsCode octets.now code.items) }
     ensures fault { IfErr result (IsDecodeRefusal octets.now) }
@@ -28,7 +28,7 @@ pub(crate) fn code_of(alloc: Global, octets: &[u8]) -> Result<Vec<Instr>, UpcFau
     }
 }
 
-/// The program that octets spell.
+/// Returns the program that the octets spell.
 pub(crate) fn accepted(alloc: Global, octets: &[u8]) -> Result<Program, UpcFault>
     ensures code { IfOk result (SpellsCode octets.now) }
     ensures accepted { IfOk result IsAccepted }
@@ -44,7 +44,7 @@ pub(crate) fn accepted(alloc: Global, octets: &[u8]) -> Result<Program, UpcFault
     }
 }
 
-/// Whether octets spell a program.
+/// Returns whether the octets spell a program.
 fn checked(alloc: Global, octets: &[u8]) -> Result<(), UpcFault>
     ensures program { IfOk result (λ _. IsProgram octets.now) }
     ensures fault { IfErr result (λ fault. IsDecodeRefusal octets.now fault ⊎ IsCheckRefusal octets.now fault) }
@@ -56,7 +56,7 @@ fn checked(alloc: Global, octets: &[u8]) -> Result<(), UpcFault>
     Ok(())
 }
 
-/// The octets of the code that a source means.
+/// Returns the octets of the code that the source means.
 fn assembled(alloc: Global, source: &[u8]) -> Result<Vec<u8>, UpcFault>
     ensures octets { IfOk result (λ octets. IsAssembled source.now octets.items) }
     ensures fault { IfErr result (λ fault. IsAsmRefusal source.now fault ⊎ (fault ≡ out_of_memory)) }
@@ -72,7 +72,7 @@ fn assembled(alloc: Global, source: &[u8]) -> Result<Vec<u8>, UpcFault>
     }
 }
 
-/// The listing of the code that octets spell.
+/// Returns the listing of the code that the octets spell.
 fn listed(alloc: Global, octets: &[u8]) -> Result<Vec<u8>, UpcFault>
     ensures text { IfOk result (λ text. IsListed octets.now text.items) }
     ensures fault { IfErr result (λ fault. IsDecodeRefusal octets.now fault ⊎ IsListRefusal octets.now fault) }
@@ -87,7 +87,7 @@ fn listed(alloc: Global, octets: &[u8]) -> Result<Vec<u8>, UpcFault>
     }
 }
 
-/// Whether the octets are a program that the check accepts. Returns the fault's number, or 0.
+/// Checks whether the octets spell a program. Returns the number of the error, or 0.
 #[unsafe(no_mangle)]
 pub extern "C" fn upc_check(alloc: Global, program: &[u8], fault: &mut UpcFault) -> u32
     ensures number { result ≡ fault.new.number }
@@ -102,8 +102,8 @@ pub extern "C" fn upc_check(alloc: Global, program: &[u8], fault: &mut UpcFault)
     }
 }
 
-/// Writes the octets of the code that a source means into the room, and how many there are. Returns
-/// the fault's number, or 0.
+/// Writes the octets of the code that the source means to the buffer, and their number. Returns the number of the
+/// error, or 0.
 #[unsafe(no_mangle)]
 pub extern "C" fn upc_assemble(
     alloc: Global,
@@ -127,8 +127,8 @@ pub extern "C" fn upc_assemble(
     }
 }
 
-/// Writes the listing of the code that the octets spell into the room, and how many octets it has.
-/// Returns the fault's number, or 0.
+/// Writes the listing of the code that the octets spell to the buffer, and the number of its octets. Returns the number
+/// of the error, or 0.
 #[unsafe(no_mangle)]
 pub extern "C" fn upc_listing(
     alloc: Global,

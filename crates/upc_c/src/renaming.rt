@@ -1,4 +1,4 @@
-//! Programs that C takes out of a card, or gives to a connection in place of another.
+//! Programs that C retires, or gives to a connection instead of another.
 
 ghost use Rattle.std.specs.Prelude.{◌≡◌, ◌≢◌, ◌<◌, List, IfOk, IfErr, OnErr, OnOk};
 ghost use Rattle.bpf_code.specs.declared.instr.Instr.{Instr};
@@ -55,7 +55,7 @@ fn reload_on(alloc: Global, card: &mut UpcCard, vc: Vc, program: Id) -> Result<I
     }
 }
 
-/// Takes a program out of the card that no connection names. Returns the fault's number, or 0.
+/// Retires a program that no connection names. Returns the number of the error, or 0.
 #[unsafe(no_mangle)]
 pub extern "C" fn upc_card_retire(
     alloc: Global,
@@ -75,8 +75,8 @@ pub extern "C" fn upc_card_retire(
     }
 }
 
-/// Gives the connection on this path and channel another program, and writes the id of the one that it had. Its buckets
-/// and its journal stay. Returns the fault's number, or 0.
+/// Gives the connection on this path and channel another program, and writes the id of the earlier one. Its buckets and
+/// its journal are unchanged. Returns the number of the error, or 0.
 #[unsafe(no_mangle)]
 pub extern "C" fn upc_card_reload(
     alloc: Global,

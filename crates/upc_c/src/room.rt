@@ -6,7 +6,7 @@ ghost use Rattle.upc_c.specs.Programs.{IsNoRoom, IsWritten};
 
 use crate::fault::{NO_FAULT, OF_THE_CALL, UpcFault, fault_at, told};
 
-/// Writes a text to the front of the room and how many octets it has to `count`, if it fits.
+/// Writes a text to the front of the buffer and the number of its octets to `count`, if it fits.
 pub(crate) fn write_to(room: &mut [u8], count: &mut usize, text: &[u8], fault: &mut UpcFault) -> u32
     ensures number { result ≡ fault.new.number }
     ensures written { result ≡ 0 → IsWritten text.now room.old room.new count.new }

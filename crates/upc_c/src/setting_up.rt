@@ -19,7 +19,7 @@ use line_record::Owner;
 use std::alloc::Global;
 use upc_cell::Vc;
 
-/// The virtual connection of this path and channel, where the card's side has the path.
+/// Returns the virtual connection of this path and channel, if the card's side has such a path.
 pub(crate) fn vc_on(
     alloc: Global,
     card: &mut UpcCard,
@@ -59,8 +59,8 @@ fn setup_on(alloc: Global, card: &mut UpcCard, ask: Ask) -> Result<Owner, UpcFau
     }
 }
 
-/// Sets up a connection on this path and channel, for whose cells the program names one of the contracts,
-/// by 1 for the first of the one to four. Returns the fault's number, or 0.
+/// Sets up a connection on this path and channel, with one to four contracts. The program names one of them for each
+/// cell, by its number from 1. Returns the number of the error, or 0.
 #[unsafe(no_mangle)]
 pub extern "C" fn upc_card_setup(
     alloc: Global,

@@ -1,4 +1,4 @@
-//! How large a card is, as C says it.
+//! The size of a card, as C gives it.
 
 ghost use Rattle.std.specs.Prelude.{◌≡◌, ◌<◌, IfOk, IfErr};
 ghost use Rattle.upc_c.specs.CardMaking.{IsShapeOf};
@@ -9,23 +9,23 @@ use crate::fault::{OF_THE_CALL, UpcFault, fault_at};
 use card_core::Shape;
 use upc_cell::Side;
 
-/// How large a card is, and which header its cells have.
+/// The size of a card, and the header of its cells.
 #[repr(C)]
 #[derive(Clone, Copy, Debug)]
 pub struct UpcShape {
     /// 0 for cells at the user network interface, 1 for cells between nodes of the network.
     pub side: u32,
-    /// How many programs it holds at most, 1 to 1024.
+    /// The greatest number of programs, 1 to 1024.
     pub programs: u64,
-    /// How many connections it has at most, 1 to 4096.
+    /// The greatest number of connections, 1 to 4096.
     pub lines: u64,
-    /// How many ports it has, 1 to 16.
+    /// The number of ports, 1 to 16.
     pub ports: u64,
-    /// How many cells a journal holds, 1 to 65536.
+    /// The greatest number of cells in a journal, 1 to 65536.
     pub journal: u64,
 }
 
-/// The side of this number.
+/// Returns the side of this number.
 pub(crate) fn side_of(number: u32) -> Result<Side, UpcFault>
     ensures side { IfOk result (λ side. number ≡ side_number side) }
     ensures unknown { IfErr result (λ _. 1 < number) }
@@ -38,7 +38,7 @@ pub(crate) fn side_of(number: u32) -> Result<Side, UpcFault>
     }
 }
 
-/// The shape of these numbers.
+/// Returns the shape with these numbers.
 pub(crate) fn shape_of(given: &UpcShape) -> Result<Shape, UpcFault>
     ensures shape { IfOk result (IsShapeOf given.now) }
     ensures unknown { IfErr result (λ _. 1 < given.now.side) }

@@ -1,4 +1,4 @@
-//! The core of a card that C holds, taken out for a call and put back.
+//! The core of a card that C has, taken out for a call and put back.
 
 ghost use Rattle.std.specs.Prelude.{◌≡◌, None, Some, IfNone, IfSome};
 ghost use Rattle.upc_c.specs.CardHandle.{IsShapeIn, card_in};
@@ -10,7 +10,7 @@ use card_core::{Core, Shape};
 use std::alloc::Global;
 use std::mem::replace;
 
-/// Takes the core out, where there is a card; the card then has none.
+/// Takes the core out, if there is a card. The card then has none.
 pub(crate) fn take_core(alloc: Global, card: &mut UpcCard) -> Option<Box<Core>>
     ensures core { IfSome result (λ core. card_in card.old ≡ Some core.value) }
     ensures reached { IfSome result (λ core. IsReached core.value) }
@@ -32,7 +32,7 @@ pub(crate) fn take_core(alloc: Global, card: &mut UpcCard) -> Option<Box<Core>>
     Some(inner.into_box())
 }
 
-/// Puts the core in.
+/// Puts the core back.
 pub(crate) fn put_core(card: &mut UpcCard, core: Box<Core>)
     requires { IsReached core.value }
     ensures { card_in card.new ≡ Some core.value }
@@ -43,7 +43,7 @@ pub(crate) fn put_core(card: &mut UpcCard, core: Box<Core>)
     };
 }
 
-/// How large the card is, where there is one. The core goes out and in again.
+/// Returns the shape of the card, if there is one. Takes the core out and puts it back.
 pub(crate) fn shape_on(alloc: Global, card: &mut UpcCard) -> Option<Shape>
     ensures shape { IfSome result (IsShapeIn card.old) }
     ensures none { IfNone result (card_in card.old ≡ None) }

@@ -1,4 +1,4 @@
-//! The faults of the libraries below, as C gets them.
+//! The errors of the libraries below, as C gets them.
 
 ghost use Rattle.std.specs.Prelude.{◌≡◌, ◌<◌};
 ghost use Rattle.upc_c.specs.Telling.{told_asm, told_decode, told_list, told_verify};
@@ -9,14 +9,14 @@ use bpf_asm::{AsmFault, AsmKind, ListFault};
 use bpf_code::DecodeFault;
 use bpf_verify::Fault;
 
-/// Memory ran out.
+/// Returns the error that an allocation failed.
 pub(crate) fn out_of_memory() -> UpcFault
     ensures { result ≡ out_of_memory }
 {
     fault_at(OF_THE_CALL, 1, 0)
 }
 
-/// Why octets are no code.
+/// Returns the error for C of octets that are no code.
 pub(crate) fn told_decode(found: DecodeFault) -> UpcFault
     ensures told { result ≡ told_decode found }
     ensures numbered { 0 < result.number }
@@ -31,7 +31,7 @@ pub(crate) fn told_decode(found: DecodeFault) -> UpcFault
     }
 }
 
-/// Why a source is no code.
+/// Returns the error for C of a source that means no code.
 pub(crate) fn told_asm(found: AsmFault) -> UpcFault
     ensures told { result ≡ told_asm found }
     ensures numbered { 0 < result.number }
@@ -49,7 +49,7 @@ pub(crate) fn told_asm(found: AsmFault) -> UpcFault
     fault_at(OF_ASSEMBLY, number, found.line)
 }
 
-/// Why a code is no program.
+/// Returns the error for C of a code that is no program.
 pub(crate) fn told_verify(found: Fault) -> UpcFault
     ensures told { result ≡ told_verify found }
     ensures numbered { 0 < result.number }
@@ -69,7 +69,7 @@ pub(crate) fn told_verify(found: Fault) -> UpcFault
     }
 }
 
-/// Why a code has no listing.
+/// Returns the error for C of a code without a listing.
 pub(crate) fn told_list(found: ListFault) -> UpcFault
     ensures told { result ≡ told_list found }
     ensures numbered { 0 < result.number }

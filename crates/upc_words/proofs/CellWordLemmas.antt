@@ -27,7 +27,7 @@ header-sized octets sized = ap length (cell-of_header octets sized) ∙ omega (a
 pub cell-digits : (word cell : List ℕ) → IsCellWord word (OfCell cell) → AreDigits word
 cell-digits word cell is = λ k below. All-get_or (λ c. is_hex_digit c ≡ true) word k 0 below (spelled-digits word is.0 is.1)
 
--- And it has 104 or eight of them.
+-- It has 104 or eight digits.
 pub cell-lengths : (word cell : List ℕ) → IsCellWord word (OfCell cell) → (length word ≡ 104) ⊎ (length word ≡ 8)
 cell-lengths word cell is =
     let twice = spelled-length word is.0 is.1 in

@@ -24,7 +24,7 @@ cell-lengths = words.cell-lengths
 pub reads-as : (octets : List ℕ) → (reading : Reading) × ReadsAs octets reading
 reads-as = reading.reads-as
 
--- And in one way only.
+-- They are so in one way only.
 pub reads-once : (octets : List ℕ) (one other : Reading) → ReadsAs octets one → ReadsAs octets other → one ≡ other
 reads-once = reading.reads-once
 

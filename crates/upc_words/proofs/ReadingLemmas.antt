@@ -14,7 +14,7 @@ checks-as code =
       | inr faulty ↦ (is_refused (verify_fault faulty.0), (faulty.0, faulty.1, refl))
     ]
 
--- And so are any octets.
+-- All octets are a program or refused.
 pub reads-as : (octets : List ℕ) → (reading : Reading) × ReadsAs octets reading
 reads-as octets =
     elim (code-or_fault octets) [
@@ -30,7 +30,7 @@ checks-once code (is_refused one) (is_program other) p q = absurd (refused-from_
 checks-once code (is_refused one) (is_refused other) p q =
     ap (λ t. is_refused t) (p.2 ∙ ap verify_fault (one_comes_first code p.0 q.0 p.1 q.1) ∙ sym q.2)
 
--- And so are any octets.
+-- Octets are read in one way only.
 pub reads-once : (octets : List ℕ) (one other : Reading) → ReadsAs octets one → ReadsAs octets other → one ≡ other
 reads-once octets one other (inl p) (inl q) =
     let P : List Instr → Type 0 = λ code. ChecksAs code other in

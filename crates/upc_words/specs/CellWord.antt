@@ -4,7 +4,7 @@ use Rattle.upc_words.specs.Hexadecimal.{octets_of, cell_of}
 use Rattle.upc_words.specs.declared.hexadecimal.CellWord.{CellWord}
 use Rattle.upc_words.specs.declared.hexadecimal.CellWord.TheVariants.{OfCell, OfOthers, NoDigits}
 
--- OfCell: the word spells this cell. OfOthers: it spells octets, but `count` of them and not 52. NoDigits: it isn't
+-- OfCell: the word spells this cell. OfOthers: it spells this number of octets, which isn't 52. NoDigits: it isn't
 -- hexadecimal.
 abbrev pub IsCellWord : List ℕ → CellWord → Type 0
 IsCellWord word (OfCell cell) = (octets : List ℕ) × (octets_of word ≡ Some octets) × (cell_of octets ≡ cell) × (length cell ≡ 52)

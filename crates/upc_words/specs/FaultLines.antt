@@ -1,4 +1,4 @@
--- The fault lines. Each has the part that found the error, its number and its name, and where it is.
+-- The fault lines. Each has the part that found the error, the number and the name of the error, and its place.
 use Rattle.std.specs.Prelude.{ℕ, List, [], ◌++◌, codes, decimal}
 use Rattle.bpf_asm.specs.declared.fault.AsmFault.{AsmFault}
 use Rattle.bpf_asm.specs.declared.fault.AsmKind.{AsmKind}
@@ -9,7 +9,7 @@ use Rattle.bpf_verify.specs.declared.fault.Fault.{Fault}
 use Rattle.bpf_verify.specs.declared.fault.Fault.TheVariants as fault
 use Rattle.upc_words.specs.Hexadecimal.{four_digits}
 
--- The text, ended with a line feed.
+-- The text and a line feed.
 abbrev pub line : List ℕ → List ℕ
 line text = text ++ codes "\n"
 

@@ -8,8 +8,8 @@ use Rattle.hex.specs.Hex.{decode_of, encode_lower}
 abbrev pub octets_of : List ℕ → Option (List ℕ)
 octets_of word = result_ok (decode_of word)
 
--- The cell of these octets. Four octets are a header, and the payload is zeros; any other number of octets stays as
--- it is.
+-- The cell of these octets. Four octets are a header, and the payload is zeros; any other number of octets is
+-- unchanged.
 abbrev pub cell_of : List ℕ → List ℕ
 cell_of octets = if length octets == 4 then octets ++ replicate 48 0 else octets
 

@@ -23,27 +23,27 @@ abbrev pub step_of : HandOut → Vc → Step
 step_of AtEnd vc = Release vc
 step_of GoingOn vc = Cut vc
 
--- Its reply with the journal.
+-- The reply that returns the journal.
 abbrev pub reply_of : HandOut → PieceView → Reply
 reply_of AtEnd piece = Released piece
 reply_of GoingOn piece = CutOff piece
 
--- Its reply, by what the call of it returns.
+-- The reply, from the result of the call.
 abbrev pub replied : HandOut → Result PieceView DeskFault → Reply
 replied AtEnd returned = release_reply returned
 replied GoingOn returned = cut_reply returned
 
--- In each world with which the core agrees the connection's journal has this many cells, and more than `most`.
+-- In each world that the core agrees with, the connection's journal has this many cells, which is more than `most`.
 abbrev pub IsLongerIn : CoreView → Vc → ℕ → ℕ → Type 0
 IsLongerIn core vc most cells = (most < cells)
     × ((world : World) → CoreAgrees core world → HasConnection world vc (λ connection. length (kept_cells connection) ≡ cells))
 
--- In each of them a connection there has at most this many.
+-- In each world that the core agrees with, the journal of such a connection has at most this many cells.
 pub record IsShortIn (core : CoreView) (vc : Vc) (most : ℕ) : Type 0 where
   pub few : (world : World) → CoreAgrees core world → (connection : Connection)
       → connection_in world.connections vc ≡ Some connection → length (kept_cells connection) ≤ most
 
--- The connection's journal on the card has more than `most` cells, and the fault's place is their number.
+-- The connection's journal on the card has more than `most` cells, and the place of the error is their number.
 pub record IsLongerOn (card : UpcCard) (vc : Vc) (most : ℕ) (fault : UpcFault) : Type 0 where
   pub core : CoreView
   pub had : card_in card ≡ Some core

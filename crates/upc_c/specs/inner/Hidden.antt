@@ -1,4 +1,4 @@
--- What a hidden value owns: what its box would own, or nothing.
+-- The ownership of a hidden value: that of its box, or nothing.
 use Rattle.std.specs.Prelude.{Option, Some, None}
 use base.Fml.{Fml, ftrue}
 use denote.RattleType.{RattleType}

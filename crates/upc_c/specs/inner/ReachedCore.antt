@@ -1,4 +1,4 @@
--- Cores of cards that began empty and have taken steps.
+-- Cores of cards that started empty and took steps.
 use Rattle.std.specs.Prelude.{◌≡◌, List, Some, slice_get}
 use Rattle.card_core.specs.declared.shape.Shape.{Shape}
 use Rattle.card_core.specs.Agreement.{CoreView, CoreAgrees}
@@ -9,7 +9,7 @@ use Rattle.card_core.specs.World.{World, outside}
 abbrev pub IsIdle : World → Type 0
 IsIdle world = slice_get world.ports 0 ≡ Some outside
 
--- A log of a card that leads to a world with which the core agrees, and whose port 0 has no cell.
+-- The core agrees with a world that some log leads to, and whose port 0 has no cell.
 pub record Reaching (core : CoreView) : Type 0 where
   pub shape : Shape
   pub log : List Event
@@ -18,6 +18,6 @@ pub record Reaching (core : CoreView) : Type 0 where
   pub agrees : CoreAgrees core world
   pub idle : IsIdle world
 
--- There is one.
+-- There is such a log.
 abbrev pub IsReached : CoreView → Type 0
 IsReached core = ∥ Reaching core ∥₁

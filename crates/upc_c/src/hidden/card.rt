@@ -1,4 +1,4 @@
-//! A card at a pointer whose type C doesn't see.
+//! A card behind a pointer whose type C doesn't see.
 
 ghost use Rattle.std.specs.Prelude.{◌≡◌, Option, Some, None};
 ghost use Rattle.card_core.specs.Agreement.{CoreView};
@@ -9,7 +9,7 @@ use std::alloc::Global;
 use std::marker::Model;
 use std::ptr::null_mut;
 
-/// A card in a box of its own, or none. C holds it, and never looks at what it points to.
+/// A card in a box, or none. C has the pointer and never reads what it points to.
 #[repr(C)]
 #[derive(Drop)]
 pub struct HiddenCard {
@@ -30,14 +30,14 @@ impl Model for HiddenCard {
 impl HiddenCard {
     ghost use Rattle.std.specs.Prelude.{◌≡◌, ◌≢◌, Some, None};
 
-    /// A card.
+    /// Makes one with a card.
     pub(crate) fn of(core: Box<Core>) -> HiddenCard
         ensures { result.core ≡ Some core.value }
     {
         HiddenCard::of_parts(Parts::of(core))
     }
 
-    /// The card.
+    /// Returns the card, if there is one.
     pub(crate) fn into_box(self) -> Box<Core>
         requires { self.core ≢ None }
         ensures { self.core ≡ Some result.value }
@@ -45,7 +45,7 @@ impl HiddenCard {
         self.into_parts().into_box()
     }
 
-    /// No card.
+    /// Makes one without a card.
     pub(crate) fn none(alloc: Global) -> HiddenCard
         ensures { result.core ≡ None }
     {

@@ -1,4 +1,4 @@
--- A contract more is made.
+-- One more contract is made.
 use Rattle.std.proofs.Common.{List, ◌+◌, sym, subst}
 use Rattle.leaky.specs.declared.contract.Contract.{Contract}
 use Rattle.upc_c.proofs.ContractLemmas.{MadeOf, made-one_more}

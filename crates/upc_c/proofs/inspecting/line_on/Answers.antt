@@ -1,4 +1,4 @@
--- The card was as it was when its line was looked up.
+-- The card is unchanged up to the look-up of its line.
 use Rattle.std.proofs.Common.{Some, inr, sym, ap, ◌∙◌}
 use Rattle.upc_c.proofs.inspecting.line_on.Goals as goal
 

@@ -1,4 +1,4 @@
--- The card was as it was when the step was taken.
+-- The card is unchanged up to the step.
 use Rattle.std.proofs.Common.{◌≡◌, List, subst}
 use Rattle.line_record.specs.declared.entry.Entry.{Entry}
 use Rattle.upc_c.specs.CardJournal.{AreWritten}

@@ -1,4 +1,4 @@
--- The log goes on by the step, and a refusal is one of it.
+-- The log with this step; a refusal is one of this step.
 use Rattle.std.proofs.Common.{Err, ap, refl}
 use Rattle.card_core.specs.DeskReplies.{retire_reply}
 use Rattle.upc_c.specs.CardDesk.{reason_of}

@@ -1,4 +1,4 @@
--- The card was as it was when the step was taken.
+-- The card is unchanged up to the step.
 use Rattle.std.proofs.Common.{inr, subst}
 use Rattle.card_core.specs.declared.reply.Reply.TheVariants.{Reloaded}
 use Rattle.card_core.specs.declared.step.Step.TheVariants.{Reload}

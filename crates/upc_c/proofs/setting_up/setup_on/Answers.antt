@@ -1,4 +1,4 @@
--- The log goes on by the step.
+-- The log with this step.
 use Rattle.std.proofs.Common.{refl}
 use Rattle.upc_c.proofs.CardSteps.{reached-by}
 use Rattle.upc_c.proofs.setting_up.setup_on.Goals as goal

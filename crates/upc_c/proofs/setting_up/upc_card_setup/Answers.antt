@@ -1,4 +1,4 @@
--- What was asked for is the numbers' ask, and the card was as it was when it was asked.
+-- The request is that of the numbers, and the card is unchanged up to the step.
 use Rattle.std.proofs.Common.{inr}
 use Rattle.upc_c.proofs.SettingUp.{desk-fault-from, takes-from}
 use Rattle.upc_c.proofs.setting_up.upc_card_setup.Goals as goal

@@ -1,4 +1,4 @@
--- A hidden program that is there owns what its parts own, to which pointer and allocator move.
+-- A hidden program owns the same as its parts, which get its pointer and its allocator.
 use Rattle.bpf_code.specs.declared.instr.Instr.{Instr}
 use Rattle.upc_c.proofs.Boxes.{boxed, parted, hidden, known}
 use Rattle.upc_c.proofs.Walks.{◌≡◌, ◌≢◌, Option, None, Some, proved_at, leaves, D, B, word, box_typed, box_out, box_in, List, [], ◌∷◌, ◌++◌, refl, sym, subst, Val, SProp, ent, id⊢, emp, ftrue, fact, fact_i, tables, WpFn, ‵, raw, ◌⊛◌, ◌$◌, ◌∵◌, !, qed, by, move, keep, rewrite, use0, use1, split, fsplit, fjoin, suffices, whole, sub, agg, stop, fld, no_more, and_then, of_opd, returns, enter, alloc_all, pass_all, free_all, look_at, get, get_in, sets, yes, owns, plain, types_at, heard, nothing, Stays, stay_dropped, walk_of, Goes-dropped}

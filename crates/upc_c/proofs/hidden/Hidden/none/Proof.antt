@@ -1,4 +1,4 @@
--- A pointer to nothing owns nothing.
+-- A null pointer owns nothing.
 use Rattle.upc_c.proofs.Boxes.{boxed, hidden, allocator}
 use Rattle.upc_c.proofs.Walks.{◌≡◌, None, proved_at, leaves, handle_tells, and_tt, List, [], ◌∷◌, ◌++◌, refl, sym, subst, lit<, Val, vstruct, vcons, vnil, has_ty, SProp, ent, id⊢, emp, ftrue, fact, fact_i, tables, WpFn, ‵, raw, ◌⊛◌, ◌$◌, ◌∵◌, !, qed, by, move, keep, use0, split, fsplit, fjoin, fpack, feq_i, suffices, agg, no_more, and_then, lit, returns, enter, alloc_all, pass_all, free_all, look_at, get, sets, yes, layout, Valss, owns, null_ptr, ptr_val, plain, types_at, nothing, within, shape, to, Stays, stay_dropped, walk_of, Goes-dropped}
 use Rattle.upc_c.specs.contracts.hidden.Hidden.{the_type}
@@ -22,7 +22,7 @@ none_spec 𝓤 𝓛 𝓜 𝓡 wired =
     enter ! 𝓣.C 𝓣.Λ fn (handle ∷ []) Post $ alloc_all ! (λ l. pass_all ! refl (fits, tt) $
     sets ! (agg ! (and_then ! (lit ! tt) (and_then ! (get ! refl) (no_more !)))) refl (and_tt (has_ty (layout allocator) handle) fits.0, (record { fits = lit< tt }, (fits.1, tt))) $
     returns ! (look_at ! 0 refl) $ free_all ! refl $
-    -- the two fields, then the struct, which owns nothing beside them
+    -- the two fields, then the struct, which owns nothing more
     nothing ! $ nothing ! $ move ! (2 ∷ 0 ∷ []) $ fjoin ! $ feq_i ! (List Val) pointer pointer refl $ fjoin ! $ feq_i ! (List Val) (w ∷ []) (w ∷ []) refl $ fjoin ! $
     fpack ! (Valss (shape the_type).fields) (within (shape the_type) (to the_type made) (w ∷ [])) (pointer, (handle ∷ [], tt)) $ fjoin ! $
     use0 𝓛 (raw (fact 𝓤 (made.code ≡ None))) (fact_i 𝓤 (made.code ≡ None) (emp 𝓤) refl) $ nothing ! $ nothing ! $ fjoin ! $

@@ -1,4 +1,4 @@
--- The pointer and the allocator move from the parts to the hidden program, and what they own goes with them.
+-- The hidden program gets the pointer, the allocator and the ownership of the parts.
 use Rattle.upc_c.proofs.Boxes.{boxed, parted, hidden}
 use Rattle.upc_c.proofs.Walks.{◌≡◌, Some, proved_at, leaves, D, B, word, box_typed, box_out, box_in, List, [], ◌∷◌, ◌++◌, refl, sym, subst, Val, SProp, ent, id⊢, emp, ftrue, fact, fact_i, tables, WpFn, ‵, raw, ◌⊛◌, ◌$◌, ◌∵◌, !, qed, by, move, keep, use0, use1, split, fsplit, fjoin, suffices, whole, sub, agg, stop, fld, no_more, and_then, of_opd, returns, enter, alloc_all, pass_all, free_all, look_at, get, get_in, sets, yes, owns, plain, types_at, nothing, Stays, stay_dropped, walk_of, Goes-dropped}
 use Rattle.upc_c.specs.contracts.hidden.Hidden.of_parts.{ended, clauses}

@@ -1,4 +1,4 @@
--- A hidden card that is there owns what its parts own, to which pointer and allocator move.
+-- A hidden card owns the same as its parts, which get its pointer and its allocator.
 use Rattle.card_core.specs.Agreement.{CoreView}
 use Rattle.upc_c.proofs.Boxes.{known}
 use Rattle.upc_c.proofs.CardBoxes.{boxed, parted, hidden}

@@ -1,4 +1,4 @@
--- The parts own what `Box::from_raw` asks for.
+-- The parts own what `Box::from_raw` requires.
 use Rattle.std_alloc.specs.contracts.boxed.Box.from_raw as raw_box
 use Rattle.std_alloc.proofs.boxed.Box.from_raw.Met.{met}
 use Rattle.upc_c.proofs.Walks.{◌≡◌, proved_at, leaves, Goes-blank, after, fm, Bx, D, R, P, B, word, box_typed, box_out, box_in, List, [], ◌∷◌, ◌++◌, refl, sym, ap, subst, inst_fn, a_type, dcons, dnil, Val, vptr, has_ty, SProp, ent, id⊢, emp, ftrue, fsep, flft, ◌⊑◌, fact, fact_i, tables, WpFn, ‵, raw, ◌⊛◌, some, later, at_ret, ◌$◌, ◌∵◌, !, qed, by, move, keep, drop, use0, use1, join, split, split3, pick, rewrite, fsplit, fjoin, feq_i, suffices, await, whole, sub, stop, fld, no_more, and_then, of_opd, first, blocks, exec, returns, enter, alloc_all, pass_all, free_all, look_at, get, get_in, sets, lands_last, env, no, bounded, RattleType, owns, block_ptr, plain, types_at, heard, nothing, only, calls_at_last, triple_of, Stays, stay_dropped, walk_of}

@@ -1,4 +1,4 @@
--- `Box::into_raw_with_allocator` gives the pointer, what is at it, and the allocator; together they are the parts.
+-- `Box::into_raw_with_allocator` returns the pointer, its target and the allocator. Together these are the parts.
 use Rattle.std_alloc.specs.contracts.boxed.Box.into_raw_with_allocator as raw_box
 use Rattle.std_alloc.proofs.boxed.Box.into_raw_with_allocator.Met.{met}
 use Rattle.upc_c.proofs.Walks.{◌≡◌, proved_at, leaves, token, handle_tells, Goes-blank, fm, Bx, R, P, B, τ, word, box_typed, box_out, box_in, box_owns, List, [], ◌∷◌, ◌++◌, refl, sym, ap, subst, ◌∙◌, inst_fn, bare, a_type, dcons, dnil, Val, vstruct, of_list, SProp, ent, id⊢, emp, never, fst∗, ftrue, fsep, flft, fact, fact_i, tables, WpFn, sem, ‵, raw, ◌⊛◌, some, later, ◌$◌, ◌∵◌, !, qed, by, move, keep, drop, use0, use1, join, split, split3, pick, rewrite, fsplit, fjoin, fpick, feq_l, suffices, await, whole, sub, agg, stop, fld, no_more, and_then, of_opd, returns, enter, alloc_all, pass_all, free_all, look_at, get, get_in, sets, lands_as, no, bounded, RattleType, owns, Ptr, RawPtr, block_ptr, null_ptr, ptr_val, in_a_block, plain, types_at, heard, nothing, only, Tuple, calls_at, triple_of, Stays, stay_dropped, walk_of}
