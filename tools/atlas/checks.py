@@ -44,6 +44,17 @@ def defined(sources):
     yield from definitions.faults(sources.specs, promised, allowed)
 
 
+def meant(sources):
+    """Yields each name that two definitions have: a name has one meaning."""
+    of = {}
+    for module in sources.specs.modules.values():
+        for it in module.definitions.values():
+            of.setdefault(it.name, []).append(f"{module.path}:{it.line}")
+    for name, places in sorted(of.items()):
+        if len(places) > 1:
+            yield f"{places[0]}: {name} is also defined in {', '.join(places[1:])}"
+
+
 def pages_of(sources):
     """Returns the pages: README, docs/ and those of the crates, and where each link begins."""
     pages = ["README.md", *files_below("docs", ".md"), "bench/README.md", "reference/README.md"]
@@ -103,7 +114,7 @@ def coded(sources):
                 yield f"{page}: its code isn't in {source[2]}"
 
 
-CHECKS = (comments, turned, defined, linked, named, coded)
+CHECKS = (comments, turned, defined, meant, linked, named, coded)
 
 
 def checked(sources):

@@ -1,0 +1,25 @@
+"""Tests of the checks."""
+import unittest
+from types import SimpleNamespace
+
+from atlas.checks import meant
+
+
+def specs(**modules):
+    """Sources with these modules, each with definitions of these names."""
+    made = {}
+    for module, names in modules.items():
+        made[module] = SimpleNamespace(path=module, definitions={it: SimpleNamespace(name=it, line=1) for it in names})
+    return SimpleNamespace(specs=SimpleNamespace(modules=made))
+
+
+class OneMeaning(unittest.TestCase):
+    def test_names_that_differ(self):
+        self.assertEqual(list(meant(specs(one=["IsRun"], other=["IsJournalRun"]))), [])
+
+    def test_a_name_twice(self):
+        self.assertEqual(list(meant(specs(one=["IsRun"], other=["IsRun"]))), ["one:1: IsRun is also defined in other:1"])
+
+
+if __name__ == "__main__":
+    unittest.main()
