@@ -1,5 +1,5 @@
--- The laws of `run`: every line has an answer in every world that a run reaches, and leads to such a world.
--- They are beside the definitions because the machine of `run` cites them as its laws.
+-- Laws of `run`: in every state that a run reaches, each line has an answer and leads to such a state. They are next to
+-- the definitions because the machine of `run` cites them.
 use Rattle.std.proofs.Common.{◌≡◌, ℕ, zero, suc, ◌^◌, ◌<◌, ◌==◌, ◌||◌, inl, inr, Bool, true, false, if◌then◌else◌, List, [], ◌∷◌, ◌++◌, Option, Some, None, length, codes, slice_get, nat_lt, refl, sym, ap, ◌∙◌, subst, arith}
 use Rattle.std.specs.Prelude.{replicate}
 use Rattle.std.proofs.lemmas.Bool.Decides.{nat_tests}
@@ -51,13 +51,13 @@ use Rattle.upc_run.specs.inner.CardSteps.{Spares, Told, answer-told, cut-told, l
 use Rattle.upc_words.proofs.Public.{reads-as}
 use Rattle.upc_run.specs.inner.PortZero.{PortIs, cut-ports, enter-goes, judge-goes, load-ports, pick-goes, release-ports, reload-ports, retire-ports, setup-ports}
 
--- The names of a log with one more event.
+-- The ids of a log with one more event.
 ids-next : (log : List Event) (step : Step) (reply : Reply) → ids_loaded (log ++ record { step = step; reply = reply } ∷ []) ≡ ids_loaded log ++ id_loaded reply
 ids-next log step reply =
     flat_map-append (λ (event : Event). id_loaded event.reply) log (record { step = step; reply = reply } ∷ [])
     ∙ ap (λ xs. ids_loaded log ++ xs) (append-nil (id_loaded reply))
 
--- A log that leads to this world, and gave these names.
+-- The log leads to this world, and its programs have these ids.
 record Behind (shape : Shape) (log : List Event) (world : World) (names : List Id) : Type 0 where
   leads : Leads shape log world
   known : names ≡ ids_loaded log
@@ -70,7 +70,7 @@ behind-next shape log world after names step reply behind goes = record {
   known = ap (λ xs. xs ++ id_loaded reply) behind.known ∙ sym (ids-next log step reply);
 }
 
--- A step that puts no program in.
+-- A step that loads no program.
 behind-quiet : (shape : Shape) (log : List Event) (world after : World) (names : List Id) (step : Step) (reply : Reply)
     → Behind shape log world names → WorldStep world step reply after → id_loaded reply ≡ []
     → Behind shape (log ++ record { step = step; reply = reply } ∷ []) after names
@@ -97,7 +97,7 @@ led-taken before after command step text led leaves takes =
 led-refused : (before after : Card) (fault text : List ℕ) → IsLed before → Refuses fault before text after → IsLed after
 led-refused before after fault text led refused = subst IsLed (sym refused.1) led
 
--- A step of the desk is taken, and its reply has a text.
+-- A step of the desk is taken, and its reply has a line.
 takes : (before : Card) (command : Command) (step : Step) → IsLed before → LoadsAccepted step
     → ((after : World) (reply : Reply) → WorldStep before.world step reply after → Spares reply → Told (reply_text command (length before.names) reply))
     → (text : List ℕ) × (after : Card) × Takes before command step text after
@@ -109,7 +109,7 @@ takes before command step led accepted told =
       record { reply = replied.0; stepped = replied.2; named = refl; told = line.1 },
     )
 
--- Rates without a fault are buckets' parameters.
+-- Rates without an error are parameters of a bucket.
 none-of : (b : Bool) (fault : GcraFault) (later : Option GcraFault) → (if b then Some fault else later) ≡ None → (b ≡ false) × (later ≡ None)
 none-of true fault later e = cc
 none-of false fault later e = (refl, e)
