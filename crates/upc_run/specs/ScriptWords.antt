@@ -1,4 +1,5 @@
--- The words of a script: numbers, names of programs and of connections, rates and contracts. They are case-sensitive.
+-- The words of a script: numbers, names of programs and of connections, rates and contracts. A word has to match
+-- exactly.
 use Rattle.std.specs.Prelude.{◌≡◌, ℕ, ◌+◌, ◌-◌, ◌*◌, ◌%◌, ◌==◌, nat_le, if◌then◌else◌, List, [], ◌∷◌, codes, Option, Some, None, option_map}
 use Rattle.std.proofs.Math.Nat.{mod-lt, zero-lt-suc, le_of_suc-le-suc}
 use Rattle.std.specs.Option.{option_and_then}
