@@ -30,8 +30,8 @@ pub record CoreView : Type 0 where
   pub lines : List LineView
   pub ports : List PortState
 
--- Each slot's generation is the number of times that the slot was given. The code of each id is that of the live ids;
--- an id that isn't live has none.
+-- There is a slot for each program of the shape. Each slot's generation is the number of times that the slot was given.
+-- The code of each id is that of the live ids; an id that isn't live has none.
 pub record StoreAgrees (shape : Shape) (slots : List (Slot (List Instr))) (given live : List Loading) : Type 0 where
   pub sized : length slots ≡ shape.programs
   pub generations : (slot : ℕ) → generation_at slots slot ≡ times_given given slot
@@ -45,8 +45,8 @@ seating_of connection = record {
   program = connection.program;
 }
 
--- The directory has exactly the world's connections, each with its line, incarnation and program, and has given as many
--- incarnations as the world.
+-- The directory has the lines of the shape and exactly the world's connections, each with its line, incarnation and
+-- program. It has given as many incarnations as the world.
 pub record SeatingsAgree (shape : Shape) (directory : DirectoryView) (connections : List (Vc × Connection)) (used : ℕ) : Type 0 where
   pub lines : directory.lines ≡ shape.lines
   pub used_up : directory.used ≡ used
@@ -75,8 +75,8 @@ pub record IsLineOf (connections : List (Vc × Connection)) (number : ℕ) (owne
   pub incarnation : connection.incarnation ≡ owner.incarnation
   pub line : connection.line ≡ number
 
--- Each connection has a line that serves it, each line with an owner is that of a connection, and the counts of each
--- line are those of all verdicts ever given on it.
+-- There are the lines of the shape, with its journal limit. Each connection has a line that serves it, each line with
+-- an owner is that of a connection, and the counts of each line are those of all verdicts ever given on it.
 pub record LinesAgree (shape : Shape) (lines : List LineView) (connections : List (Vc × Connection)) (verdicts : ℕ → List Verdict) : Type 0 where
   pub sized : length lines ≡ shape.lines
   pub journals : (number : ℕ) (line : LineView) → slice_get lines number ≡ Some line → line.journal ≡ shape.journal

@@ -125,7 +125,7 @@ IsUnready line Stale = IsSome line.owner
 IsUnready line DeskNoMemory = line.owner ≡ None
 IsUnready line _ = ⊥
 
--- The line is unchanged; or it was free, and is only ready now.
+-- The line is unchanged; or it was free, and the only change is that it is ready now.
 abbrev pub MayBecomeReady : LineView → LineView → Type 0
 MayBecomeReady old new = (new ≡ old) ⊎ ((old.owner ≡ None) × (new ≡ record old { ready = true }))
 

@@ -33,7 +33,8 @@ pub record IsNamed (directory : DirectoryView) (program : Id) : Type 0 where
   pub sits : seating_at directory vc ≡ Some seating
   pub names : seating.program ≡ program
 
--- The connection has this seating in the new directory, or none, and all other connections have the same as before.
+-- The connection has this seating in the new directory, or none. All other connections have the same as before, and the
+-- number of lines is unchanged.
 pub record Sits (old : DirectoryView) (vc : Vc) (seating : Option Seating) (new : DirectoryView) : Type 0 where
   pub here : seating_at new vc ≡ seating
   pub others : (other : Vc) → other ≢ vc → seating_at new other ≡ seating_at old other

@@ -25,9 +25,10 @@ pub record StandsFor (state : State) (buckets : ℕ → Buckets) : Type 0 where
       → numbered state.levels.items number ≡ Some levels
       → IsChargedBy (buckets number) state.last
 
--- The entries are a run from the start to the end under the contracts. From any buckets that the start represents, the
--- verdicts are those of the contracts, and the end represents the buckets that are left. Both states have levels for
--- each contract, and the counts of the end include each entry.
+-- The entries are a run from the start to the end under the contracts. Their moments start at or after the start's last
+-- moment and never go back. From any buckets that the start represents, the verdicts are those of the contracts, and
+-- the end represents the buckets that are left. Both states have levels for each contract. The last moment and the
+-- counts of the end are those of the start with the entries added.
 pub record IsRun (contracts : List Contract) (start : State) (entries : List Entry) (end : State) : Type 0 where
   pub opens : length start.levels.items ≡ length contracts
   pub closes : length end.levels.items ≡ length contracts

@@ -1,8 +1,7 @@
 //! Makes each call that may fail with NoMemory, and makes it again if it failed.
 //!
 //! Prints one line for each: its name, and whether it succeeded at once or only when it was made again. Anything else
-//! is status 1. `tests/memory-trials` runs this program with its first allocation refused, then with its second, and
-//! so on.
+//! is status 1. `tests/memory-trials` runs this program so that its first allocation fails, then its second, and so on.
 #![tactic(auto)]
 
 mod codes;
@@ -27,7 +26,7 @@ fn name_asked(rt: &HostRuntime) -> io::Result<Option<String>> {
 
 fn main(rt: HostRuntime) -> ExitCode {
     let Ok(asked) = name_asked(&rt) else {
-        // Reading the command line failed for lack of memory.
+        // An allocation failed while the command line was read.
         return ExitCode::SUCCESS;
     };
     let trials: [Trial; 18] = [

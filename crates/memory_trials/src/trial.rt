@@ -35,8 +35,8 @@ pub trait Call {
     fn make(&mut self) -> Attempt;
 }
 
-/// Makes a call, and makes it again if it failed with NoMemory. At most one allocation of a process is refused, so
-/// the second call has memory.
+/// Makes a call, and makes it again if it failed with NoMemory. At most one allocation of a process fails, so those of
+/// the second call succeed.
 pub fn try_out<C: Call>(call: &mut C) -> Attempt {
     match call.make() {
         Attempt::Refused => made_again(call.make()),

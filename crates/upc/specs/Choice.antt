@@ -1,4 +1,5 @@
--- Which subcommand the command line asks for, and what is wrong with it, by clap's definitions of a simple command.
+-- The subcommand that the command line requests, and the errors of the command line, by clap's definitions for a simple
+-- command.
 use Rattle.std.specs.Prelude.{◌≡◌, ◌≢◌, ◌⊎◌, List, [], ◌∷◌, Option, Some, MatchOption, fold, find, codes, option_map, ⊤}
 use Rattle.std.specs.Str.{bytes_eq}
 use Rattle.clap.specs.Walk.{Text}
@@ -12,7 +13,7 @@ use Rattle.upc.specs.declared.choice.Choice.TheVariants.{Check, Eval, Run, Ports
 use Rattle.upc.specs.declared.choice.Stop.{Stop}
 use Rattle.upc.specs.declared.choice.Stop.TheVariants.{Help, Words, NoMemory}
 
--- The name of each subcommand and the choice that it means.
+-- The name of each subcommand and its choice.
 abbrev pub subcommands : List (Text × Choice)
 subcommands = (codes "check", Check) ∷ (codes "eval", Eval) ∷ (codes "run", Run) ∷ (codes "ports", Ports) ∷ []
 
@@ -36,11 +37,11 @@ subcommand_in words = option_map (λ found. found.0) (subcommand_of upc_app (beh
 unfoldable pub faults_in : List Text → Kinds
 faults_in words = fault_of upc_app (behind_name words)
 
--- The choice that a name means.
+-- The choice with this name.
 abbrev pub choice_named : Text → Option Choice
 choice_named name = option_map (λ row. row.1) (find (λ row. bytes_eq row.0 name) subcommands)
 
--- The choice that the name means, or Eval if there is no name.
+-- The choice with this name, or Eval if there is no name.
 abbrev pub IsChoiceOf : Option Text → Choice → Type 0
 IsChoiceOf name choice = MatchOption name (choice ≡ Eval) (λ text. choice_named text ≡ Some choice)
 
@@ -66,7 +67,7 @@ AsksHelp words = IsAmong DisplayHelp (faults_in words)
 abbrev pub IsFaulty : List Text → Type 0
 IsFaulty words = (kind : ErrorKind) × IsAmong kind (faults_in words) × (kind ≢ DisplayHelp)
 
--- When `choose` may return this Stop. NoMemory is always allowed.
+-- The Stops that `choose` may return. NoMemory is always allowed.
 abbrev pub StopsAt : List Text → Stop → Type 0
 StopsAt words (Help text) = AsksHelp words
 StopsAt words (Words text) = IsFaulty words

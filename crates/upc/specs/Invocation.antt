@@ -1,4 +1,4 @@
--- What the program does with its words, and with which exit status it ends.
+-- The effect of the program for its words, and its exit status.
 use Rattle.std.specs.Prelude.{◌≡◌, ◌⊎◌, ℕ, List, ◌++◌, codes, Result, Ok, Err}
 use Rattle.std.specs.String.{string_bytes}
 use Rattle.text_io.specs.Devices.{Adds, IsPart, TakesEnough, one_more}
@@ -13,8 +13,8 @@ use Rattle.upc.specs.declared.choice.Choice.{Choice}
 use Rattle.upc.specs.declared.choice.Stop.{Stop}
 use Rattle.upc.specs.declared.choice.Stop.TheVariants.{Help, Words, NoMemory as LacksMemory}
 
--- The devices before and after a run: the octets of the input and those left, what the output and the error output
--- held and hold (`silence` and `said` are the error output), and the failure count of the error output.
+-- The devices before and after a run: the octets of the input and those left, the content of the output and of the
+-- error output (`silence` and `said`), and the failure count of the error output.
 pub record Devices : Type 0 where
   pub input : List ℕ
   pub left : List ℕ
@@ -37,8 +37,8 @@ Tells devices text =
     (devices.said ≡ devices.silence ++ text)
     ⊎ (IsPart devices.silence devices.said text × (devices.failures' ≡ one_more devices.failures))
 
--- How a subcommand ends. Ok: it wrote its text, read no more than it needed and at most a window, and printed no
--- error. Err: it wrote a prefix of a text and printed the failure.
+-- How a subcommand ends. Ok: it wrote its text, read no more than it needed and at most a window, and printed no error.
+-- Err: it wrote a prefix of a text and printed the failure.
 abbrev pub EndsBy : Choice → Result Done RunFault → Devices → Type 0
 EndsBy choice (Ok done) devices =
     Adds (λ text. IsTextOf choice devices.input text done) devices.before devices.after
@@ -51,8 +51,8 @@ EndsBy choice (Err fault) devices =
 abbrev pub IsIdle : Devices → Type 0
 IsIdle devices = (devices.after ≡ devices.before) × (devices.left ≡ devices.input)
 
--- What the program does, and its exit status. A choice is run. Help is written to the output. A message about the
--- words goes to the error output. If the help can't be written, the status is that of a failed run.
+-- The effect of the program, and its exit status. A choice is run. Help is written to the output. A message about the
+-- words is written to the error output. If the help can't be written, the status is that of a failed run.
 abbrev pub CarriesOut : Result Choice Stop → Devices → ℕ → Type 0
 CarriesOut (Ok choice) devices status = (ended : Result Done RunFault) × (status ≡ status_of ended) × EndsBy choice ended devices
 CarriesOut (Err (Help text)) devices status =
@@ -61,7 +61,7 @@ CarriesOut (Err (Help text)) devices status =
 CarriesOut (Err (Words text)) devices status = (status ≡ 2) × IsIdle devices × Tells devices (string_bytes text)
 CarriesOut (Err LacksMemory) devices status = (status ≡ 3) × IsIdle devices × Tells devices (failure_line NoMemory)
 
--- The exit status, which is all that is promised for devices whose octets no contract knows.
+-- The exit status. No more is promised for devices whose octets no contract knows.
 abbrev pub IsStatusFor : Result Choice Stop → ℕ → Type 0
 IsStatusFor (Ok choice) status = (ended : Result Done RunFault) × (status ≡ status_of ended)
 IsStatusFor (Err (Help text)) status = (status ≡ 0) ⊎ (status ≡ 3)

@@ -60,7 +60,7 @@ pub fn choose(alloc: Global, words: Vec<String>) -> Result<Choice, Stop>
     answer_to(alloc, found)
 }
 
-/// `clap` takes the first word as the program's name.
+/// Puts the program's name before the words, because `clap` takes the first word as the name.
 fn behind_own_name(alloc: Global, mut words: Vec<String>) -> Result<Vec<String>, AllocError>
     ensures { IfOk result (λ all. map string_bytes all.items ≡ behind_name (map string_bytes words.items)) }
 {
@@ -122,7 +122,7 @@ fn with_subcommand<'a>(
     command.subcommand(Command::new(alloc, name).about(about))
 }
 
-/// The name of the subcommand in the words, if `clap` accepts them.
+/// Returns the name of the subcommand in the words, if `clap` accepts them.
 fn found_in<'a>(command: Command<'a>, words: &'a [String]) -> Result<Option<&'a str>, Error>
     requires { app_of command ≡ upc_app }
     ensures kinds { (given : List (List ℕ)) → map string_bytes words.entry.now ≡ behind_name given

@@ -3,14 +3,15 @@
 use std::alloc::{AllocError, Global};
 use std::env::{Env, FillError};
 
-/// Longer than any word that the program knows. A longer word is wrong and isn't read.
+/// The length limit of a word, above that of any word that the program knows. A longer word is wrong and isn't read.
 const ROOM: usize = 1024;
 
-/// Shown instead of a character that can't be shown.
+/// The character that is shown instead of one that can't be shown.
 const REPLACEMENT: char = '\u{fffd}';
 
-/// The word with U+FFFD in place of each control character and of octets that aren't UTF-8. No word that the program
-/// knows has one of these, so a wrong word stays wrong, and a message that quotes it can't steer the terminal.
+/// Returns the word with U+FFFD instead of each control character and of octets that aren't UTF-8. No word that the
+/// program knows has one of these, so a wrong word stays wrong, and a message that quotes it can't control the
+/// terminal.
 fn shown(alloc: Global, octets: &[u8]) -> Result<String, AllocError> {
     let text = String::from_utf8_lossy(alloc, octets)?;
     let mut word = String::new(alloc);

@@ -29,7 +29,7 @@ pub record Shows (levels : UpcLevels) (buckets : Buckets) : Type 0 where
   pub second : levels.second ≡ buckets.second.level + buckets.second.charged
 
 -- For any buckets that have these levels and weren't charged after this moment, the verdict is the contract's, and the
--- new levels are those of the buckets after the cell.
+-- new levels are those of the buckets after the cell. The new levels are within their limits.
 pub record IsJudged (contract : Contract) (levels : UpcLevels) (clp : Bool) (moment number : ℕ) (left : UpcLevels) : Type 0 where
   pub verdict : (buckets : Buckets) → Shows levels buckets → IsChargedBy buckets moment
       → number ≡ number_of (verdict_of contract buckets clp moment)

@@ -1,4 +1,4 @@
--- What is printed of a card that was closed.
+-- The last line of the text: the totals of a closed card, or its first uneven line.
 use Rattle.std.specs.Prelude.{ℕ, List, ◌++◌, codes, decimal, Option, Some, None}
 use Rattle.line_record.specs.Line.{LineView}
 use Rattle.line_record.specs.declared.tally.Tally.{Tally}
@@ -8,20 +8,20 @@ use Rattle.text_io.specs.declared.ending.Done.TheVariants.{Whole, Ended}
 use Rattle.upc_words.specs.FaultLines.{line}
 use Rattle.upc_run.specs.Replies.{tally_text}
 
--- How many cells got each verdict, on all lines and for their whole life.
+-- The number of cells with each verdict, over all lines and their whole life.
 abbrev pub totals_line : Tally → List ℕ
 totals_line totals = line (codes "totals" ++ tally_text totals)
 
--- The line of this number, from 0, counted otherwise than the seats did.
+-- The counts of the line of this number, from 0, differ from those of the seats.
 abbrev pub uneven_line : ℕ → List ℕ
 uneven_line number = line (codes "fault card 1 Uneven " ++ decimal number)
 
--- The totals of the lines, or the first of them that is uneven.
+-- The totals of the lines, or the first uneven line.
 abbrev pub closing_text : List LineView → Option ℕ → List ℕ
 closing_text lines None = totals_line (lines_total lines)
 closing_text lines (Some number) = uneven_line number
 
--- A line that is uneven ends the run.
+-- The run ends early if a line is uneven.
 abbrev pub done_of : Option ℕ → Done
 done_of None = Whole
 done_of (Some number) = Ended

@@ -1,4 +1,4 @@
--- The dialogue with a running card. In the order of reading:
+-- The dialogue with a running card. Read the modules in this order:
 pub mod ClosingText
 pub mod PortsText
 pub mod inner

@@ -1,5 +1,5 @@
--- The text of `upc ports`. The whole script is read before anything of it is run: its first line with words opens a
--- card, and each later one is kept. Where the script can't be run, one line with the fault is the whole text.
+-- The text of `upc ports`. The whole script is read before any of it runs: its first line with words opens a card, and
+-- each later one is stored. If the script can't run, the whole text is one fault line.
 use Rattle.std.specs.Prelude.{◌≡◌, ◌⊎◌, ℕ, Bool, true, false, List, [], ◌∷◌, ◌++◌, Option, Some, MatchOption, MatchBool}
 use Rattle.line_record.specs.Line.{LineView}
 use Rattle.card_core.specs.Shapes.{shape_fault}
@@ -16,40 +16,40 @@ use Rattle.upc_run.specs.CardFaults.{no_card, shape_fault_line}
 use Rattle.upc_run.specs.CardLine.{card_of}
 use Rattle.upc_ports.specs.ClosingText.{closing_text, done_of}
 
--- What was read of a script so far.
+-- The state of the reading of a script.
 pub record Reading : Type 0 where
   pub opened : Bool  -- whether a line has opened a card
   pub shape : Shape  -- the shape of that card; until then that of the smallest card
   pub kept : List ℕ  -- the later lines with words, each ended by a line feed
 
--- Nothing was read yet.
+-- The state before the first line.
 abbrev pub unread : Reading
 unread = record { opened = false; shape = record { programs = 1; lines = 1; ports = 1; journal = 1; side = Uni }; kept = [] }
 
--- The line opens a card of this shape, or the shape is out of its limits.
+-- The line opens a card of this shape, or the reading ends since the shape is out of its limits.
 abbrev pub OpensOrEnds : Reading → Shape → List ℕ → Option Reading → Type 0
 OpensOrEnds reading shape text next =
     MatchOption (shape_fault shape) ((text ≡ []) × (next ≡ Some (record reading { opened = true; shape = shape })))
     (λ fault. EndsBy (shape_fault_line fault) text next)
 
--- A line with words: the first opens the card, and each later one is kept whole, with a line feed.
+-- A line with words: the first opens the card, and each later one is stored with a line feed.
 abbrev pub ReadsWords : Bool → Reading → List ℕ → List ℕ → Option Reading → Type 0
 ReadsWords false reading said text next =
     MatchOption (card_of (words_of said)) (EndsBy no_card text next) (λ shape. OpensOrEnds reading shape text next)
 ReadsWords true reading said text next = (text ≡ []) × (next ≡ Some (record reading { kept = reading.kept ++ said ++ 10 ∷ [] }))
 
--- What a line says leads to the next world; none where it ends the reading. A line without words and a
--- remark are passed over.
+-- The line leads to the next state, or to none if it ends the reading. A line without words and a comment line change
+-- nothing.
 abbrev pub ReadSteps : Reading → List ℕ → List ℕ → Option Reading → Type 0
 ReadSteps reading said text next =
     MatchBool (is_silent (words_of said)) ((text ≡ []) × (next ≡ Some reading)) (ReadsWords reading.opened reading said text next)
 
--- The end of the input. Without a card it is a fault.
+-- The end of the input. Without a card it is an error.
 abbrev pub ReadCloses : Bool → List ℕ → Done → Type 0
 ReadCloses false text done = (text ≡ no_card) × (done ≡ Ended)
 ReadCloses true text done = (text ≡ []) × (done ≡ Whole)
 
--- Every world may be reached.
+-- Every state may be reached.
 abbrev pub IsSoundReading : Reading → Type 0
 IsSoundReading reading = Unit {0}
 
@@ -57,12 +57,12 @@ IsSoundReading reading = Unit {0}
 abbrev pub reading_rules : Rules Reading
 reading_rules = record { steps = ReadSteps; closes = λ reading. ReadCloses reading.opened; too_long = too_long; is_sound = IsSoundReading }
 
--- What the reading of a whole script prints, and how it ends.
+-- The text of the reading of a whole script, and how it ends.
 abbrev pub IsReadingText : List ℕ → List ℕ → Done → Type 0
 IsReadingText octets text done = Prints reading_rules 0 unread (lines_of octets) text done
 
--- The text of a script that was run: any text for the answers to its lines, then the closing text of its card. The
--- answers are not specified here.
+-- The text of a script that ran: any text for the answers to its lines, then the closing text of its card. This
+-- definition doesn't specify the answers.
 pub record IsClosedText (text : List ℕ) (done : Done) : Type 0 where
   pub answers : List ℕ
   pub lines : List LineView
@@ -70,9 +70,9 @@ pub record IsClosedText (text : List ℕ) (done : Done) : Type 0 where
   pub cut : text ≡ answers ++ closing_text lines uneven
   pub ends : done ≡ done_of uneven
 
--- The text of the octets of a whole script, as far as it is specified, and how it ends. A script that can't be run has the
--- text of its reading, and is ended. One that is run has many: which answers cells and desk lines get where they meet is
--- open.
+-- The text for the octets of a whole script, as far as it is specified, and how the run ends. A script that can't run
+-- has the text of its reading and ends early. A script that runs has many possible texts, since cells and desk lines
+-- run at the same time and the order isn't fixed.
 abbrev pub IsPortsText : List ℕ → List ℕ → Done → Type 0
 IsPortsText octets text done =
     ((done ≡ Ended) × IsReadingText octets text Ended) ⊎ (IsReadingText octets [] Whole × IsClosedText text done)

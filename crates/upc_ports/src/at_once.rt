@@ -1,4 +1,4 @@
-//! The ports and the desk of a card at work at the same time, a thread for each port.
+//! The ports and the desk of a card, which run at the same time, each port on a thread of its own.
 
 use crate::busy_ports::BusyPort;
 use crate::cell_line::{CellLine, read_cell_line};
@@ -10,8 +10,8 @@ use std::sync::Wait;
 use std::thread::{self, Threads};
 use upc_cell::Side;
 
-/// Lets the cell of a line arrive, and returns what is kept of it and its answer; none of a line that brings no cell, as
-/// no port is dealt.
+/// Lets the cell of a line arrive, and returns what is stored of it and its answer. Returns None for a line without a
+/// cell; a port gets no such line.
 fn arrive_from<S: Ledgers, G: Gate, R: Wait>(
     rt: &R,
     alloc: Global,
@@ -30,7 +30,7 @@ fn arrive_from<S: Ledgers, G: Gate, R: Wait>(
     }
 }
 
-/// Lets the cells of a port's lines arrive, one after another.
+/// Lets the cells of a port's lines arrive, one by one.
 fn at_port<S: Ledgers, G: Gate, R: Wait>(
     rt: &R,
     alloc: Global,
@@ -49,7 +49,7 @@ fn at_port<S: Ledgers, G: Gate, R: Wait>(
     Ok(BusyPort { seat, arrivals })
 }
 
-/// Answers the desk's lines, one after another; each has a text of its own.
+/// Answers the desk's lines, one by one. Each has a text of its own.
 fn at_desk<S: Ledgers, R: Wait>(
     rt: &R,
     card: &Card<S>,
@@ -65,13 +65,13 @@ fn at_desk<S: Ledgers, R: Wait>(
     Ok(told)
 }
 
-/// Runs each port on a thread of its own, with the lines of its cells, and the desk on this one. Returns the ports
-/// with what their cells were answered, and what the desk's lines were.
+/// Runs each port on a thread of its own, with the lines of its cells, and the desk on this thread. Returns the ports
+/// with the answers to their cells, and the answers to the desk's lines.
 ///
 /// # Errors
 ///
-/// `AllocError` where memory was refused, to the start of a thread among others; those that were started have
-/// ended then.
+/// `AllocError` if an allocation fails, including that for the start of a thread. All threads that were started have
+/// ended by then.
 pub fn run_at_once<S: Ledgers + Send + Sync, G: Gate + Sync, R: Threads + Wait + Sync>(
     rt: &R,
     alloc: Global,

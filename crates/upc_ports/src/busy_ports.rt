@@ -1,4 +1,4 @@
-//! Ports that have let their cells arrive.
+//! Ports after the arrival of their cells.
 
 ghost use Rattle.std.specs.Prelude.{◌≡◌, IfOk, map};
 
@@ -6,14 +6,14 @@ use crate::told::ToldCell;
 use port_card::{Ledgers, PortSeat};
 use std::alloc::{AllocError, Global};
 
-/// The seat of a port with its cells that were answered, in the script's order.
+/// The seat of a port with its answered cells, in the script's order.
 #[derive(Drop)]
 pub struct BusyPort<S: Ledgers> {
     pub seat: PortSeat<S>,
     pub arrivals: Vec<ToldCell>,
 }
 
-/// The seats, without their cells.
+/// Returns the seats, without their cells.
 pub fn seats_of<S: Ledgers>(
     alloc: Global,
     ports: Vec<BusyPort<S>>,

@@ -11,18 +11,18 @@ use upc_cell::{Cell, Side};
 use upc_run::{Command, read_cell, read_command};
 use upc_words::{CellWord, add_bad_hex, add_bad_line, add_wrong_length, cell_of_word};
 
-/// Why a cell line brings no cell.
+/// The reason why a cell line has no cell.
 #[derive(Clone, Copy)]
 pub enum CellLineFault {
-    /// It has a word of another form, or too few words or too many.
+    /// It has a word of the wrong form, or too few words or too many.
     BadLine,
     /// Its cell isn't hexadecimal.
     BadHex,
-    /// Its cell has this number of octets, and not 52.
+    /// Its cell has this number of octets, which isn't 52.
     WrongLength(usize),
 }
 
-/// What a cell line brings.
+/// The content of a cell line.
 #[derive(Clone, Copy)]
 pub enum CellLine {
     /// A cell, at this moment in ticks.
@@ -31,7 +31,7 @@ pub enum CellLine {
     IsFaulty(CellLineFault),
 }
 
-/// Reads a cell line by its words.
+/// Reads a cell line word by word.
 #[inline(never)]
 pub fn read_by_words(alloc: Global, side: Side, line: &[u8]) -> Result<CellLine, AllocError>
     ensures { IfOk result (IsCellLine (command_of side (words_of line.now))) }
@@ -57,7 +57,7 @@ pub fn read_cell_line(alloc: Global, side: Side, line: &[u8]) -> Result<CellLine
     }
 }
 
-/// Adds the answer to a line that brings no cell.
+/// Adds the answer to a cell line without a cell.
 pub fn add_cell_line_fault(answers: &mut Vec<u8>, fault: CellLineFault) -> Result<(), AllocError>
     ensures { OnOk result (answers.new.items ≡ answers.old.items ++ fault_text fault) }
 {

@@ -33,7 +33,7 @@ fn add_uneven(answers: &mut Vec<u8>, number: u16) -> Result<(), AllocError>
     Ok(())
 }
 
-/// Adds the totals, or the first line that counted otherwise than the seats did.
+/// Adds the totals, or the first uneven line.
 pub fn add_closing(answers: &mut Vec<u8>, closing: &Closing) -> Result<(), AllocError>
     ensures { OnOk result (answers.new.items
         ≡ answers.old.items ++ closing_text closing.now.lines.items closing.now.uneven) }
@@ -44,7 +44,7 @@ pub fn add_closing(answers: &mut Vec<u8>, closing: &Closing) -> Result<(), Alloc
     }
 }
 
-/// How a script's run ends after this closing: `Ended` if a line is uneven, else `Whole`.
+/// Returns how a script's run ends after this closing: `Ended` if a line is uneven, otherwise `Whole`.
 pub fn done_after(closing: &Closing) -> Done
     ensures { result ≡ done_of closing.now.uneven }
 {

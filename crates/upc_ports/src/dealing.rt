@@ -1,4 +1,4 @@
-//! The lines of a script from its first cell line on, dealt to the ports and the desk that answer them.
+//! The lines of a script from its first cell line on, assigned to the ports and the desk that answer them.
 
 ghost use Rattle.std.specs.Prelude.{◌≡◌, ◌<◌, ℕ, List, IfOk, OnOk, length, map};
 ghost use Rattle.upc_ports.specs.inner.Dealing.{port_of, dealt, none_dealt, AreLinesOf, DealsAll, DealsCell, DealsCellLine, DealsDeskLine, DealsLine};
@@ -9,33 +9,33 @@ use std::alloc::{AllocError, Global};
 use upc_cell::{Cell, Side, Vc};
 use upc_run::read_cell;
 
-/// How many channels a path has.
+/// The number of channels of a path.
 const CHANNELS: usize = 65536;
 
-/// Who answers a line, and as which of his lines, from 0.
+/// The answerer of a line, and the number of the line among the answerer's lines, from 0.
 #[derive(Clone, Copy)]
 pub enum Answerer {
     /// The port of this number, from 0.
     Port(usize, usize),
     /// The desk.
     Desk(usize),
-    /// No one: it is a cell line with this fault.
+    /// Nobody: it is a cell line with this error.
     Fault(CellLineFault),
 }
 
-/// Who answers which line.
+/// The answerers of the lines.
 #[derive(Drop)]
 pub struct Deal<'a> {
-    /// In the script's order.
+    /// The answerers, in the script's order.
     pub order: Vec<Answerer>,
     /// The lines of the desk, in the script's order.
     pub desk: Vec<&'a [u8]>,
-    /// The lines of each port's cells, by its number, in the script's order. The port reads them again: a line takes
-    /// less memory than its cell.
+    /// The lines of each port's cells, by the port's number, in the script's order. The port reads them again: a line
+    /// takes less memory than its cell.
     pub arrivals: Vec<Vec<&'a [u8]>>,
 }
 
-/// The number of the port for cells of this connection, of `ports` ports.
+/// Returns the number of the port for the cells of this connection, of `ports` ports.
 fn port_of(vc: Vc, ports: usize) -> usize
     requires { 0 < ports }
     ensures { result ≡ port_of vc ports }
@@ -47,7 +47,7 @@ impl<'a> Deal<'a> {
     ghost use Rattle.std.specs.Prelude.{◌≡◌, ◌<◌, IfOk, OnOk, length};
     ghost use Rattle.upc_ports.specs.inner.Dealing.{dealt, none_dealt, DealsCell, DealsCellLine, DealsDeskLine, DealsLine};
 
-    /// No line yet, for this number of ports.
+    /// Assigns no line yet, for this number of ports.
     fn new(alloc: Global, ports: usize) -> Result<Deal<'a>, AllocError>
         ensures { IfOk result (λ deal. dealt deal ≡ none_dealt ports) }
     {
@@ -62,7 +62,7 @@ impl<'a> Deal<'a> {
         })
     }
 
-    /// Deals the line of this cell to the cell's port.
+    /// Assigns the line of this cell to the cell's port.
     #[inline(always)]
     fn deal_cell(&mut self, side: Side, cell: &Cell, line: &'a [u8]) -> Result<(), AllocError>
         requires { 0 < length self.old.arrivals.items }
@@ -76,7 +76,7 @@ impl<'a> Deal<'a> {
         Ok(())
     }
 
-    /// Deals a line to the desk.
+    /// Assigns a line to the desk.
     fn deal_desk_line(&mut self, line: &'a [u8]) -> Result<(), AllocError>
         ensures { OnOk result (DealsDeskLine line.now (dealt self.old) (dealt self.new)) }
     {
@@ -86,7 +86,7 @@ impl<'a> Deal<'a> {
         Ok(())
     }
 
-    /// Deals a line whose first word is that of a cell line, by its words.
+    /// Assigns a line whose first word is that of a cell line, word by word.
     #[inline(never)]
     fn deal_cell_line(
         &mut self,
@@ -106,7 +106,7 @@ impl<'a> Deal<'a> {
         }
     }
 
-    /// Deals a line. That of a cell in the common form is read at once, without a look for its words.
+    /// Assigns a line. A cell line in the common form is read at once, without a search for its words.
     #[inline(always)]
     fn deal_line(&mut self, alloc: Global, side: Side, line: &'a [u8]) -> Result<(), AllocError>
         requires { 0 < length self.old.arrivals.items }
@@ -122,7 +122,7 @@ impl<'a> Deal<'a> {
     }
 }
 
-/// Deals the lines: each cell to the port of its connection, and all others to the desk.
+/// Assigns the lines: each cell to the port of its connection, and all others to the desk.
 pub fn deal_lines(
     alloc: Global,
     side: Side,

@@ -1,4 +1,4 @@
-//! What ports and desk were answered, in the script's order.
+//! The answers of ports and desk, in the script's order.
 
 ghost use Rattle.std.specs.Prelude.{◌≡◌, OnOk, map, slice_get};
 ghost use Rattle.std.specs.Option.{option_copied};
@@ -18,7 +18,7 @@ use std::alloc::AllocError;
 use upc_cell::Side;
 use upc_run::{Names, add_judged, add_unjudged};
 
-/// Adds what a cell was answered.
+/// Adds the answer to a cell.
 #[tactic(auto, using(crate::proofs::InOrderLemmas::unjudged_unnumbered))]
 fn add_arrival(
     side: Side,
@@ -41,7 +41,7 @@ fn add_arrival(
     }
 }
 
-/// The cell at this place among those of the port of this number, if there is one.
+/// Returns the cell at this place among those of the port of this number, if there is one.
 #[tactic(auto, using(crate::proofs::InOrderLemmas::get_mapped))]
 fn cell_in<S: Ledgers>(ports: &[BusyPort<S>], number: usize, place: usize) -> Option<&ToldCell>
     ensures { option_copied result
@@ -50,7 +50,7 @@ fn cell_in<S: Ledgers>(ports: &[BusyPort<S>], number: usize, place: usize) -> Op
     ports.get(number)?.arrivals.get(place)
 }
 
-/// The text that the desk gave as the one of this number; empty if it gave none.
+/// Returns the text of the desk with this number, or an empty text if there is none.
 #[tactic(auto, using(crate::proofs::InOrderLemmas::get_mapped))]
 fn text_in(told: &[Vec<u8>], number: usize) -> &[u8]
     ensures { result.now ≡ given_text (slice_get (map (λ text. text.items) told.now) number) }

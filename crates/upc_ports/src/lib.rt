@@ -1,9 +1,9 @@
-//! The dialogue with a running card: `ports`, which answers a script as `run` does, but lets each port's cells arrive on
-//! a thread of their own while the desk answers the lines between them.
+//! The dialogue with a running card: `ports`. It answers a script as `run` does, but the cells of each port arrive on a
+//! thread of their own while the desk answers the lines between them.
 //!
-//! A script is read whole before anything of it is run. The lines before its first cell line are answered one by one;
-//! from there on the cells are dealt to the ports and the other lines to the desk, all of which run at the same time; and
-//! what they were answered is written in the script's order, once all have ended.
+//! The whole script is read before any of it runs. The lines before its first cell line are answered one by one. From
+//! there on the cells are assigned to the ports and the other lines to the desk, which all run at the same time. The
+//! answers are written in the script's order, after all have ended.
 #![tactic(auto)]
 
 mod at_once;

@@ -1,4 +1,4 @@
-//! `upc ports`: a script whose cells come to ports that are threads of their own.
+//! `upc ports`: a script whose cells arrive at ports that are threads of their own.
 
 ghost use Rattle.std.specs.Prelude.{◌≡◌, ◌≢◌, ◌<◌, IfOk, OnErr, ℕ, List, Err, length};
 ghost use Rattle.text_io.specs.Devices.{Adds};
@@ -102,7 +102,7 @@ fn answer_script<S: Ledgers + Send + Sync, G: Gate + Sync, R: Threads + Wait + S
     }
 }
 
-/// Answers a whole script, and closes its card: no other has its ledgers.
+/// Answers a whole script, and closes its card. No other card has its ledgers.
 fn answer_alone<G: Gate + Sync, R: Threads + Wait + Sync>(
     rt: &R,
     alloc: Global,
@@ -124,7 +124,7 @@ fn answer_alone<G: Gate + Sync, R: Threads + Wait + Sync>(
     Ok((answers, closing))
 }
 
-/// Runs a script that was read, and gives its text.
+/// Runs a script that was read, and returns its text.
 fn run_lines<G: Gate + Sync, R: Threads + Wait + Sync, O: Output>(
     rt: &R,
     alloc: Global,

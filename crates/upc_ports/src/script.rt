@@ -1,4 +1,4 @@
-//! The script of `upc ports`, which is read whole before anything of it is run.
+//! The script of `upc ports`, which is read as a whole before any of it runs.
 
 ghost use Rattle.std.specs.Prelude.{◌≡◌};
 ghost use Rattle.text_io.specs.Words.{is_silent, words_of};
@@ -11,7 +11,7 @@ use upc_cell::Side;
 use upc_run::{add_no_card, add_shape_fault, after_command, asking_word, read_card};
 use upc_words::add_too_long;
 
-/// Whether the line has no words or is a remark. That of a cell mostly needs no look for its words.
+/// Returns whether the line has no words or is a comment. A cell line in most cases needs no search for its words.
 #[inline(always)]
 fn is_silent(line: &[u8]) -> bool
     ensures { result ≡ is_silent (words_of line.now) }
@@ -22,19 +22,19 @@ fn is_silent(line: &[u8]) -> bool
     }
 }
 
-/// What was read of a script.
+/// The state of the reading of a script.
 #[derive(Drop)]
 pub struct Script {
     /// Whether a line has opened a card.
     pub is_open: bool,
-    /// The shape of the card that a line has opened; until then that of the smallest card.
+    /// The shape of the card that a line has opened. Until then the shape of the smallest card.
     pub shape: Shape,
-    /// The later lines with words, each ended by a line feed.
+    /// The later lines with words, each ended with a line feed.
     pub lines: Vec<u8>,
 }
 
 impl Script {
-    /// A script of which nothing was read.
+    /// Returns a script of which nothing was read.
     pub fn new(alloc: Global) -> Script
         ensures { record { opened = result.is_open; shape = result.shape; kept = result.lines.items } ≡ unread }
     {

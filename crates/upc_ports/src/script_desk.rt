@@ -1,4 +1,4 @@
-//! The desk of a running card, as a script commands it.
+//! The desk of a running card, which carries out the commands of a script.
 
 use arrayvec::ArrayVec;
 use card_core::Ask;
@@ -13,8 +13,7 @@ use upc_run::{
 };
 use upc_words::{add_bad_hex, add_bad_line, octets_of_word, read_program};
 
-/// The desk of a card, the names of the programs that were put in, and the side that the card's cells come
-/// from.
+/// The desk of a card, the names of the programs that were loaded, and the side of the card's cells.
 #[derive(Drop)]
 pub struct ScriptDesk<S: Ledgers> {
     pub desk: Desk<S>,
@@ -24,7 +23,7 @@ pub struct ScriptDesk<S: Ledgers> {
 }
 
 impl<S: Ledgers> ScriptDesk<S> {
-    /// Puts in the program of these octets, if they are one.
+    /// Loads the program of these octets, if they spell one.
     fn load<R: Wait>(
         &mut self,
         rt: &R,
@@ -47,7 +46,7 @@ impl<S: Ledgers> ScriptDesk<S> {
         }
     }
 
-    /// Takes a program out.
+    /// Retires a program.
     fn retire<R: Wait>(
         &mut self,
         rt: &R,
@@ -64,7 +63,7 @@ impl<S: Ledgers> ScriptDesk<S> {
         }
     }
 
-    /// Sets up a connection under contracts whose rates may be at fault.
+    /// Sets up a connection with contracts whose rates may have errors.
     fn setup<R: Wait>(
         &mut self,
         rt: &R,
@@ -110,7 +109,7 @@ impl<S: Ledgers> ScriptDesk<S> {
         }
     }
 
-    /// Ends a connection.
+    /// Releases a connection.
     fn release<R: Wait>(
         &mut self,
         rt: &R,
@@ -124,7 +123,7 @@ impl<S: Ledgers> ScriptDesk<S> {
         }
     }
 
-    /// Answers with a connection's journal, and begins a new one.
+    /// Adds a connection's journal as the answer, and begins a new one.
     fn cut<R: Wait>(
         &mut self,
         rt: &R,
@@ -138,7 +137,7 @@ impl<S: Ledgers> ScriptDesk<S> {
         }
     }
 
-    /// Answers a line with words that is no cell line.
+    /// Answers a line with words that isn't a cell line.
     pub fn answer<R: Wait>(
         &mut self,
         rt: &R,

@@ -1,4 +1,4 @@
-//! The lines of a script, once they were read.
+//! The lines of a script that was read.
 
 ghost use Rattle.std.specs.Prelude.{◌≡◌, ◌≢◌, ℕ, ◌<◌, ◌∷◌, ◌++◌, length, slice_index, IfSome, IfNone};
 ghost use Rattle.text_io.specs.Words.{words_of};
@@ -7,7 +7,7 @@ ghost use Rattle.upc_ports.specs.inner.Dealing.{is_cell_line};
 use memchr::memchr;
 use text_io::first_word;
 
-/// The first line without its line feed, and what is after that; none if there is no line feed.
+/// Returns the first line without its line feed, and the rest. None if there is no line feed.
 pub fn first_line(lines: &[u8]) -> Option<(&[u8], &[u8])>
     ensures cut { IfSome result (λ found. lines.now ≡ found.0.now ++ 10 ∷ found.1.now) }
     ensures before { IfSome result (λ found. (k : ℕ) → k < length found.0.now → slice_index lines.now k ≢ 10) }
@@ -20,7 +20,7 @@ pub fn first_line(lines: &[u8]) -> Option<(&[u8], &[u8])>
     }
 }
 
-/// Whether the line's first word is that of a cell line, whatever follows it.
+/// Returns whether the line's first word is that of a cell line.
 pub fn is_cell_line(line: &[u8]) -> bool
     ensures { result ≡ is_cell_line (words_of line.now) }
 {

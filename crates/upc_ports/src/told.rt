@@ -1,4 +1,4 @@
-//! What is kept of a cell that was answered: what the answer's line shows.
+//! The stored part of an answered cell: what the line of the answer shows.
 
 ghost use Rattle.std.specs.Prelude.{◌≡◌};
 ghost use Rattle.upc_ports.specs.inner.Told.{judgement_of, ruled, shown_cell, told_cell};
@@ -9,7 +9,7 @@ use leaky::Verdict;
 use line_record::LineFault;
 use upc_cell::{CELL_OCTETS, Cell};
 
-/// What the line of a judged cell shows, beside its header.
+/// The values that the line of a judged cell shows, besides its header.
 #[derive(Clone, Copy)]
 pub struct Ruling {
     /// The program that gave the number of the contract.
@@ -19,15 +19,15 @@ pub struct Ruling {
     pub verdict: Verdict,
 }
 
-/// A cell that was answered.
+/// An answered cell.
 #[derive(Clone, Copy)]
 pub struct ToldCell {
-    /// Octets 0 to 3 of the cell that came.
+    /// Octets 0 to 3 of the cell on arrival.
     pub header: [u8; 4],
     pub told: Result<Ruling, Unjudged>,
 }
 
-/// What is kept of the answer: the ruling on a judged cell, or why it isn't judged.
+/// Returns the stored part of the answer: the ruling on a judged cell, or the reason why it isn't judged.
 fn ruled(answer: &Answer) -> Result<Ruling, Unjudged>
     ensures { result ≡ ruled answer.now }
 {
@@ -54,7 +54,7 @@ fn ruled(answer: &Answer) -> Result<Ruling, Unjudged>
     })
 }
 
-/// What is kept of this cell and its answer.
+/// Returns the stored part of this cell and its answer.
 pub fn told_cell(cell: &Cell, answer: &Answer) -> ToldCell
     ensures { result ≡ told_cell cell.now answer.now }
 {
@@ -65,7 +65,7 @@ pub fn told_cell(cell: &Cell, answer: &Answer) -> ToldCell
     }
 }
 
-/// A cell of this header, whose payload is zeros.
+/// Returns a cell with this header and a payload of zeros.
 pub fn shown_cell(header: &[u8; 4]) -> Cell
     ensures { result ≡ shown_cell header.now }
 {
@@ -77,7 +77,7 @@ pub fn shown_cell(header: &[u8; 4]) -> Cell
     Cell::from(octets)
 }
 
-/// The judgement with this ruling; its other numbers are 0.
+/// Returns the judgement with this ruling. Its other numbers are 0.
 pub fn judgement_of(ruling: &Ruling) -> Judgement
     ensures { result ≡ judgement_of ruling.now }
 {

@@ -1,4 +1,4 @@
--- The fault lines of a card: where the fault was found, its number and its name.
+-- The fault lines of a card: the part that found the error, its number and its name.
 use Rattle.std.specs.Prelude.{ℕ, List, ◌++◌, codes, Option, Some, None, option_map}
 use Rattle.card_core.specs.declared.fault.CardFault.{CardFault}
 use Rattle.card_core.specs.declared.fault.CardFault.TheVariants as card
@@ -8,12 +8,11 @@ use Rattle.leaky.specs.Faults.{gcra_fault_text}
 use Rattle.leaky.specs.declared.gcra.GcraFault.{GcraFault}
 use Rattle.upc_words.specs.FaultLines.{line}
 
--- A script without a line that opens a card.
+-- The answer to a script whose first line with words doesn't open a card.
 abbrev pub no_card : List ℕ
 no_card = codes "fault script 2 NoCard\n"
 
--- The number and the name of what is out of its limits in a card's shape. An allocation failure is no
--- fault of a shape, and is never printed.
+-- The number and the name of the first number of a shape that is out of its limits. NoMemory is never printed.
 abbrev pub shape_name : CardFault → List ℕ
 shape_name card.Programs = codes "1 Programs"
 shape_name card.Lines = codes "2 Lines"
@@ -21,15 +20,15 @@ shape_name card.Ports = codes "3 Ports"
 shape_name card.Journal = codes "4 Journal"
 shape_name card.NoMemory = codes "5 NoMemory"
 
--- Why there is no card of a shape.
+-- The answer to a shape that no card has.
 abbrev pub shape_fault_line : CardFault → List ℕ
 shape_fault_line fault = line (codes "fault shape " ++ shape_name fault)
 
--- Why two numbers are no rate.
+-- The answer to two numbers that are no rate.
 abbrev pub gcra_fault : GcraFault → List ℕ
 gcra_fault fault = line (codes "fault gcra " ++ gcra_fault_text fault)
 
--- The number and the name of the desk's reason to refuse a command; an allocation failure has no line.
+-- The number and the name of an error of the desk. NoMemory has none.
 abbrev pub desk_name : DeskFault → Option (List ℕ)
 desk_name desk.NoProgram = Some (codes "1 NoProgram")
 desk_name desk.NoConnection = Some (codes "2 NoConnection")
@@ -43,14 +42,14 @@ desk_name desk.Busy = Some (codes "9 Busy")
 desk_name desk.NoMemory = None
 desk_name desk.Stale = Some (codes "11 Stale")
 
--- Why the desk refuses a command.
+-- The answer to a command that the desk refuses. NoMemory has none.
 abbrev pub desk_fault : DeskFault → Option (List ℕ)
 desk_fault fault = option_map (λ name. line (codes "fault desk " ++ name)) (desk_name fault)
 
--- The name of a program that was never given.
+-- The answer to the name of a program that was never given.
 abbrev pub no_such_program : List ℕ
 no_such_program = codes "fault desk 1 NoProgram\n"
 
--- Why a cell isn't judged, by the number and the name of the reason.
+-- The answer to a cell that isn't judged, from the number and the name of the reason.
 abbrev pub arrive_fault : List ℕ → List ℕ
 arrive_fault name = line (codes "fault arrive " ++ name)

@@ -1,4 +1,4 @@
--- The line that opens a card: how large it is, and which side its cells come from.
+-- The line that opens a card: its size and the side of its cells.
 use Rattle.std.specs.Prelude.{ℕ, if◌then◌else◌, List, [], ◌∷◌, codes, Option, Some, None}
 use Rattle.std.specs.Option.{option_and_then}
 use Rattle.std.specs.Str.{bytes_eq}
@@ -14,11 +14,11 @@ side_of word =
     else if bytes_eq word (codes "nni") then Some Nni
     else None
 
--- Two numbers, a word each.
+-- Two numbers, from one word each.
 abbrev pub two_numbers : List ℕ → List ℕ → Option (ℕ × ℕ)
 two_numbers word other = with_both (λ one another. (one, another)) (number_of word) (number_of other)
 
--- A shape by its four numbers and its side.
+-- The shape with these numbers and this side.
 abbrev pub shape_with : Side → ℕ × ℕ → ℕ × ℕ → Shape
 shape_with side store queues = record {
   programs = store.0;
@@ -28,19 +28,19 @@ shape_with side store queues = record {
   side = side;
 }
 
--- The shape that four words ask for.
+-- The shape of four words and a side.
 abbrev pub sized_shape : List ℕ → List ℕ → List ℕ → List ℕ → Side → Option Shape
 sized_shape programs lines ports journal side =
     with_both (shape_with side) (two_numbers programs lines) (two_numbers ports journal)
 
--- The shape that the words after `card` ask for: without a fifth the cells are users'.
+-- The shape of the words after `card`. Without a fifth word the side is the user network interface.
 abbrev pub shape_of : List (List ℕ) → Option Shape
 shape_of (programs ∷ lines ∷ ports ∷ journal ∷ []) = sized_shape programs lines ports journal Uni
 shape_of (programs ∷ lines ∷ ports ∷ journal ∷ side ∷ []) =
     option_and_then (sized_shape programs lines ports journal) (side_of side)
 shape_of _ = None
 
--- `card PROGRAMS LINES PORTS JOURNAL`, or the same and a side.
+-- `card PROGRAMS LINES PORTS JOURNAL`, optionally followed by a side.
 abbrev pub card_of : List (List ℕ) → Option Shape
 card_of [] = None
 card_of (name ∷ words) = if bytes_eq name (codes "card") then shape_of words else None

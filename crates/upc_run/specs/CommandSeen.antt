@@ -1,4 +1,4 @@
--- A command of the code, as the definitions have it.
+-- A command of the code, in terms of the definitions.
 use Rattle.std.specs.Prelude.{ℕ, List, Option, Some, option_map}
 use Rattle.text_io.specs.Words.{words_of}
 use Rattle.upc_cell.specs.declared.vc.Vc.{Vc}
@@ -6,12 +6,12 @@ use Rattle.upc_run.specs.ScriptCommands.{Command, load, retire, setup, reload, r
 use Rattle.upc_run.specs.declared.commands.Command.{Command as Coded}
 use Rattle.upc_run.specs.declared.commands.Command.TheVariants as coded
 
--- A setup under the contracts that these octets spell, a word each; none where they have no lawful form.
+-- A setup with the contracts that these octets spell, one word each. None if they are not one to four contracts.
 abbrev pub setup_seen : Vc → ℕ → List ℕ → Option Command
 setup_seen vc number octets = option_map (λ wanted. setup vc number wanted) (contracts_of (words_of octets))
 
--- The command without the places of its words. The code leaves the contracts of a setup as words; where
--- these have no lawful form, it is no command.
+-- The command, with the content of its words. The code keeps the contracts of a setup as words; if these are not one to
+-- four contracts, there is no command.
 abbrev pub command_seen : Coded → Option Command
 command_seen (coded.Load digits) = Some (load digits.now)
 command_seen (coded.Retire number) = Some (retire number)

@@ -1,4 +1,4 @@
--- The dialogue with a card. In the order of reading:
+-- The dialogue with a card. Read the modules in this order:
 pub mod ScriptWords
 pub mod ScriptCommands
 pub mod CommonLine

@@ -1,4 +1,4 @@
--- What is printed of the card's replies.
+-- The answer lines for the replies of a card.
 use Rattle.std.specs.Prelude.{ℕ, zero, suc, if◌then◌else◌, List, [], ◌∷◌, ◌++◌, length, map, take, codes, decimal, Option, Some, None, slice_get}
 use Rattle.hex.specs.Hex.{encode_lower}
 use Rattle.upc_cell.specs.declared.vc.Vc.{Vc}
@@ -17,57 +17,58 @@ use Rattle.upc_run.specs.ScriptCommands.{Command, load, retire, setup, reload, r
 use Rattle.upc_words.specs.FaultLines.{line}
 use Rattle.upc_run.specs.CardFaults.{arrive_fault, desk_fault}
 
--- A program's name: `p` and its number.
+-- The name of a program: `p` and its number.
 abbrev pub program_name : ℕ → List ℕ
 program_name number = codes "p" ++ decimal number
 
--- The program of this number, by the ids in the order in which they were given. Numbers count from 1.
+-- The program with this number, from the ids in the order in which they were given. Numbers count from 1.
 abbrev pub program_named : List Id → ℕ → Option Id
 program_named names zero = None
 program_named names (suc before) = slice_get names before
 
--- The number of the latest of the ids that is this one, where `next` is that of the first; else `found`.
+-- The number of the latest of these ids that is this one, if the first has the number `next`. If none is, it is
+-- `found`.
 abbrev pub latest_number : Id → ℕ → ℕ → List Id → ℕ
 latest_number id found next [] = found
 latest_number id found next (here ∷ later) =
     latest_number id (if is_same_id id here then next else found) (suc next) later
 
--- The number of a program's name, and 0 where it has none.
+-- The number in a program's name, or 0 if it has no name.
 abbrev pub number_of_program : List Id → Id → ℕ
 number_of_program names id = latest_number id 0 1 names
 
--- A connection by its path and its channel.
+-- The name of a connection: its path and its channel.
 abbrev pub connection_name : Vc → List ℕ
 connection_name vc = decimal vc.vpi ++ codes "/" ++ decimal vc.vci
 
--- The counts of each verdict.
+-- The counts of each verdict, each after a space.
 abbrev pub tally_text : Tally → List ℕ
 tally_text tally =
     codes " " ++ decimal tally.passed ++ codes " " ++ decimal tally.tagged
     ++ codes " " ++ decimal tally.discarded ++ codes " " ++ decimal tally.refused
 
--- How many cells a piece has, and how many of each verdict.
+-- The number of cells of a piece, and of those with each verdict.
 abbrev pub piece_text : PieceView → List ℕ
 piece_text piece =
     codes " " ++ decimal (length piece.entries) ++ tally_text (tally_of (map (λ entry. entry.verdict) piece.entries))
 
--- The connection that a line judged by, the program that named its contract, and the value that it gave.
+-- The connection of a judged cell, the program that named its contract, and the value that the program gave.
 abbrev pub judging_text : Vc → ℕ → ℕ → List ℕ
 judging_text vc number value = connection_name vc ++ codes " " ++ program_name number ++ codes " " ++ decimal value
 
--- The header of a leaving cell, without its check octet.
+-- The header of a leaving cell, without its check octet, after a space.
 abbrev pub header_text : List ℕ → List ℕ
 header_text leaving = codes " " ++ encode_lower (take 4 leaving)
 
--- A judged cell: only a cell that leaves has a header.
+-- The line of a judged cell. Only a cell that leaves has a header.
 abbrev pub verdict_text : Verdict → List ℕ → List ℕ → List ℕ
 verdict_text Pass judging leaving = line (codes "pass " ++ judging ++ header_text leaving)
 verdict_text Tag judging leaving = line (codes "tag " ++ judging ++ header_text leaving)
 verdict_text Discard judging leaving = line (codes "discard " ++ judging)
 verdict_text Refuse judging leaving = line (codes "refuse " ++ judging)
 
--- What is printed of a cell that came on this connection, where the program that named its contract has a
--- name of this number; an allocation failure has no line.
+-- The line of a cell that arrived on this connection, if the program that named its contract has a name with this
+-- number. NoMemory has none.
 abbrev pub numbered_answer_text : ℕ → Vc → Answer → Option (List ℕ)
 numbered_answer_text name vc (answer.Judged number count moment value program verdict leaving) =
     Some (verdict_text verdict (judging_text vc name value) leaving)
@@ -79,18 +80,17 @@ numbered_answer_text name vc answer.MomentTooLate = Some (arrive_fault (codes "5
 numbered_answer_text name vc answer.JournalFull = Some (arrive_fault (codes "6 JournalFull"))
 numbered_answer_text name vc answer.NoMemory = None
 
--- The number of the name of the program that named a judged cell's contract; a cell that isn't judged has
--- no such program.
+-- The number in the name of the program that named a judged cell's contract. For a cell that isn't judged it is 0.
 abbrev pub number_of_judging : List Id → Answer → ℕ
 number_of_judging names (answer.Judged number count moment value program verdict leaving) = number_of_program names program
 number_of_judging names _ = 0
 
--- What is printed of a cell that came on this connection, where these are the ids of the programs.
+-- The line of a cell that arrived on this connection, if these are the ids of the programs.
 abbrev pub answer_text : List Id → Vc → Answer → Option (List ℕ)
 answer_text names vc given = numbered_answer_text (number_of_judging names given) vc given
 
--- What is printed of the reply to a command of the desk, where `programs` programs were put in before; none
--- for an allocation failure, and for what is no reply to the command.
+-- The line of the reply to a command of the desk, after `programs` programs were loaded. An allocation failure has
+-- none, and neither has a reply to another command.
 abbrev pub reply_text : Command → ℕ → Reply → Option (List ℕ)
 reply_text (load digits) programs (reply.Loaded id) = Some (line (codes "loaded " ++ program_name (suc programs)))
 reply_text (load digits) programs (reply.NotLoaded fault code) = desk_fault fault

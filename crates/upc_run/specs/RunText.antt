@@ -1,6 +1,5 @@
--- The text of `upc run`. The first line with words opens a card; each later one is a command, which is
--- answered by what the card replies. A world is what the lines so far have led to: no card yet, or a card
--- with its whole histories, and the ids of its programs.
+-- The text of `upc run`. The first line with words opens a card. Each later one is a command, and its answer is the
+-- card's reply. The state is either no card yet, or a card with its whole histories and the ids of its programs.
 use Rattle.std.specs.Prelude.{◌≡◌, ◌⊎◌, ℕ, ◌==◌, List, [], ◌∷◌, ◌++◌, length, flat_map, codes, Option, Some, None, MatchOption, MatchBool, slice_get}
 use Rattle.upc_cell.specs.Connection.{vc_of}
 use Rattle.upc_cell.specs.declared.vc.Vc.{Vc}
@@ -32,7 +31,7 @@ use Rattle.upc_words.specs.Program.{Reading, is_program, is_refused, ReadsAs}
 use Rattle.upc_run.specs.Replies.{answer_text, program_named, reply_text}
 use Rattle.upc_run.specs.declared.script_words.Wanted.{Wanted}
 
--- A card, and the ids of the programs that were put in, in the order of their names.
+-- A card, and the ids of the programs that were loaded, in the order of their names.
 pub record Card : Type 0 where
   pub world : World
   pub names : List Id
@@ -41,47 +40,47 @@ pub record Card : Type 0 where
 abbrev pub RunWorld : Type 0
 RunWorld = Option Card
 
--- A card of this shape, to which nothing has come.
+-- A card of this shape before its first command.
 abbrev pub new_card : Shape → Card
 new_card shape = record { world = opening_world shape; names = [] }
 
--- The id of a program that was put in.
+-- The id of a program that this reply loaded, if there is one.
 abbrev pub id_loaded : Reply → List Id
 id_loaded (Loaded id) = id ∷ []
 id_loaded _ = []
 
--- The ids of all programs that were put in.
+-- The ids of all programs that were loaded in this log.
 abbrev pub ids_loaded : List Event → List Id
 ids_loaded log = flat_map (λ event. id_loaded event.reply) log
 
--- The line is answered by its fault, and changes nothing.
+-- The answer is this fault, and nothing changes.
 abbrev pub Refuses : List ℕ → Card → List ℕ → Card → Type 0
 Refuses fault before text after = (text ≡ fault) × (after ≡ before)
 
--- The card takes the command as this step, and the text is that of its reply. A reply of an allocation
--- failure has no text, and so is no answer.
+-- The card takes the command as this step, and the text is the line of its reply. An allocation failure has no line, so
+-- it is no answer.
 pub record Takes (before : Card) (command : Command) (step : Step) (text : List ℕ) (after : Card) : Type 0 where
   pub reply : Reply
   pub stepped : WorldStep before.world step reply after.world
   pub named : after.names ≡ before.names ++ id_loaded reply
   pub told : reply_text command (length before.names) reply ≡ Some text
 
--- The octets of a program are put in, or they have a fault.
+-- The program is loaded, or the answer is the fault line of its octets.
 abbrev pub TakesReading : Card → List ℕ → Reading → List ℕ → Card → Type 0
 TakesReading before digits (is_program code) text after = Takes before (load digits) (Load code) text after
 TakesReading before digits (is_refused fault) text after = Refuses fault before text after
 
--- Octets are read as a program, and that is put in or refused.
+-- The octets are read as a program, which is loaded or refused.
 abbrev pub LoadsOctets : Card → List ℕ → List ℕ → List ℕ → Card → Type 0
 LoadsOctets before digits octets text after =
     (reading : Reading) × ReadsAs octets reading × TakesReading before digits reading text after
 
--- The step that a command asks for, where the program of this number was given.
+-- The step of a command, if the program with this number was given. Otherwise the answer is NoProgram.
 abbrev pub TakesNamed : Card → Command → ℕ → (Id → List ℕ → Card → Type 0) → List ℕ → Card → Type 0
 TakesNamed before command number TakesWith text after =
     MatchOption (program_named before.names number) (Refuses no_such_program before text after) (λ id. TakesWith id text after)
 
--- A connection is asked for, under the contracts that the command names.
+-- The connection is requested with the contracts of the command.
 pub record Asks (before : Card) (vc : Vc) (number : ℕ) (wanted : List Wanted) (id : Id) (text : List ℕ) (after : Card) : Type 0 where
   pub ask : Ask
   pub connection : ask.vc ≡ vc
@@ -89,39 +88,38 @@ pub record Asks (before : Card) (vc : Vc) (number : ℕ) (wanted : List Wanted) 
   pub contracts : AreContracts wanted ask.contracts.items
   pub taken : Takes before (setup vc number wanted) (Setup ask) text after
 
--- The rates of a connection's contracts come before its program.
+-- If a rate has an error, it is the answer. Otherwise the step of the setup is taken.
 abbrev pub SetsUp : Card → Vc → ℕ → List Wanted → List ℕ → Card → Type 0
 SetsUp before vc number wanted text after =
     MatchOption (first_wanted_fault wanted)
     (TakesNamed before (setup vc number wanted) number (Asks before vc number wanted) text after)
     (λ fault. Refuses (gcra_fault fault) before text after)
 
--- How a cell is answered that has entered port 0: by the pick, where its connection isn't found, and else
--- by its judging.
+-- The answer to a cell that has entered port 0: that of the pick if it fails, and otherwise that of the judgement.
 abbrev pub IsAnswered : World → Answer → World → Type 0
 IsAnswered before answer after =
     WorldStep before (Pick 0) (Answered answer) after
     ⊎ ((picked : World) × WorldStep before (Pick 0) Picked picked × WorldStep picked (Judge 0) (Answered answer) after)
 
--- A cell comes to port 0, is picked, and is judged.
+-- A cell enters port 0, is picked and, if its connection is found, judged, with this answer.
 abbrev pub Arrives : World → List ℕ → ℕ → Answer → World → Type 0
 Arrives before octets moment answer after =
     (entered : World) × WorldStep before (Enter 0 octets moment) Entered entered × IsAnswered entered answer after
 
--- A cell arrives, and the text is that of its answer.
+-- A cell arrives, and the text is the line of its answer.
 pub record Polices (before : Card) (moment : ℕ) (octets : List ℕ) (text : List ℕ) (after : Card) : Type 0 where
   pub answer : Answer
   pub arrived : Arrives before.world octets moment answer after.world
   pub same : after.names ≡ before.names
   pub told : answer_text before.names (vc_of before.world.shape.side octets) answer ≡ Some text
 
--- Octets of another number than 52 are no cell.
+-- The cell of 52 octets arrives. Any other number of octets is an error and changes nothing.
 abbrev pub PolicesOctets : Card → ℕ → List ℕ → List ℕ → Card → Type 0
 PolicesOctets before moment octets text after =
     MatchBool (length octets == 52) (Polices before moment octets text after)
     (Refuses (wrong_length (length octets)) before text after)
 
--- A command is answered by the text, and leads to the card after it.
+-- The command has this answer, and leads to the card after it.
 abbrev pub Obeys : Card → Command → List ℕ → Card → Type 0
 Obeys before (load digits) text after =
     MatchOption (octets_of digits) (Refuses bad_hex before text after) (λ octets. LoadsOctets before digits octets text after)
@@ -136,40 +134,40 @@ Obeys before (cell moment digits) text after =
     MatchOption (octets_of digits) (Refuses bad_hex before text after)
     (λ octets. PolicesOctets before moment (cell_of octets) text after)
 
--- A line of no lawful form changes nothing.
+-- The line of a command. If its words are no command, the answer is BadLine and nothing changes.
 abbrev pub CommandLine : Card → List (List ℕ) → List ℕ → Card → Type 0
 CommandLine before words text after =
     MatchOption (command_of before.world.shape.side words) (Refuses bad_line before text after)
     (λ command. Obeys before command text after)
 
--- A card of this shape is opened, or the shape is out of its limits.
+-- A card of this shape is opened, or the run ends since the shape is out of its limits.
 abbrev pub Opens : Shape → List ℕ → Option RunWorld → Type 0
 Opens shape text next =
     MatchOption (shape_fault shape) ((text ≡ codes "ready\n") × (next ≡ Some (Some (new_card shape))))
     (λ fault. EndsBy (shape_fault_line fault) text next)
 
--- The first line with words opens a card.
+-- The first line with words opens a card, or the run ends.
 abbrev pub OpeningLine : List (List ℕ) → List ℕ → Option RunWorld → Type 0
 OpeningLine words text next = MatchOption (card_of words) (EndsBy no_card text next) (λ shape. Opens shape text next)
 
--- A line with words opens the card or is a command to it.
+-- A line with words opens the card or is a command.
 abbrev pub Tells : RunWorld → List (List ℕ) → List ℕ → Option RunWorld → Type 0
 Tells None words text next = OpeningLine words text next
 Tells (Some before) words text next =
     (after : Card) × CommandLine before words text after × (next ≡ Some (Some after))
 
--- What a line says is answered by the text, and leads to the next world; none where it ends the run.
--- A line without words and a remark ask for nothing.
+-- The line has this answer and leads to the next state, or to none if it ends the run. A line without words and a
+-- comment line have no answer.
 abbrev pub RunSteps : RunWorld → List ℕ → List ℕ → Option RunWorld → Type 0
 RunSteps world said text next =
     MatchBool (is_silent (words_of said)) ((text ≡ []) × (next ≡ Some world)) (Tells world (words_of said) text next)
 
--- The end of the input. Without a card it is a fault.
+-- The end of the input. Without a card it is an error.
 abbrev pub RunCloses : RunWorld → List ℕ → Done → Type 0
 RunCloses None text done = (text ≡ no_card) × (done ≡ Ended)
 RunCloses (Some card) text done = (text ≡ []) × (done ≡ Whole)
 
--- A log has led to the card: its names are those that the log gave, and port 0 has no cell.
+-- Some log leads to the card, its names are those of the programs in the log, and port 0 has no cell.
 pub record IsLed (card : Card) : Type 0 where
   pub shape : Shape
   pub log : List Event
@@ -177,7 +175,7 @@ pub record IsLed (card : Card) : Type 0 where
   pub names : card.names ≡ ids_loaded log
   pub free : slice_get card.world.ports 0 ≡ Some outside
 
--- No card, or a card that a log leads to.
+-- There is no card, or some log leads to it.
 abbrev pub IsSoundRun : RunWorld → Type 0
 IsSoundRun None = Unit {0}
 IsSoundRun (Some card) = IsLed card
@@ -186,6 +184,6 @@ IsSoundRun (Some card) = IsLed card
 abbrev pub run_rules : Rules RunWorld
 run_rules = record { steps = RunSteps; closes = RunCloses; too_long = too_long; is_sound = IsSoundRun }
 
--- The text of the octets of a whole script, and how it ends.
+-- The text for the octets of a whole script, and how the run ends.
 abbrev pub IsRunText : List ℕ → List ℕ → Done → Type 0
 IsRunText octets text done = Prints run_rules 0 None (lines_of octets) text done

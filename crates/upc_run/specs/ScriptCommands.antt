@@ -1,4 +1,4 @@
--- The commands of a script, by the words of a line.
+-- The commands of a script, from the words of a line.
 use Rattle.std.specs.Prelude.{ℕ, nat_le, ◌&&◌, if◌then◌else◌, List, [], ◌∷◌, length, codes, Option, Some, None, option_map}
 use Rattle.std.specs.Str.{bytes_eq}
 use Rattle.upc_cell.specs.declared.side.Side.{Side}
@@ -6,8 +6,8 @@ use Rattle.upc_cell.specs.declared.vc.Vc.{Vc}
 use Rattle.upc_run.specs.declared.script_words.Wanted.{Wanted}
 use Rattle.upc_run.specs.ScriptWords.{with_both, number_of, program_of, vc_named, wanted_of_each}
 
--- What a line asks of the card. Programs are named by number; the octets of a program and of a cell are
--- still a word of digits, whose faults come after those of all other words.
+-- A command of a line. Programs are given by number. The octets of a program and of a cell are still a word of digits,
+-- since its errors come after those of all other words.
 pub data Command : Type 0 where
   load : List ℕ → Command
   retire : ℕ → Command
@@ -27,7 +27,7 @@ abbrev pub retire_of : List (List ℕ) → Option Command
 retire_of (program ∷ []) = option_map (λ number. retire number) (program_of program)
 retire_of _ = None
 
--- One to four contracts.
+-- The contracts of one to four words.
 abbrev pub contracts_of : List (List ℕ) → Option (List Wanted)
 contracts_of words = if nat_le 1 (length words) && nat_le (length words) 4 then wanted_of_each words else None
 
@@ -35,7 +35,7 @@ contracts_of words = if nat_le 1 (length words) && nat_le (length words) 4 then 
 abbrev pub seat_of : Side → List ℕ → List ℕ → List ℕ → Option (Vc × ℕ)
 seat_of side path channel program = with_both (λ vc number. (vc, number)) (vc_named side path channel) (program_of program)
 
--- The connection and the program that are named, and the contracts after them.
+-- The setup of this connection and program, with these contracts.
 abbrev pub setup_with : Vc × ℕ → List Wanted → Command
 setup_with seat wanted = setup seat.0 seat.1 wanted
 
@@ -45,7 +45,7 @@ setup_of side (path ∷ channel ∷ program ∷ contracts) =
     with_both setup_with (seat_of side path channel program) (contracts_of contracts)
 setup_of side _ = None
 
--- The connection and the program that are named.
+-- The reload of this connection and program.
 abbrev pub reload_with : Vc × ℕ → Command
 reload_with seat = reload seat.0 seat.1
 
@@ -55,7 +55,7 @@ reload_of side (path ∷ channel ∷ program ∷ []) =
     option_map reload_with (seat_of side path channel program)
 reload_of side _ = None
 
--- A connection that two words name, with no word after them.
+-- The connection of exactly two words.
 abbrev pub only_vc : Side → List (List ℕ) → Option Vc
 only_vc side (path ∷ channel ∷ []) = vc_named side path channel
 only_vc side _ = None
@@ -73,7 +73,7 @@ abbrev pub cell_of_words : List (List ℕ) → Option Command
 cell_of_words (moment ∷ digits ∷ []) = option_map (λ ticks. cell ticks digits) (number_of moment)
 cell_of_words _ = None
 
--- The command that a line's words spell on a card of this side; none where they have no lawful form.
+-- The command of a line's words on a card of this side. None if the words are no command.
 abbrev pub command_of : Side → List (List ℕ) → Option Command
 command_of side [] = None
 command_of side (name ∷ words) =

@@ -1,5 +1,5 @@
--- The words of a script: numbers, names of programs and of connections, rates and contracts. Words are
--- read to the letter.
+-- The words of a script: numbers, names of programs and of connections, rates and contracts. A word has to match
+-- exactly.
 use Rattle.std.specs.Prelude.{◌≡◌, ℕ, ◌+◌, ◌-◌, ◌*◌, ◌%◌, ◌==◌, nat_le, if◌then◌else◌, List, [], ◌∷◌, codes, Option, Some, None, option_map}
 use Rattle.std.proofs.Math.Nat.{mod-lt, zero-lt-suc, le_of_suc-le-suc}
 use Rattle.std.specs.Option.{option_and_then}
@@ -12,16 +12,15 @@ use Rattle.upc_run.specs.declared.script_words.Rate.{Rate}
 use Rattle.upc_run.specs.declared.script_words.Wanted.{Wanted}
 use Rattle.upc_run.specs.declared.script_words.Wanted.TheVariants.{Cbr1, Vbr1, Vbr2, Vbr3}
 
--- Both, joined, where there are both.
+-- Both values joined, if both exist.
 abbrev pub with_both : {One Other Joined : Type 0} → (One → Other → Joined) → Option One → Option Other → Option Joined
 with_both join one other = option_and_then (λ first. option_map (join first) other) one
 
--- The number, where it is at most this.
+-- The number, if it is at most this one.
 abbrev pub up_to : ℕ → ℕ → Option ℕ
 up_to most number = if nat_le number most then Some number else None
 
--- The number that digits spell after digits of the value `high`, the highest first; none where an octet
--- is no digit.
+-- The number that digits spell after digits with the value `high`, the highest first. None if an octet isn't a digit.
 unfoldable pub spelled_behind : ℕ → List ℕ → Option ℕ
 spelled_behind high [] = Some high
 spelled_behind high (octet ∷ octets) =
@@ -31,22 +30,22 @@ spelled_behind high (octet ∷ octets) =
 abbrev pub most_number : ℕ
 most_number = 18446744073709551615
 
--- The number that one or more digits spell, if it isn't above the greatest. Zeros may stand before it.
+-- The number that one or more digits spell, if it is at most 2^64 - 1. It may have leading zeros.
 abbrev pub number_of : List ℕ → Option ℕ
 number_of [] = None
 number_of (octet ∷ octets) = option_and_then (up_to most_number) (spelled_behind 0 (octet ∷ octets))
 
--- The number that a word spells, where it is at most this.
+-- The number that a word spells, if it is at most this one.
 abbrev pub number_up_to : ℕ → List ℕ → Option ℕ
 number_up_to most word = option_and_then (up_to most) (number_of word)
 
--- The number of a program's name: the letter `p` (112) and a number.
+-- The number in the name of a program, which is the letter `p` (112) and a number.
 abbrev pub program_of : List ℕ → Option ℕ
 program_of [] = None
 program_of (letter ∷ digits) = if letter == 112 then number_of digits else None
 
--- The virtual connection of this path and this channel. A path has twelve bits at most, so the remainder
--- is the path itself; it is written for numbers that are none.
+-- The virtual connection of this path and this channel. A path is at most 4095, so the remainder changes nothing; it is
+-- there because the definition takes any number.
 abbrev pub connection_of : ℕ → ℕ → Vc
 connection_of path channel = record {
   vpi = path % 4096;
@@ -54,26 +53,26 @@ connection_of path channel = record {
   of_an_interface = le_of_suc-le-suc (mod-lt path (zero-lt-suc 4095));
 }
 
--- The virtual connection that two words name: a path that the side has, and a channel.
+-- The virtual connection of two words: a path of this side, and a channel.
 abbrev pub vc_named : Side → List ℕ → List ℕ → Option Vc
 vc_named side path channel = with_both connection_of (number_up_to (last_vpi side) path) (number_up_to 65535 channel)
 
--- What is before the first `mark`, and what is after it; none if there is no `mark`.
+-- The octets before the first `mark` and those after it. None if there is no `mark`.
 unfoldable pub cut_at : ℕ → List ℕ → Option (List ℕ × List ℕ)
 cut_at mark [] = None
 cut_at mark (octet ∷ octets) =
     if octet == mark then Some ([], octets)
     else option_map (λ (cut : List ℕ × List ℕ). (octet ∷ cut.0, cut.1)) (cut_at mark octets)
 
--- Two numbers as a rate: the increment, then the limit.
+-- The rate with this increment and limit.
 abbrev pub rate_with : ℕ → ℕ → Rate
 rate_with ticks tolerance = record { increment = ticks; limit = tolerance }
 
--- Both numbers 0: what no rate may be, in a place that no contract has taken yet.
+-- The default contract, with both numbers 0, in a place that has no contract yet. It is never valid.
 abbrev pub IsBlankContract : Wanted → Type 0
 IsBlankContract wanted = wanted ≡ Cbr1 (rate_with 0 0)
 
--- A rate: its increment and its limit, with a slash (47) between them.
+-- A rate: an increment and a limit, with a slash (47) between them.
 abbrev pub rate_of : List ℕ → Option Rate
 rate_of word =
     option_and_then (λ (cut : List ℕ × List ℕ). with_both rate_with (number_of cut.0) (number_of cut.1)) (cut_at 47 word)
@@ -83,7 +82,7 @@ abbrev pub two_rates : (Rate → Rate → Wanted) → List ℕ → Option Wanted
 two_rates kind rates =
     option_and_then (λ (cut : List ℕ × List ℕ). with_both kind (rate_of cut.0) (rate_of cut.1)) (cut_at 58 rates)
 
--- A contract of the kind of this name, with these rates, that of the peak first.
+-- The contract of the kind with this name, with these rates, that of the peak first.
 abbrev pub wanted_with : List ℕ → List ℕ → Option Wanted
 wanted_with kind rates =
     if bytes_eq kind (codes "cbr1") then option_map (λ rate. Cbr1 rate) (rate_of rates)

@@ -1,4 +1,4 @@
--- What only private functions and proofs need.
+-- Definitions that only private functions and proofs use.
 pub mod OnlyWord
 pub mod Digits
 pub mod SpelledCell

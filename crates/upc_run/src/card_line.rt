@@ -9,7 +9,7 @@ use card_core::Shape;
 use text_io::first_word;
 use upc_cell::Side;
 
-/// The interface that a word names.
+/// Returns the side of a word.
 fn named_side(word: &[u8]) -> Option<Side>
     ensures { result ≡ side_of word.now }
 {
@@ -22,7 +22,7 @@ fn named_side(word: &[u8]) -> Option<Side>
     }
 }
 
-/// The shape that four words ask for.
+/// Returns the shape of four words and a side.
 fn sized(programs: &[u8], lines: &[u8], ports: &[u8], journal: &[u8], side: Side) -> Option<Shape>
     ensures { result ≡ sized_shape programs.now lines.now ports.now journal.now side }
 {
@@ -47,7 +47,7 @@ fn sized(programs: &[u8], lines: &[u8], ports: &[u8], journal: &[u8], side: Side
     })
 }
 
-/// The shape that the words after `card` ask for.
+/// Returns the shape of the words after `card`.
 fn shape_behind(line: &[u8]) -> Option<Shape>
     ensures { result ≡ shape_of (words_of line.now) }
 {

@@ -33,7 +33,7 @@ pub enum Command<'a> {
     Cell(u64, &'a [u8]),
 }
 
-/// The word of a line that has no other.
+/// Returns the word of a line with exactly one word.
 fn only_word(line: &[u8]) -> Option<&[u8]>
     ensures { option_map (λ word. word.now) result ≡ only_of (words_of line.now) }
 {
@@ -46,7 +46,7 @@ fn only_word(line: &[u8]) -> Option<&[u8]>
     Some(word)
 }
 
-/// `retire pN`, after its first word.
+/// Reads `retire pN`, after its first word.
 fn retire(line: &[u8]) -> Option<Command<'_>>
     ensures { option_and_then command_seen result ≡ retire_of (words_of line.now) }
 {
@@ -59,7 +59,7 @@ fn retire(line: &[u8]) -> Option<Command<'_>>
     }
 }
 
-/// `load HEX`, after its first word.
+/// Reads `load HEX`, after its first word.
 fn load(line: &[u8]) -> Option<Command<'_>>
     ensures { option_and_then command_seen result ≡ load_of (words_of line.now) }
 {
@@ -69,7 +69,7 @@ fn load(line: &[u8]) -> Option<Command<'_>>
     }
 }
 
-/// `cell MOMENT HEX`, after its first word.
+/// Reads `cell MOMENT HEX`, after its first word.
 fn cell(line: &[u8]) -> Option<Command<'_>>
     ensures { option_and_then command_seen result ≡ cell_of_words (words_of line.now) }
 {
@@ -85,7 +85,7 @@ fn cell(line: &[u8]) -> Option<Command<'_>>
     }
 }
 
-/// `reload VPI VCI pN`, after its first word.
+/// Reads `reload VPI VCI pN`, after its first word.
 fn reload(side: Side, line: &[u8]) -> Option<Command<'_>>
     ensures { option_and_then command_seen result ≡ reload_of side (words_of line.now) }
 {
@@ -107,7 +107,7 @@ fn reload(side: Side, line: &[u8]) -> Option<Command<'_>>
     }
 }
 
-/// The connection that a line of exactly two words names.
+/// Returns the connection of a line of exactly two words.
 fn only_connection(side: Side, line: &[u8]) -> Option<Vc>
     ensures { result ≡ only_vc side (words_of line.now) }
 {
@@ -120,7 +120,7 @@ fn only_connection(side: Side, line: &[u8]) -> Option<Vc>
     connection(side, path, channel)
 }
 
-/// `release VPI VCI`, after its first word.
+/// Reads `release VPI VCI`, after its first word.
 fn release(side: Side, line: &[u8]) -> Option<Command<'_>>
     ensures { option_and_then command_seen result ≡ release_of side (words_of line.now) }
 {
@@ -130,7 +130,7 @@ fn release(side: Side, line: &[u8]) -> Option<Command<'_>>
     }
 }
 
-/// `cut VPI VCI`, after its first word.
+/// Reads `cut VPI VCI`, after its first word.
 fn cut(side: Side, line: &[u8]) -> Option<Command<'_>>
     ensures { option_and_then command_seen result ≡ cut_of side (words_of line.now) }
 {
@@ -162,7 +162,7 @@ pub fn contracts(line: &[u8]) -> Option<ArrayVec<Wanted, 4>>
     Some(wanted)
 }
 
-/// `setup VPI VCI pN CONTRACT ..`, after its first word.
+/// Reads `setup VPI VCI pN CONTRACT ..`, after its first word.
 fn setup(side: Side, line: &[u8]) -> Option<Command<'_>>
     ensures { option_and_then command_seen result ≡ setup_of side (words_of line.now) }
 {

@@ -1,5 +1,5 @@
-//! The line of a cell in its common form, as programs write it: its words with one space between them, and
-//! nothing before and after. A line of another form is read by its words.
+//! The line of a cell in its common form, which is that of programs: its words with one space between them, and nothing
+//! before or after. A line of another form is read word by word.
 
 ghost use Rattle.std.specs.Prelude.{◌≡◌, ◌∷◌, ◌++◌, ℕ, List, codes, length, IfSome, IfNone};
 ghost use Rattle.upc_run.specs.CommonLine.{IsCommonLine};
@@ -27,7 +27,8 @@ pub fn after_command(line: &[u8]) -> Option<&[u8]>
     }
 }
 
-/// The text before a space, and the last `count` octets, which follow it; none if there is no space before them.
+/// Returns the text before a space, and the last `count` octets, which follow the space. None if there is no space
+/// before them.
 #[inline(always)]
 fn cut_before(text: &[u8], count: usize) -> Option<(&[u8], &[u8])>
     ensures parts { IfSome result (λ parts. (text.now ≡ parts.0.now ++ 32 ∷ parts.1.now) × (length parts.1.now ≡ count)) }

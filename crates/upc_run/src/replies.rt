@@ -32,8 +32,8 @@ pub fn add_ready(answers: &mut Vec<u8>) -> Result<(), AllocError>
     add_text(answers, b"ready\n")
 }
 
-/// Room for the answer to a command: a word and a blank of at most nine octets, two numbers of at most ten digits, five
-/// of at most twenty, and seven octets between them and at the end.
+/// The space for the answer to a command: a word and a space of at most nine octets, two numbers of at most ten digits,
+/// five of at most twenty, and seven octets between them and at the end.
 const REPLY_ROOM: usize = 136;
 
 /// Puts a connection's path and channel.
@@ -59,7 +59,7 @@ fn put_program<const ROOM: usize>(text: &mut TextFromEnd<ROOM>, number: u64)
     text.put(b"p");
 }
 
-/// Puts a blank and a number.
+/// Puts a space and a number.
 #[inline(always)]
 fn put_count(text: &mut TextFromEnd<REPLY_ROOM>, count: u64)
     requires { length text.old ≤ 106 }
@@ -122,7 +122,7 @@ pub fn add_reloaded(answers: &mut Vec<u8>, vc: Vc, number: u64) -> Result<(), Al
     answers.extend_from_slice(text.as_slice())
 }
 
-/// Adds a blank and a number.
+/// Adds a space and a number.
 #[tactic(auto, using(std::proofs::lemmas::List::append_assoc))]
 fn add_count(answers: &mut Vec<u8>, count: u64) -> Result<(), AllocError>
     ensures { OnOk result (answers.new.items ≡ answers.old.items ++ (codes " " ++ decimal count)) }
@@ -142,7 +142,8 @@ pub fn add_tally(answers: &mut Vec<u8>, tally: Tally) -> Result<(), AllocError>
     add_count(answers, tally.refused)
 }
 
-/// How many cells of a piece got each verdict: what its end counts beyond its start. It reads no entry.
+/// Returns the number of a piece's cells with each verdict: the counts at its end minus those at its start. Reads no
+/// entry.
 fn tally_within(piece: &Piece) -> Tally
     ensures { result ≡ tally_of (map (λ entry. entry.verdict) piece.now.entries) }
 {
@@ -157,7 +158,7 @@ fn tally_within(piece: &Piece) -> Tally
     }
 }
 
-/// Puts the number of a piece's cells, and of those of each verdict.
+/// Puts the number of a piece's cells, and of those with each verdict.
 #[tactic(auto, using(std::proofs::lemmas::List::append_assoc))]
 fn put_piece(text: &mut TextFromEnd<REPLY_ROOM>, piece: &Piece)
     requires { length text.old ≤ 1 }
@@ -200,12 +201,11 @@ pub fn add_cut(answers: &mut Vec<u8>, vc: Vc, piece: &Piece) -> Result<(), Alloc
     answers.extend_from_slice(text.as_slice())
 }
 
-/// Room for the answer to a cell: a verdict of at most eight octets, three numbers of at most ten digits and
-/// one of at most twenty, eight digits of a header, and six octets between them and at the end.
+/// The space for the answer to a cell: a verdict of at most eight octets, three numbers of at most ten digits and one
+/// of at most twenty, eight digits of a header, and six octets between them and at the end.
 const ANSWER_ROOM: usize = 72;
 
-/// Puts the connection that a cell came on, the program that named its contract, and the value that it
-/// gave.
+/// Puts the connection of a cell, the program that named its contract, and the value that the program gave.
 #[inline(always)]
 #[tactic(auto, using(std::proofs::lemmas::List::append_assoc))]
 fn put_judging(text: &mut TextFromEnd<ANSWER_ROOM>, vc: Vc, number: u64, value: u32)
@@ -279,7 +279,7 @@ fn add_kept(
     answers.extend_from_slice(text.as_slice())
 }
 
-/// Adds the answer to a cell that came before the last judged one of its connection.
+/// Adds the answer to a cell with a moment before that of its connection's last judged cell.
 #[tactic(auto, using(std::proofs::lemmas::List::append_assoc))]
 fn add_moment_back(answers: &mut Vec<u8>, last: u64) -> Result<(), AllocError>
     ensures { OnOk result
@@ -293,7 +293,7 @@ fn add_moment_back(answers: &mut Vec<u8>, last: u64) -> Result<(), AllocError>
     Ok(())
 }
 
-/// Adds the answer to a cell that got this verdict, with the header of the leaving cell if it leaves.
+/// Adds the answer to a cell with this verdict, with the header of the leaving cell if it leaves.
 #[inline(always)]
 fn add_verdict(
     answers: &mut Vec<u8>,
@@ -314,7 +314,7 @@ fn add_verdict(
     }
 }
 
-/// Adds the answer to a cell that came so and got this verdict.
+/// Adds the answer to a cell that arrived in this form and has this verdict.
 #[inline(never)]
 fn add_told(
     answers: &mut Vec<u8>,

@@ -14,7 +14,8 @@ use std::alloc::{AllocError, Global};
 use text_io::{Done, Input, LineWords, Machine, Output, RunFault, Turn, answer_lines, line_words};
 use upc_words::add_too_long;
 
-/// Opens the card that the first line with words describes, and answers the line. Returns none if there is an error.
+/// Opens the card of the first line with words. If the line opens no card, returns None and adds the line's fault to
+/// the answers.
 fn open(alloc: Global, line: &[u8], answers: &mut Vec<u8>) -> Result<Option<ScriptCard>, AllocError>
     ensures { IfOk result (λ card. OpensAs (words_of line.now) card answers.old.items answers.new.items) }
 {
@@ -47,8 +48,8 @@ impl Policing {
     ghost use Rattle.upc_run.specs.RunText.{run_rules};
     ghost use Rattle.upc_run.specs.inner.Policing.{ShowsRun};
 
-    /// Answers a line before there is a card. It isn't inlined, so that later lines don't pay for the stack that
-    /// making a card needs.
+    /// Answers a line before there is a card. It is a function of its own, so that later lines don't need the stack
+    /// space for making a card.
     #[inline(never)]
     fn answer_first(&mut self, line: &[u8], answers: &mut Vec<u8>) -> Result<Turn, AllocError>
         requires { self.old.card ≡ None }

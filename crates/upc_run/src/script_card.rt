@@ -1,4 +1,4 @@
-//! The card that a script has opened, and the commands that it obeys.
+//! The card that a script opened, and its commands.
 
 use crate::card_faults::{add_desk_fault, add_gcra_fault, add_no_such_program};
 use crate::commands::{Command, asking_word, contracts, named_command};
@@ -20,10 +20,10 @@ use upc_words::{
     read_program,
 };
 
-/// The port that every cell of a script comes to.
+/// The port that every cell of a script enters.
 const PORT: u8 = 0;
 
-/// A card, and the names of the programs that were put in.
+/// A card, and the names of the programs that were loaded.
 #[derive(Drop)]
 pub struct ScriptCard {
     core: Core,
@@ -38,7 +38,7 @@ impl Model for ScriptCard {
     ghost view = { λ card. record { core = card.core; names = card.names } };
 }
 
-// The functions of the desk are not inlined: the path of a cell would pay for their room on the stack.
+// The functions of the desk are not inlined, so that the path of a cell doesn't need their stack space.
 impl ScriptCard {
     ghost use Rattle.std.specs.Prelude.{◌≡◌, ◌⊎◌, ◌∷◌, [], IfOk, IfErr, OnOk, MatchResult, None, Some, option_map};
     ghost use Rattle.card_core.specs.Sections.{answer_to};
@@ -51,12 +51,12 @@ impl ScriptCard {
     ghost use Rattle.upc_run.specs.inner.Policing.{AnswersCell, Moves, ObeysSeen, SaysLine, ShowsCard};
     ghost use Rattle.text_io.specs.Words.{words_of};
 
-    /// A card of this shape, to which nothing has come.
+    /// Makes a card of this shape.
     ///
     /// # Errors
     ///
-    /// `Programs`, `Lines`, `Ports`, `Journal`: the first number of the shape that is out of its
-    /// limits. Then `NoMemory`, where memory is refused.
+    /// `Programs`, `Lines`, `Ports` or `Journal` for the first number of the shape that is out of its limits. Otherwise
+    /// `NoMemory` if an allocation fails.
     pub fn new(alloc: Global, shape: Shape) -> Result<Self, CardFault>
         ensures shows { IfOk result (λ card. ShowsCard card (new_card shape)) }
         ensures refused { MatchResult result
@@ -73,7 +73,7 @@ impl ScriptCard {
         }
     }
 
-    /// Puts a program in.
+    /// Loads a program.
     #[inline(never)]
     fn put(
         &mut self,
@@ -92,7 +92,7 @@ impl ScriptCard {
         add_loaded(answers, self.names.count() as u64)
     }
 
-    /// Puts in the program of these octets, if they are one.
+    /// Loads the program of these octets, if they spell one.
     #[inline(never)]
     fn load(
         &mut self,
@@ -112,7 +112,7 @@ impl ScriptCard {
         }
     }
 
-    /// Takes a program out.
+    /// Retires a program.
     #[inline(never)]
     fn retire(&mut self, number: u64, answers: &mut Vec<u8>) -> Result<(), AllocError>
         ensures { OnOk result (Moves (λ before. Obeys before (retire number))
@@ -127,7 +127,7 @@ impl ScriptCard {
         }
     }
 
-    /// Sets up a connection under contracts whose rates may be at fault.
+    /// Sets up a connection with contracts whose rates may have errors.
     #[inline(never)]
     fn setup(
         &mut self,
@@ -157,7 +157,7 @@ impl ScriptCard {
         }
     }
 
-    /// Sets up a connection under the contracts of these words, if they have a lawful form.
+    /// Sets up a connection with the contracts of these words, if they are one to four contracts.
     #[inline(never)]
     fn ask(
         &mut self,
@@ -190,7 +190,7 @@ impl ScriptCard {
         }
     }
 
-    /// Ends a connection.
+    /// Releases a connection.
     #[inline(never)]
     fn release(&mut self, vc: Vc, answers: &mut Vec<u8>) -> Result<(), AllocError>
         ensures { OnOk result (Moves (λ before. Obeys before (release vc))
@@ -214,8 +214,8 @@ impl ScriptCard {
         }
     }
 
-    /// Takes a cell through the port and returns its answer; none if the port isn't free. It is free
-    /// before every command.
+    /// Takes all steps of a cell at the port and returns its answer. None if the port has a cell; before a command it
+    /// never has.
     #[inline(always)]
     fn arrive(&mut self, cell: &Cell, moment: u64) -> Option<Result<Judgement, Unjudged>>
         ensures { AnswersCell self.old cell.now moment (option_map (λ told. answer_to cell.now told) result) self.new }
@@ -241,7 +241,7 @@ impl ScriptCard {
         add_judged(answers, number, vc, cell, &judged)
     }
 
-    /// Polices the cell that a word spells, if it spells one.
+    /// Polices the cell of a word, if the word spells one.
     #[inline(never)]
     fn cell(
         &mut self,
@@ -260,7 +260,7 @@ impl ScriptCard {
         }
     }
 
-    /// Obeys a command.
+    /// Carries out a command.
     fn obey(
         &mut self,
         alloc: Global,
@@ -281,7 +281,7 @@ impl ScriptCard {
         }
     }
 
-    /// Answers a line by its first word and what is after it.
+    /// Answers a line, from its first word and the rest.
     fn answer_command(
         &mut self,
         alloc: Global,
@@ -298,7 +298,7 @@ impl ScriptCard {
         }
     }
 
-    /// Answers a line by its words.
+    /// Answers a line, word by word.
     #[inline(never)]
     fn answer_words(
         &mut self,
@@ -314,7 +314,7 @@ impl ScriptCard {
         }
     }
 
-    /// Answers a line. That of a cell in the common form is read at once, without a look for its words.
+    /// Answers a line. A cell line in the common form is read at once, without a search for its words.
     #[inline(always)]
     pub fn answer(
         &mut self,

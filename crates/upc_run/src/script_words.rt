@@ -41,11 +41,11 @@ impl Default for Wanted {
     }
 }
 
-/// The greatest value to which any digit may be appended: with 9 it is 2^64 - 7.
+/// The greatest value to which any digit can be appended: with 9 it becomes 2^64 - 7.
 const MOST_BEFORE: u64 = 1844674407370955160;
 
-/// The value with one more digit appended; none if the octet is no digit or the new value is above
-/// 2^64 - 1. A small enough value needs no overflow test.
+/// Returns the value with one more digit appended. None if the octet isn't a digit or the new value is above 2^64 - 1.
+/// A value up to `MOST_BEFORE` needs no overflow test.
 #[inline(always)]
 fn shifted(value: u64, octet: u8) -> Option<u64>
     ensures { result ≡ with_digit value octet }
@@ -66,7 +66,7 @@ fn shifted(value: u64, octet: u8) -> Option<u64>
 /// A number of at most this many digits is at most 2^64 - 1.
 const FEW_DIGITS: usize = 19;
 
-/// The value with one more digit appended; none if the octet is no digit.
+/// Returns the value with one more digit appended. None if the octet isn't a digit.
 #[inline(always)]
 fn appended(value: u64, octet: u8) -> Option<u64>
     requires { value ≤ MOST_BEFORE }
@@ -79,7 +79,7 @@ fn appended(value: u64, octet: u8) -> Option<u64>
     Some(10 * value + digit)
 }
 
-/// The number that a word of few digits spells. None of its values is tested.
+/// Returns the number of a word of few digits, without overflow tests.
 #[inline(always)]
 fn short_number(word: &[u8]) -> Option<u64>
     requires some { 0 < length word.now }
@@ -98,7 +98,7 @@ fn short_number(word: &[u8]) -> Option<u64>
     Some(value)
 }
 
-/// The number that a word of many digits spells, of at most 2^64 - 1.
+/// Returns the number of a word of many digits, if it is at most 2^64 - 1.
 #[inline(never)]
 fn long_number(word: &[u8]) -> Option<u64>
     requires { 0 < length word.now }
@@ -130,7 +130,7 @@ pub fn number(word: &[u8]) -> Option<u64>
     }
 }
 
-/// The number that a word spells, where it is at most this.
+/// Returns the number of a word, if it is at most this one.
 fn number_at_most(most: u16, word: &[u8]) -> Option<u16>
     ensures { result ≡ number_up_to most word.now }
 {
@@ -166,7 +166,7 @@ pub fn connection(side: Side, path: &[u8], channel: &[u8]) -> Option<Vc>
     }
 }
 
-/// What is before the first `mark`, and what is after it; none if there is none.
+/// Returns the text before the first `mark` and that after it. None if there is no `mark`.
 fn cut(mark: u8, text: &[u8]) -> Option<(&[u8], &[u8])>
     ensures { option_map (λ parts. (parts.0.now, parts.1.now)) result ≡ cut_at mark text.now }
 {
@@ -176,7 +176,7 @@ fn cut(mark: u8, text: &[u8]) -> Option<(&[u8], &[u8])>
     }
 }
 
-/// The rate that a word asks for.
+/// Returns the rate of a word.
 fn one_rate(word: &[u8]) -> Option<Rate>
     ensures { result ≡ rate_of word.now }
 {

@@ -33,7 +33,7 @@ fn arena_is_sent<T: Send>() {
     is_sent::<Arena<T>>();
 }
 
-/// And `Sync` if its values are.
+/// An arena is `Sync` if its values are.
 fn arena_is_shared<T: Sync>() {
     is_shared::<Arena<T>>();
 }

@@ -21,7 +21,7 @@ fn seat(
     }
 }
 
-/// Puts a program into a store.
+/// Loads a program into a store.
 fn put(store: &mut Store, program: Program) -> Result<Id, Fail> {
     match put_in(store, program) {
         Ok(id) => Ok(id),

@@ -1,4 +1,4 @@
-//! The parts of a card, and why a card is refused.
+//! The parts of a card, and the errors of making one.
 
 ghost use Rattle.std.specs.Prelude.{◌≡◌};
 ghost use Rattle.port_card.specs.Names.{AreFor};

@@ -1,4 +1,4 @@
-//! Scripts whose ports are threads, with gates; and why a card isn't closed.
+//! Scripts whose ports are threads, with gates; and the errors of a close.
 
 use port_card::{CloseFault, Gate};
 use std::alloc::Global;

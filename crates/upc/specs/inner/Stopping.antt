@@ -5,7 +5,7 @@ use Rattle.clap.specs.declared.error.kind.ErrorKind.TheVariants.{DisplayHelp, Ou
 use Rattle.upc.specs.declared.choice.Stop.{Stop}
 use Rattle.upc.specs.declared.choice.Stop.TheVariants.{Help, Words, NoMemory}
 
--- Which Stop an error of this kind may become.
+-- The Stops that an error of this kind may become.
 abbrev pub IsStopFor : ErrorKind → Stop → Type 0
 IsStopFor kind (Help text) = kind ≡ DisplayHelp
 IsStopFor kind (Words text) = (kind ≢ DisplayHelp) × (kind ≢ OutOfMemory)

@@ -1,5 +1,5 @@
--- The laws of the reading of `ports`: every line and the end of the input have an answer in every world.
--- They are beside the definitions because the machine cites them as its laws.
+-- Laws of the reading of `ports`: every line and the end of the input have an answer in every state. They are next to
+-- the definitions because the machine cites them.
 use Rattle.std.proofs.Common.{◌≡◌, ℕ, Bool, true, false, List, [], ◌∷◌, ◌++◌, Option, Some, None, refl}
 use Rattle.std.specs.Option.{MatchOption}
 use Rattle.card_core.specs.Shapes.{shape_fault}

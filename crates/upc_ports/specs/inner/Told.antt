@@ -1,4 +1,4 @@
--- What is kept of a cell that was answered: its header, and what its line shows of the answer.
+-- The stored part of an answered cell: its header, and what the line of its answer shows.
 use Rattle.std.specs.Prelude.{ℕ, List, [], ◌∷◌, replicate, slice_index, Result, Ok, Err}
 use Rattle.line_record.specs.declared.fault.LineFault.TheVariants.{TooLate, Back, Full, NoMemory as LineNoMemory}
 use Rattle.card_core.specs.Sections.{answer_to}
@@ -10,7 +10,7 @@ use Rattle.card_core.specs.declared.answer.Unjudged.TheVariants as unjudged
 use Rattle.upc_ports.specs.declared.told.Ruling.{Ruling}
 use Rattle.upc_ports.specs.declared.told.ToldCell.{ToldCell}
 
--- The ruling on a judged cell, or why the cell isn't judged.
+-- The ruling on a judged cell, or the reason why the cell isn't judged.
 abbrev pub ruled : Answer → Result Ruling Unjudged
 ruled (Judged line number moment value program verdict leaving) = Ok (record { program = program; value = value; verdict = verdict })
 ruled NoConnection = Err unjudged.NoConnection
@@ -25,15 +25,15 @@ ruled NoMemory = Err (unjudged.Refused LineNoMemory)
 abbrev pub header_of : List ℕ → List ℕ
 header_of cell = slice_index cell 0 ∷ slice_index cell 1 ∷ slice_index cell 2 ∷ slice_index cell 3 ∷ []
 
--- What is kept of a cell and its answer.
+-- The stored part of a cell and its answer.
 abbrev pub told_cell : List ℕ → Answer → ToldCell
 told_cell cell answer = record { header = header_of cell; told = ruled answer }
 
--- A cell of this header, whose payload is zeros: no answer shows a payload.
+-- A cell with this header and a payload of zeros. No answer shows a payload.
 abbrev pub shown_cell : List ℕ → List ℕ
 shown_cell header = slice_index header 0 ∷ slice_index header 1 ∷ slice_index header 2 ∷ slice_index header 3 ∷ replicate 48 0
 
--- The judgement with this ruling; its other numbers are 0.
+-- The judgement with this ruling. Its other numbers are 0.
 abbrev pub judgement_of : Ruling → Judgement
 judgement_of ruling = record {
   number = 0;
@@ -44,7 +44,7 @@ judgement_of ruling = record {
   verdict = ruling.verdict;
 }
 
--- The answer with what was kept of a cell's answer, for a cell with its header.
+-- The answer from the stored part of a cell's answer, for a cell with its header.
 abbrev pub answer_kept : List ℕ → Result Ruling Unjudged → Answer
 answer_kept cell (Ok ruling) = answer_to cell (Ok (judgement_of ruling))
 answer_kept cell (Err reason) = answer_to cell (Err reason)

@@ -1,5 +1,5 @@
--- What the card's steps lead to, as far as `run` has to know it: each reply that is no allocation failure has
--- a line, and port 0 is free again after each command.
+-- The card's steps, as far as `run` has to know them: each reply but an allocation failure has a line, and port 0 has
+-- no cell after each command.
 use Rattle.std.proofs.Common.{◌≡◌, ◌⊎◌, ℕ, inl, inr, true, false, List, ◌++◌, Option, Some, None, codes, decimal, option_map, refl, sym, ap, ◌∙◌, subst}
 use Rattle.std.specs.Option.{is_some}
 use Rattle.std.specs.Option.{MatchOption}
@@ -29,12 +29,12 @@ use Rattle.upc_run.specs.declared.script_words.Wanted.{Wanted}
 abbrev pub Told : Option (List ℕ) → Type 0
 Told found = (text : List ℕ) × (found ≡ Some text)
 
--- There is one where it can be computed to be there, whatever it is.
+-- A text that is computed to exist exists.
 text-there : (found : Option (List ℕ)) → is_some found ≡ true → Told found
 text-there None e = let no : false ≡ true = e in cc
 text-there (Some text) e = (text, refl)
 
--- The reply is no allocation failure.
+-- The reply reports no allocation failure.
 abbrev pub Spares : Reply → Type 0
 Spares reply = is_of_memory reply ≡ false
 
@@ -76,7 +76,7 @@ answer-told names vc answer.MomentTooLate e = arrive-told (codes "5 MomentTooLat
 answer-told names vc answer.JournalFull e = arrive-told (codes "6 JournalFull")
 answer-told names vc answer.NoMemory e = let no : true ≡ false = e in cc
 
--- A step of the desk succeeds, finds no memory, or is refused by a fault.
+-- A step of the desk succeeds, fails to allocate, or is refused with an error.
 pub desk-cases : (P : Type 0) (wrap : DeskFault → Reply) (found : Option DeskFault) (before after : World) (step : Step) (reply : Reply)
     → (Succeeds before step reply after → P) → (FindsNoMemory before step reply after → P)
     → ((fault : DeskFault) → IsRefused before step (wrap fault) reply after → P)
@@ -86,7 +86,7 @@ desk-cases P wrap None before after step reply succeeds lacks refused (inl goes)
 desk-cases P wrap None before after step reply succeeds lacks refused (inr none) = lacks none
 desk-cases P wrap (Some fault) before after step reply succeeds lacks refused is = refused fault is
 
--- The text of a reply to a command, if it spares memory.
+-- If the reply to a command reports no allocation failure, it has a line.
 abbrev Tells : Command → ℕ → Reply → Type 0
 Tells command programs reply = Spares reply → Told (reply_text command programs reply)
 

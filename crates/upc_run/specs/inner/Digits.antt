@@ -1,4 +1,4 @@
--- Digits, one after another.
+-- Digits, one by one.
 use Rattle.std.specs.Prelude.{ℕ, ◌+◌, ◌-◌, ◌*◌, if◌then◌else◌, Option, None}
 use Rattle.upc_run.specs.ScriptWords.{most_number, up_to}
 use Rattle.text_io.specs.Words.{is_digit}

@@ -1,13 +1,13 @@
--- The names of a script's programs, as the code keeps them: the ids in the order in which they were given,
--- and for each slot a number after which no program of that slot has its name.
+-- The names of a script's programs, as the code stores them: the ids in the order in which they were given, and for
+-- each slot a number that no name of a program of this slot exceeds.
 use Rattle.std.specs.Prelude.{◌≡◌, ◌≢◌, ℕ, ◌≤◌, List, length, Some, slice_get}
 use Rattle.gen_arena.specs.declared.id.Id.{Id}
 
--- Of the programs of this slot none has a number above this one.
+-- No program of this slot has a number above this one.
 abbrev pub NoneAbove : List Id → ℕ → ℕ → Type 0
 NoneAbove ids slot number = (place : ℕ) (id : Id) → number ≤ place → slice_get ids place ≡ Some id → id.slot ≢ slot
 
--- What the table has at a slot is such a number, and is one of those that were given, or 0.
+-- The table has such a number for the slot: one of those given, or 0.
 pub record IsLatest (ids : List Id) (slot number : ℕ) : Type 0 where
   pub within : number ≤ length ids
   pub last : NoneAbove ids slot number

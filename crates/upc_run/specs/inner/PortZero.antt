@@ -1,4 +1,4 @@
--- Port 0, which every cell of a script comes to: it is free before each command and after it.
+-- Port 0, which every cell of a script enters. It has no cell before and after each command.
 use Rattle.std.proofs.Common.{◌≡◌, ◌⊎◌, ℕ, inl, inr, Bool, true, false, if◌then◌else◌, List, [], ◌∷◌, Option, Some, None, slice_get, option_map, refl, sym, ap, ◌∙◌, subst}
 use Rattle.std.specs.Prelude.{is_none, slice_set}
 use Rattle.std.specs.Option.{MatchOption}
@@ -21,7 +21,7 @@ use Rattle.upc_run.specs.inner.CardSteps.{desk-cases}
 abbrev pub PortIs : World → PortState → Type 0
 PortIs world state = slice_get world.ports 0 ≡ Some state
 
--- A step of the desk leaves the ports.
+-- A step of the desk leaves the ports unchanged.
 abbrev Same : World → World → Type 0
 Same before after = after.ports ≡ before.ports
 
@@ -55,7 +55,7 @@ cut-ports before after vc reply =
     desk-cases (Same before after) (λ fault. Refused fault) (missing_fault before vc) before after (Cut vc) reply
     (λ s. ap (λ w. w.ports) s.world) (λ l. ap (λ w. w.ports) l.world) (λ fault r. ap (λ w. w.ports) r.world)
 
--- What was put at place 0 is there.
+-- A state that is written to place 0 is there.
 put-there : (states : List PortState) (old new : PortState) → slice_get states 0 ≡ Some old → slice_get (slice_set states 0 new) 0 ≡ Some new
 put-there [] old new e = cc
 put-there (state ∷ states) old new e = refl
@@ -73,7 +73,7 @@ enter-goes before after cell moment reply free step =
       | inr lacks ↦ let no = lacks.answer in cc
     ]
 
--- The result of a pick of the port: an answer, with which the port is free again, or a picked cell.
+-- The result of a pick of port 0: an answer, after which the port has no cell, or a picked cell.
 abbrev pub PickComesTo : Reply → World → Type 0
 PickComesTo reply after =
     ((given : Answer) × (reply ≡ Answered given) × PortIs after outside)
@@ -95,7 +95,7 @@ pick-goes before after cell moment reply had step =
         inr (picking, goes.answer, subst (λ (w : World). PortIs w (picked picking)) (sym goes.world) (put-there before.ports (entered cell moment) (picked picking) had))
     by false (inr lacks) = let no = lacks.answer in cc
 
--- A picked cell is answered, and the port is free again.
+-- A picked cell gets an answer, and the port has no cell.
 pub judge-goes : (before after : World) (picking : Picking) (reply : Reply) → PortIs before (picked picking)
     → WorldStep before (Judge 0) reply after → (given : Answer) × (reply ≡ Answered given) × PortIs after outside
 judge-goes before after picking reply had step =

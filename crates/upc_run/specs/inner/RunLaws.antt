@@ -1,5 +1,5 @@
--- The laws of `run`: every line has an answer in every world that a run reaches, and leads to such a world.
--- They are beside the definitions because the machine of `run` cites them as its laws.
+-- Laws of `run`: in every state that a run reaches, each line has an answer and leads to such a state. They are next to
+-- the definitions because the machine of `run` cites them.
 use Rattle.std.proofs.Common.{◌≡◌, ℕ, zero, suc, ◌^◌, ◌<◌, ◌==◌, ◌||◌, inl, inr, Bool, true, false, if◌then◌else◌, List, [], ◌∷◌, ◌++◌, Option, Some, None, length, codes, slice_get, nat_lt, refl, sym, ap, ◌∙◌, subst, arith}
 use Rattle.std.specs.Prelude.{replicate}
 use Rattle.std.proofs.lemmas.Bool.Decides.{nat_tests}
@@ -53,13 +53,13 @@ use Rattle.upc_run.specs.inner.CardSteps.{Spares, Told, answer-told, cut-told, l
 use Rattle.upc_words.proofs.Public.{reads-as}
 use Rattle.upc_run.specs.inner.PortZero.{PortIs, cut-ports, enter-goes, judge-goes, load-ports, pick-goes, release-ports, reload-ports, retire-ports, setup-ports}
 
--- The names of a log with one more event.
+-- The ids of a log with one more event.
 ids-next : (log : List Event) (step : Step) (reply : Reply) → ids_loaded (log ++ record { step = step; reply = reply } ∷ []) ≡ ids_loaded log ++ id_loaded reply
 ids-next log step reply =
     flat_map-append (λ (event : Event). id_loaded event.reply) log (record { step = step; reply = reply } ∷ [])
     ∙ ap (λ xs. ids_loaded log ++ xs) (append-nil (id_loaded reply))
 
--- A log that leads to this world, and gave these names.
+-- The log leads to this world, and its programs have these ids.
 record Behind (shape : Shape) (log : List Event) (world : World) (names : List Id) : Type 0 where
   leads : Leads shape log world
   known : names ≡ ids_loaded log
@@ -72,7 +72,7 @@ behind-next shape log world after names step reply behind goes = record {
   known = ap (λ xs. xs ++ id_loaded reply) behind.known ∙ sym (ids-next log step reply);
 }
 
--- A step that puts no program in.
+-- A step that loads no program.
 behind-quiet : (shape : Shape) (log : List Event) (world after : World) (names : List Id) (step : Step) (reply : Reply)
     → Behind shape log world names → WorldStep world step reply after → id_loaded reply ≡ []
     → Behind shape (log ++ record { step = step; reply = reply } ∷ []) after names
@@ -99,7 +99,7 @@ led-taken before after command step text led leaves takes =
 led-refused : (before after : Card) (fault text : List ℕ) → IsLed before → Refuses fault before text after → IsLed after
 led-refused before after fault text led refused = subst IsLed (sym refused.1) led
 
--- A step of the desk is taken, and its reply has a text.
+-- A step of the desk is taken, and its reply has a line.
 takes : (before : Card) (command : Command) (step : Step) → IsLed before → LoadsAccepted step
     → ((after : World) (reply : Reply) → WorldStep before.world step reply after → Spares reply → Told (reply_text command (length before.names) reply))
     → (text : List ℕ) × (after : Card) × Takes before command step text after
@@ -111,7 +111,7 @@ takes before command step led accepted told =
       record { reply = replied.0; stepped = replied.2; named = refl; told = line.1 },
     )
 
--- Rates without a fault are buckets' parameters.
+-- Rates without an error are parameters of a bucket.
 none-of : (b : Bool) (fault : GcraFault) (later : Option GcraFault) → (if b then Some fault else later) ≡ None → (b ≡ false) × (later ≡ None)
 none-of true fault later e = cc
 none-of false fault later e = (refl, e)
@@ -154,7 +154,7 @@ contracts-some (ask ∷ later) sound =
     let both = first-none (wanted_fault ask) (first_wanted_fault later) sound in
     let one = contract-some ask both.0 in let others = contracts-some later both.1 in (one.0 ∷ others.0, (one.1, others.1))
 
--- A program of a number, or none.
+-- The program with a number, or none.
 named-some : (found : Option Id) (before : Card) (TakesWith : Id → List ℕ → Card → Type 0)
     → ((id : Id) → (text : List ℕ) × (after : Card) × TakesWith id text after)
     → (text : List ℕ) × (after : Card) × MatchOption found (Refuses no_such_program before text after) (λ id. TakesWith id text after)
@@ -167,7 +167,7 @@ named-led : (found : Option Id) (before after : Card) (text : List ℕ) (TakesWi
 named-led None before after text TakesWith led keeps refused = led-refused before after no_such_program text led refused
 named-led (Some id) before after text TakesWith led keeps takes = keeps id takes
 
--- A program's octets.
+-- The code of accepted octets is accepted.
 accepted-of : (octets : List ℕ) (code : List Instr) → ReadsAs octets (is_program code) → IsAccepted code
 accepted-of octets code (inl spelled) = subst IsAccepted (sym spelled.2.1) spelled.2.0
 accepted-of octets code (inr faulty) = let no = faulty.3 in cc
@@ -200,7 +200,7 @@ load-led : (before after : Card) (digits text : List ℕ) → IsLed before → (
 load-led before after digits text led None refused = led-refused before after bad_hex text led refused
 load-led before after digits text led (Some octets) loads = reading-led before after digits text led loads.0 loads.2
 
--- A cell.
+-- The line of a cell has an answer.
 cell-some : (before : Card) (moment : ℕ) (octets : List ℕ) → IsLed before → (text : List ℕ) × (after : Card) × Polices before moment octets text after
 cell-some before moment octets led =
     let one = step-replied led.shape led.log before.world led.leads (Enter 0 octets moment) tt in
@@ -256,7 +256,7 @@ cell-led before after moment octets text led polices =
     let came = behind-quiet led.shape led.log before.world arrived.0 before.names (Enter 0 octets moment) Entered (behind-of before led) arrived.1 refl in
     answered-led before after led.shape _ arrived.0 octets moment polices.answer came entering.1 polices.same arrived.2
 
--- Octets that come as a cell.
+-- The line of a word of octets has an answer.
 sized-some : (before : Card) (moment : ℕ) (octets : List ℕ) → IsLed before → (b : Bool)
     → (text : List ℕ) × (after : Card) × MatchBool b (Polices before moment octets text after) (Refuses (wrong_length (length octets)) before text after)
 sized-some before moment octets led true = cell-some before moment octets led
@@ -277,7 +277,7 @@ digits-led : (before after : Card) (moment : ℕ) (text : List ℕ) → IsLed be
 digits-led before after moment text led None refused = led-refused before after bad_hex text led refused
 digits-led before after moment text led (Some octets) polices = sized-led before after moment (cell_of octets) text led (length (cell_of octets) == 52) polices
 
--- A connection is set up.
+-- The line of a setup has an answer.
 wanted-some : (before : Card) (vc : Vc) (number : ℕ) (wanted : List Wanted) → IsLed before → (found : Option GcraFault) → first_wanted_fault wanted ≡ found
     → (text : List ℕ) × (after : Card) × MatchOption found (TakesNamed before (setup vc number wanted) number (Asks before vc number wanted) text after)
     (λ fault. Refuses (gcra_fault fault) before text after)
@@ -298,7 +298,7 @@ wanted-led before after vc number wanted text led None takes =
     (λ id asks. led-taken before after (setup vc number wanted) (Setup asks.ask) text led (setup-ports before.world after.world asks.ask) asks.taken) takes
 wanted-led before after vc number wanted text led (Some fault) refused = led-refused before after _ text led refused
 
--- A command.
+-- Each command has an answer.
 command-some : (before : Card) → IsLed before → (command : Command) → (text : List ℕ) × (after : Card) × Obeys before command text after
 command-some before led (load digits) = load-some before digits led (octets_of digits)
 command-some before led (retire number) =
@@ -339,7 +339,7 @@ line-led : (before after : Card) (text : List ℕ) → IsLed before → (found :
 line-led before after text led None refused = led-refused before after bad_line text led refused
 line-led before after text led (Some command) obeys = command-led before after text led command obeys
 
--- The line that opens a card.
+-- The line that opens a card has an answer.
 opens-some : (shape : Shape) → (found : Option CardFault) → (text : List ℕ) × (next : Option RunWorld)
     × MatchOption found ((text ≡ codes "ready\n") × (next ≡ Some (Some (new_card shape)))) (λ fault. EndsBy (shape_fault_line fault) text next)
 opens-some shape None = (codes "ready\n", Some (Some (new_card shape)), (refl, refl))

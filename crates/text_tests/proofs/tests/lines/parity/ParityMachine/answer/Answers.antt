@@ -1,4 +1,4 @@
--- The stored bit is that of every list that is shown.
+-- The stored bit is right for every list of lines that the machine may have read.
 use Rattle.std.proofs.Common.{ap, refl, ◌∙◌, ◌∷◌, not}
 use Rattle.text_tests.specs.examples.Parity.{answer_of}
 use Rattle.text_tests.proofs.tests.lines.parity.ParityMachine.answer.Goals as goal
