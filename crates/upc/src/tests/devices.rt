@@ -2,8 +2,8 @@
 
 ghost use Rattle.std.specs.Prelude.{◌≡◌, drop};
 
-use crate::Choice;
-use crate::subcommand::run_subcommand;
+use crate::subcommand::run_alone;
+use crate::{Choice, run_ports};
 use std::alloc::{AllocError, Global};
 use std::process::Abort;
 use std::sync::Wait;
@@ -156,7 +156,12 @@ pub fn run_over<R: Threads + Wait + Sync>(
 ) -> (Result<Done, RunFault>, Vec<u8>) {
     let mut input = Dropper::new(octets, takes);
     let mut output = Catcher::new(alloc, gives);
-    let ended = run_subcommand(rt, alloc, choice, &mut input, &mut output);
+    let ended = match choice {
+        Choice::Ports => run_ports(rt, alloc, &mut input, &mut output),
+        Choice::Check | Choice::Eval | Choice::Run => {
+            run_alone(alloc, choice, &mut input, &mut output)
+        }
+    };
     (ended, output.held)
 }
 
