@@ -1,9 +1,11 @@
--- The effect of the program for its words, and its exit status.
+-- The effect of the program for its words, and its exit status. `I`, `O` and `E` are the ghost members of the types of
+-- the input, the output and the error output. A name with a prime is the device after the run.
 use Rattle.std.specs.Prelude.{◌≡◌, ◌⊎◌, ℕ, List, ◌++◌, codes, Result, Ok, Err}
 use Rattle.std.specs.String.{string_bytes}
-use Rattle.text_io.specs.Devices.{Adds, IsPart, TakesEnough, one_more}
-use Rattle.text_io.specs.Limits.{most_ahead}
-use Rattle.text_io.specs.Printing.{IsFront}
+use Rattle.text_io.specs.Devices.{IsPart, one_more}
+use Rattle.text_io.specs.Serving.{IsServed}
+use Rattle.text_io.specs.declared.device.Input.{Ghosts as InputView}
+use Rattle.text_io.specs.declared.device.Output.{Ghosts as OutputView}
 use Rattle.text_io.specs.declared.ending.Done.{Done}
 use Rattle.text_io.specs.declared.ending.RunFault.{RunFault}
 use Rattle.text_io.specs.declared.ending.RunFault.TheVariants.{ReadFailed, WriteFailed, NoMemory}
@@ -13,18 +15,6 @@ use Rattle.upc.specs.declared.choice.Choice.{Choice}
 use Rattle.upc.specs.declared.choice.Stop.{Stop}
 use Rattle.upc.specs.declared.choice.Stop.TheVariants.{Help, Words, NoMemory as LacksMemory}
 
--- The devices before and after a run: the octets of the input and those left, the content of the output and of the
--- error output (`silence` and `said`), and the failure count of the error output.
-pub record Devices : Type 0 where
-  pub input : List ℕ
-  pub left : List ℕ
-  pub before : List ℕ
-  pub after : List ℕ
-  pub silence : List ℕ
-  pub said : List ℕ
-  pub failures : ℕ
-  pub failures' : ℕ
-
 -- The message for each failure.
 abbrev pub failure_line : RunFault → List ℕ
 failure_line ReadFailed = codes "upc: reading failed\n"
@@ -32,34 +22,34 @@ failure_line WriteFailed = codes "upc: writing failed\n"
 failure_line NoMemory = codes "upc: out of memory\n"
 
 -- The message was written to the error output, or that failed and only a prefix was written.
-abbrev pub Tells : Devices → List ℕ → Type 0
-Tells devices text =
-    (devices.said ≡ devices.silence ++ text)
-    ⊎ (IsPart devices.silence devices.said text × (devices.failures' ≡ one_more devices.failures))
+abbrev pub Tells : {Errors : Type 0} → OutputView Errors → Errors → Errors → List ℕ → Type 0
+Tells E errors errors' text =
+    (E.held errors' ≡ E.held errors ++ text)
+    ⊎ (IsPart (E.held errors) (E.held errors') text × (E.failures errors' ≡ one_more (E.failures errors)))
 
--- How a subcommand ends. Ok: it wrote its text, read no more than it needed and at most a window, and printed no error.
--- Err: it wrote a prefix of a text and printed the failure.
-abbrev pub EndsBy : Choice → Result Done RunFault → Devices → Type 0
-EndsBy choice (Ok done) devices =
-    Adds (λ text. IsTextOf choice devices.input text done) devices.before devices.after
-    × TakesEnough (λ octets. (text : List ℕ) × IsTextOf choice octets text done) most_ahead devices.input devices.left
-    × (devices.said ≡ devices.silence)
-EndsBy choice (Err fault) devices =
-    Adds (IsFront (IsTextOf choice devices.input)) devices.before devices.after × Tells devices (failure_line fault)
+-- The message for a failed run was written to the error output. After any other run nothing was written to it.
+abbrev pub Reports : {Errors : Type 0} → OutputView Errors → Errors → Errors → Result Done RunFault → Type 0
+Reports E errors errors' (Ok done) = E.held errors' ≡ E.held errors
+Reports E errors errors' (Err fault) = Tells E errors errors' (failure_line fault)
 
--- Nothing was written and nothing was read.
-abbrev pub IsIdle : Devices → Type 0
-IsIdle devices = (devices.after ≡ devices.before) × (devices.left ≡ devices.input)
+-- Nothing was written to the output and nothing was read.
+abbrev pub IsIdle : {Source Sink : Type 0} → InputView Source → Source → Source → OutputView Sink → Sink → Sink → Type 0
+IsIdle I input input' O output output' = (O.held output' ≡ O.held output) × (I.rest input' ≡ I.rest input)
 
 -- The effect of the program, and its exit status. A choice is run. Help is written to the output. A message about the
--- words is written to the error output. If the help can't be written, the status is that of a failed run.
-abbrev pub CarriesOut : Result Choice Stop → Devices → ℕ → Type 0
-CarriesOut (Ok choice) devices status = (ended : Result Done RunFault) × (status ≡ status_of ended) × EndsBy choice ended devices
-CarriesOut (Err (Help text)) devices status =
-    ((status ≡ 0) × (devices.after ≡ devices.before ++ string_bytes text) × (devices.said ≡ devices.silence))
-    ⊎ ((status ≡ 3) × IsPart devices.before devices.after (string_bytes text) × Tells devices (failure_line WriteFailed))
-CarriesOut (Err (Words text)) devices status = (status ≡ 2) × IsIdle devices × Tells devices (string_bytes text)
-CarriesOut (Err LacksMemory) devices status = (status ≡ 3) × IsIdle devices × Tells devices (failure_line NoMemory)
+-- words goes to the error output. If the help can't be written, the status is that of a failed run.
+abbrev pub CarriesOut : {Source Sink Errors : Type 0} → Result Choice Stop → InputView Source → Source → Source
+    → OutputView Sink → Sink → Sink → OutputView Errors → Errors → Errors → ℕ → Type 0
+CarriesOut (Ok choice) I input input' O output output' E errors errors' status =
+    (ended : Result Done RunFault) × (status ≡ status_of ended)
+    × IsServed (IsTextOf choice) I input input' O output output' ended × Reports E errors errors' ended
+CarriesOut (Err (Help text)) I input input' O output output' E errors errors' status =
+    ((status ≡ 0) × (O.held output' ≡ O.held output ++ string_bytes text) × (E.held errors' ≡ E.held errors))
+    ⊎ ((status ≡ 3) × IsPart (O.held output) (O.held output') (string_bytes text) × Tells E errors errors' (failure_line WriteFailed))
+CarriesOut (Err (Words text)) I input input' O output output' E errors errors' status =
+    (status ≡ 2) × IsIdle I input input' O output output' × Tells E errors errors' (string_bytes text)
+CarriesOut (Err LacksMemory) I input input' O output output' E errors errors' status =
+    (status ≡ 3) × IsIdle I input input' O output output' × Tells E errors errors' (failure_line NoMemory)
 
 -- The exit status. No more is promised for devices whose octets no contract knows.
 abbrev pub IsStatusFor : Result Choice Stop → ℕ → Type 0

@@ -10,10 +10,10 @@ use Rattle.text_io.specs.declared.ending.Done.{Done}
 
 -- The output for a whole input, and how the run ends. For `ports`, IsPortsText doesn't fix every answer.
 abbrev pub IsTextOf : Choice → List ℕ → List ℕ → Done → Type 0
-IsTextOf Check octets text done = IsCheckText octets text done
-IsTextOf Eval octets text done = IsEvalText octets text done
-IsTextOf Run octets text done = IsRunText octets text done
-IsTextOf Ports octets text done = IsPortsText octets text done
+IsTextOf Check = IsCheckText
+IsTextOf Eval = IsEvalText
+IsTextOf Run = IsRunText
+IsTextOf Ports = IsPortsText
 
 -- The subcommands whose output the definition fixes. For `ports` it leaves open the answers to cells.
 abbrev pub IsToldWhole : Choice → Type 0

@@ -1,17 +1,18 @@
 //! Runs the program over three devices and returns its exit status.
 
-ghost use Rattle.std.specs.Prelude.{◌≡◌, ◌≢◌, ◌⊎◌, ◌++◌, Ok as TheOk, OnOk, OnErr, IfOk};
-ghost use Rattle.text_io.specs.Devices.{IsPart, one_more};
-ghost use Rattle.upc.specs.Invocation.{CarriesOut, IsStatusFor, failure_line};
+ghost use Rattle.std.specs.Prelude.{◌≡◌, ◌≢◌, Ok as TheOk};
+ghost use Rattle.upc.specs.ExitStatus.{status_of};
+ghost use Rattle.upc.specs.Invocation.{CarriesOut, IsStatusFor, Reports, Tells, failure_line};
 ghost use Rattle.upc.specs.declared.choice.Choice.TheVariants.{Ports};
 
 use crate::choice::{Choice, Stop};
 use crate::exit::status;
-use crate::subcommand::{run_alone, run_subcommand};
+use crate::subcommand::run_alone;
 use std::alloc::Global;
 use std::sync::Wait;
 use std::thread::Threads;
-use text_io::{Input, Output, RunFault, give_all};
+use text_io::{Done, Input, Output, RunFault, give_all};
+use upc_ports::run_ports;
 
 /// The message for a failure.
 fn line_of(fault: RunFault) -> &'static [u8]
@@ -26,26 +27,27 @@ fn line_of(fault: RunFault) -> &'static [u8]
 
 /// Writes a message to the error output. If that fails too, the failure is ignored.
 fn tell<E: Output>(errors: &mut E, text: &[u8])
-    ensures { E.is_known → (E.held errors.new ≡ E.held errors.old ++ text.now)
-        ⊎ (IsPart (E.held errors.old) (E.held errors.new) text.now
-        × (E.failures errors.new ≡ one_more (E.failures errors.old))) }
+    ensures { E.is_known → Tells E.Output errors.old errors.new text.now }
 {
     let _ = give_all(errors, text);
 }
 
-/// Writes the message for a failure, and returns the exit status.
-fn tell_failure<E: Output>(errors: &mut E, fault: RunFault) -> u8
-    ensures status { result ≡ 3 }
-    ensures told { E.is_known → (E.held errors.new ≡ E.held errors.old ++ failure_line fault)
-        ⊎ (IsPart (E.held errors.old) (E.held errors.new) (failure_line fault)
-        × (E.failures errors.new ≡ one_more (E.failures errors.old))) }
+/// Writes the message for a failed run, and returns the exit status of any run.
+fn report<E: Output>(errors: &mut E, ended: Result<Done, RunFault>) -> u8
+    ensures status { result ≡ status_of ended }
+    ensures told { E.is_known → Reports E.Output errors.old errors.new ended }
 {
-    tell(errors, line_of(fault));
-    status(&Err(fault))
+    match ended {
+        Ok(_) => status(&ended),
+        Err(fault) => {
+            tell(errors, line_of(fault));
+            status(&ended)
+        }
+    }
 }
 
-/// Runs what the words ask for, and returns the exit status. It runs the subcommand, writes the help, or writes a
-/// message about the words; a failure also gets a message. It always terminates. `ports` is excluded.
+/// Does what the words ask for, except `ports`, and returns the exit status. It runs the subcommand, writes the help,
+/// or writes a message about the words; a failure also gets a message. It uses one thread and always terminates.
 pub fn carry_out_alone<I: Input, O: Output, E: Output>(
     alloc: Global,
     chosen: Result<Choice, Stop>,
@@ -54,40 +56,29 @@ pub fn carry_out_alone<I: Input, O: Output, E: Output>(
     errors: &mut E,
 ) -> u8
     requires alone { chosen ≢ TheOk Ports }
-    ensures carried { I.is_known → O.is_known → E.is_known → CarriesOut chosen
-        (record {
-          input = I.rest input.old;
-          left = I.rest input.new;
-          before = O.held output.old;
-          after = O.held output.new;
-          silence = E.held errors.old;
-          said = E.held errors.new;
-          failures = E.failures errors.old;
-          failures' = E.failures errors.new;
-        }) result }
+    ensures carried { I.is_known → O.is_known → E.is_known → CarriesOut chosen I.Input input.old input.new
+        O.Output output.old output.new E.Output errors.old errors.new result }
     ensures status { IsStatusFor chosen result }
 {
     match chosen {
         Ok(choice) => {
             let ended = run_alone(alloc, choice, input, output);
-            match ended {
-                Ok(_) => status(&ended),
-                Err(fault) => tell_failure(errors, fault),
-            }
+            report(errors, ended)
         }
         Err(Stop::Help(text)) => match give_all(output, text.as_bytes()) {
             Ok(()) => 0,
-            Err(_) => tell_failure(errors, RunFault::WriteFailed),
+            Err(_) => report(errors, Err(RunFault::WriteFailed)),
         },
         Err(Stop::Words(text)) => {
             tell(errors, text.as_bytes());
             2
         }
-        Err(Stop::NoMemory) => tell_failure(errors, RunFault::NoMemory),
+        Err(Stop::NoMemory) => report(errors, Err(RunFault::NoMemory)),
     }
 }
 
-/// Runs what the words ask for, and returns the exit status. Only `ports` starts threads and waits for them.
+/// Does what the words ask for, and returns the exit status. Only `ports` starts threads and waits for them. For all
+/// else it calls [`carry_out_alone`].
 pub fn carry_out<R: Threads + Wait + Sync, I: Input, O: Output, E: Output>(
     rt: &R,
     alloc: Global,
@@ -96,27 +87,15 @@ pub fn carry_out<R: Threads + Wait + Sync, I: Input, O: Output, E: Output>(
     output: &mut O,
     errors: &mut E,
 ) -> u8
-    ensures carried { I.is_known → O.is_known → E.is_known → CarriesOut chosen
-        (record {
-          input = I.rest input.old;
-          left = I.rest input.new;
-          before = O.held output.old;
-          after = O.held output.new;
-          silence = E.held errors.old;
-          said = E.held errors.new;
-          failures = E.failures errors.old;
-          failures' = E.failures errors.new;
-        }) result }
+    ensures carried { I.is_known → O.is_known → E.is_known → CarriesOut chosen I.Input input.old input.new
+        O.Output output.old output.new E.Output errors.old errors.new result }
     ensures status { IsStatusFor chosen result }
 {
     match chosen {
-        Ok(choice) => {
-            let ended = run_subcommand(rt, alloc, choice, input, output);
-            match ended {
-                Ok(_) => status(&ended),
-                Err(fault) => tell_failure(errors, fault),
-            }
+        Ok(Choice::Ports) => {
+            let ended = run_ports(rt, alloc, input, output);
+            report(errors, ended)
         }
-        Err(stop) => carry_out_alone(alloc, Err(stop), input, output, errors),
+        others => carry_out_alone(alloc, others, input, output, errors),
     }
 }

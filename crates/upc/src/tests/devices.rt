@@ -1,7 +1,7 @@
 //! Subcommands over devices that move one octet a call and fail at a given call.
 
-use crate::Choice;
-use crate::subcommand::run_subcommand;
+use crate::subcommand::run_alone;
+use crate::{Choice, run_ports};
 use std::alloc::{AllocError, Global};
 use std::process::Abort;
 use std::sync::Wait;
@@ -77,7 +77,12 @@ pub fn run_over<R: Threads + Wait + Sync>(
 ) -> (Result<Done, RunFault>, Vec<u8>) {
     let mut input = FaultyInput::new(octets, takes);
     let mut output = FaultyOutput::new(alloc, gives);
-    let ended = run_subcommand(rt, alloc, choice, &mut input, &mut output);
+    let ended = match choice {
+        Choice::Ports => run_ports(rt, alloc, &mut input, &mut output),
+        Choice::Check | Choice::Eval | Choice::Run => {
+            run_alone(alloc, choice, &mut input, &mut output)
+        }
+    };
     (ended, output.held)
 }
 
