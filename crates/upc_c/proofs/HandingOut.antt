@@ -73,7 +73,7 @@ of-desk GoingOn vc = refl
 
 -- The card is unchanged up to the step.
 pub journal-fault-from : (first before after : UpcCard) (path channel : ℕ) (vc : Vc) (when : HandOut) (room : List UpcEntry) (found : UpcFault)
-    → card_in before ≡ card_in first → IsVc path channel vc
+    → card_in before ≡ card_in first → IsVc first path channel vc
     → IsDeskFault before after (step_of when vc) found ⊎ IsLongerOn before vc (length room) found
     → IsJournalFault first after path channel (step_of when) room found
 journal-fault-from first before after path channel vc when room found same numbers (inl desk) =

@@ -1,5 +1,5 @@
 -- The desk of a card that C has: its programs and connections.
-use Rattle.std.specs.Prelude.{◌≡◌, ◌⊎◌, ◌<◌, ℕ, List, [], ◌∷◌, length, Option, Some, None, ⊤}
+use Rattle.std.specs.Prelude.{◌≡◌, ◌≤◌, ◌⊎◌, ◌<◌, ℕ, List, [], ◌∷◌, length, Option, Some, None, ⊤}
 use Rattle.bpf_code.specs.OctetSpelling.{SpellsCode}
 use Rattle.bpf_code.specs.declared.instr.Instr.{Instr}
 use Rattle.bpf_verify.specs.Accepted.{IsAccepted}
@@ -85,6 +85,10 @@ AreContracts [] (contract ∷ later) = ⊥
 AreContracts (given ∷ others) [] = ⊥
 AreContracts (given ∷ others) (contract ∷ later) = IsContract given contract × AreContracts others later
 
+-- There are contracts with these numbers.
+abbrev pub AreAllContracts : List UpcContract → Type 0
+AreAllContracts given = (contracts : List Contract) × AreContracts given contracts
+
 -- The first of these that is no contract has this error.
 abbrev pub IsFirstContractFault : List UpcContract → UpcFault → Type 0
 IsFirstContractFault [] fault = ⊥
@@ -108,30 +112,33 @@ path_too_large = plain_fault 1 10 0
 abbrev pub HasNoPath : UpcCard → ℕ → Type 0
 HasNoPath card path = (shape : Shape) × IsShapeIn card shape × (last_vpi shape.side < path)
 
--- The virtual connection of this path and channel.
-pub record IsVc (vpi vci : ℕ) (vc : Vc) : Type 0 where
+-- There is a card, its side has this path, and this is the virtual connection of the path and the channel.
+pub record IsVc (card : UpcCard) (vpi vci : ℕ) (vc : Vc) : Type 0 where
+  pub shape : Shape
+  pub has : IsShapeIn card shape
+  pub within : vpi ≤ last_vpi shape.side
   pub path : vc.vpi ≡ vpi
   pub channel : vc.vci ≡ vci
 
 -- The request to the desk with these numbers.
-pub record IsAsk (path channel : ℕ) (named : UpcId) (given : List UpcContract) (ask : Ask) : Type 0 where
-  pub vc : IsVc path channel ask.vc
+pub record IsAsk (card : UpcCard) (path channel : ℕ) (named : UpcId) (given : List UpcContract) (ask : Ask) : Type 0 where
+  pub vc : IsVc card path channel ask.vc
   pub program : ask.program ≡ id_of named
   pub contracts : AreContracts given ask.contracts.items
 
 -- The connection was set up.
 abbrev pub IsSetUp : UpcCard → UpcCard → ℕ → ℕ → UpcId → List UpcContract → Type 0
-IsSetUp before after path channel program given = (ask : Ask) × IsAsk path channel program given ask
+IsSetUp before after path channel program given = (ask : Ask) × IsAsk before path channel program given ask
     × ((owner : Owner) × Takes before after (Setup ask) (SetUp owner))
 
--- The error if no connection was set up: that of the contracts; or there is no card; or the card has no such path; or
--- the step has an error.
+-- The error if no connection was set up: that of the contracts; then, there is no card; then, the card's side has no
+-- such path; then, the step has an error.
 abbrev pub IsSetupFault : UpcCard → UpcCard → ℕ → ℕ → UpcId → List UpcContract → UpcFault → Type 0
 IsSetupFault before after path channel program given fault =
     IsContractsFault given fault
-    ⊎ ((card_in before ≡ None) × (fault ≡ card_missing))
-    ⊎ (HasNoPath before path × (fault ≡ path_too_large))
-    ⊎ ((ask : Ask) × IsAsk path channel program given ask × IsDeskFault before after (Setup ask) fault)
+    ⊎ (AreAllContracts given × (card_in before ≡ None) × (fault ≡ card_missing))
+    ⊎ (AreAllContracts given × HasNoPath before path × (fault ≡ path_too_large))
+    ⊎ ((ask : Ask) × IsAsk before path channel program given ask × IsDeskFault before after (Setup ask) fault)
 
 -- The program was retired.
 abbrev pub IsRetired : UpcCard → UpcCard → UpcId → Type 0
@@ -139,13 +146,13 @@ IsRetired before after id = (code : List Instr) × Takes before after (Retire (i
 
 -- The connection got this program instead of the earlier one.
 abbrev pub IsReloaded : UpcCard → UpcCard → ℕ → ℕ → UpcId → UpcId → Type 0
-IsReloaded before after path channel program earlier = (vc : Vc) × IsVc path channel vc
+IsReloaded before after path channel program earlier = (vc : Vc) × IsVc before path channel vc
     × Takes before after (Reload vc (id_of program)) (Reloaded (id_of earlier))
 
--- The error of a step for the connection of this path and channel: there is no card; or the card has no such path; or
--- the step has an error.
+-- The error of a step for the connection of this path and channel: there is no card; then, the card's side has no such
+-- path; then, the step has an error.
 abbrev pub IsConnectionFault : UpcCard → UpcCard → ℕ → ℕ → (Vc → Step) → UpcFault → Type 0
 IsConnectionFault before after path channel step fault =
     ((card_in before ≡ None) × (fault ≡ card_missing))
     ⊎ (HasNoPath before path × (fault ≡ path_too_large))
-    ⊎ ((vc : Vc) × IsVc path channel vc × IsDeskFault before after (step vc) fault)
+    ⊎ ((vc : Vc) × IsVc before path channel vc × IsDeskFault before after (step vc) fault)

@@ -30,7 +30,7 @@ HasConnection world vc IsSo =
 -- holds of it.
 pub record OfConnection (card : UpcCard) (path channel : ℕ) (IsSo : World → Connection → Type 0) : Type 0 where
   pub vc : Vc
-  pub numbers : IsVc path channel vc
+  pub numbers : IsVc card path channel vc
   pub core : CoreView
   pub had : card_in card ≡ Some core
   pub so : (world : World) → CoreAgrees core world → HasConnection world vc (IsSo world)
@@ -48,12 +48,13 @@ HasCounted card path channel counts =
 -- The card has no connection of this path and channel.
 pub record IsMissing (card : UpcCard) (path channel : ℕ) : Type 0 where
   pub vc : Vc
-  pub numbers : IsVc path channel vc
+  pub numbers : IsVc card path channel vc
   pub core : CoreView
   pub had : card_in card ≡ Some core
   pub none : (world : World) → CoreAgrees core world → connection_in world.connections vc ≡ None
 
--- The error of a read of the connection: there is no card; or the card has no such path; or it has no such connection.
+-- The error of a read of the connection: there is no card; then, the card's side has no such path; then, it has no such
+-- connection.
 abbrev pub IsLookUpFault : UpcCard → ℕ → ℕ → UpcFault → Type 0
 IsLookUpFault card path channel fault =
     ((card_in card ≡ None) × (fault ≡ card_missing))

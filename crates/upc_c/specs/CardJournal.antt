@@ -45,7 +45,7 @@ told_journal piece = record {
 -- its entries, and `told` has the rest.
 pub record IsHandedOut (before after : UpcCard) (path channel : ℕ) (step : Vc → Step) (reply : PieceView → Reply) (room written : List UpcEntry) (told : UpcJournal) : Type 0 where
   pub vc : Vc
-  pub numbers : IsVc path channel vc
+  pub numbers : IsVc before path channel vc
   pub piece : PieceView
   pub taken : Takes before after (step vc) (reply piece)
   pub entries : AreWritten piece.entries room written
@@ -66,7 +66,7 @@ abbrev pub IsLongerThan : UpcCard → ℕ → ℕ → List UpcEntry → UpcFault
 IsLongerThan card path channel room fault =
     (cells : ℕ) × HasInJournal card path channel cells × (length room < cells) × (fault ≡ no_room cells)
 
--- The error if no journal was returned: that of the step, or the buffer is too small.
+-- The error if no journal was returned: that of the step; then, the buffer is too small.
 abbrev pub IsJournalFault : UpcCard → UpcCard → ℕ → ℕ → (Vc → Step) → List UpcEntry → UpcFault → Type 0
 IsJournalFault before after path channel step room fault =
     IsConnectionFault before after path channel step fault ⊎ IsLongerThan before path channel room fault

@@ -26,7 +26,7 @@ pub(crate) fn vc_on(
     path: u16,
     channel: u16,
 ) -> Result<Vc, UpcFault>
-    ensures vc { IfOk result (IsVc path channel) }
+    ensures vc { IfOk result (IsVc card.old path channel) }
     ensures fault { IfErr result (λ fault. ((card_in card.old ≡ None) × (fault ≡ card_missing))
         ⊎ (HasNoPath card.old path × (fault ≡ path_too_large))) }
     ensures kept { card_in card.new ≡ card_in card.old }
