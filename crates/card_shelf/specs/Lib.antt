@@ -5,6 +5,7 @@
 pub mod Dealing
 pub mod Shelf
 pub mod Policing
+pub mod Room
 pub mod Programs
 pub mod Own
 pub mod Logs

@@ -4,3 +4,4 @@ pub mod Cards
 pub mod Places
 pub mod Gathered
 pub mod Retiring
+pub mod Rooms

@@ -1,6 +1,6 @@
 //! One card of a shelf.
 
-ghost use Rattle.std.specs.Prelude.{◌≡◌, ◌<◌, All, None, OnOk, length};
+ghost use Rattle.std.specs.Prelude.{◌≡◌, ◌<◌, ◌≤◌, All, None, OnErr, OnOk, length, vec_capacity};
 ghost use Rattle.card_core.specs.Inspection.{load_fault_of, IsRetireFault};
 ghost use Rattle.card_shelf.specs.Own.{ServesAll};
 ghost use Rattle.card_shelf.specs.Programs.{LoadsOn, RetiresOn};
@@ -27,6 +27,8 @@ impl Card {
     pub(crate) fn make_room(&mut self, many: usize) -> Result<(), AllocError>
         ensures core { self.new.core ≡ self.old.core }
         ensures ready { OnOk result (IsReady self.new many) }
+        ensures grown { vec_capacity self.old.told ≤ vec_capacity self.new.told }
+        ensures full { OnErr result (vec_capacity self.old.told < many) }
     {
         self.told.clear();
         self.told.reserve(many)
@@ -39,6 +41,7 @@ impl Card {
         requires rest { IsAtRest self.old.core }
         ensures served { ServesAll self.old.core (picked arrivals.now places.now) self.new.told.items self.new.core }
         ensures rest { IsAtRest self.new.core }
+        ensures capacity { vec_capacity self.new.told ≡ vec_capacity self.old.told }
     {
         for place in places {
             let arrival = &arrivals[*place];

@@ -28,3 +28,14 @@ pub enum ProgramFault {
     #[error("3 Card {0}: {1}")]
     Card(usize, DeskFault),
 }
+
+/// Why a batch doesn't fit a room. It is printed as its number and its name.
+#[derive(Clone, Copy, Debug, PartialEq, Eq, Error)]
+pub enum NoRoom {
+    /// The batch has more arrivals than the room is for.
+    #[error("1 Arrivals")]
+    Arrivals,
+    /// The shelf has more cards than the room is for.
+    #[error("2 Cards")]
+    Cards,
+}

@@ -3,6 +3,7 @@
 #![tactic(auto)]
 
 mod arrival;
+mod batch;
 mod card;
 mod copying;
 mod dealing;
@@ -11,12 +12,14 @@ mod gathering;
 pub mod laws;
 mod loading;
 mod retiring;
+mod room;
 mod running;
 mod shelf;
 mod sums;
 
 pub use arrival::{Arrival, Told};
-pub use fault::{ProgramFault, ShelfFault};
+pub use fault::{NoRoom, ProgramFault, ShelfFault};
+pub use room::Room;
 pub use shelf::{MOST_CARDS, Shelf};
 
 #[cfg(test)]

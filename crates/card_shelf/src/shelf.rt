@@ -5,9 +5,10 @@ ghost use Rattle.std.specs.Prelude.{◌≡◌, ℕ};
 use crate::arrival::{Arrival, Told};
 use crate::card::Card;
 use crate::dealing::card_of;
-use crate::fault::{ProgramFault, ShelfFault};
+use crate::fault::{NoRoom, ProgramFault, ShelfFault};
 use crate::loading::load_all;
 use crate::retiring::retire_all;
+use crate::room::Room;
 use crate::running::{police_all, step_on};
 use crate::sums::totals_of;
 use bpf_verify::Program;
@@ -40,7 +41,7 @@ impl Model for Shelf {
 }
 
 impl Shelf {
-    ghost use Rattle.std.specs.Prelude.{◌≡◌, ◌⊎◌, ◌<◌, ◌↔◌, ℕ, length, None, Some, Err, IsOk, IsSome, IfOk, IfErr, IfSome, IfNone, OnOk, OnErr, MatchResult, slice_get};
+    ghost use Rattle.std.specs.Prelude.{◌≡◌, ◌⊎◌, ◌<◌, ◌≤◌, ◌↔◌, ℕ, length, None, Some, Err, IsOk, IsSome, IfOk, IfErr, IfSome, IfNone, OnOk, OnErr, MatchResult, slice_get};
     ghost use Rattle.card_core.specs.Agreement.{CoreAgrees};
     ghost use Rattle.card_core.specs.World.{opening_world};
     ghost use Rattle.card_shelf.specs.Dealing.{card_of};
@@ -49,6 +50,7 @@ impl Shelf {
     ghost use Rattle.card_shelf.specs.Policing.{PolicesAll};
     ghost use Rattle.card_shelf.specs.Own.{EachServes};
     ghost use Rattle.card_shelf.specs.OneCard.{TellsAsOneCard};
+    ghost use Rattle.card_shelf.specs.Room.{IsNoRoom};
     ghost use Rattle.card_shelf.specs.Programs.{LoadsEach, IsLoadRefusal, RetiresEach, IsRetireRefusal};
     ghost use Rattle.card_shelf.specs.Sums.{totals_of_cards};
 
@@ -255,6 +257,46 @@ impl Shelf {
         ensures unchanged { OnErr result (self.new ≡ self.old) }
     {
         self.police_cards(rt, alloc, arrivals, threads)
+    }
+
+    /// Polices arrivals as [`Shelf::police`] does, in room that the caller lends. The answers are in the room afterwards, in
+    /// place of those to the last batch. Nothing is allocated. It is proved that the call fails only if the batch or the
+    /// shelf is too large for the room. That it allocates nothing was checked by reading. The stacks of the threads are the
+    /// system's.
+    ///
+    /// # Errors
+    ///
+    /// Nothing has changed: `Arrivals`, if the room is for fewer arrivals. Then `Cards`, if it is for fewer cards.
+    pub fn police_in<R: Threads + Sync>(
+        &mut self,
+        rt: &R,
+        room: &mut Room,
+        arrivals: &[Arrival],
+        threads: usize,
+    ) -> Result<(), NoRoom>
+        ensures fits { IsOk result ↔ ((length arrivals.now ≤ room.old.most) × (length self.old.cards ≤ room.old.cards)) }
+        ensures refused { IfErr result (IsNoRoom room.old (length arrivals.now) (length self.old.cards)) }
+        ensures policed { OnOk result
+            (PolicesAll self.old.shape.side self.old.cards arrivals.now room.new.told self.new.cards) }
+        ensures each { OnOk result
+            (EachServes self.old.shape.side self.old.cards arrivals.now room.new.told self.new.cards) }
+        ensures as_one { OnOk result
+            (TellsAsOneCard self.old.shape self.old.cards arrivals.now room.new.told self.new.cards) }
+        ensures one_each { OnOk result (length room.new.told ≡ length arrivals.now) }
+        ensures shape { self.new.shape ≡ self.old.shape }
+        ensures most { room.new.most ≡ room.old.most }
+        ensures cards { room.new.cards ≡ room.old.cards }
+        ensures unchanged { OnErr result ((self.new ≡ self.old) × (room.new ≡ room.old)) }
+    {
+        if arrivals.len() > room.most() {
+            return Err(NoRoom::Arrivals);
+        }
+        if self.cards() > room.cards() {
+            return Err(NoRoom::Cards);
+        }
+        let side = self.shape().side;
+        room.police(rt, side, self.cards.as_mut_slice(), arrivals, threads);
+        Ok(())
     }
 
     /// The policing. That a shelf tells what one card tells follows from what this promises, and [`Shelf::police`] says it.
