@@ -1,4 +1,4 @@
--- What only private functions and proofs speak of.
+-- Definitions for private functions and proofs alone.
 pub mod Rest
 pub mod Cards
 pub mod Places

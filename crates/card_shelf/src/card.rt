@@ -14,8 +14,8 @@ use card_core::Core;
 use gen_arena::Id;
 use std::alloc::AllocError;
 
-/// A card of a shelf, with room for the answers to its arrivals. Nothing else on the shelf is reached from
-/// it, so that a thread may have it for itself.
+/// A card of a shelf, with a list for the answers to its arrivals. It refers to nothing else on the shelf, so a thread may
+/// have it for itself.
 #[derive(Drop)]
 pub(crate) struct Card {
     pub(crate) core: Core,
@@ -34,7 +34,7 @@ impl Card {
         self.told.reserve(many)
     }
 
-    /// Polices the arrivals at these places, one after another, and tells of each.
+    /// Polices the arrivals at these places, one after another, and adds the answer to each.
     pub(crate) fn police(&mut self, arrivals: &[Arrival], places: &[usize])
         requires within { All (λ place. place < length arrivals.now) places.now }
         requires ready { IsReady self.old (length places.now) }
@@ -52,7 +52,7 @@ impl Card {
         }
     }
 
-    /// Puts a program in, which there is no reason to refuse.
+    /// Loads a program that the card has no reason to refuse.
     pub(crate) fn load(&mut self, program: Program) -> Id
         requires free { load_fault_of self.old.core ≡ None }
         ensures loaded { LoadsOn program result self.old.core self.new.core }
@@ -63,7 +63,7 @@ impl Card {
         }
     }
 
-    /// Takes the program of this id out, which there is no reason to keep.
+    /// Retires the program of this id, which the card has no reason to keep.
     pub(crate) fn retire(&mut self, id: Id)
         requires free { IsRetireFault self.old.core id None }
         ensures retired { RetiresOn id self.old.core self.new.core }

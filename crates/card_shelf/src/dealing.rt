@@ -1,4 +1,4 @@
-//! Which card serves a connection, and which arrivals are whose.
+//! Which card serves a connection, and which arrivals each card gets.
 
 ghost use Rattle.std.specs.Prelude.{◌≡◌, ◌<◌, ◌≤◌, ℕ, [], All, Some, IsOk, OnOk, length, map, slice_get, vec_capacity};
 ghost use Rattle.card_shelf.specs.Dealing.{card_of, card_for};

@@ -1,5 +1,5 @@
-//! Cards of an ATM cell policer that share nothing: each connection has its card, and a list of arrivals is
-//! policed on several threads, with the answers of one card after another.
+//! Cards of an ATM cell policer that share nothing. Each connection has its card, and several threads police a list of
+//! arrivals. The answers are those of policing the arrivals one after another.
 #![tactic(auto)]
 
 mod arrival;

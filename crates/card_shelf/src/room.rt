@@ -40,7 +40,7 @@ impl Room {
     ghost use Rattle.card_shelf.specs.inner.Cards.{cores_of, AreAtRest};
 
     /// Room for batches of at most `most` arrivals, on a shelf of at most `cards` cards. For each card it takes memory for
-    /// `most` answers, since all arrivals of a batch may be of one card.
+    /// `most` places and `most` answers, since all arrivals of a batch may be of one card.
     ///
     /// # Errors
     ///

@@ -1,4 +1,4 @@
-use Rattle.std.proofs.Common.{◌≡◌, ◌≤◌, ℕ, length, sym, ◌∙◌, subst, arith, true≢false}
+use Rattle.std.proofs.Common.{ℕ, length, sym, ◌∙◌, subst, arith, true≢false}
 use Rattle.card_shelf.specs.inner.Rooms.{TellRoom, HasRoom}
 use Rattle.card_shelf.proofs.RoomLemmas.{room-for-fewer}
 use Rattle.card_shelf.proofs.running.police_lent.Goals as goal
