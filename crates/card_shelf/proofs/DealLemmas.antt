@@ -1,8 +1,8 @@
 -- The places of the cards' arrivals, as they are dealt one after another.
-use Rattle.std.proofs.Common.{◌≡◌, ℕ, ◌+◌, ◌<◌, List, [], ◌∷◌, ◌++◌, length, take, set, Some, sym, ap, ◌∙◌, subst, inl, inr, arith}
+use Rattle.std.proofs.Common.{◌≡◌, ℕ, ◌+◌, ◌<◌, List, [], ◌∷◌, ◌++◌, length, map, take, set, Some, sym, ap, ◌∙◌, subst, inl, inr, arith}
 use Rattle.std.specs.Prelude.{slice_get}
 use Rattle.std.proofs.lemmas.Option.{slice_get_within}
-use Rattle.std.proofs.lemmas.List.{append-nil, take_all}
+use Rattle.std.proofs.lemmas.List.{append-nil, take_all, map-append}
 use Rattle.std.proofs.lemmas.List.Elements.{All-push}
 use Rattle.upc_cell.specs.declared.side.Side.{Side}
 use Rattle.card_shelf.specs.declared.arrival.Arrival.{Arrival}
@@ -51,3 +51,13 @@ module _ (side : Side) (cards : ℕ) (arrivals : List Arrival) where
       → picked arrivals places ≡ own_arrivals side cards number arrivals
   deal-all dealt all number places e =
       (all number places e).own ∙ ap (own_arrivals side cards number) (take_all (length arrivals) arrivals (omega arith))
+
+-- The numbers of the cards of the first arrivals, and one more.
+pub numbers-next : (side : Side) (cards : ℕ) (arrivals : List Arrival) (count number : ℕ) (arrival : Arrival) (numbers : List ℕ)
+    → numbers ≡ map (card_for side cards) (take count arrivals) → slice_get arrivals count ≡ Some arrival
+    → number ≡ card_for side cards arrival → numbers ++ number ∷ [] ≡ map (card_for side cards) (take (count + 1) arrivals)
+numbers-next side cards arrivals count number arrival numbers so_far here is =
+    ap (λ (n : ℕ). numbers ++ n ∷ []) is
+    ∙ ap (λ (ns : List ℕ). ns ++ card_for side cards arrival ∷ []) so_far
+    ∙ sym (map-append (card_for side cards) (take count arrivals) (arrival ∷ []))
+    ∙ ap (map (card_for side cards)) (sym (take-next arrivals count arrival here))

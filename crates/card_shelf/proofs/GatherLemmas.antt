@@ -1,14 +1,15 @@
 -- What is told of all arrivals, gathered one after another.
-use Rattle.std.proofs.Common.{◌≡◌, ◌≢◌, ℕ, ◌+◌, ◌<◌, List, [], ◌∷◌, ◌++◌, length, take, drop, set, Some, sym, ap, ◌∙◌, inl, inr, arith, length-append}
+use Rattle.std.proofs.Common.{◌≡◌, ◌≢◌, ℕ, ◌+◌, ◌<◌, List, [], ◌∷◌, ◌++◌, length, map, take, drop, set, get_or, Some, sym, ap, ◌∙◌, subst, inl, inr, arith, length-append, mod-lt}
 use Rattle.std.specs.Prelude.{slice_get}
 use Rattle.std.proofs.lemmas.Bool.{cases_eq}
-use Rattle.std.proofs.lemmas.Option.{same_Some}
+use Rattle.std.proofs.lemmas.Option.{same_Some, slice_get-map, slice_get-get_or}
 use Rattle.std.proofs.lemmas.List.{append-nil, take_all}
 use Rattle.upc_cell.specs.declared.side.Side.{Side}
 use Rattle.card_shelf.specs.declared.arrival.Arrival.{Arrival}
 use Rattle.card_shelf.specs.Dealing.{card_for}
 use Rattle.card_shelf.specs.Own.{own_arrivals, own_told}
 use Rattle.card_shelf.specs.inner.Gathered.{CountsOwn, IsGathered, TellsOwn, TellEach}
+use Rattle.card_shelf.proofs.CardLemmas.{mapped}
 use Rattle.card_shelf.proofs.Lists.{get-set, take-next, around}
 use Rattle.card_shelf.proofs.OwnLemmas.{Told, own-append, own-here, own-elsewhere, told-append, told-here, told-elsewhere}
 
@@ -109,3 +110,20 @@ module _ (side : Side) (cards : ℕ) (arrivals : List Arrival) where
       ap (λ (xs : List Arrival). own_told side cards number xs told) (sym whole) ∙ all number ts e
       ∙ ap (λ (xs : List Arrival). take (length (own_arrivals side cards number xs)) ts) whole
       ∙ take_all (length (own_arrivals side cards number arrivals)) ts (omega (arith, sized number ts e))
+
+-- The arrival of a number that was read.
+pub numbered : (side : Side) (cards : ℕ) (arrivals : List Arrival) (numbers : List ℕ) (count number : ℕ)
+    → numbers ≡ map (card_for side cards) arrivals → count < length numbers → number ≡ get_or numbers count 0
+    → (arrival : Arrival) × (slice_get arrivals count ≡ Some arrival) × (card_for side cards arrival ≡ number)
+numbered side cards arrivals numbers count number all below is =
+    let card = card_for side cards in
+    mapped card (slice_get arrivals count) number
+    (sym (slice_get-map card arrivals count) ∙ ap (λ (ns : List ℕ). slice_get ns count) (sym all)
+    ∙ slice_get-get_or numbers count 0 below ∙ ap Some (sym is))
+
+-- It is the number of a card.
+pub numbered-within : (side : Side) (cards : ℕ) (arrivals : List Arrival) (numbers : List ℕ) (count number : ℕ)
+    → numbers ≡ map (card_for side cards) arrivals → count < length numbers → number ≡ get_or numbers count 0 → 0 < cards
+    → number < cards
+numbered-within side cards arrivals numbers count number all below is some =
+    subst (λ (n : ℕ). n < cards) (numbered side cards arrivals numbers count number all below is).2 (mod-lt _ some)

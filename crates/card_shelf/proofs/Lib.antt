@@ -1,6 +1,7 @@
 pub mod Lists
 pub mod OwnLemmas
 pub mod DealLemmas
+pub mod RoomLemmas
 pub mod GatherLemmas
 pub mod RestLemmas
 pub mod Weaving

@@ -1,8 +1,8 @@
 -- What lists have at a place.
-use Rattle.std.proofs.Common.{◌≡◌, ◌≢◌, ◌⊎◌, ℕ, zero, suc, ◌+◌, ◌<◌, List, [], ◌∷◌, ◌++◌, length, take, drop, set, Some, refl, sym, ap, ◌∙◌, subst, inl, inr, arith, length-set}
+use Rattle.std.proofs.Common.{◌≡◌, ◌≢◌, ◌⊎◌, ℕ, zero, suc, ◌+◌, ◌<◌, List, [], ◌∷◌, ◌++◌, length, take, drop, set, replicate, Some, refl, sym, ap, ◌∙◌, subst, inl, inr, arith, length-set, drop_of_length-le}
 use Rattle.std.specs.Prelude.{slice_get}
 use Rattle.std.proofs.lemmas.Bool.{cases_eq}
-use Rattle.std.proofs.lemmas.List.{take_more, take-append-drop, drop_more}
+use Rattle.std.proofs.lemmas.List.{take_more, take-append-drop, drop_more, append-nil, take_all}
 use Rattle.std.proofs.lemmas.Option.{same_Some, slice_get_within, get_or_from_slice_get}
 
 module _ {X : Type 0} where
@@ -62,3 +62,15 @@ module _ {X : Type 0} where
   get-push [] (suc k) x y e = absurd (cc)
   get-push (z ∷ xs) zero x y e = inl e
   get-push (z ∷ xs) (suc k) x y e = get-push xs k x y e
+
+  -- A list of one value has it at each place.
+  pub get-replicate : (n k : ℕ) (x y : X) → slice_get (replicate n x) k ≡ Some y → y ≡ x
+  get-replicate zero k x y e = absurd (cc)
+  get-replicate (suc n) zero x y e = sym (same_Some x y e)
+  get-replicate (suc n) (suc k) x y e = get-replicate n k x y e
+
+  -- A list that was overwritten whole is what was written.
+  pub overwritten : (n : ℕ) (old new : List X) → n ≡ length old → length new ≡ length old → take n (new ++ drop (length new) old) ≡ new
+  overwritten n old new sized kept =
+      ap (λ (xs : List X). take n (new ++ xs)) (drop_of_length-le old (omega (arith, kept)))
+      ∙ ap (take n) (append-nil new) ∙ take_all n new (omega (arith, sized, kept))

@@ -1,5 +1,5 @@
 -- Cards that police their own arrivals, each by itself, police all.
-use Rattle.std.proofs.Common.{◌≡◌, ◌<◌, ℕ, Some, List, length, Vec, Global, sym, ap, ◌∙◌, subst, arith, mod-lt}
+use Rattle.std.proofs.Common.{◌≡◌, ◌<◌, ◌≤◌, ℕ, Some, List, length, Vec, Global, sym, ap, ◌∙◌, subst, arith, mod-lt}
 use Rattle.std.specs.Prelude.{slice_get, option_map}
 use Rattle.std.proofs.lemmas.List.{length-map}
 use Rattle.std.proofs.lemmas.Option.{slice_get-map, slice_get_within}
@@ -19,7 +19,7 @@ use Rattle.card_shelf.proofs.Weaving.{weave}
 
 module _ (side : Side) (arrivals : List Arrival) (old middle new : List Card) (dealt : List (Vec ℕ Global))
     (cores : cores_of middle ≡ cores_of old) (sized : length middle ≡ length old) (kept : length new ≡ length middle)
-    (shared : length dealt ≡ length old)
+    (shared : length old ≤ length dealt)
     (own : (number : ℕ) (places : Vec ℕ Global) → slice_get dealt number ≡ Some places
     → picked arrivals places.items ≡ own_arrivals side (length old) number arrivals)
     (served : (number : ℕ) (card next : Card) (places : Vec ℕ Global) → slice_get middle number ≡ Some card

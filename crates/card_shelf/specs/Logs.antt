@@ -13,14 +13,14 @@ use Rattle.card_core.specs.declared.step.Step.TheVariants.{Enter, Pick, Judge}
 use Rattle.card_shelf.specs.declared.arrival.Arrival.{Arrival}
 use Rattle.card_shelf.specs.Own.{ServesAll}
 
--- These are the steps of the arrival at port 0 with their replies, of which the last is this answer: Enter and
--- Pick, where the connection isn't found, and else Enter, Pick and Judge.
+-- These are the steps of the arrival at port 0 with their replies: Enter and Pick if the connection isn't found, else
+-- Enter, Pick and Judge. The last reply is this answer.
 abbrev pub IsWayOf : Arrival → Answer → List Event → Type 0
 IsWayOf arrival answer events =
     (events ≡ events_of (Enter 0 arrival.cell arrival.moment ∷ Pick 0 ∷ []) (Entered ∷ Answered answer ∷ []))
     ⊎ (events ≡ events_of (Enter 0 arrival.cell arrival.moment ∷ Pick 0 ∷ Judge 0 ∷ []) (Entered ∷ Picked ∷ Answered answer ∷ []))
 
--- These are the steps of the arrivals, one arrival after another, where these are the answers.
+-- These are the steps of the arrivals, one arrival after another, with these answers.
 abbrev pub AreWaysOf : List Arrival → List (Result Judgement Unjudged) → List Event → Type 0
 AreWaysOf [] [] events = events ≡ []
 AreWaysOf [] (told ∷ more) events = ⊥
@@ -29,8 +29,8 @@ AreWaysOf (arrival ∷ later) (told ∷ more) events =
     (first : List Event) × (rest : List Event) × IsWayOf arrival (answer_to arrival.cell told) first
     × AreWaysOf later more rest × (events ≡ first ++ rest)
 
--- A card that has answered arrivals has gone on by their steps: from whatever world it agreed with, if a log had
--- led there, to one that it agrees with now, and the log with these steps leads there.
+-- A card that has answered arrivals has taken their steps. If it agreed with a world to which a log leads, the log with
+-- these steps added leads to a world that the card agrees with now.
 abbrev pub CardsGoOnByTheirArrivals : Type 0
 CardsGoOnByTheirArrivals = (old new : CoreView) (arrivals : List Arrival) (told : List (Result Judgement Unjudged))
     → ServesAll old arrivals told new → (shape : Shape) (log : List Event) (before : World)

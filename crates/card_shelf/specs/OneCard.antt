@@ -1,5 +1,5 @@
--- A shelf beside one card that has all its connections. Of each arrival both tell the same, but for what is a
--- card's own: the number of the line, the count on it, and the id of the program.
+-- A shelf beside one card that has all its connections. Both give the same answer to each arrival, except for what
+-- belongs to a card: the number of the line, the count on it, and the id of the program.
 use Rattle.std.specs.Prelude.{◌≡◌, ◌≤◌, ◌^◌, ◌+◌, ◌*◌, ℕ, List, [], ◌∷◌, length, fold, ⊤, Some, Result, slice_get}
 use Rattle.upc_cell.specs.declared.side.Side.{Side}
 use Rattle.upc_cell.specs.declared.vc.Vc.{Vc}
@@ -26,7 +26,7 @@ pub record IsLogOf (shape : Shape) (log : List Event) (card : CoreView) : Type 0
 
 -- The cards of a shelf have these logs, one each, and another card has this log. For each connection that card has
 -- the same account as the card of the shelf that serves it: the same was done for the connection, in the same
--- order, and the same came of it.
+-- order, with the same outcomes.
 pub record IsBeside (one : Shape) (log : List Event) (card : CoreView) (shape : Shape) (logs : List (List Event)) (cards : List CoreView) : Type 0 where
   pub here : IsLogOf one log card
   pub sized : length logs ≡ length cards
@@ -40,30 +40,30 @@ pub record IsBeside (one : Shape) (log : List Event) (card : CoreView) (shape : 
 abbrev pub HasTimeFor : ℕ → List Event → Type 0
 HasTimeFor arrivals log = length log + 3 * arrivals ≤ 2 ^ 62
 
--- The codes that were put in by this log, each under its id.
+-- The codes that were loaded by this log, each under its id.
 abbrev pub codes_in : List Event → List Loading
 codes_in log = fold (λ codes event. codes_after codes event.reply event.step) [] log
 
--- After these logs two cards have told the same of an arrival: its moment, the value, the code of the program that
--- gave it, the verdict and the cell as it leaves, or why it was not judged.
+-- After these logs two cards have given the same answer to an arrival: the moment, the value, the code of the program
+-- that gave it, the verdict and the cell as it leaves, or why the cell was not judged.
 abbrev pub AreAlike : List Event → List Event → Arrival → Result Judgement Unjudged → Result Judgement Unjudged → Type 0
 AreAlike log another arrival answer told =
     outcome_of (codes_in log) (answer_to arrival.cell answer) ≡ outcome_of (codes_in another) (answer_to arrival.cell told)
 
--- The card of an arrival, which has one of these logs, has told the same of it as the card with this log.
+-- The card of an arrival, which has one of these logs, has given the same answer to it as the card with this log.
 abbrev pub IsToldAlike : Side → List Event → List (List Event) → Arrival → Result Judgement Unjudged → Result Judgement Unjudged → Type 0
 IsToldAlike side log logs arrival answer told = (own : List Event) → slice_get logs (card_for side (length logs) arrival) ≡ Some own
     → AreAlike log own arrival answer told
 
--- So it is with each of these arrivals.
+-- The same holds for each of these arrivals.
 abbrev pub AreToldAlike : Side → List Event → List (List Event) → List Arrival → List (Result Judgement Unjudged) → List (Result Judgement Unjudged) → Type 0
 AreToldAlike side log logs [] [] [] = ⊤
 AreToldAlike side log logs (arrival ∷ later) (answer ∷ answers) (told ∷ more) =
     IsToldAlike side log logs arrival answer told × AreToldAlike side log logs later answers more
 AreToldAlike side log logs _ _ _ = ⊥
 
--- What both have come to: their longer logs, after which they are beside each other again, and have told the same
--- of each arrival.
+-- Afterwards both have longer logs. The card is beside the shelf again, and both have given the same answer to each
+-- arrival.
 pub record StaysBeside (one : Shape) (card : CoreView) (shape : Shape) (cards : List CoreView) (arrivals : List Arrival)
     (answers told : List (Result Judgement Unjudged)) : Type 0 where
   pub log : List Event
@@ -71,9 +71,9 @@ pub record StaysBeside (one : Shape) (card : CoreView) (shape : Shape) (cards : 
   pub beside : IsBeside one log card shape logs cards
   pub alike : AreToldAlike shape.side log logs arrivals answers told
 
--- The cards of a shelf have policed these arrivals with these answers as one card with all their connections would
--- have. Take any card beside them, whose cells have the same header and whose journals hold as many entries,
--- with any answers of it to all the arrivals, one after another.
+-- The answers of the cards of a shelf to these arrivals are those of one card with all their connections. This holds for
+-- any card beside them whose cells have the same header and whose journals hold as many entries, and for any answers of
+-- that card to all the arrivals, one after another.
 abbrev pub TellsAsOneCard : Shape → List CoreView → List Arrival → List (Result Judgement Unjudged) → List CoreView → Type 0
 TellsAsOneCard shape old arrivals told new = (one : Shape) (log : List Event) (logs : List (List Event)) (card next : CoreView)
     (answers : List (Result Judgement Unjudged))
@@ -89,8 +89,8 @@ abbrev pub ShelvesTellAsOneCard : Type 0
 ShelvesTellAsOneCard = (shape : Shape) (old new : List CoreView) (arrivals : List Arrival) (told : List (Result Judgement Unjudged))
     → PolicesAll shape.side old arrivals told new → TellsAsOneCard shape old arrivals told new
 
--- A card lies beside a shelf as soon as the same was done for each connection, in the same order: for that connection of the one
--- card, and on the card of the shelf that serves it. The same has then come of it.
+-- A card is beside a shelf if the same was done for each connection, in the same order, on the one card and on the card of
+-- the shelf that serves the connection. The outcomes are then the same.
 abbrev pub TheSameActsSuffice : Type 0
 TheSameActsSuffice = (one shape : Shape) (log : List Event) (logs : List (List Event)) (card : CoreView) (cards : List CoreView)
     → one.side ≡ shape.side → one.journal ≡ shape.journal

@@ -1,4 +1,4 @@
--- What one card does of a list of arrivals.
+-- What one card does with a list of arrivals.
 use Rattle.std.specs.Prelude.{◌≡◌, ◌==◌, ℕ, if◌then◌else◌, List, [], ◌∷◌, length, Some, Result, slice_get}
 use Rattle.upc_cell.specs.declared.side.Side.{Side}
 use Rattle.card_core.specs.Agreement.{CoreView}

@@ -1,4 +1,4 @@
--- What it is to police a list of arrivals: one after another, each by its card.
+-- How a list of arrivals is policed: one after another, each by its card.
 use Rattle.std.specs.Prelude.{◌≡◌, List, [], ◌∷◌, length, Result}
 use Rattle.upc_cell.specs.declared.side.Side.{Side}
 use Rattle.card_core.specs.Agreement.{CoreView}

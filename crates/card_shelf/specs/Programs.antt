@@ -1,4 +1,4 @@
--- A program on every card of a shelf: it is put in on each card or on none, and taken out of each card or of none.
+-- A program on every card of a shelf: it is loaded on each card or on none, and retired from each card or from none.
 use Rattle.std.specs.Prelude.{◌≡◌, ◌≢◌, ◌<◌, ℕ, List, length, Some, None, slice_get}
 use Rattle.bpf_code.specs.declared.instr.Instr.{Instr}
 use Rattle.gen_arena.specs.declared.id.Id.{Id}
@@ -17,7 +17,7 @@ pub record LoadsOn (code : List Instr) (id : Id) (old new : CoreView) : Type 0 w
   pub takes : Takes (Load code) (Loaded id) old new
   pub puts_in : PutsIn old id code new
 
--- Every card took this code in, each under the id at its place.
+-- Every card has loaded this code, each under the id at its place.
 pub record LoadsEach (old : List CoreView) (code : List Instr) (ids : List Id) (new : List CoreView) : Type 0 where
   pub cards : length new ≡ length old
   pub one_each : length ids ≡ length old
@@ -36,8 +36,8 @@ pub record IsFirstLoadFault (cards : List CoreView) (number : ℕ) (fault : Desk
   pub earlier : (before : ℕ) (other : CoreView) → before < number → slice_get cards before ≡ Some other
       → load_fault_of other ≡ None
 
--- Why a program was put in on no card: a card has a reason to refuse it, the first such card and its reason; or no card
--- has one, and the memory was refused.
+-- Why a program was loaded on no card. `Card`: this is the first card that has a reason to refuse it, with its reason.
+-- `NoMemory`: no card has a reason to refuse it.
 abbrev pub IsLoadRefusal : List CoreView → ProgramFault → Type 0
 IsLoadRefusal cards NoMemory = EachHasRoom cards
 IsLoadRefusal cards Ids = ⊥
@@ -50,7 +50,7 @@ pub record RetiresOn (id : Id) (old new : CoreView) : Type 0 where
   pub takes : Takes (Retire id) (Retired code) old new
   pub takes_out : TakesOut old id code new
 
--- Every card took a program out, each that of the id at its place.
+-- Every card has retired a program, each the program of the id at its place.
 pub record RetiresEach (old : List CoreView) (ids : List Id) (new : List CoreView) : Type 0 where
   pub cards : length new ≡ length old
   pub one_each : length ids ≡ length old
@@ -68,8 +68,8 @@ pub record IsFirstRetireFault (cards : List CoreView) (ids : List Id) (number : 
   pub earlier : (before : ℕ) (other : CoreView) (another : Id) → before < number → slice_get cards before ≡ Some other
       → slice_get ids before ≡ Some another → IsRetireFault other another None
 
--- Why no card took a program out: there is not one id for each card; or a card has a reason to keep its program, the
--- first such card and its reason.
+-- Why no card has retired a program. `Ids`: the list does not have one id for each card. `Card`: this is the first card
+-- that has a reason to keep its program, with its reason.
 abbrev pub IsRetireRefusal : List CoreView → List Id → ProgramFault → Type 0
 IsRetireRefusal cards ids NoMemory = ⊥
 IsRetireRefusal cards ids Ids = length ids ≢ length cards

@@ -1,4 +1,4 @@
--- A shelf, and what a change of one of its cards leaves of the others.
+-- A shelf, and changes of one of its cards that leave the others as they were.
 use Rattle.std.specs.Prelude.{◌≡◌, ℕ, if◌then◌else◌, List, Option, Some, option_map, slice_get, slice_set}
 use Rattle.card_core.specs.Agreement.{CoreView, Follows}
 use Rattle.card_core.specs.Kept.{RefusalKeeps}
@@ -15,7 +15,7 @@ pub record ShelfView : Type 0 where
   pub shape : Shape
   pub cards : List CoreView
 
--- Why a shelf of this number of cards can't be made: there are to be none or more than 64, or else the shape has a fault.
+-- Why a shelf of this number of cards can't be made: the number is 0 or more than 64, or else the shape has a fault.
 abbrev pub shelf_fault : Shape → ℕ → Option ShelfFault
 shelf_fault shape cards = if is_beyond cards 64 then Some Cards else option_map Card (shape_fault shape)
 
@@ -27,7 +27,7 @@ pub record ChangesCard (old : List CoreView) (number : ℕ) (Did : CoreView → 
   pub did : Did card next
   pub after : new ≡ slice_set old number next
 
--- The card takes the step with this reply; a refusal leaves it as it was, and is none that only a card in
+-- The card takes the step with this reply. A refusal leaves the card as it was, and is not one that only a card in
 -- threads may give.
 pub record Takes (step : Step) (reply : Reply) (old new : CoreView) : Type 0 where
   pub follows : Follows old step reply new

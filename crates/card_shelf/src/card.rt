@@ -1,6 +1,6 @@
 //! One card of a shelf.
 
-ghost use Rattle.std.specs.Prelude.{◌≡◌, ◌<◌, All, None, OnOk, length};
+ghost use Rattle.std.specs.Prelude.{◌≡◌, ◌<◌, ◌≤◌, All, None, OnErr, OnOk, length, vec_capacity};
 ghost use Rattle.card_core.specs.Inspection.{load_fault_of, IsRetireFault};
 ghost use Rattle.card_shelf.specs.Own.{ServesAll};
 ghost use Rattle.card_shelf.specs.Programs.{LoadsOn, RetiresOn};
@@ -14,8 +14,8 @@ use card_core::Core;
 use gen_arena::Id;
 use std::alloc::AllocError;
 
-/// A card of a shelf, with room for the answers to its arrivals. Nothing else on the shelf is reached from
-/// it, so that a thread may have it for itself.
+/// A card of a shelf, with a list for the answers to its arrivals. It refers to nothing else on the shelf, so a thread may
+/// have it for itself.
 #[derive(Drop)]
 pub(crate) struct Card {
     pub(crate) core: Core,
@@ -27,18 +27,21 @@ impl Card {
     pub(crate) fn make_room(&mut self, many: usize) -> Result<(), AllocError>
         ensures core { self.new.core ≡ self.old.core }
         ensures ready { OnOk result (IsReady self.new many) }
+        ensures grown { vec_capacity self.old.told ≤ vec_capacity self.new.told }
+        ensures full { OnErr result (vec_capacity self.old.told < many) }
     {
         self.told.clear();
         self.told.reserve(many)
     }
 
-    /// Polices the arrivals at these places, one after another, and tells of each.
+    /// Polices the arrivals at these places, one after another, and adds the answer to each.
     pub(crate) fn police(&mut self, arrivals: &[Arrival], places: &[usize])
         requires within { All (λ place. place < length arrivals.now) places.now }
         requires ready { IsReady self.old (length places.now) }
         requires rest { IsAtRest self.old.core }
         ensures served { ServesAll self.old.core (picked arrivals.now places.now) self.new.told.items self.new.core }
         ensures rest { IsAtRest self.new.core }
+        ensures capacity { vec_capacity self.new.told ≡ vec_capacity self.old.told }
     {
         for place in places {
             let arrival = &arrivals[*place];
@@ -49,7 +52,7 @@ impl Card {
         }
     }
 
-    /// Puts a program in, which there is no reason to refuse.
+    /// Loads a program that the card has no reason to refuse.
     pub(crate) fn load(&mut self, program: Program) -> Id
         requires free { load_fault_of self.old.core ≡ None }
         ensures loaded { LoadsOn program result self.old.core self.new.core }
@@ -60,7 +63,7 @@ impl Card {
         }
     }
 
-    /// Takes the program of this id out, which there is no reason to keep.
+    /// Retires the program of this id, which the card has no reason to keep.
     pub(crate) fn retire(&mut self, id: Id)
         requires free { IsRetireFault self.old.core id None }
         ensures retired { RetiresOn id self.old.core self.new.core }

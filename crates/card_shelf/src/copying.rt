@@ -5,7 +5,7 @@ ghost use Rattle.std.specs.Prelude.{◌≡◌, All, IfSome, length};
 use bpf_verify::{Program, verify};
 use std::alloc::Global;
 
-/// This number of copies of a program. None where memory is refused.
+/// Returns this number of copies of a program, or None if an allocation fails.
 pub(crate) fn copies_of(alloc: Global, program: &Program, many: usize) -> Option<Vec<Program>>
     ensures many { IfSome result (λ copies. length copies.items ≡ many) }
     ensures same { IfSome result (λ copies. All (λ copy. copy ≡ program.now) copies.items) }
@@ -19,7 +19,7 @@ pub(crate) fn copies_of(alloc: Global, program: &Program, many: usize) -> Option
     Some(copies)
 }
 
-/// A copy of a program. None where memory is refused.
+/// Returns a copy of a program, or None if an allocation fails.
 fn copy_of(alloc: Global, program: &Program) -> Option<Program>
     ensures { IfSome result (λ copy. copy ≡ program.now) }
 {

@@ -1,4 +1,4 @@
-//! Why a shelf can't be made, and why a program is put in on no card or taken out of none.
+//! Why a shelf can't be made, why a program is loaded on no card or retired from none, and why a room is too small.
 
 use card_core::{CardFault, DeskFault};
 use thiserror::Error;
@@ -14,17 +14,28 @@ pub enum ShelfFault {
     Card(CardFault),
 }
 
-/// Why a program was put in on no card, or taken out of none. It is printed as its number and its name, with the number of
+/// Why a program was loaded on no card, or retired from none. It is printed as its number and its name, with the number of
 /// the card and its reason.
 #[derive(Clone, Copy, Debug, PartialEq, Eq, Error)]
 pub enum ProgramFault {
-    /// The memory was refused.
+    /// An allocation failed.
     #[error("1 NoMemory")]
     NoMemory,
-    /// The list has not one id for each card.
+    /// The list does not have one id for each card.
     #[error("2 Ids")]
     Ids,
     /// The card of this number, from 0, is the first that has a reason to refuse, and this is its reason.
     #[error("3 Card {0}: {1}")]
     Card(usize, DeskFault),
+}
+
+/// Why a batch doesn't fit a room. It is printed as its number and its name.
+#[derive(Clone, Copy, Debug, PartialEq, Eq, Error)]
+pub enum NoRoom {
+    /// The batch has more arrivals than the room is for.
+    #[error("1 Arrivals")]
+    Arrivals,
+    /// The shelf has more cards than the room is for.
+    #[error("2 Cards")]
+    Cards,
 }

@@ -1,8 +1,9 @@
-//! Cards of an ATM cell policer that share nothing: each connection has its card, and a list of arrivals is
-//! policed on several threads, with the answers of one card after another.
+//! Cards of an ATM cell policer that share nothing. Each connection has its card, and several threads police a list of
+//! arrivals. The answers are those of policing the arrivals one after another.
 #![tactic(auto)]
 
 mod arrival;
+mod batch;
 mod card;
 mod copying;
 mod dealing;
@@ -11,12 +12,14 @@ mod gathering;
 pub mod laws;
 mod loading;
 mod retiring;
+mod room;
 mod running;
 mod shelf;
 mod sums;
 
 pub use arrival::{Arrival, Told};
-pub use fault::{ProgramFault, ShelfFault};
+pub use fault::{NoRoom, ProgramFault, ShelfFault};
+pub use room::Room;
 pub use shelf::{MOST_CARDS, Shelf};
 
 #[cfg(test)]

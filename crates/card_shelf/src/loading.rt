@@ -1,4 +1,4 @@
-//! A program is put in on every card, or on none.
+//! Loads a program on every card, or on none.
 
 ghost use Rattle.std.specs.Prelude.{◌≡◌, ◌≤◌, ℕ, [], All, Some, None, IfOk, IfErr, OnErr, IfSome, IfNone, length, slice_get, vec_capacity};
 ghost use Rattle.card_core.specs.Inspection.{load_fault_of};
@@ -13,7 +13,7 @@ use card_core::DeskFault;
 use gen_arena::Id;
 use std::alloc::Global;
 
-/// Puts a program in on every card, or on none. The cards are asked first, and all memory is taken before one changes.
+/// Loads a program on every card, or on none. It asks all cards first, and allocates all memory before a card changes.
 pub(crate) fn load_all(
     alloc: Global,
     cards: &mut [Card],
@@ -51,7 +51,7 @@ fn load_fault(cards: &[Card]) -> Option<(usize, DeskFault)>
     None
 }
 
-/// Every card puts one of the copies in. The ids are told in the order of the cards; `ids` has room for them.
+/// Loads one of the copies on every card. The ids are in the order of the cards; `ids` has room for them.
 fn load_each(
     cards: &mut [Card],
     mut copies: Vec<Program>,

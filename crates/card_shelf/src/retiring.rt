@@ -1,4 +1,4 @@
-//! A program is taken out of every card, or of none.
+//! Retires a program from every card, or from none.
 
 ghost use Rattle.std.specs.Prelude.{◌≡◌, ℕ, Some, None, IfOk, IfErr, OnErr, IfSome, IfNone, OnOk, length, slice_get};
 ghost use Rattle.card_core.specs.Inspection.{IsRetireFault};
@@ -11,7 +11,8 @@ use crate::fault::ProgramFault;
 use card_core::DeskFault;
 use gen_arena::Id;
 
-/// Takes a program out of every card, or of none: on each card that of the id at its place. The cards are asked first.
+/// Retires a program from every card, or from none: on each card the program of the id at its place. It asks all cards
+/// first.
 pub(crate) fn retire_all(cards: &mut [Card], ids: &[Id]) -> Result<(), ProgramFault>
     requires rest { AreAtRest (cores_of cards.old) }
     ensures retired { OnOk result (RetiresEach (cores_of cards.old) ids.now (cores_of cards.new)) }
@@ -43,7 +44,7 @@ fn retire_fault(cards: &[Card], ids: &[Id]) -> Option<(usize, DeskFault)>
     None
 }
 
-/// Every card takes the program of the id at its place out.
+/// Retires from every card the program of the id at its place.
 fn retire_each(cards: &mut [Card], ids: &[Id])
     requires one_each { length ids.now ≡ length cards.old }
     requires free { (number : ℕ) (card : _) (id : _) → slice_get cards.old number ≡ Some card

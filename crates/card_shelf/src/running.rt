@@ -1,24 +1,26 @@
 //! The cards police their own arrivals, each by itself.
 
-ghost use Rattle.std.specs.Prelude.{◌≡◌, ◌<◌, ℕ, All, IfOk, OnOk, OnErr, Some, length, slice_get};
+ghost use Rattle.std.specs.Prelude.{◌≡◌, ◌<◌, ◌≤◌, ℕ, All, IfOk, IsOk, OnOk, OnErr, Some, length, slice_get, vec_capacity};
 ghost use Rattle.card_shelf.specs.Own.{ServesAll, EachServes};
 ghost use Rattle.card_shelf.specs.Policing.{PolicesAll};
 ghost use Rattle.card_shelf.specs.inner.Cards.{cores_of, AreAtRest, IsReady};
 ghost use Rattle.card_shelf.specs.inner.Places.{picked};
 ghost use Rattle.card_shelf.specs.inner.Rest.{IsAtRest, IsOfDesk};
+ghost use Rattle.card_shelf.specs.inner.Rooms.{AreShort, TellRoom, CardsRoom, HasRoom, IsRoom};
 ghost use Rattle.card_shelf.specs.Shelf.{ChangesCard, Takes};
 
 use crate::arrival::{Arrival, Told};
+use crate::batch::Batch;
 use crate::card::Card;
 use crate::dealing::deal;
 use crate::gathering::gather;
 use card_core::{Reply, Step};
 use std::alloc::{AllocError, Global};
-use std::thread;
 use std::thread::Threads;
+use std::{mem, thread};
 use upc_cell::Side;
 
-/// The cards police these arrivals, each its own, on at most this number of threads. All memory is taken before
+/// The cards police these arrivals, each its own, on at most this number of threads. All memory is allocated before
 /// any card moves.
 pub(crate) fn police_all<R: Threads + Sync>(
     rt: &R,
@@ -29,6 +31,7 @@ pub(crate) fn police_all<R: Threads + Sync>(
     threads: usize,
 ) -> Result<Vec<Told>, AllocError>
     requires some { 0 < length cards.old }
+    requires limit { length cards.old ≤ 64 }
     requires rest { AreAtRest (cores_of cards.old) }
     ensures policed { IfOk result (λ told.
         PolicesAll side (cores_of cards.old) arrivals.now told.items (cores_of cards.new)) }
@@ -38,20 +41,109 @@ pub(crate) fn police_all<R: Threads + Sync>(
     ensures unchanged { OnErr result (cores_of cards.new ≡ cores_of cards.old) }
     ensures rest { AreAtRest (cores_of cards.new) }
 {
-    let dealt = deal(alloc, side, cards.len(), arrivals)?;
-    let next = vec![in alloc; 0usize; cards.len()]?;
-    let told = Vec::with_capacity(alloc, arrivals.len())?;
-    make_room(cards, dealt.as_slice())?;
-    police_each(rt, cards, arrivals, dealt.as_slice(), threads);
-    Ok(gather(cards, side, arrivals, next, told))
+    let mut batch = Batch::new(alloc, cards.len(), 0)?;
+    police_batch(rt, side, cards, &mut batch, arrivals, threads)?;
+    Ok(batch.told)
 }
 
-/// Makes room in each card to tell of as many arrivals as it has places.
+/// The same in room that is lent: the lists of the batch, and for each card a list of answers.
+pub(crate) fn police_lent<R: Threads + Sync>(
+    rt: &R,
+    side: Side,
+    cards: &mut [Card],
+    tolds: &mut [Vec<Told>],
+    batch: &mut Batch,
+    arrivals: &[Arrival],
+    threads: usize,
+)
+    requires some { 0 < length cards.old }
+    requires limit { length cards.old ≤ 64 }
+    requires sized { length cards.old ≤ length tolds.old }
+    requires room { (most : ℕ) × IsRoom most tolds.old batch.old × (length arrivals.now ≤ most) }
+    requires rest { AreAtRest (cores_of cards.old) }
+    ensures policed { PolicesAll side (cores_of cards.old) arrivals.now batch.new.told.items (cores_of cards.new) }
+    ensures each { EachServes side (cores_of cards.old) arrivals.now batch.new.told.items (cores_of cards.new) }
+    ensures one_each { length batch.new.told.items ≡ length arrivals.now }
+    ensures rest { AreAtRest (cores_of cards.new) }
+    ensures room { (most : ℕ) → IsRoom most tolds.old batch.old → IsRoom most tolds.new batch.new }
+{
+    swap_tolds(cards, tolds);
+    let done = police_batch(rt, side, cards, batch, arrivals, threads);
+    swap_tolds(cards, tolds);
+    match done {
+        Ok(()) => {}
+        Err(_) => unreachable!(),
+    }
+}
+
+/// The same in the lists of this batch. They grow if they have too little room, before any card moves.
+fn police_batch<R: Threads + Sync>(
+    rt: &R,
+    side: Side,
+    cards: &mut [Card],
+    batch: &mut Batch,
+    arrivals: &[Arrival],
+    threads: usize,
+) -> Result<(), AllocError>
+    requires some { 0 < length cards.old }
+    requires limit { length cards.old ≤ 64 }
+    requires sized { length cards.old ≤ length batch.old.dealt.items }
+    requires rest { AreAtRest (cores_of cards.old) }
+    ensures policed { OnOk result
+        (PolicesAll side (cores_of cards.old) arrivals.now batch.new.told.items (cores_of cards.new)) }
+    ensures each { OnOk result
+        (EachServes side (cores_of cards.old) arrivals.now batch.new.told.items (cores_of cards.new)) }
+    ensures one_each { OnOk result (length batch.new.told.items ≡ length arrivals.now) }
+    ensures unchanged { OnErr result (cores_of cards.new ≡ cores_of cards.old) }
+    ensures rest { AreAtRest (cores_of cards.new) }
+    ensures succeeds { (count : ℕ) → HasRoom count (length arrivals.now) batch.old
+        → CardsRoom (length arrivals.now) cards.old → IsOk result }
+    ensures room { (count most : ℕ) → HasRoom count most batch.old → HasRoom count most batch.new }
+    ensures cards_room { (most : ℕ) → CardsRoom most cards.old → CardsRoom most cards.new }
+{
+    deal(
+        side,
+        cards.len(),
+        arrivals,
+        batch.dealt.as_mut_slice(),
+        &mut batch.numbers,
+    )?;
+    batch.told.clear();
+    batch.told.reserve(arrivals.len())?;
+    make_room(cards, batch.dealt.as_slice())?;
+    police_each(rt, cards, arrivals, batch.dealt.as_slice(), threads);
+    gather(
+        cards,
+        side,
+        arrivals,
+        batch.numbers.as_slice(),
+        &mut batch.told,
+    );
+    Ok(())
+}
+
+/// Swaps the lists of answers of the cards with the first of these lists.
+fn swap_tolds(cards: &mut [Card], tolds: &mut [Vec<Told>])
+    requires { length cards.old ≤ length tolds.old }
+    ensures cores { cores_of cards.new ≡ cores_of cards.old }
+    ensures lent { (most : ℕ) → TellRoom 0 most tolds.old → CardsRoom most cards.new }
+    ensures later { (most : ℕ) → TellRoom (length cards.old) most tolds.old → TellRoom (length cards.old) most tolds.new }
+    ensures back { (most : ℕ) → CardsRoom most cards.old → TellRoom (length cards.old) most tolds.old
+        → TellRoom 0 most tolds.new }
+{
+    for number in 0..cards.len() {
+        mem::swap(&mut cards[number].told, &mut tolds[number]);
+    }
+}
+
+/// Makes room in each card for the answers to as many arrivals as it has places.
 fn make_room(cards: &mut [Card], dealt: &[Vec<usize>]) -> Result<(), AllocError>
-    requires { length dealt.now ≡ length cards.old }
+    requires { length cards.old ≤ length dealt.now }
     ensures cores { cores_of cards.new ≡ cores_of cards.old }
     ensures ready { OnOk result ((number : ℕ) (card : _) (places : _) → slice_get cards.new number ≡ Some card
         → slice_get dealt.now number ≡ Some places → IsReady card (length places.items)) }
+    ensures kept { (most : ℕ) → CardsRoom most cards.old → CardsRoom most cards.new }
+    ensures succeeds { (most : ℕ) → CardsRoom most cards.old → AreShort most dealt.now → IsOk result }
 {
     for number in 0..cards.len() {
         cards[number].make_room(dealt[number].len())?;
@@ -67,7 +159,7 @@ fn police_each<R: Threads + Sync>(
     dealt: &[Vec<usize>],
     threads: usize,
 )
-    requires sized { length dealt.now ≡ length cards.old }
+    requires sized { length cards.old ≤ length dealt.now }
     requires within { (number : ℕ) (places : _) → slice_get dealt.now number ≡ Some places
         → All (λ place. place < length arrivals.now) places.items }
     requires ready { (number : ℕ) (card : _) (places : _) → slice_get cards.old number ≡ Some card
@@ -77,6 +169,8 @@ fn police_each<R: Threads + Sync>(
         → slice_get cards.new number ≡ Some next → slice_get dealt.now number ≡ Some places
         → ServesAll card.core (picked arrivals.now places.items) next.told.items next.core }
     ensures rest { (number : ℕ) (card : _) → slice_get cards.new number ≡ Some card → IsAtRest card.core }
+    ensures capacity { (number : ℕ) (card next : _) → slice_get cards.old number ≡ Some card
+        → slice_get cards.new number ≡ Some next → vec_capacity next.told ≡ vec_capacity card.told }
 {
     thread::for_each_mut(
         rt,

@@ -5,9 +5,10 @@ ghost use Rattle.std.specs.Prelude.{◌≡◌, ℕ};
 use crate::arrival::{Arrival, Told};
 use crate::card::Card;
 use crate::dealing::card_of;
-use crate::fault::{ProgramFault, ShelfFault};
+use crate::fault::{NoRoom, ProgramFault, ShelfFault};
 use crate::loading::load_all;
 use crate::retiring::retire_all;
+use crate::room::Room;
 use crate::running::{police_all, step_on};
 use crate::sums::totals_of;
 use bpf_verify::Program;
@@ -18,7 +19,7 @@ use std::marker::Model;
 use std::thread::Threads;
 use upc_cell::Vc;
 
-/// How many cards a shelf has at most.
+/// The largest number of cards of a shelf.
 pub const MOST_CARDS: usize = 64;
 
 /// Cards of one shape that share nothing. Each connection has its card, by its path and channel.
@@ -40,7 +41,7 @@ impl Model for Shelf {
 }
 
 impl Shelf {
-    ghost use Rattle.std.specs.Prelude.{◌≡◌, ◌⊎◌, ◌<◌, ◌↔◌, ℕ, length, None, Some, Err, IsOk, IsSome, IfOk, IfErr, IfSome, IfNone, OnOk, OnErr, MatchResult, slice_get};
+    ghost use Rattle.std.specs.Prelude.{◌≡◌, ◌⊎◌, ◌<◌, ◌≤◌, ◌↔◌, ℕ, length, None, Some, Err, IsOk, IsSome, IfOk, IfErr, IfSome, IfNone, OnOk, OnErr, MatchResult, slice_get};
     ghost use Rattle.card_core.specs.Agreement.{CoreAgrees};
     ghost use Rattle.card_core.specs.World.{opening_world};
     ghost use Rattle.card_shelf.specs.Dealing.{card_of};
@@ -49,6 +50,7 @@ impl Shelf {
     ghost use Rattle.card_shelf.specs.Policing.{PolicesAll};
     ghost use Rattle.card_shelf.specs.Own.{EachServes};
     ghost use Rattle.card_shelf.specs.OneCard.{TellsAsOneCard};
+    ghost use Rattle.card_shelf.specs.Room.{IsNoRoom};
     ghost use Rattle.card_shelf.specs.Programs.{LoadsEach, IsLoadRefusal, RetiresEach, IsRetireRefusal};
     ghost use Rattle.card_shelf.specs.Sums.{totals_of_cards};
 
@@ -56,8 +58,8 @@ impl Shelf {
     ///
     /// # Errors
     ///
-    /// `Cards`, where there are to be none or more than 64. Then the first number of the shape that is out
-    /// of its limits, and then `NoMemory`, where memory is refused.
+    /// `Cards`, if the number of cards is 0 or more than 64. Else the first number of the shape that is out of its limits.
+    /// Else `NoMemory`, if an allocation fails.
     pub fn new(alloc: Global, shape: Shape, cards: usize) -> Result<Shelf, ShelfFault>
         ensures shape { IfOk result (λ shelf. shelf.shape ≡ shape) }
         ensures cards { IfOk result (λ shelf. length shelf.cards ≡ cards) }
@@ -87,7 +89,7 @@ impl Shelf {
         self.shape
     }
 
-    /// How many cards there are, 1 to 64.
+    /// The number of cards, 1 to 64.
     pub fn cards(&self) -> usize
         ensures { result ≡ length self.now.cards }
     {
@@ -149,13 +151,14 @@ impl Shelf {
         self.take(number, Step::Cut(vc))
     }
 
-    /// Puts a program in on every card: each takes the step `Load` with this code. The ids are in the order of the cards, and
-    /// the list of them names the program. Or it is put in on no card. All memory is taken before a card changes.
+    /// Loads a program on every card: each takes the step `Load` with this code. The ids are in the order of the cards, and
+    /// the list of them names the program. If the call fails, no card has changed. All memory is allocated before a card
+    /// changes.
     ///
     /// # Errors
     ///
     /// With the program, and nothing has changed: `Card` with the first card that has a reason to refuse it, and the reason.
-    /// Then `NoMemory`, where memory is refused.
+    /// Else `NoMemory`, if an allocation fails.
     pub fn load(
         &mut self,
         alloc: Global,
@@ -170,12 +173,13 @@ impl Shelf {
         load_all(alloc, self.cards.as_mut_slice(), program)
     }
 
-    /// Takes a program out of every card: each takes the step `Retire` of the id at its place. Or it is taken out of no card.
+    /// Retires a program from every card: each takes the step `Retire` of the id at its place. If the call fails, no card
+    /// has changed.
     ///
     /// # Errors
     ///
-    /// Nothing has changed: `Ids`, where there is not one id for each card. Then `Card` with the first card that has a reason
-    /// to keep the program of its id, and the reason.
+    /// Nothing has changed: `Ids`, if the list does not have one id for each card. Else `Card` with the first card that has a
+    /// reason to keep the program of its id, and the reason.
     pub fn retire(&mut self, ids: &[Id]) -> Result<(), ProgramFault>
         ensures retired { OnOk result (RetiresEach self.old.cards ids.now self.new.cards) }
         ensures refused { IfErr result (λ fault. IsRetireRefusal self.old.cards ids.now fault) }
@@ -185,12 +189,12 @@ impl Shelf {
         retire_all(self.cards.as_mut_slice(), ids)
     }
 
-    /// Puts a program into one card: the step `Load`, with its reply. The id that is answered is of that
-    /// card alone, and only its connections can name it.
+    /// Loads a program on one card: the step `Load`, with its reply. The id in the reply belongs to that card alone, and only
+    /// connections of that card can name it.
     ///
     /// # Errors
     ///
-    /// The program, with nothing changed, exactly where there is no such card.
+    /// The program, with nothing changed, exactly if there is no such card.
     pub fn load_on(&mut self, number: usize, program: Program) -> Result<Reply, Program>
         ensures which { IsOk result ↔ (number < length self.old.cards) }
         ensures taken { IfOk result (λ reply. ChangesCard self.old.cards number
@@ -205,8 +209,8 @@ impl Shelf {
         Ok(self.take(number, Step::Load(program)))
     }
 
-    /// Takes a program out of one card: the step `Retire`, with its reply. None, with nothing changed,
-    /// exactly where there is no such card.
+    /// Retires a program from one card: the step `Retire`, with its reply. None, with nothing changed, exactly if there is
+    /// no such card.
     pub fn retire_on(&mut self, number: usize, id: Id) -> Option<Reply>
         ensures which { IsSome result ↔ (number < length self.old.cards) }
         ensures taken { IfSome result (λ reply. ChangesCard self.old.cards number
@@ -230,13 +234,13 @@ impl Shelf {
         step_on(self.cards.as_mut_slice(), number, step)
     }
 
-    /// Polices arrivals, and tells of each, in their order: what is told, and what becomes of each card, is
-    /// what it is where each arrival goes to its card one after another. Each card polices its own, on one
-    /// of so many threads at most (one where that number is 0), and nothing is shared between them.
+    /// Polices arrivals, and returns the answer to each, in their order. The answers, and the cards afterwards, are those of
+    /// policing the arrivals one after another, each on its card. Each card polices its own arrivals, on at most this number
+    /// of threads (one if the number is 0). The cards share nothing.
     ///
     /// # Errors
     ///
-    /// Where memory is refused, and then nothing has changed.
+    /// An allocation failed, and nothing has changed.
     pub fn police<R: Threads + Sync>(
         &mut self,
         rt: &R,
@@ -257,7 +261,70 @@ impl Shelf {
         self.police_cards(rt, alloc, arrivals, threads)
     }
 
-    /// The policing. That a shelf tells what one card tells follows from what this promises, and [`Shelf::police`] says it.
+    /// Polices arrivals as [`Shelf::police`] does, in room that the caller lends. The answers are in the room afterwards, in
+    /// place of those to the last batch. Nothing is allocated. It is proved that the call fails only if the batch or the
+    /// shelf is too large for the room. That it allocates nothing was checked by reading. The stacks of the threads are the
+    /// system's.
+    ///
+    /// # Errors
+    ///
+    /// Nothing has changed: `Arrivals`, if the room is for fewer arrivals. Then `Cards`, if it is for fewer cards.
+    pub fn police_in<R: Threads + Sync>(
+        &mut self,
+        rt: &R,
+        room: &mut Room,
+        arrivals: &[Arrival],
+        threads: usize,
+    ) -> Result<(), NoRoom>
+        ensures fits { IsOk result ↔ ((length arrivals.now ≤ room.old.most) × (length self.old.cards ≤ room.old.cards)) }
+        ensures refused { IfErr result (IsNoRoom room.old (length arrivals.now) (length self.old.cards)) }
+        ensures policed { OnOk result
+            (PolicesAll self.old.shape.side self.old.cards arrivals.now room.new.told self.new.cards) }
+        ensures each { OnOk result
+            (EachServes self.old.shape.side self.old.cards arrivals.now room.new.told self.new.cards) }
+        ensures as_one { OnOk result
+            (TellsAsOneCard self.old.shape self.old.cards arrivals.now room.new.told self.new.cards) }
+        ensures one_each { OnOk result (length room.new.told ≡ length arrivals.now) }
+        ensures shape { self.new.shape ≡ self.old.shape }
+        ensures most { room.new.most ≡ room.old.most }
+        ensures cards { room.new.cards ≡ room.old.cards }
+        ensures unchanged { OnErr result ((self.new ≡ self.old) × (room.new ≡ room.old)) }
+    {
+        self.police_room(rt, room, arrivals, threads)
+    }
+
+    /// Polices arrivals in a room. [`Shelf::police_in`] adds that the answers are those of one card.
+    fn police_room<R: Threads + Sync>(
+        &mut self,
+        rt: &R,
+        room: &mut Room,
+        arrivals: &[Arrival],
+        threads: usize,
+    ) -> Result<(), NoRoom>
+        ensures fits { IsOk result ↔ ((length arrivals.now ≤ room.old.most) × (length self.old.cards ≤ room.old.cards)) }
+        ensures refused { IfErr result (IsNoRoom room.old (length arrivals.now) (length self.old.cards)) }
+        ensures policed { OnOk result
+            (PolicesAll self.old.shape.side self.old.cards arrivals.now room.new.told self.new.cards) }
+        ensures each { OnOk result
+            (EachServes self.old.shape.side self.old.cards arrivals.now room.new.told self.new.cards) }
+        ensures one_each { OnOk result (length room.new.told ≡ length arrivals.now) }
+        ensures shape { self.new.shape ≡ self.old.shape }
+        ensures most { room.new.most ≡ room.old.most }
+        ensures cards { room.new.cards ≡ room.old.cards }
+        ensures unchanged { OnErr result ((self.new ≡ self.old) × (room.new ≡ room.old)) }
+    {
+        if arrivals.len() > room.most() {
+            return Err(NoRoom::Arrivals);
+        }
+        if self.cards() > room.cards() {
+            return Err(NoRoom::Cards);
+        }
+        let side = self.shape().side;
+        room.police(rt, side, self.cards.as_mut_slice(), arrivals, threads);
+        Ok(())
+    }
+
+    /// Polices arrivals. [`Shelf::police`] adds that the answers are those of one card, which follows from these clauses.
     fn police_cards<R: Threads + Sync>(
         &mut self,
         rt: &R,

@@ -1,6 +1,6 @@
 //! A shelf beside one card, and each call once.
 
-use crate::{Arrival, ProgramFault, Shelf, ShelfFault, Told};
+use crate::{Arrival, NoRoom, ProgramFault, Room, Shelf, ShelfFault, Told};
 use arrayvec::ArrayVec;
 use bpf_code::Instr;
 use bpf_verify::{Program, verify};
@@ -340,6 +340,57 @@ fn batches_with_desk_calls_between_are_told_as_by_one_card(rt: HostRuntime) -> R
         let totals = theirs.core.totals();
         assert!(rt; totals.passed > 0 && totals.discarded > 0 && totals.refused > 0);
     }
+    Ok(())
+}
+
+#[test]
+fn a_room_takes_batch_after_batch(rt: HostRuntime) -> Result<(), Fail> {
+    let mut room = Room::new(rt.alloc(), 16, 24)?;
+    let empty = room.told().is_empty();
+    assert_eq!(rt; (room.cards(), room.most(), empty), (16, 24, true));
+    for cards in [1, 3, 16] {
+        let mut ours = our_shelf(rt.alloc(), cards)?;
+        let mut twin = our_shelf(rt.alloc(), cards)?;
+        let mut theirs = their_card(rt.alloc())?;
+        let mut batch = 0u32;
+        for size in [0usize, 1, 24, 5] {
+            let mut all = random_arrivals(rt.alloc(), batch)?;
+            all.truncate(size);
+            let done = ours.shelf.police_in(&rt, &mut room, &all, 4);
+            let told = twin.shelf.police(&rt, rt.alloc(), &all, 4)?;
+            let same = room.told() == told.as_slice();
+            let right = tells_all(&mut theirs.core, &all, room.told());
+            assert_eq!(rt;
+                (cards, told.len(), done, same, right),
+                (cards, size, Ok(()), true, true)
+            );
+            batch = batch.wrapping_add(1);
+        }
+    }
+    Ok(())
+}
+
+#[test]
+fn a_room_that_is_too_small_changes_nothing(rt: HostRuntime) -> Result<(), Fail> {
+    let all = random_arrivals(rt.alloc(), 0)?;
+    let mut few = random_arrivals(rt.alloc(), 0)?;
+    few.truncate(1);
+    let mut ours = our_shelf(rt.alloc(), 3)?;
+    let mut short = Room::new(rt.alloc(), 3, 23)?;
+    let mut narrow = Room::new(rt.alloc(), 2, 24)?;
+    let fits = ours.shelf.police_in(&rt, &mut short, &few, 2);
+    let before = ours.shelf.totals();
+    let long = ours.shelf.police_in(&rt, &mut short, &all, 2);
+    let wide = ours.shelf.police_in(&rt, &mut narrow, &few, 2);
+    assert_eq!(rt;
+        (fits, long, wide),
+        (Ok(()), Err(NoRoom::Arrivals), Err(NoRoom::Cards))
+    );
+    let same = ours.shelf.totals() == before;
+    assert_eq!(rt;
+        (short.told().len(), narrow.told().len(), same),
+        (1, 0, true)
+    );
     Ok(())
 }
 

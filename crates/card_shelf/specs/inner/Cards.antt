@@ -10,7 +10,7 @@ use Rattle.card_shelf.specs.inner.Rest.{IsAtRest}
 abbrev pub cores_of : List Card → List CoreView
 cores_of cards = map (λ card. card.core) cards
 
--- What each card has told.
+-- The answers of each card.
 abbrev pub tolds_of : List Card → List (List (Result Judgement Unjudged))
 tolds_of cards = map (λ card. card.told.items) cards
 

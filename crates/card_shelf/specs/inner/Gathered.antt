@@ -1,4 +1,4 @@
--- What was gathered of what the cards tell.
+-- The answers of the cards, gathered.
 use Rattle.std.specs.Prelude.{◌≡◌, ℕ, List, length, take, Some, Result, slice_get}
 use Rattle.upc_cell.specs.declared.side.Side.{Side}
 use Rattle.card_core.specs.declared.answer.Judgement.{Judgement}
@@ -22,7 +22,7 @@ abbrev pub TellsOwn : Side → ℕ → List Arrival → List (Result Judgement U
 TellsOwn side cards arrivals told cards_told = (number : ℕ) (ts : List (Result Judgement Unjudged))
     → slice_get cards_told number ≡ Some ts → own_told side cards number arrivals told ≡ ts
 
--- Each card told once of each of its own arrivals.
+-- Each card has one answer for each of its own arrivals.
 abbrev pub TellEach : Side → ℕ → List Arrival → List (List (Result Judgement Unjudged)) → Type 0
 TellEach side cards arrivals cards_told = (number : ℕ) (ts : List (Result Judgement Unjudged))
     → slice_get cards_told number ≡ Some ts → length ts ≡ length (own_arrivals side cards number arrivals)

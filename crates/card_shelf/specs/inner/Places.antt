@@ -4,7 +4,7 @@ use Rattle.upc_cell.specs.declared.side.Side.{Side}
 use Rattle.card_shelf.specs.declared.arrival.Arrival.{Arrival}
 use Rattle.card_shelf.specs.Own.{own_arrivals}
 
--- The arrival, where there is one, before the others.
+-- The arrival, if there is one, before the others.
 abbrev pub with_arrival : Option Arrival → List Arrival → List Arrival
 with_arrival None others = others
 with_arrival (Some arrival) others = arrival ∷ others

@@ -1,91 +1,131 @@
-use Rattle.std.proofs.Common.{◌≡◌, ◌+◌, ◌<◌, ◌≤◌, ℕ, Some, List, [], ◌∷◌, length, length-set, take, get_or, vec_len, refl, sym, ap, ◌∙◌, subst, arith}
+use Rattle.std.proofs.Common.{◌≡◌, ◌+◌, ◌<◌, ◌≤◌, ℕ, Some, List, [], ◌∷◌, length, length-set, take, get_or, vec_len, refl, sym, ap, ◌∙◌, subst, arith, mod-lt}
 use Rattle.std.specs.Prelude.{slice_get, option_map}
-use Rattle.std.proofs.lemmas.List.{length-append, length-take-le}
-use Rattle.std.proofs.lemmas.Option.{slice_get-map, slice_get_read}
+use Rattle.std.proofs.lemmas.List.{length-append, length-map, length-take-le}
+use Rattle.std.proofs.lemmas.Option.{slice_get-map, slice_get_read, slice_get-get_or}
+use Rattle.card_shelf.specs.declared.arrival.Arrival.{Arrival}
 use Rattle.card_shelf.specs.declared.card.Card.{Card}
-use Rattle.card_shelf.specs.Dealing.{card_of, card_for}
+use Rattle.card_shelf.specs.Dealing.{card_for}
 use Rattle.card_shelf.specs.Own.{own_arrivals}
 use Rattle.card_shelf.specs.inner.Cards.{tolds_of}
 use Rattle.card_shelf.specs.inner.Gathered.{IsGathered}
-use Rattle.card_shelf.proofs.GatherLemmas.{counts-next, place-told, gather-next, gather-all}
+use Rattle.card_shelf.proofs.GatherLemmas.{counts-next, place-told, gather-next, gather-all, numbered, numbered-within}
+use Rattle.card_shelf.proofs.Lists.{get-replicate}
 use Rattle.card_shelf.proofs.OwnLemmas.{Told}
 use Rattle.card_shelf.proofs.gathering.gather.Goals as goal
-use Rattle.card_shelf.proofs.gathering.gather.Goals.{After-index-cards-number}
+use Rattle.card_shelf.proofs.gathering.gather.Goals.{After-from-card, After-index-cards-card}
 
-here : (c : After-index-cards-number) → slice_get c.args.arrivals.now c.loop-arrival.arrival-index ≡ Some c.arrival-item.result
-here c =
-    let below : c.loop-arrival.arrival-index < length c.args.arrivals.now = c.loop-arrival-test.true in
-    slice_get_read c.args.arrivals.now (length c.args.arrivals.now) c.loop-arrival.arrival-index c.arrival-item.result refl below c.arrival-item.is
+-- The arrival whose number is read.
+found : (c : After-index-cards-card) → (arrival : Arrival) × (slice_get c.args.arrivals.now c.loop-number.number-index ≡ Some arrival)
+    × (card_for c.args.side (length c.args.cards.now) arrival ≡ c.from-card.result)
+found c =
+    numbered c.args.side (length c.args.cards.now) c.args.arrivals.now c.args.numbers.now c.loop-number.number-index c.from-card.result
+    c.requires.numbers c.loop-number-test.true c.from-card.ensures
 
-card_is : (c : After-index-cards-number) → c.card_of-number.result ≡ card_for c.args.side (length c.args.cards.now) c.arrival-item.result
-card_is c = c.card_of-number.ensures.card ∙ ap (λ v. card_of v (length c.args.cards.now)) c.vc_at.ensures.connection
+card_within : (c : After-from-card) → c.from-card.result < length c.args.cards.now
+card_within c =
+    numbered-within c.args.side (length c.args.cards.now) c.args.arrivals.now c.args.numbers.now c.loop-number.number-index c.from-card.result
+    c.requires.numbers c.loop-number-test.true c.from-card.ensures c.requires.some
 
-card_there : (c : After-index-cards-number) → slice_get c.args.cards.now c.card_of-number.result ≡ Some c.index-cards-number.result
+within : (c : After-index-cards-card) → c.from-card.result < length c.args.cards.now
+within c = subst (λ (n : ℕ). n < length c.args.cards.now) (found c).2 (mod-lt _ c.requires.some)
+
+card_there : (c : After-index-cards-card) → slice_get c.args.cards.now c.from-card.result ≡ Some c.index-cards-card.result
 card_there c =
-    slice_get_read c.args.cards.now (length c.args.cards.now) c.card_of-number.result c.index-cards-number.result refl
-    c.card_of-number.ensures.within c.index-cards-number.is
+    slice_get_read c.args.cards.now (length c.args.cards.now) c.from-card.result c.index-cards-card.result refl
+    (within c) c.index-cards-card.is
 
-told_there : (c : After-index-cards-number) → slice_get (tolds_of c.args.cards.now) c.card_of-number.result ≡ Some c.index-cards-number.result.told.items
+told_there : (c : After-index-cards-card) → slice_get (tolds_of c.args.cards.now) c.from-card.result ≡ Some c.index-cards-card.result.told.items
 told_there c =
     let tolds : Card → List Told = λ card. card.told.items in
-    slice_get-map tolds c.args.cards.now c.card_of-number.result ∙ ap (option_map tolds) (card_there c)
+    slice_get-map tolds c.args.cards.now c.from-card.result ∙ ap (option_map tolds) (card_there c)
 
-count_there : (c : After-index-cards-number) → slice_get c.loop-arrival.next.items c.card_of-number.result ≡ Some c.index-place.result.now
+abbrev next_of : After-index-cards-card → ℕ
+next_of c = get_or c.loop-number.next c.from-card.result 0
+
+count_there : (c : After-index-cards-card) → slice_get c.loop-number.next c.from-card.result ≡ Some (next_of c)
 count_there c =
-    slice_get_read c.loop-arrival.next.items (length c.loop-arrival.next.items) c.card_of-number.result c.index-place.result.now refl
-    (omega (arith, c.card_of-number.ensures.within, c.loop-arrival.invariant.sized)) c.index-place.ensures
+    slice_get-get_or c.loop-number.next c.from-card.result 0
+    (omega (arith, within c, c.requires.limit, c.loop-number.invariant.sized))
 
-place : (c : After-index-cards-number)
-    → (c.index-place.result.now ≡ length (own_arrivals c.args.side (length c.args.cards.now) c.card_of-number.result (take c.loop-arrival.arrival-index c.args.arrivals.now)))
-    × (c.index-place.result.now < length c.index-cards-number.result.told.items)
+place : (c : After-index-cards-card)
+    → (next_of c ≡ length (own_arrivals c.args.side (length c.args.cards.now) c.from-card.result (take c.loop-number.number-index c.args.arrivals.now)))
+    × (next_of c < length c.index-cards-card.result.told.items)
 place c =
-    place-told c.args.side (length c.args.cards.now) c.args.arrivals.now c.loop-arrival.arrival-index c.card_of-number.result c.index-place.result.now
-    c.arrival-item.result c.loop-arrival.next.items (tolds_of c.args.cards.now) c.index-cards-number.result.told.items
-    c.loop-arrival.invariant.counts c.requires.each (here c) (card_is c) (count_there c) (told_there c)
+    let it = found c in
+    place-told c.args.side (length c.args.cards.now) c.args.arrivals.now c.loop-number.number-index c.from-card.result (next_of c)
+    it.0 c.loop-number.next (tolds_of c.args.cards.now) c.index-cards-card.result.told.items
+    c.loop-number.invariant.counts c.requires.each it.1 (sym it.2) (count_there c) (told_there c)
+
+pub loop-number-init : goal.loop-number-init
+loop-number-init c =
+    record {
+      counts = λ number count e. get-replicate 64 number 0 count e;
+      sized = refl;
+      gathered = λ number ts e. refl;
+      told = ap length c.requires.empty;
+      room = c.requires.room;
+      capacity = refl;
+    }
+
+pub bounds-next-card : goal.bounds-next-card
+bounds-next-card c = omega (arith, card_within c, c.requires.limit)
+
+pub bounds-cards-card : goal.bounds-cards-card
+bounds-cards-card c = card_within (goal.at.bounds-cards-card c).After-from-card
 
 pub index-requires : goal.index-requires
 index-requires c =
-    let within = (place c).1 in
-    let P : Card → Type 0 = λ card. c.index-place.result.now < vec_len card.told in
-    subst P c.index-cards-number.is (omega (arith, within, c.index-cards-number.result.told.ok.0))
+    let below = (place c).1 in
+    let P : Card → Type 0 = λ card. next_of c < vec_len card.told in
+    subst P c.index-cards-card.is (omega (arith, below, c.index-cards-card.result.told.ok.0))
 
-pub overflow_add-place : goal.overflow_add-place
-overflow_add-place c =
-    let within = (place (goal.at.overflow_add-place c).After-index-cards-number).1 in
-    omega (arith, within, c.index-cards-number.result.told.ok.0, c.index-cards-number.result.told.small)
+pub overflow_add-next : goal.overflow_add-next
+overflow_add-next c =
+    let below = (place (goal.at.overflow_add-next c).After-index-cards-card).1 in
+    omega (arith, below, c.index-cards-card.result.told.ok.0, c.index-cards-card.result.told.small)
 
-pub loop-arrival-preserved : goal.loop-arrival-preserved
-loop-arrival-preserved c =
-    let d = (goal.at.loop-arrival-preserved c).After-index-cards-number in
+pub bounds-next-card-in-loop-number : goal.bounds-next-card-in-loop-number
+bounds-next-card-in-loop-number c =
+    omega (arith, card_within (goal.at.bounds-next-card-in-loop-number c).After-from-card, c.requires.limit)
+
+pub loop-number-preserved : goal.loop-number-preserved
+loop-number-preserved c =
+    let d = (goal.at.loop-number-preserved c).After-index-cards-card in
+    let it = found d in
     let cards = length c.args.cards.now in
     let arrivals = c.args.arrivals.now in
-    let count = c.loop-arrival.arrival-index in
-    let from = c.index-cards-number.result.told.items in
+    let count = c.loop-number.number-index in
+    let number = c.from-card.result in
+    let from = c.index-cards-card.result.told.items in
     let next = c.index.result.now in
     let at = place d in
-    let front : length (take count arrivals) ≡ count = length-take-le count arrivals (omega (arith, c.loop-arrival.auto.arrival-index-end)) in
-    let read : slice_get from c.index-place.result.now ≡ Some next =
-    slice_get_read from (length from) c.index-place.result.now next refl at.1
-    (c.index.ensures ∙ ap (λ (card : Card). get_or card.told.items c.index-place.result.now next) (sym c.index-cards-number.is)) in
+    let many : length c.args.numbers.now ≡ length arrivals = ap length c.requires.numbers ∙ length-map arrivals (card_for c.args.side cards) in
+    let front : length (take count arrivals) ≡ count = length-take-le count arrivals (omega (arith, c.loop-number.auto.number-index-end, many)) in
+    let read : slice_get from (next_of d) ≡ Some next =
+    slice_get_read from (length from) (next_of d) next refl at.1
+    (c.index.ensures ∙ ap (λ (card : Card). get_or card.told.items (next_of d) next) (sym c.index-cards-card.is)) in
     record {
-      counts = counts-next c.args.side cards arrivals count c.card_of-number.result c.arrival-item.result c.loop-arrival.next.items
-          c.index-place.result.now c.loop-arrival.invariant.counts (here d) (card_is d) (count_there d);
-      sized = length-set c.loop-arrival.next.items c.card_of-number.result (c.index-place.result.now + 1) ∙ c.loop-arrival.invariant.sized;
+      counts = counts-next c.args.side cards arrivals count number it.0 c.loop-number.next
+          (next_of d) c.loop-number.invariant.counts it.1 (sym it.2) (count_there d);
+      sized = length-set c.loop-number.next number (next_of d + 1) ∙ c.loop-number.invariant.sized;
       gathered = subst (λ (ts : List Told). IsGathered c.args.side cards (take (count + 1) arrivals) (tolds_of c.args.cards.now) ts)
           (sym c.push_reserved.ensures.items)
-          (gather-next c.args.side cards arrivals count c.card_of-number.result c.arrival-item.result (tolds_of c.args.cards.now)
-          c.loop-arrival.told.items from next c.loop-arrival.invariant.gathered (c.loop-arrival.invariant.told ∙ sym front)
-          (here d) (card_is d) (told_there d) (ap (slice_get from) (sym at.0) ∙ read));
-      told = ap length c.push_reserved.ensures.items ∙ length-append c.loop-arrival.told.items (next ∷ []) ∙ ap (λ (n : ℕ). n + 1) c.loop-arrival.invariant.told;
-      room = omega (arith, c.push_reserved.ensures.capacity, c.loop-arrival.invariant.room);
+          (gather-next c.args.side cards arrivals count number it.0 (tolds_of c.args.cards.now)
+          c.loop-number.told.items from next c.loop-number.invariant.gathered (c.loop-number.invariant.told ∙ sym front)
+          it.1 (sym it.2) (told_there d) (ap (slice_get from) (sym at.0) ∙ read));
+      told = ap length c.push_reserved.ensures.items ∙ length-append c.loop-number.told.items (next ∷ []) ∙ ap (λ (n : ℕ). n + 1) c.loop-number.invariant.told;
+      room = omega (arith, c.push_reserved.ensures.capacity, c.loop-number.invariant.room);
+      capacity = c.push_reserved.ensures.capacity ∙ c.loop-number.invariant.capacity;
     }
 
 pub returns-clause-own : goal.returns-clause-own
 returns-clause-own c =
     let arrivals = c.args.arrivals.now in
-    let all : c.loop-arrival.arrival-index ≡ length arrivals =
-    let high : c.loop-arrival.arrival-index ≤ length arrivals = c.loop-arrival.auto.arrival-index-end in
-    let low : length arrivals ≤ c.loop-arrival.arrival-index = c.loop-arrival-test.false in omega arith in
-    gather-all c.args.side (length c.args.cards.now) arrivals (tolds_of c.args.cards.now) c.loop-arrival.told.items c.requires.each
-    (subst (λ (n : ℕ). IsGathered c.args.side (length c.args.cards.now) (take n arrivals) (tolds_of c.args.cards.now) c.loop-arrival.told.items) all
-    c.loop-arrival.invariant.gathered)
+    let many : length c.args.numbers.now ≡ length arrivals =
+    ap length c.requires.numbers ∙ length-map arrivals (card_for c.args.side (length c.args.cards.now)) in
+    let all : c.loop-number.number-index ≡ length arrivals =
+    let high : c.loop-number.number-index ≤ length c.args.numbers.now = c.loop-number.auto.number-index-end in
+    let low : length c.args.numbers.now ≤ c.loop-number.number-index = c.loop-number-test.false in omega (arith, many) in
+    gather-all c.args.side (length c.args.cards.now) arrivals (tolds_of c.args.cards.now) c.loop-number.told.items c.requires.each
+    (subst (λ (n : ℕ). IsGathered c.args.side (length c.args.cards.now) (take n arrivals) (tolds_of c.args.cards.now) c.loop-number.told.items) all
+    c.loop-number.invariant.gathered)

@@ -34,4 +34,5 @@ loop-place-preserved c =
           c.loop-place.invariant.rest c.in-Some.ensures.answered;
       told = omega (arith, c.push_reserved.ensures.len, c.loop-place.invariant.told);
       room = omega (arith, c.push_reserved.ensures.capacity, c.loop-place.invariant.room);
+      capacity = c.push_reserved.ensures.capacity ∙ c.loop-place.invariant.capacity;
     }

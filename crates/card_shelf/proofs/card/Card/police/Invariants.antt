@@ -10,4 +10,5 @@ invariant-loop-place l = record {
   rest : IsAtRest l.self.core;
   told : vec_len l.self.told ≡ l.place-index;
   room : length l.places ≤ vec_capacity l.self.told;
+  capacity : vec_capacity l.self.told ≡ vec_capacity l.fn.self.told;
 }
