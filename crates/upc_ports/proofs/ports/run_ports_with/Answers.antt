@@ -17,8 +17,8 @@ returns-in-Ok-Whole g c =
     let mid = g.O.Output.held c.answer_lines.new.output in
     let new = g.O.Output.held c.run_lines.new.output in
     let reading : g.I.Input.is_known → g.O.Output.is_known → Adds (λ text. IsReadingText octets text Whole) held mid = λ known holds.
-        subst (λ (d : Done). Adds (λ text. IsReadingText octets text d) held mid) c.in-Ok-Whole.field-0-is
-        (c.in-Ok-Whole.ensures.text known holds unread tt (sym c.new-script.ensures)) in
+    subst (λ (d : Done). Adds (λ text. IsReadingText octets text d) held mid) c.in-Ok-Whole.field-0-is
+    (c.in-Ok-Whole.ensures.text known holds unread tt (sym c.new-script.ensures)) in
     record {
       text = λ known holds. IfOk-weaker c.run_lines.result _ _
           (λ done ran. ran-text octets held mid new done (reading known holds) ran) (c.run_lines.ensures.text holds);
