@@ -23,7 +23,8 @@ use Rattle.card_shelf.specs.Own.{ServesAll}
 use Rattle.card_shelf.specs.Policing.{Serves, Polices, PolicesAll}
 use Rattle.card_shelf.specs.OneCard.{IsLogOf, IsBeside, HasTimeFor, codes_in, AreAlike, IsToldAlike, AreToldAlike, ShelvesTellAsOneCard}
 use Rattle.card_shelf.proofs.GoingOn.{run-append}
-use Rattle.card_shelf.proofs.Lists.{get-set, there}
+use Rattle.gen_arena.proofs.Public.{slice_get-set}
+use Rattle.card_shelf.proofs.Lists.{there}
 use Rattle.card_shelf.proofs.OwnLemmas.{Told}
 use Rattle.card_shelf.proofs.WayAlike.{both-missed, both-judged, missed-here-alone, missed-there-alone}
 use Rattle.card_shelf.proofs.Ways.{missed_way, judged_way, missed-foreign, judged-foreign, missed-codes, judged-codes}
@@ -172,17 +173,17 @@ module _ (one shape : Shape) (side : one.side ≡ shape.side) (journal : one.jou
           here = go.here.is_log;
           sized = same_length ∙ beside.sized ∙ sym cards_same;
           each = λ k other core is is_core.
-              elim (get-set logs number k (own ++ go.way_too) other is) [
+              elim (slice_get-set logs number k (own ++ go.way_too) other is) [
                 | inl same ↦
                     let core_is : slice_get (slice_set cards number polices.next) k ≡ Some core = ap (λ (cs : List CoreView). slice_get cs k) (sym polices.after) ∙ is_core in
-                    elim (get-set cards number k polices.next core core_is) [
+                    elim (slice_get-set cards number k polices.next core core_is) [
                       | inl same_too ↦ subst (λ (c : CoreView). IsLogOf shape other c) same_too.1
                           (subst (λ (l : List Event). IsLogOf shape l polices.next) same.1 go.there.is_log)
                       | inr apart ↦ absurd (apart.0 same.0)
                     ]
                 | inr apart ↦
                     let core_is : slice_get (slice_set cards number polices.next) k ≡ Some core = ap (λ (cs : List CoreView). slice_get cs k) (sym polices.after) ∙ is_core in
-                    elim (get-set cards number k polices.next core core_is) [
+                    elim (slice_get-set cards number k polices.next core core_is) [
                       | inl same_too ↦ absurd (apart.0 same_too.0)
                       | inr apart_too ↦ beside.each k other core apart.1 apart_too.1
                     ]
@@ -193,14 +194,14 @@ module _ (one shape : Shape) (side : one.side ≡ shape.side) (journal : one.jou
                 | true ↦ λ mine_too.
                     let card_is : card_of vc (length logs) ≡ number =
                     ap (λ (v : Vc). card_of v (length logs)) (vc_same vc (vc_of one.side arrival.cell) mine_too ∙ ap (λ (s : Side). vc_of s arrival.cell) side) ∙ same_number in
-                    elim (get-set logs number (card_of vc (length logs)) (own ++ go.way_too) other is_at) [
+                    elim (slice_get-set logs number (card_of vc (length logs)) (own ++ go.way_too) other is_at) [
                       | inl same ↦ subst (λ (l : List Event). account_of one.side vc (log ++ go.way) ≡ account_of shape.side vc l) same.1 (go.own vc mine_too)
                       | inr apart ↦ absurd (apart.0 card_is)
                     ]
                 | false ↦ λ foreign.
                     let foreign_too : is_same_vc vc (vc_of shape.side arrival.cell) ≡ false = subst (λ (s : Side). is_same_vc vc (vc_of s arrival.cell) ≡ false) side foreign in
                     go.here.foreign vc foreign
-                    ∙ elim (get-set logs number (card_of vc (length logs)) (own ++ go.way_too) other is_at) [
+                    ∙ elim (slice_get-set logs number (card_of vc (length logs)) (own ++ go.way_too) other is_at) [
                       | inl same ↦
                           let own_at : slice_get logs (card_of vc (length logs)) ≡ Some own = ap (slice_get logs) same.0 ∙ at.1 in
                           subst (λ (l : List Event). account_of one.side vc log ≡ account_of shape.side vc l) same.1
@@ -212,7 +213,7 @@ module _ (one shape : Shape) (side : one.side ≡ shape.side) (journal : one.jou
         };
         short = go.here.short;
         same_length = same_length;
-        grown = λ k other is. elim (get-set logs number k (own ++ go.way_too) other is) [
+        grown = λ k other is. elim (slice_get-set logs number k (own ++ go.way_too) other is) [
           | inl same ↦ (
             own,
             ap (slice_get logs) same.0 ∙ at.1,

@@ -9,7 +9,8 @@ use Rattle.card_shelf.specs.declared.arrival.Arrival.{Arrival}
 use Rattle.card_shelf.specs.Dealing.{card_for}
 use Rattle.card_shelf.specs.Own.{own_arrivals}
 use Rattle.card_shelf.specs.inner.Places.{picked, IsDealt, AreOwn}
-use Rattle.card_shelf.proofs.Lists.{get-set, take-next}
+use Rattle.gen_arena.proofs.Public.{slice_get-set}
+use Rattle.card_shelf.proofs.Lists.{take-next}
 use Rattle.card_shelf.proofs.OwnLemmas.{own-append, own-here, own-elsewhere, picked-next}
 
 module _ (side : Side) (cards : ℕ) (arrivals : List Arrival) where
@@ -23,7 +24,7 @@ module _ (side : Side) (cards : ℕ) (arrivals : List Arrival) where
       let next : own_arrivals side cards other (take (count + 1) arrivals)
       ≡ own_arrivals side cards other front ++ own_arrivals side cards other (arrival ∷ []) =
       ap (own_arrivals side cards other) (take-next arrivals count arrival here) ∙ own-append side cards other front (arrival ∷ []) in
-      elim (get-set dealt number other (places ++ count ∷ []) now e) [
+      elim (slice_get-set dealt number other (places ++ count ∷ []) now e) [
         | inl same ↦
             let old = so_far other places (ap (slice_get dealt) same.0 ∙ at) in
             subst (AreOwn side cards arrivals (count + 1) other) same.1 (record {

@@ -10,7 +10,8 @@ use Rattle.card_shelf.specs.Dealing.{card_for}
 use Rattle.card_shelf.specs.Own.{own_arrivals, own_told}
 use Rattle.card_shelf.specs.inner.Gathered.{CountsOwn, IsGathered, TellsOwn, TellEach}
 use Rattle.card_shelf.proofs.CardLemmas.{mapped}
-use Rattle.card_shelf.proofs.Lists.{get-set, take-next, around}
+use Rattle.gen_arena.proofs.Public.{slice_get-set}
+use Rattle.card_shelf.proofs.Lists.{take-next, around}
 use Rattle.card_shelf.proofs.OwnLemmas.{Told, own-append, own-here, own-elsewhere, told-append, told-here, told-elsewhere}
 
 module _ (side : Side) (cards : ℕ) (arrivals : List Arrival) where
@@ -29,7 +30,7 @@ module _ (side : Side) (cards : ℕ) (arrivals : List Arrival) where
   counts-next count number arrival counts before so_far here is at other now e =
       let own = own_arrivals side cards other in
       let sum = ap length (own-next count other arrival here) ∙ length-append (own (take count arrivals)) (own (arrival ∷ [])) in
-      elim (get-set counts number other (before + 1) now e) [
+      elim (slice_get-set counts number other (before + 1) now e) [
         | inl same ↦
             let had = so_far other before (ap (slice_get counts) same.0 ∙ at) in
             let one = ap length (own-here side cards other arrival [] (sym is ∙ sym same.0)) in

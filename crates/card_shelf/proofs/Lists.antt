@@ -1,34 +1,10 @@
 -- What lists have at a place.
-use Rattle.std.proofs.Common.{◌≡◌, ◌≢◌, ◌⊎◌, ℕ, zero, suc, ◌+◌, ◌<◌, List, [], ◌∷◌, ◌++◌, length, take, drop, set, replicate, Some, refl, sym, ap, ◌∙◌, subst, inl, inr, arith, length-set, drop_of_length-le}
+use Rattle.std.proofs.Common.{◌≡◌, ◌⊎◌, ℕ, zero, suc, ◌+◌, ◌<◌, List, [], ◌∷◌, ◌++◌, length, take, drop, replicate, Some, refl, sym, ap, ◌∙◌, inl, inr, arith, drop_of_length-le}
 use Rattle.std.specs.Prelude.{slice_get}
-use Rattle.std.proofs.lemmas.Bool.{cases_eq}
 use Rattle.std.proofs.lemmas.List.{take_more, take-append-drop, drop_more, append-nil, take_all}
 use Rattle.std.proofs.lemmas.Option.{same_Some, slice_get_within, get_or_from_slice_get}
 
 module _ {X : Type 0} where
-  pub get-set_same : (xs : List X) (k : ℕ) (x : X) → k < length xs → slice_get (set xs k x) k ≡ Some x
-  get-set_same [] k x within = absurd (omega arith)
-  get-set_same (y ∷ xs) zero x within = refl
-  get-set_same (y ∷ xs) (suc k) x within = get-set_same xs k x (omega arith)
-
-  pub get-set_other : (xs : List X) (k j : ℕ) (x : X) → j ≢ k → slice_get (set xs k x) j ≡ slice_get xs j
-  get-set_other [] k j x apart = refl
-  get-set_other (y ∷ xs) zero zero x apart = absurd (apart refl)
-  get-set_other (y ∷ xs) zero (suc j) x apart = refl
-  get-set_other (y ∷ xs) (suc k) zero x apart = refl
-  get-set_other (y ∷ xs) (suc k) (suc j) x apart = get-set_other xs k j x (λ e. apart (ap suc e))
-
-  -- What a place has after a write is what was written there, or what it had.
-  pub get-set : (xs : List X) (k j : ℕ) (x y : X) → slice_get (set xs k x) j ≡ Some y
-      → ((j ≡ k) × (x ≡ y)) ⊎ ((j ≢ k) × (slice_get xs j ≡ Some y))
-  get-set xs k j x y e = elim (cases_eq j k) [
-    | inl same ↦
-        let at : slice_get (set xs k x) k ≡ Some y = subst (λ i. slice_get (set xs k x) i ≡ Some y) same e in
-        let within : k < length xs = omega (arith, slice_get_within (set xs k x) k y at, length-set xs k x) in
-        inl (same, same_Some x y (sym (get-set_same xs k x within) ∙ at))
-    | inr apart ↦ inr (apart, sym (get-set_other xs k j x apart) ∙ e)
-  ]
-
   pub there : (xs : List X) (k : ℕ) → k < length xs → (x : X) × (slice_get xs k ≡ Some x)
   there [] k within = absurd (omega arith)
   there (x ∷ xs) zero within = (x, refl)

@@ -4,12 +4,12 @@ use Rattle.std.specs.Prelude.{slice_get}
 use Rattle.card_shelf.specs.declared.batch.Batch.{Batch}
 use Rattle.card_shelf.specs.declared.card.Card.{Card}
 use Rattle.card_shelf.specs.inner.Rooms.{HaveRoom, AreShort, CardsRoom, HasRoom}
-use Rattle.card_shelf.proofs.Lists.{get-set}
+use Rattle.gen_arena.proofs.Public.{slice_get-set}
 
 -- A list of places keeps its room, or gets one with at least as much.
 pub room-set : (most : ℕ) (lists : List (Vec ℕ Global)) (number : ℕ) (old new : Vec ℕ Global)
     → slice_get lists number ≡ Some old → vec_capacity old ≤ vec_capacity new → HaveRoom most lists → HaveRoom most (set lists number new)
-room-set most lists number old new at grown room other places e = elim (get-set lists number other new places e) [
+room-set most lists number old new at grown room other places e = elim (slice_get-set lists number other new places e) [
   | inl same ↦
       let had = room number old at in
       subst (λ (v : Vec ℕ Global). most ≤ vec_capacity v) same.1 (omega (arith, had, grown))
@@ -19,7 +19,7 @@ room-set most lists number old new at grown room other places e = elim (get-set 
 -- Lists of at most this number of places, and one more in one of them.
 pub short-set : (count : ℕ) (lists : List (Vec ℕ Global)) (number : ℕ) (old new : Vec ℕ Global) → slice_get lists number ≡ Some old
     → length new.items ≤ length old.items + 1 → AreShort count lists → AreShort (count + 1) (set lists number new)
-short-set count lists number old new at grown short other places e = elim (get-set lists number other new places e) [
+short-set count lists number old new at grown short other places e = elim (slice_get-set lists number other new places e) [
   | inl same ↦
       let had = short number old at in
       subst (λ (v : Vec ℕ Global). length v.items ≤ count + 1) same.1 (omega (arith, had, grown))
@@ -29,7 +29,7 @@ short-set count lists number old new at grown short other places e = elim (get-s
 -- A card keeps its room for answers, or gets more.
 pub cards-room-set : (most : ℕ) (cards : List Card) (number : ℕ) (old new : Card) → slice_get cards number ≡ Some old
     → vec_capacity old.told ≤ vec_capacity new.told → CardsRoom most cards → CardsRoom most (set cards number new)
-cards-room-set most cards number old new at grown room other card e = elim (get-set cards number other new card e) [
+cards-room-set most cards number old new at grown room other card e = elim (slice_get-set cards number other new card e) [
   | inl same ↦
       let had = room number old at in
       subst (λ (x : Card). most ≤ vec_capacity x.told) same.1 (omega (arith, had, grown))

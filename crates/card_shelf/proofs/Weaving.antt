@@ -8,7 +8,8 @@ use Rattle.card_shelf.specs.declared.arrival.Arrival.{Arrival}
 use Rattle.card_shelf.specs.Dealing.{card_for}
 use Rattle.card_shelf.specs.Policing.{PolicesAll}
 use Rattle.card_shelf.specs.Own.{own_arrivals, own_told, ServesAll, EachServes}
-use Rattle.card_shelf.proofs.Lists.{get-set, there, same-lists}
+use Rattle.gen_arena.proofs.Public.{slice_get-set}
+use Rattle.card_shelf.proofs.Lists.{there, same-lists}
 use Rattle.card_shelf.proofs.OwnLemmas.{Told, own-here, own-elsewhere, told-here, told-elsewhere}
 
 -- Where each card answers its own arrivals, the cards answer all arrivals in their order.
@@ -33,7 +34,7 @@ weave side old new (x ∷ xs) (t ∷ ts) some sized e within each =
     let same : length between ≡ cards = length-set old number mine.0 in
     let later : EachServes side between xs ts new = λ other here after was is.
     subst (λ (n : ℕ). ServesAll here (own_arrivals side n other xs) (own_told side n other xs ts) after) (sym same)
-    (elim (get-set old number other mine.0 here was) [
+    (elim (slice_get-set old number other mine.0 here was) [
       | inl at ↦
           let after_is : next.0 ≡ after = same_Some next.0 after (sym next.1 ∙ ap (slice_get new) (sym at.0) ∙ is) in
           subst (λ (c : CoreView). ServesAll c (own_arrivals side cards other xs) (own_told side cards other xs ts) after) at.1

@@ -1,7 +1,7 @@
 use Rattle.std.proofs.Common.{◌≡◌, ◌<◌, Some, length, Vec, Global, ℕ, vec_capacity, refl, sym, ap, ◌∙◌, inl, inr, arith}
 use Rattle.std.specs.Prelude.{slice_get}
 use Rattle.std.proofs.lemmas.Option.{slice_get_read, slice_get_within}
-use Rattle.card_shelf.proofs.Lists.{get-set}
+use Rattle.gen_arena.proofs.Public.{slice_get-set}
 use Rattle.card_shelf.proofs.RoomLemmas.{room-set}
 use Rattle.card_shelf.proofs.dealing.clear_all.Goals as goal
 
@@ -15,7 +15,7 @@ loop-number-preserved c =
     let same_room : vec_capacity c.clear.new.self ≡ vec_capacity old =
     c.clear.ensures.capacity ∙ ap (λ (v : Vec ℕ Global). vec_capacity v) (sym c.index-lists-number.is) in
     record {
-      empty = λ k places before e. elim (get-set lists n k c.clear.new.self places e) [
+      empty = λ k places before e. elim (slice_get-set lists n k c.clear.new.self places e) [
         | inl same ↦ ap (λ (v : Vec ℕ Global). v.items) (sym same.1) ∙ c.clear.ensures.items
         | inr apart ↦ c.loop-number.invariant.empty k places (let ne = apart.0 in omega (arith, before, ne)) apart.1
       ];

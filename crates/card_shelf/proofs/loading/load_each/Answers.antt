@@ -6,7 +6,7 @@ use Rattle.bpf_code.specs.declared.instr.Instr.{Instr}
 use Rattle.gen_arena.specs.declared.id.Id.{Id}
 use Rattle.card_shelf.specs.declared.card.Card.{Card}
 use Rattle.card_shelf.specs.Programs.{LoadsOn}
-use Rattle.card_shelf.proofs.Lists.{get-set, get-set_other}
+use Rattle.gen_arena.proofs.Public.{slice_get-set, slice_get-set_other}
 use Rattle.card_shelf.proofs.ProgramLemmas.{get-last, get-before, front-or, last-or}
 use Rattle.card_shelf.proofs.loading.load_each.Goals as goal
 
@@ -36,7 +36,7 @@ loop-number-preserved c =
       loaded = λ k card next id e after at.
           let at_old : slice_get (ids ++ c.load.result ∷ []) k ≡ Some id =
           ap (λ (xs : List Id). slice_get xs k) (sym c.push_reserved.ensures.items) ∙ at in
-          elim (get-set cards number k c.load.new.self next after) [
+          elim (slice_get-set cards number k c.load.new.self next after) [
             | inl same ↦
                 let card_is : c.index-cards-number.result ≡ card = same_Some c.index-cards-number.result card
                 (sym here ∙ ap (slice_get c.args.cards.now) (sym same.0) ∙ e) in
@@ -52,6 +52,6 @@ loop-number-preserved c =
                 c.loop-number.invariant.loaded k card next id e apart.1 (sym (get-before ids k c.load.result earlier) ∙ at_old)
           ];
       rest = λ k above.
-          get-set_other cards number k c.load.new.self (omega (arith, above))
+          slice_get-set_other cards number k c.load.new.self (omega (arith, above))
           ∙ c.loop-number.invariant.rest k (omega (arith, above));
     }

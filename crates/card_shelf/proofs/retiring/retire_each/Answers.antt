@@ -5,7 +5,7 @@ use Rattle.gen_arena.specs.declared.id.Id.{Id}
 use Rattle.card_core.specs.Inspection.{IsRetireFault}
 use Rattle.card_shelf.specs.declared.card.Card.{Card}
 use Rattle.card_shelf.specs.Programs.{RetiresOn}
-use Rattle.card_shelf.proofs.Lists.{get-set, get-set_other}
+use Rattle.gen_arena.proofs.Public.{slice_get-set, slice_get-set_other}
 use Rattle.card_shelf.proofs.retiring.retire_each.Goals as goal
 use Rattle.card_shelf.proofs.retiring.retire_each.Goals.{After-index-cards-number}
 
@@ -34,7 +34,7 @@ loop-number-preserved c =
     let number = c.loop-number.number in
     let ids = c.args.ids.now in
     record {
-      retired = λ k card next id below e after at. elim (get-set c.loop-number.cards number k c.retire.new.self next after) [
+      retired = λ k card next id below e after at. elim (slice_get-set c.loop-number.cards number k c.retire.new.self next after) [
         | inl same ↦
             let card_is : c.index-cards-number.result ≡ card = same_Some c.index-cards-number.result card
             (sym (here (goal.at.loop-number-preserved c).After-index-cards-number) ∙ ap (slice_get c.args.cards.now) (sym same.0) ∙ e) in
@@ -47,7 +47,7 @@ loop-number-preserved c =
         | inr apart ↦ c.loop-number.invariant.retired k card next id (let ne = apart.0 in omega (arith, below, ne)) e apart.1 at
       ];
       rest = λ k above.
-          get-set_other c.loop-number.cards number k c.retire.new.self (omega (arith, above))
+          slice_get-set_other c.loop-number.cards number k c.retire.new.self (omega (arith, above))
           ∙ c.loop-number.invariant.rest k (omega (arith, above));
     }
 

@@ -4,7 +4,7 @@ use Rattle.std.proofs.lemmas.Option.{slice_get_read, slice_get-get_or, slice_get
 use Rattle.card_shelf.specs.declared.card.Card.{Card}
 use Rattle.card_shelf.specs.inner.Cards.{cores_of, IsReady}
 use Rattle.card_shelf.specs.inner.Rooms.{CardsRoom}
-use Rattle.card_shelf.proofs.Lists.{get-set}
+use Rattle.gen_arena.proofs.Public.{slice_get-set}
 use Rattle.card_shelf.proofs.CardLemmas.{core_in, cores-set}
 use Rattle.card_shelf.proofs.RoomLemmas.{cards-room-set}
 use Rattle.card_shelf.proofs.running.make_room.Goals as goal
@@ -48,7 +48,7 @@ pub loop-number-preserved : goal.loop-number-preserved
 loop-number-preserved c =
     record {
       cores = cores (goal.at.loop-number-preserved c).After-make_room;
-      ready = λ number card places below is at. elim (get-set c.loop-number.cards c.loop-number.number number c.make_room.new.self card is) [
+      ready = λ number card places below is at. elim (slice_get-set c.loop-number.cards c.loop-number.number number c.make_room.new.self card is) [
         | inl same ↦
             let here : slice_get c.args.dealt.now c.loop-number.number ≡ Some places = ap (slice_get c.args.dealt.now) (sym same.0) ∙ at in
             let dealt_is : slice_index_or c.args.dealt.now c.loop-number.number c.index-dealt-number.result ≡ places =

@@ -7,7 +7,7 @@ use Rattle.card_shelf.specs.declared.card.Card.{Card}
 use Rattle.card_shelf.specs.Shelf.{Takes}
 use Rattle.card_shelf.specs.inner.Cards.{cores_of}
 use Rattle.card_shelf.specs.inner.Rest.{IsAtRest}
-use Rattle.card_shelf.proofs.Lists.{get-set}
+use Rattle.gen_arena.proofs.Public.{slice_get-set}
 use Rattle.card_shelf.proofs.CardLemmas.{core_in, core-at}
 use Rattle.card_shelf.proofs.RestLemmas.{desk-rests}
 use Rattle.card_shelf.proofs.running.step_on.Goals as goal
@@ -37,7 +37,7 @@ returns-clause-taken c =
 pub returns-clause-rest : goal.returns-clause-rest
 returns-clause-rest c number core e =
     let old = c.index-cards-number.result.core in
-    elim (get-set (cores_of c.args.cards.now) c.args.number number c.step.new.self core
+    elim (slice_get-set (cores_of c.args.cards.now) c.args.number number c.step.new.self core
     (ap (λ (cs : List CoreView). slice_get cs number) (sym (map-set core_in c.args.cards.now c.args.number _)) ∙ e)) [
       | inl same ↦ subst IsAtRest same.1
           (desk-rests old c.step.new.self c.args.step c.step.result c.requires.desk (c.requires.rest c.args.number old (there c)) (takes c).follows)

@@ -3,7 +3,7 @@ use Rattle.std.specs.Prelude.{slice_get}
 use Rattle.std.proofs.lemmas.Bool.{cases_lt}
 use Rattle.std.proofs.lemmas.Option.{slice_get_read, slice_get_within}
 use Rattle.card_shelf.specs.declared.card.Card.{Card}
-use Rattle.card_shelf.proofs.Lists.{get-set, get-set_other}
+use Rattle.gen_arena.proofs.Public.{slice_get-set, slice_get-set_other}
 use Rattle.card_shelf.proofs.CardLemmas.{core_in, cores-set}
 use Rattle.card_shelf.proofs.OwnLemmas.{Told}
 use Rattle.card_shelf.proofs.running.swap_tolds.Goals as goal
@@ -29,20 +29,20 @@ loop-number-preserved c =
     c.swap.ensures.y_after ∙ ap (λ (card : Card). card.told) (sym c.index-cards-number.is) in
     record {
       cores = cores-set cards n c.index-cards-number.result _ (card_there c) (ap core_in (sym c.index-cards-number.is)) ∙ c.loop-number.invariant.cores;
-      lent = λ most room k card below e. elim (get-set cards n k _ card e) [
+      lent = λ most room k card below e. elim (slice_get-set cards n k _ card e) [
         | inl same ↦
             let had = room n c.index-tolds-number.result (omega arith) (sym (c.loop-number.invariant.tolds n (omega arith)) ∙ told_there c) in
             subst (λ (x : Card). most ≤ vec_capacity x.told) same.1 (subst (λ (v : Vec Told Global). most ≤ vec_capacity v) (sym told_is) had)
         | inr apart ↦ c.loop-number.invariant.lent most room k card (let ne = apart.0 in omega (arith, below, ne)) apart.1
       ];
-      back = λ most room k told below e. elim (get-set tolds n k _ told e) [
+      back = λ most room k told below e. elim (slice_get-set tolds n k _ told e) [
         | inl same ↦
             let had = room n c.index-cards-number.result (sym (c.loop-number.invariant.cards n (omega arith)) ∙ card_there c) in
             subst (λ (v : Vec Told Global). most ≤ vec_capacity v) (sym old_is ∙ same.1) had
         | inr apart ↦ c.loop-number.invariant.back most room k told (let ne = apart.0 in omega (arith, below, ne)) apart.1
       ];
-      cards = λ k above. get-set_other cards n k _ (omega (arith, above)) ∙ c.loop-number.invariant.cards k (omega (arith, above));
-      tolds = λ k above. get-set_other tolds n k _ (omega (arith, above)) ∙ c.loop-number.invariant.tolds k (omega (arith, above));
+      cards = λ k above. slice_get-set_other cards n k _ (omega (arith, above)) ∙ c.loop-number.invariant.cards k (omega (arith, above));
+      tolds = λ k above. slice_get-set_other tolds n k _ (omega (arith, above)) ∙ c.loop-number.invariant.tolds k (omega (arith, above));
     }
 
 pub returns-clause-lent : goal.returns-clause-lent
