@@ -1,4 +1,5 @@
--- The reading's text is that of a script that can't be run, and else nothing, before what the run gave.
+-- If the script can't run, the text is that of the reading. Otherwise the reading printed nothing, and the text is that
+-- of the run.
 use Rattle.std.proofs.Common.{ℕ, List, rules, subst, sym}
 use Rattle.std.proofs.lemmas.Result.{IfOk-weaker, on_err_weaker}
 use Rattle.text_io.specs.Devices.{Adds, TakesEnough}
@@ -17,8 +18,8 @@ returns-in-Ok-Whole g c =
     let mid = g.O.Output.held c.answer_lines.new.output in
     let new = g.O.Output.held c.run_lines.new.output in
     let reading : g.I.Input.is_known → g.O.Output.is_known → Adds (λ text. IsReadingText octets text Whole) held mid = λ known holds.
-        subst (λ (d : Done). Adds (λ text. IsReadingText octets text d) held mid) c.in-Ok-Whole.field-0-is
-        (c.in-Ok-Whole.ensures.text known holds unread tt (sym c.new-script.ensures)) in
+    subst (λ (d : Done). Adds (λ text. IsReadingText octets text d) held mid) c.in-Ok-Whole.field-0-is
+    (c.in-Ok-Whole.ensures.text known holds unread tt (sym c.new-script.ensures)) in
     record {
       text = λ known holds. IfOk-weaker c.run_lines.result _ _
           (λ done ran. ran-text octets held mid new done (reading known holds) ran) (c.run_lines.ensures.text holds);
