@@ -37,9 +37,9 @@ pub enum Stop {
     NoMemory,
 }
 
-/// Reads the words after the program's name. The one word is the name of a subcommand; no word means `eval`. The
-/// forms of help that `clap` has ask for help. Any other word and any further word is an error. As everywhere in
-/// `clap`, `--` ends the options and isn't a word itself, so it may be last.
+/// Reads the words after the program's name. The one word is the name of a subcommand; no word means `eval`. The forms
+/// of help that `clap` has request help. Any other word and any further word is an error. As everywhere in `clap`, `--`
+/// ends the options and isn't a word itself, so it may be last.
 pub fn choose(alloc: Global, words: Vec<String>) -> Result<Choice, Stop>
     ensures chosen { IfOk result (IsChosen (map string_bytes words.items)) }
     ensures faultless { IfOk result (λ _. faults_in (map string_bytes words.items) ≡ []) }

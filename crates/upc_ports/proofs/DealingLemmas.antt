@@ -1,4 +1,4 @@
--- A script's octets are read as lines in one way alone, and they are dealt one after another.
+-- A script's octets are read as lines in exactly one way, and the lines are assigned one after another.
 use Rattle.std.proofs.Common.{◌≡◌, ◌≢◌, ℕ, suc, ◌<◌, Bool, true, false, List, [], ◌∷◌, ◌++◌, All, length, map, get_or, refl, ap, sym, subst, ◌∙◌, arith, if◌then◌else◌}
 use Rattle.std.specs.Prelude.{MatchBool, Some, slice_get, slice_set}
 use Rattle.std.specs.Option.{option_map}
@@ -17,7 +17,7 @@ use Rattle.upc_ports.specs.declared.dealing.Answerer.{Answerer}
 use Rattle.upc_ports.specs.declared.dealing.Answerer.TheVariants.{Port}
 use Rattle.upc_ports.specs.inner.Dealing.{IsOneLine, text_of, AreLinesOf, is_cell_line, from_first_cell, port_of, Dealt, DealsAll, DealsCell, DealsCellLine, DealsDeskLine, DealsFound, DealsLine}
 
--- A cell was put after the others of the port of its connection.
+-- The line of a cell was assigned to the port of the cell's connection, after the earlier lines of that port.
 pub cell_dealt : (side : Side) (cell line : List ℕ) (order : List Answerer) (desk : List (List ℕ)) (V : Type 0) (v : V → List (List ℕ))
     (all : List V) (ports number : ℕ) (own next : V) → ports ≡ length all → 0 < ports → number ≡ port_of (vc_of side cell) ports
     → own ≡ get_or all number own → v next ≡ v own ++ line ∷ []
@@ -39,7 +39,7 @@ cell_dealt side cell line order desk V v all ports number own next sized some is
       dealt = ap (D number) put ∙ ap (λ n. D n (slice_set (map v all) n (v own ++ line ∷ []))) same;
     }
 
--- A cell line leaves as many ports as there were.
+-- A cell line leaves the number of ports unchanged.
 found_keeps : (side : Side) (line : List ℕ) (found : CellLine) (before after : Dealt) → DealsFound side line found before after
     → length after.arrivals ≡ length before.arrivals
 found_keeps side line (Comes moment cell) before after deals =
@@ -50,7 +50,7 @@ pub cell_line_keeps : (side : Side) (line : List ℕ) (before after : Dealt) →
     → length after.arrivals ≡ length before.arrivals
 cell_line_keeps side line before after deals = found_keeps side line deals.found before after deals.dealt
 
--- A line is dealt as its first word asks.
+-- The first word of a line decides how it is assigned.
 pub is_cell_lines : (side : Side) (line : List ℕ) (before after : Dealt) → is_cell_line (words_of line) ≡ true
     → DealsCellLine side line before after → DealsLine side line before after
 is_cell_lines side line before after is deals =
@@ -61,7 +61,7 @@ pub is_desks : (side : Side) (line : List ℕ) (before after : Dealt) → is_cel
 is_desks side line before after is deals =
     subst (λ b. MatchBool b (DealsCellLine side line before after) (DealsDeskLine line before after)) (sym is) deals
 
--- Any line leaves as many ports as there were.
+-- Any line leaves the number of ports unchanged.
 keeps_by : (is : Bool) (side : Side) (line : List ℕ) (before after : Dealt)
     → MatchBool is (DealsCellLine side line before after) (DealsDeskLine line before after) → length after.arrivals ≡ length before.arrivals
 keeps_by true side line before after deals = cell_line_keeps side line before after deals
@@ -71,7 +71,7 @@ pub line_keeps : (side : Side) (line : List ℕ) (before after : Dealt) → Deal
     → length after.arrivals ≡ length before.arrivals
 line_keeps side line before after deals = keeps_by (is_cell_line (words_of line)) side line before after deals
 
--- A line of the common form is a cell line, which brings its cell.
+-- A line of the common form is a cell line with its cell.
 pub common_dealt : (side : Side) (line : List ℕ) (moment : ℕ) (cell : List ℕ) (before after : Dealt) → IsCommonLine line moment cell
     → DealsCell side cell line before after → DealsLine side line before after
 common_dealt side line moment cell before after is deals =
@@ -80,7 +80,7 @@ common_dealt side line moment cell before after is deals =
     is_cell_lines side line before after (ap is_cell_line words.2)
     (record { found = Comes moment cell; brings = (found.0, found.1, found.2); dealt = deals })
 
--- The octets before the first line feed of a text have none.
+-- No octet of the line is a line feed.
 abbrev pub NoneBefore : List ℕ → List ℕ → Type 0
 NoneBefore line octets = (k : ℕ) → k < length line → get_or octets k 0 ≢ 10
 
@@ -96,7 +96,7 @@ not_empty : (line rest : List ℕ) → [] ≡ line ++ 10 ∷ rest → ⊥
 not_empty [] rest cut = let both : [] ≡ 10 ∷ rest = cut in cc
 not_empty (c ∷ cs) rest cut = let both : [] ≡ c ∷ (cs ++ 10 ∷ rest) = cut in cc
 
--- What comes before the first line feed is one line.
+-- The octets before the first line feed are one line.
 same_line : (line rest other more : List ℕ) → NoneBefore line (line ++ 10 ∷ rest) → IsOneLine other
     → line ++ 10 ∷ rest ≡ other ++ 10 ∷ more → (line ≡ other) × (rest ≡ more)
 same_line [] rest [] more none one cut = let both : 10 ∷ rest ≡ 10 ∷ more = cut in (refl, cc)
@@ -116,7 +116,7 @@ same_line (c ∷ cs) rest (d ∷ ds) more none one cut =
     let lines : cs ≡ ds = left.0 in
     (cc, left.1)
 
--- The first of some lines is what comes before the first line feed, and the others are what comes after it.
+-- The first line is the octets before the first line feed, and the others are the lines of the octets after it.
 pub record StartsWith (line rest : List ℕ) (lines : List (List ℕ)) : Type 0 where
   pub others : List (List ℕ)
   pub all : lines ≡ line ∷ others
@@ -134,7 +134,7 @@ starts_with line rest octets (first ∷ others) cut none are =
       left = record { text = same.1; each = All-tail IsOneLine first others are.each };
     }
 
--- Octets without a line feed are the text of no line.
+-- Octets without a line feed are the text of no lines.
 pub no_lines : (octets : List ℕ) (lines : List (List ℕ)) → NoneBefore octets octets → AreLinesOf octets lines → lines ≡ []
 no_lines octets [] none are = refl
 no_lines octets (first ∷ others) none are =
@@ -142,7 +142,7 @@ no_lines octets (first ∷ others) none are =
     let without = subst P are.text none in
     absurd (without (length first) (below_end first (text_of others)) (feed_at first (text_of others)))
 
--- Where a script was dealt so far: of its lines these are left, and who deals them has dealt the whole.
+-- The state of an assignment: these lines are left, and assigning them assigns the whole script.
 pub record IsDealing (side : Side) (whole : List (List ℕ)) (start : Dealt) (rest : List ℕ) (now : Dealt) : Type 0 where
   pub left : List (List ℕ)
   pub are : AreLinesOf rest left
@@ -167,7 +167,8 @@ all_dealt side whole start now rest none dealing =
     let P : List (List ℕ) → Type 0 = λ lines. (after : Dealt) → DealsAll side lines now after → DealsAll side whole start after in
     subst P (no_lines rest dealing.left none dealing.are) dealing.goes_on now refl
 
--- Where the lines before the first cell line were answered so far: from it on the lines are those of the whole.
+-- The state before the first cell line: the rest of the script, from its first cell line on, is that of the whole
+-- script.
 pub record IsBefore (whole : List (List ℕ)) (rest : List ℕ) : Type 0 where
   pub left : List (List ℕ)
   pub are : AreLinesOf rest left

@@ -19,7 +19,7 @@ use Rattle.upc_ports.specs.inner.InOrder.{Tells, AllTell}
 pub get_mapped : {A : Type 0} → {B : Type 0} (v : A → B) (xs : List A) (k : ℕ) → slice_get (map v xs) k ≡ option_map v (slice_get xs k)
 get_mapped = slice_get-map
 
--- One answerer more: its text follows those of the others.
+-- The text of one more answerer follows those of the others.
 pub one_more : (side : Side) (names : List Id) (arrivals : List (List ToldCell)) (told : List (List ℕ)) (order : List Answerer) (answerer : Answerer)
     (text here : List ℕ) → AllTell side names arrivals told order text → Tells side names arrivals told answerer here
     → AllTell side names arrivals told (order ++ answerer ∷ []) (text ++ here)
@@ -29,7 +29,8 @@ one_more side names arrivals told (first ∷ order) answerer text here all one =
     let rest = one_more side names arrivals told order answerer all.1 here all.4 one in
     (all.0, all.1 ++ here, ap (λ xs. xs ++ here) all.2 ∙ append_assoc all.0 all.1 here, all.3, rest)
 
--- What was added of the answerers so far, and then of the next, was added of those up to it.
+-- If the texts of the first `k` answerers were appended, and then that of the next, those of the first `k` + 1 were
+-- appended.
 pub next_told : (side : Side) (names : List Id) (arrivals : List (List ToldCell)) (told : List (List ℕ)) (order : List Answerer) (k : ℕ) (d : Answerer)
     (before so_far after : List ℕ) → k < length order → Adds (AllTell side names arrivals told (take k order)) before so_far
     → Adds (Tells side names arrivals told (get_or order k d)) so_far after

@@ -1,4 +1,4 @@
--- The text of `ports`, from what the reading of a script prints and what its run does.
+-- The text of `ports`, from the text of the reading and that of the run.
 use Rattle.std.proofs.Common.{◌≡◌, ℕ, List, [], ◌++◌, Some, None, inl, inr, refl, ap, subst, append-nil, ◌∙◌}
 use Rattle.std.specs.Prelude.{Result, Ok, Err, IfOk}
 use Rattle.text_io.specs.Devices.{Adds, TakesEnough}
@@ -12,11 +12,11 @@ use Rattle.upc_ports.specs.PortsText.{IsClosedText, IsPortsText, IsReadingText, 
 use Rattle.upc_ports.specs.inner.ReadingLaws.{reading-total}
 use Rattle.upc_ports.proofs.ReadingText.{reading-silent}
 
--- Any answers may stand before the totals.
+-- Any answers may come before the totals.
 closed-behind : (answers : List ℕ) → IsClosedText (answers ++ closing_text [] None) Whole
 closed-behind answers = record { answers = answers; lines = []; uneven = None; cut = refl; ends = refl }
 
--- A run may end in either way.
+-- Each end of a run has a text.
 pub some-closed : (done : Done) → (text : List ℕ) × IsClosedText text done
 some-closed Whole = (closing_text [] None, record { answers = []; lines = []; uneven = None; cut = refl; ends = refl })
 some-closed Ended = (closing_text [] (Some 0), record { answers = []; lines = []; uneven = Some 0; cut = refl; ends = refl })
@@ -33,7 +33,7 @@ some_from octets (text, Whole, told) = ((some-closed Whole).0, Whole, inr (read 
 pub some-ports_text : (octets : List ℕ) → (text : List ℕ) × (done : Done) × IsPortsText octets text done
 some-ports_text octets = some_from octets (some-text reading_rules reading-total (lines_of octets) 0 unread tt)
 
--- A reading that a fault ended.
+-- The reading ended with an error of the script.
 pub ended-text : (octets held new : List ℕ) → Adds (λ text. IsReadingText octets text Ended) held new
     → Adds (λ text. IsPortsText octets text Ended) held new
 ended-text octets held new (text, is, told) = (text, is, inl (refl, told))
@@ -42,13 +42,13 @@ pub ended-left : (most : ℕ) (before after : List ℕ) → TakesEnough (λ octe
     → TakesEnough (λ octets. (text : List ℕ) × IsPortsText octets text Ended) most before after
 ended-left most before after (needed, ahead, cut, short, (text, told)) = (needed, ahead, cut, short, (text, inl (refl, told)))
 
--- A reading that a device broke off.
+-- The reading failed after a prefix of its text.
 pub broken-front : (octets held new : List ℕ) → Adds (IsFront (IsReadingText octets)) held new → Adds (IsFront (IsPortsText octets)) held new
 broken-front octets held new (text, is, (more, Ended, told)) = (text, is, (more, Ended, inl (refl, told)))
 broken-front octets held new (text, is, (more, Whole, told)) =
     (text, is, (closing_text [] None, Whole, inr (read octets (text ++ more) told, closed-behind text)))
 
--- A script that was read whole, and nothing printed, and then what its run gave.
+-- The script was read as a whole, which printed nothing, and then its run printed this text.
 after-reading : (octets held mid new closed : List ℕ) → Adds (λ text. IsReadingText octets text Whole) held mid → new ≡ mid ++ closed
     → (new ≡ held ++ closed) × IsReadingText octets [] Whole
 after-reading octets held mid new closed (text, is, told) gives = (
@@ -71,7 +71,7 @@ pub ran-left : (done : Done) (most : ℕ) (before after : List ℕ) → TakesEno
 ran-left done most before after (needed, ahead, cut, short, (text, told)) =
     (needed, ahead, cut, short, ((some-closed done).0, inr (read needed text told, (some-closed done).1)))
 
--- What holds whatever a call answered.
+-- A fact that doesn't depend on the result of a call.
 pub of_any : {T E X : Type 0} (result : Result T E) → X → IfOk result (λ _. X)
 of_any (Ok value) here = here
 of_any (Err fault) here = tt

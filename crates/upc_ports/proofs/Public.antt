@@ -1,4 +1,4 @@
--- What the crates above may use in their proofs.
+-- The facts that higher crates may use in their proofs.
 use Rattle.std.proofs.Common.{ℕ, List}
 use Rattle.text_io.specs.declared.ending.Done.{Done}
 use Rattle.upc_ports.specs.PortsText.{IsPortsText}

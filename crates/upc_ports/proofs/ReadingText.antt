@@ -1,4 +1,4 @@
--- What the reading of a script prints.
+-- The text of the reading of a script.
 use Rattle.std.proofs.Common.{◌≡◌, ℕ, ◌+◌, Bool, true, false, List, [], ◌∷◌, ◌++◌, Option, Some, None, refl, ap, sym, subst, ◌∙◌}
 use Rattle.std.specs.Prelude.{MatchOption, MatchBool}
 use Rattle.text_io.specs.Answering.{EndsBy}
@@ -14,7 +14,7 @@ use Rattle.upc_run.specs.CardLine.{card_of}
 use Rattle.upc_run.specs.CardFaults.{no_card, shape_fault_line}
 use Rattle.upc_ports.specs.PortsText.{Reading, unread, OpensOrEnds, ReadsWords, ReadSteps, ReadCloses, reading_rules, IsReadingText}
 
--- A line after which the reading goes on prints nothing.
+-- A line that doesn't end the reading prints nothing.
 shaped-silent : (reading : Reading) (shape : Shape) (fault : Option CardFault) (text : List ℕ) (next : Option Reading) (world : Reading) → next ≡ Some world
     → MatchOption fault ((text ≡ []) × (next ≡ Some (record reading { opened = true; shape = shape }))) (λ f. EndsBy (shape_fault_line f) text next)
     → text ≡ []
@@ -40,7 +40,7 @@ closes-silent : (opened : Bool) (text : List ℕ) → ReadCloses opened text Who
 closes-silent false text told = let ends : Whole ≡ Ended = told.1 in cc
 closes-silent true text told = told.0
 
--- A line prints nothing in a reading to the whole end, where what is left prints nothing.
+-- A line of a script that is read as a whole prints nothing, if the rest prints nothing.
 goes-silent : (next : Option Reading) (lines : List Line) (line : Line) (met : ℕ) (opened : Reading) (text here more : List ℕ)
     → ((world : Reading) (left : List ℕ) → Prints reading_rules (met + 1) world lines left Whole → left ≡ [])
     → text ≡ here ++ more → ReadSteps opened (said line) here next
@@ -61,7 +61,7 @@ line-silent true lines line met opened text later told = let ends : Whole ≡ En
 line-silent false lines line met opened text later (here, more, next, cut, step, rest) =
     goes-silent next lines line met opened text here more later cut step rest
 
--- A reading to the whole end prints nothing.
+-- The reading of a whole script prints nothing.
 whole-silent : (lines : List Line) (met : ℕ) (opened : Reading) (text : List ℕ)
     → Prints reading_rules met opened lines text Whole → text ≡ []
 whole-silent [] met opened text told = closes-silent opened.opened text told
@@ -71,7 +71,7 @@ whole-silent (line ∷ lines) met opened text told =
 pub reading-silent : (octets text : List ℕ) → IsReadingText octets text Whole → text ≡ []
 reading-silent octets text told = whole-silent (lines_of octets) 0 unread text told
 
--- The line that opens a card leads on, with its shape and all that was kept.
+-- The line that opens a card leads to a reading with its shape and the same stored lines.
 opens-words : (reading next : Reading) (line text : List ℕ) (shape : Shape) → text ≡ [] → next ≡ record reading { opened = true; shape = shape }
     → card_of (words_of line) ≡ Some shape → shape_fault shape ≡ None → ReadsWords false reading line text (Some next)
 opens-words reading next line text shape silent goes card fits =

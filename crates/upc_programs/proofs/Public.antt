@@ -10,7 +10,7 @@ use Rattle.upc_programs.proofs.OneText as eval
 pub some-check_text : (octets : List ℕ) → (text : List ℕ) × (done : Done) × IsCheckText octets text done
 some-check_text = check.some-check_text
 
--- And only one.
+-- It has only one.
 pub one-check_text : (octets one other : List ℕ) (ends other_ends : Done) → IsCheckText octets one ends → IsCheckText octets other other_ends → (one ≡ other) × (ends ≡ other_ends)
 one-check_text = check.one-check_text
 
@@ -18,6 +18,6 @@ one-check_text = check.one-check_text
 pub some-eval_text : (octets : List ℕ) → (text : List ℕ) × (done : Done) × IsEvalText octets text done
 some-eval_text = eval.some-eval_text
 
--- And only one.
+-- It has only one.
 pub one-eval_text : (octets one other : List ℕ) (ends other_ends : Done) → IsEvalText octets one ends → IsEvalText octets other other_ends → (one ≡ other) × (ends ≡ other_ends)
 one-eval_text = eval.one-eval_text

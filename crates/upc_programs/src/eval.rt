@@ -105,8 +105,8 @@ struct Evaluation {
 }
 
 impl Evaluation {
-    /// Answers a line before there is a program. It isn't inlined, so that cell lines don't pay for the stack that
-    /// making a program needs.
+    /// Answers a line before there is a program. It isn't inlined, so that cell lines don't need the stack space for
+    /// making a program.
     #[inline(never)]
     fn take_program(&mut self, line: &[u8], answers: &mut Vec<u8>) -> Result<Turn, AllocError>
         requires { self.old.program ≡ None }

@@ -1,4 +1,4 @@
--- Octets that were added are the text that there is.
+-- Octets that were appended are the text that exists.
 use Rattle.std.proofs.Common.{◌≡◌, ℕ, List, Option, Some, None, refl}
 use Rattle.text_io.specs.Devices.{Adds}
 use Rattle.upc_run.specs.AddsSome.{AddsSome}

@@ -1,4 +1,4 @@
--- How a cell goes through the card that is kept: in at the port, picked, and judged.
+-- How a cell goes through the stored card: it enters the port, is picked and judged.
 use Rattle.std.proofs.Common.{◌≡◌, ◌==◌, ℕ, inl, inr, true, List, length, [], ◌++◌, Option, Some, None, option_map, Result, refl, sym, ap, ◌∙◌, subst}
 use Rattle.std.specs.Bool.{MatchBool}
 use Rattle.std.specs.Option.{IfNone, IfSome, MatchOption}
@@ -27,7 +27,7 @@ use Rattle.upc_run.proofs.MovesLemmas.{moves-map}
 use Rattle.upc_run.specs.inner.Policing.{AnswersCell, Held, Moves}
 use Rattle.upc_run.specs.inner.PortZero.{enter-goes}
 
--- A cell that goes its whole way is answered by the pick or by its judging.
+-- A cell that takes all its steps is answered by the pick or by the judgement.
 pub arrives-answered : (held held' : Held) (octets : List ℕ) (moment : ℕ) (given : Answer) → held'.names ≡ held.names
     → Answers held.core 0 octets moment given held'.core → AnswersCell held octets moment (Some given) held'
 arrives-answered held held' octets moment given names (inl way) = (
@@ -50,7 +50,7 @@ arrives-answered held held' octets moment given names (inr way) = (
       (given, refl, on.after, (on.stepped.0, on.stepped.1, inr (picks.0, picks.1, last)), on.agrees),
 )
 
--- It isn't let in only where no card is shown.
+-- A cell is not let in only if no card is represented.
 pub arrives-not : (held held' : Held) (octets : List ℕ) (moment : ℕ) → held'.names ≡ held.names
     → Follows held.core (Enter 0 octets moment) NotNow held'.core → AnswersCell held octets moment None held'
 arrives-not held held' octets moment names enters = (
@@ -68,7 +68,7 @@ pub arrives : (held held' : Held) (octets : List ℕ) (moment : ℕ) (told : Opt
 arrives held held' octets moment (Some t) names goes not = arrives-answered held held' octets moment (answer_to octets t) names goes
 arrives held held' octets moment None names goes not = arrives-not held held' octets moment names not
 
--- A cell is policed where its answer is told.
+-- A cell is policed if its answer is appended.
 pub polices-told : (held held' : Held) (side : Side) (octets : List ℕ) (moment : ℕ) (given : Answer) (text old new : List ℕ) → held.core.shape.side ≡ side
     → AnswersCell held octets moment (Some given) held' → numbered_answer_text (number_of_judging held.names given) (vc_of side octets) given ≡ Some text
     → new ≡ old ++ text → Moves (λ before. Polices before moment octets) held held' old new
@@ -93,7 +93,7 @@ polices-told held held' side octets moment given text old new is answers told ad
       ),
 )
 
--- A cell without an answer, which no card that is shown leaves it.
+-- A cell without an answer: no represented card leaves it without one.
 pub polices-never : (held held' : Held) (octets : List ℕ) (moment : ℕ) (old : List ℕ) → AnswersCell held octets moment None held'
     → Moves (λ before. Polices before moment octets) held held' old old
 polices-never held held' octets moment old answers = (

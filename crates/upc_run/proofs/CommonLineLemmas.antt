@@ -1,4 +1,4 @@
--- A line in the common form of a cell's is cut in one way.
+-- A cell line in the common form is cut in one way.
 use Rattle.std.proofs.Common.{◌≡◌, ℕ, suc, ◌+◌, ◌-◌, ◌<◌, inl, inr, false, List, ◌∷◌, ◌++◌, Option, Some, None, length, get_or, take, sym, ap, ◌∙◌, arith, codes}
 use Rattle.std.proofs.lemmas.List.{append_cancel_left, get_or-append-add, length-append}
 use Rattle.std.proofs.Math.Seq.{get_or-append_seam, take-append_seam}
@@ -10,7 +10,7 @@ use Rattle.upc_words.proofs.Public.{cell-lengths, cell-visible}
 use Rattle.upc_run.specs.ScriptWords.{number_of}
 use Rattle.upc_run.specs.CommonLine.{IsCommonLine}
 
--- Two cuts of a text before as many octets are one.
+-- Two cuts of a text with equally many octets after them are the same.
 one-cut : (before last front word : List ℕ) → before ++ 32 ∷ last ≡ front ++ 32 ∷ word → length last ≡ length word
     → (before ≡ front) × (last ≡ word)
 one-cut before last front word same long =
@@ -40,12 +40,12 @@ not-within before last front word same shorter visible =
     let seen : is_blank 32 ≡ false = ap is_blank (sym space) ∙ visible k (omega (arith, shorter)) in
     absurd (cc)
 
--- What stands behind the command.
+-- The text after the command.
 behind : (line rest : List ℕ) (moment : ℕ) (cell : List ℕ) → line ≡ codes "cell " ++ rest → (is : IsCommonLine line moment cell)
     → rest ≡ is.0 ++ 32 ∷ is.1
 behind line rest moment cell here is = append_cancel_left (codes "cell ") rest (is.0 ++ 32 ∷ is.1) (sym here ∙ is.2)
 
--- A space before the last eight octets: they are the word.
+-- If there is a space before the last eight octets, they are the word.
 pub common-header : (line rest before last : List ℕ) (moment : ℕ) (cell : List ℕ) → line ≡ codes "cell " ++ rest → rest ≡ before ++ 32 ∷ last
     → length last ≡ 8 → IsCommonLine line moment cell → (number_of before ≡ Some moment) × IsCellWord last (OfCell cell)
 common-header line rest before last moment cell here cut long is =
@@ -60,7 +60,7 @@ common-header line rest before last moment cell here cut long is =
           (rw parts.0 is.3, rw parts.1 spells)
     ]
 
--- None there, but one before the last 104 octets: these are the word.
+-- If there is none, but one before the last 104 octets, these are the word.
 pub common-whole : (line rest before last : List ℕ) (moment : ℕ) (cell : List ℕ) → line ≡ codes "cell " ++ rest
     → ((front word : List ℕ) → rest ≡ front ++ 32 ∷ word → length word ≡ 8 → ⊥) → rest ≡ before ++ 32 ∷ last
     → length last ≡ 104 → IsCommonLine line moment cell → (number_of before ≡ Some moment) × IsCellWord last (OfCell cell)
@@ -75,7 +75,7 @@ common-whole line rest before last moment cell here no_header cut long is =
       | inr header ↦ absurd (no_header number word (behind line rest moment cell here is) header)
     ]
 
--- Neither: the line has another form.
+-- If there is neither, the line has another form.
 pub common-neither : (line rest : List ℕ) → line ≡ codes "cell " ++ rest
     → ((front word : List ℕ) → rest ≡ front ++ 32 ∷ word → length word ≡ 8 → ⊥)
     → ((front word : List ℕ) → rest ≡ front ++ 32 ∷ word → length word ≡ 104 → ⊥)
@@ -88,11 +88,11 @@ common-neither line rest here no_header no_whole moment cell is =
       | inr header ↦ no_header number word (behind line rest moment cell here is) header
     ]
 
--- What holds, holds where nothing was found.
+-- A fact holds if nothing was found.
 pub where-none : {T : Type 0} {P : Type 0} → (found : Option T) → P → IfNone found P
 where-none None holds = holds
 where-none (Some value) holds = tt
 
--- Nothing was found, and something.
+-- Not both: nothing was found, and something was found.
 pub not-both : {T : Type 0} (found : Option T) (value : T) → None ≡ found → found ≡ Some value → ⊥
 not-both found value none some = absurd (cc)

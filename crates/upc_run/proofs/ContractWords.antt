@@ -1,4 +1,4 @@
--- How the contracts of a connection are read, a word each.
+-- How the contracts of a connection are read, one word each.
 use Rattle.std.proofs.Common.{◌≡◌, ℕ, ◌+◌, ◌<◌, ◌≤◌, Bool, true, false, if◌then◌else◌, List, [], ◌∷◌, ◌++◌, Option, Some, None, length, option_map, refl, sym, ap, ◌∙◌, arith}
 use Rattle.std.specs.Prelude.{nat_le, ◌&&◌}
 use Rattle.std.specs.Option.{option_and_then}
@@ -8,11 +8,11 @@ use Rattle.upc_run.specs.ScriptCommands.{contracts_of}
 use Rattle.upc_run.specs.ScriptWords.{wanted_of, wanted_of_each}
 use Rattle.upc_run.specs.declared.script_words.Wanted.{Wanted}
 
--- These contracts, and those of the words behind them.
+-- These contracts, and those of the words after them.
 abbrev pub read_behind : List Wanted → List (List ℕ) → Option (List Wanted)
 read_behind read words = option_map (λ later. read ++ later) (wanted_of_each words)
 
--- What was read so far, and what is left, are all words' contracts.
+-- The contracts that were read so far and those of the remaining words are the contracts of all words.
 pub record ReadsOn (words : List (List ℕ)) (read : List Wanted) (rest : List (List ℕ)) : Type 0 where
   pub many : length read + length rest ≡ length words
   pub reads : read_behind read rest ≡ wanted_of_each words

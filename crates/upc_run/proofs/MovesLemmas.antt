@@ -1,4 +1,4 @@
--- How a command moves the card that is kept.
+-- How a command changes the stored card.
 use Rattle.std.proofs.Common.{◌≡◌, ℕ, List, [], ◌++◌, length, Option, Some, None, Result, OnOk, Ok, Err, refl, sym, ap, ◌∙◌, subst}
 use Rattle.std.proofs.lemmas.List.{append-nil}
 use Rattle.std.specs.Option.{MatchOption}
@@ -31,7 +31,7 @@ pub moves-refused : (Goes : Card → List ℕ → Card → Type 0) (held : Held)
     → ((before : Card) → ShowsCard held before → Goes before fault before) → Moves Goes held held old new
 moves-refused Goes held fault old new added goes = (fault, added, λ before led shows. (before, shows, goes before shows))
 
--- What is shown once a step was taken.
+-- The represented card after a step.
 taken : (held held' : Held) (command : Command) (step : Step) (reply : Reply) (text : List ℕ) → Follows held.core step reply held'.core
     → held'.names ≡ held.names ++ id_loaded reply
     → ((before after : World) → WorldStep before step reply after → reply_text command (length held.names) reply ≡ Some text)
@@ -50,7 +50,7 @@ taken held held' command step reply text follows named told before led shows =
       },
     )
 
--- A step of the desk whose reply is told.
+-- A step of the desk whose reply is appended.
 pub moves-taken : (held held' : Held) (command : Command) (step : Step) (reply : Reply) (text old new : List ℕ)
     → Follows held.core step reply held'.core → held'.names ≡ held.names ++ id_loaded reply → new ≡ old ++ text
     → ((before after : World) → WorldStep before step reply after → reply_text command (length held.names) reply ≡ Some text)
@@ -84,16 +84,16 @@ pub on-ok : {E P Q : Type 0} → (result : Result (Unit {0}) E) → OnOk result 
 on-ok (Ok done) had goes = goes had
 on-ok (Err error) had goes = tt
 
--- Names to which a step adds none.
+-- Names to which a step appends none.
 pub no-name : (names : List Id) → names ≡ names ++ []
 no-name names = sym (append-nil names)
 
--- A card as it is seen is the card as it is kept.
+-- Two equal stored cards, of which one changes.
 pub moves-at : (Goes : Card → List ℕ → Card → Type 0) (kept held held' : Held) (old new : List ℕ) → kept ≡ held
     → Moves Goes kept held' old new → Moves Goes held held' old new
 moves-at Goes kept held held' old new same moves = subst (λ (here : Held). Moves Goes here held' old new) same moves
 
--- What a move does may be said otherwise.
+-- A fact about each change gives the same change with that fact.
 pub moves-map : (Goes Says : Card → List ℕ → Card → Type 0) (held held' : Held) (old new : List ℕ)
     → ((before after : Card) (text : List ℕ) → Goes before text after → Says before text after)
     → Moves Goes held held' old new → Moves Says held held' old new
@@ -103,7 +103,7 @@ moves-map Goes Says held held' old new says moves = (
   λ before led shows. let on = moves.2 before led shows in (on.0, on.1, says before on.0 moves.0 on.2),
 )
 
--- The octets of a program that is put in.
+-- The octets of a program that is loaded.
 pub moves-load : (digits octets : List ℕ) (code : List Instr) (held held' : Held) (old new : List ℕ) → octets_of digits ≡ Some octets
     → ReadsAs octets (is_program code) → Moves (λ before. Takes before (load digits) (Load code)) held held' old new
     → Moves (λ before. Obeys before (load digits)) held held' old new
@@ -112,7 +112,7 @@ moves-load digits octets code held held' old new spelled reads moves =
     subst (λ (found : Option (List ℕ)). MatchOption found (Refuses bad_hex before text after) (λ here. LoadsOctets before digits here text after)) (sym spelled)
     (is_program code, reads, takes)) moves
 
--- A connection that is set up under contracts whose rates have no fault.
+-- A connection that is set up with contracts whose rates have no error.
 pub moves-setup : (vc : Vc) (number : ℕ) (wanted : List Wanted) (contracts : List Contract) (id : Id) (held held' : Held) (old new : List ℕ)
     → first_wanted_fault wanted ≡ None → AreContracts wanted contracts → program_named held.names number ≡ Some id
     → Moves (λ before. Takes before (setup vc number wanted) (Setup (record { vc = vc; program = id; contracts = record { items = contracts } }))) held held' old new
@@ -127,7 +127,7 @@ moves-setup vc number wanted contracts id held held' old new sound are named mov
     (λ fault. Refuses (gcra_fault fault) before text after)) (sym sound) goes)
     (moves-named (λ before. Asks before vc number wanted) (setup vc number wanted) number id held held' old new named asked)
 
--- What is so of a branch's own result and answers is so of those that the branches join in.
+-- A fact about the result and the answers of one branch holds for those after the branches join.
 pub on-tie : {E : Type 0} → (Goes : Card → List ℕ → Card → Type 0) (held held' : Held) (old here joined : List ℕ) (given result : Result (Unit {0}) E)
     → result ≡ given → joined ≡ here → OnOk given (Moves Goes held held' old here) → OnOk result (Moves Goes held held' old joined)
 on-tie Goes held held' old here joined given result same_result same_answers moves =
@@ -148,7 +148,7 @@ moves-line side words command held held' old new is spelled moves = (
       (on.0, on.1, subst (λ (found : Option Command). MatchOption found (Refuses bad_line before moves.0 on.0) (λ read. Obeys before read moves.0 on.0)) (sym here) on.2),
 )
 
--- The same of a command whose contracts are still words.
+-- The same for a command whose contracts are still words.
 pub moves-seen : (side : Side) (words : List (List ℕ)) (seen : Option Command) (held held' : Held) (old new : List ℕ) → held.core.shape.side ≡ side
     → seen ≡ command_of side words → Moves (λ before. ObeysSeen before seen) held held' old new
     → Moves (λ before. CommandLine before words) held held' old new

@@ -1,4 +1,4 @@
--- Where the latest name of a program stands among all.
+-- The place of a program's latest name among all names.
 use Rattle.std.proofs.Common.{◌≡◌, ℕ, ◌+◌, ◌-◌, ◌<◌, ◌≤◌, true, false, if◌then◌else◌, List, [], ◌∷◌, ◌++◌, Some, length, get_or, take, drop, replicate, slice_get, refl, ap, sym, ◌∙◌, subst, arith}
 use Rattle.std.specs.Prelude.{suc, zero}
 use Rattle.std.proofs.lemmas.List.{length-take-le, take-append-drop}
@@ -22,7 +22,7 @@ pub number-push : (id last : Id) (ids : List Id)
 number-push id last ids =
     latest-push id last 0 1 ids ∙ ap (λ n. if is_same_id id last then n else number_of_program ids id) (omega arith)
 
--- Ids that are others leave what was found.
+-- If none of the ids is this one, the found number remains.
 none-here : (id : Id) (found next : ℕ) (ids : List Id)
     → ((place : ℕ) (here : Id) → slice_get ids place ≡ Some here → is_same_id id here ≡ false) → latest_number id found next ids ≡ found
 none-here id found next [] none = refl
@@ -30,7 +30,7 @@ none-here id found next (here ∷ later) none =
     ap (λ b. latest_number id (if b then next else found) (suc next) later) (none 0 here refl)
     ∙ none-here id found (suc next) later (λ place other e. none (suc place) other e)
 
--- Ids behind others.
+-- Ids after others.
 split : (id : Id) (found next : ℕ) (ids later : List Id)
     → latest_number id found next (ids ++ later) ≡ latest_number id (latest_number id found next ids) (next + length ids) later
 split id found next [] later = ap (λ n. latest_number id found n later) (omega arith)
@@ -46,7 +46,7 @@ got-drop (here ∷ later) (suc count) place x e =
     let same : suc count + place ≡ suc (count + place) = omega arith in
     ap (λ n. slice_get (here ∷ later) n) same ∙ got-drop later count place x e
 
--- Above a number with none of the slot there is no name of the program.
+-- If no program of the slot has a number above this one, the later ids don't change the program's number.
 pub number-below : (ids : List Id) (id : Id) (number : ℕ) → NoneAbove ids id.slot number
     → number_of_program (take number ids) id ≡ number_of_program ids id
 number-below ids id number none =
@@ -68,7 +68,7 @@ not-above-all ids id = record { within = omega arith; below = ap (λ xs. number_
 pub not-above-latest : (ids : List Id) (id : Id) (number : ℕ) → IsLatest ids id.slot number → NotAbove ids id number
 not-above-latest ids id number latest = record { within = latest.within; below = number-below ids id number latest.last }
 
--- The name of this number, behind those before it.
+-- The name with this number, after those before it.
 last-of : (ids : List Id) (id here : Id) (number : ℕ) → 0 < number → number ≤ length ids → here ≡ get_or ids (number - 1) here
     → number_of_program (take number ids) id ≡ (if is_same_id id here then number else number_of_program (take (number - 1) ids) id)
 last-of ids id here number some within is =
@@ -98,7 +98,7 @@ not-here ids id here number some above is other = record {
 pub not-anywhere : (ids : List Id) (id : Id) → NotAbove ids id 0 → 0 ≡ number_of_program ids id
 not-anywhere ids id above = above.below
 
--- Before the first name, a table of zeros.
+-- Before the first name the table has only zeros.
 blank : (slots slot number : ℕ) → slice_get (replicate slots 0) slot ≡ Some number → number ≡ 0
 blank zero slot number e = cc
 blank (suc slots) zero number e = let same : Some 0 ≡ Some number = e in cc

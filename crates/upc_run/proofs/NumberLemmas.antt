@@ -1,4 +1,4 @@
--- How a word's digits spell its number, from digit to digit.
+-- How a word's digits spell its number, digit by digit.
 use Rattle.std.proofs.Common.{◌≡◌, ℕ, suc, ◌+◌, ◌-◌, ◌*◌, ◌^◌, ◌<◌, ◌≤◌, Bool, true, false, if◌then◌else◌, List, [], ◌∷◌, Option, Some, None, length, get_or, take, drop, refl, ap, sym, ◌∙◌, subst, arith}
 use Rattle.std.proofs.Math.Nat.{pow-le-pow_right, pow-suc, pow-zero}
 use Rattle.std.specs.Prelude.{nat_le}
@@ -9,7 +9,7 @@ use Rattle.upc_run.specs.ScriptWords.{most_number, number_of, spelled_behind, up
 use Rattle.text_io.specs.Words.{is_digit}
 use Rattle.upc_run.specs.inner.Digits.{with_digit}
 
--- The number that the octets spell behind digits of this value.
+-- The number that the octets spell after digits with this value.
 abbrev pub number_behind : ℕ → List ℕ → Option ℕ
 number_behind high octets = option_and_then (up_to most_number) (spelled_behind high octets)
 
@@ -19,7 +19,7 @@ le-false n m above = grind (arith, nat_tests)
 larger : (n m : ℕ) → nat_le n m ≡ false → m < n
 larger n m e = grind (arith, nat_tests)
 
--- A value that is too large stays so.
+-- A value that is too large remains too large.
 too_large : (high : ℕ) (octets : List ℕ) → most_number < high → number_behind high octets ≡ None
 unfolding spelled_behind
 too_large high [] above = ap (λ b. if b then Some high else None) (le-false high most_number above)
@@ -32,7 +32,7 @@ within-or : (n : ℕ) (rest : List ℕ) (b : Bool) → nat_le n most_number ≡ 
 within-or n rest true e = refl
 within-or n rest false e = too_large n rest (larger n most_number e)
 
--- One digit more.
+-- One more digit.
 digit_more : (high octet : ℕ) (rest : List ℕ) → number_behind high (octet ∷ rest) ≡ option_and_then (λ next. number_behind next rest) (with_digit high octet)
 unfolding spelled_behind
 digit_more high octet rest =
@@ -40,7 +40,7 @@ digit_more high octet rest =
     ≡ option_and_then (λ next. number_behind next rest) (if t then up_to most_number (high * 10 + (octet - 48)) else None))
     [ true ↦ within-or (high * 10 + (octet - 48)) rest (nat_le (high * 10 + (octet - 48)) most_number) refl | false ↦ refl ]
 
--- A digit more, of what is left.
+-- One more of the remaining digits.
 pub number_goes_on : (high next : ℕ) (octets : List ℕ) → 1 ≤ length octets → with_digit high (get_or octets 0 0) ≡ Some next
     → number_behind next (take (length octets - 1) (drop 1 octets)) ≡ number_behind high octets
 number_goes_on high next [] some e = absurd (omega arith)
@@ -48,7 +48,7 @@ number_goes_on high next (octet ∷ rest) some e =
     ap (λ xs. number_behind next xs) (take_rest (octet ∷ rest) 1)
     ∙ sym (digit_more high octet rest ∙ ap (λ o. option_and_then (λ n. number_behind n rest) o) e)
 
--- No digit, or one too many.
+-- No digit, or one that makes the value too large.
 pub number_stops : (high : ℕ) (octets : List ℕ) → 1 ≤ length octets → with_digit high (get_or octets 0 0) ≡ None → number_behind high octets ≡ None
 number_stops high [] some e = absurd (omega arith)
 number_stops high (octet ∷ rest) some e = digit_more high octet rest ∙ ap (λ o. option_and_then (λ n. number_behind n rest) o) e
@@ -76,7 +76,7 @@ shifted-within high octet next =
     elim (is_digit octet) as (λ t. (if t then up_to most_number (high * 10 + (octet - 48)) else None) ≡ Some next → next ≤ most_number)
     [ true ↦ λ e. some-within (high * 10 + (octet - 48)) next (nat_le (high * 10 + (octet - 48)) most_number) refl e | false ↦ λ e. cc ]
 
--- a digit puts a value at most so far
+-- A test that gives a number gives the tested one.
 some-same : (n m : ℕ) (b : Bool) → (if b then Some n else None) ≡ Some m → m ≡ n
 some-same n m true e = cc
 some-same n m false e = cc
@@ -92,7 +92,7 @@ digit-most-at high octet next false e same = cc
 pub digit-most : (high octet next : ℕ) → with_digit high octet ≡ Some next → next ≤ high * 10 + 9
 digit-most high octet next same = digit-most-at high octet next (is_digit octet) refl same
 
--- a value of at most eighteen digits has room for one more
+-- A value of at most eighteen digits has room for one more.
 pub few-within : (value count left : ℕ) → 1 ≤ left → left ≤ count → count ≤ 19 → value < 10 ^ (count - left) → value ≤ 1844674407370955160
 few-within value count left some within few below =
     let read : count - left ≤ 18 = omega arith in
@@ -100,13 +100,13 @@ few-within value count left some within few below =
     let is : 10 ^ 18 ≡ 1000000000000000000 = refl in
     omega (arith, most, is, below)
 
--- 0 has no digit
+-- Before the first digit the value is 0.
 pub few-begins : (count : ℕ) → 0 < 10 ^ (count - count)
 few-begins count =
     let none : 0 ≡ count - count = omega arith in
     subst (λ k. 0 < 10 ^ k) none (omega (arith, pow-zero 10))
 
--- and the end of the digits a number that isn't too large
+-- After at most nineteen digits the value isn't too large.
 pub few-ends : (value count left : ℕ) → count ≤ 19 → value < 10 ^ (count - left) → value ≤ most_number
 few-ends value count left few below =
     let read : count - left ≤ 19 = omega arith in
@@ -121,7 +121,7 @@ few-more value next count left within below most =
     let above : next < 10 ^ suc (count - suc left) = omega (arith, tens, below, most) in
     subst (λ k. next < 10 ^ k) one above
 
--- a digit more leaves a value below the next power
+-- One more digit leaves the value below the next power of ten.
 pub few-goes_on : (value next count : ℕ) (octets : List ℕ) → 1 ≤ length octets → length octets ≤ count → value < 10 ^ (count - length octets)
     → next ≤ value * 10 + 9 → next < 10 ^ (count - length (take (length octets - 1) (drop 1 octets)))
 few-goes_on value next count [] some within below most = absurd (omega arith)

@@ -1,4 +1,4 @@
--- A piece's counts at its end are those at its start and those of its entries.
+-- A piece's counts at its end are those at its start plus those of its entries.
 use Rattle.std.proofs.Common.{◌≡◌, ℕ, ◌-◌, map, ap, sym, ◌∙◌, arith}
 use Rattle.line_record.proofs.Public.{entries_count}
 use Rattle.line_record.specs.Piece.{IsPiece, PieceView}
@@ -20,7 +20,7 @@ counts-go_on piece start end run begins ends =
 abbrev of_each : ℕ → ℕ → ℕ → ℕ → Tally
 of_each passed tagged discarded refused = record { passed = passed; tagged = tagged; discarded = discarded; refused = refused }
 
--- What the end counts beyond the start.
+-- The counts at the end minus those at the start.
 pub counts-between : (start end within : Tally) → end ≡ plus start within
     → record {
       passed = end.passed - start.passed;

@@ -1,4 +1,4 @@
--- How a line turns the machine of `run`.
+-- How a line changes the machine of `run`.
 use Rattle.std.proofs.Common.{◌≡◌, ◌⊎◌, ℕ, inl, inr, Bool, false, List, [], Option, Some, None, Bor, sym, subst}
 use Rattle.std.specs.Bool.{MatchBool}
 use Rattle.text_io.specs.Answering.{Answers, TurnsFrom}
@@ -10,7 +10,7 @@ use Rattle.text_io.specs.declared.words.LineWords.TheVariants.{Silent, One, Seve
 use Rattle.upc_run.specs.RunText.{IsSoundRun, RunSteps, RunWorld, Tells, run_rules}
 use Rattle.upc_run.specs.inner.Policing.{Held, Moves, OpensAs, SaysLine, ShowsRun}
 
--- A line that is one word or more asks for something.
+-- A line with one word or more isn't silent.
 pub line-asks : (words : List (List ℕ)) (found : LineWords) → IsLineWords words found
     → ((word : Bor (List ℕ)) × (found ≡ One word)) ⊎ (found ≡ Several) → is_silent words ≡ false
 line-asks words Silent is (inl one) = let no = one.1 in cc
@@ -23,7 +23,7 @@ steps : (world : RunWorld) (line text : List ℕ) (next : Option RunWorld) → i
 steps world line text next asks told =
     subst (λ (b : Bool). MatchBool b ((text ≡ []) × (next ≡ Some world)) (Tells world (words_of line) text next)) (sym asks) told
 
--- A line that moves the card.
+-- A line that changes the card.
 pub turn-moved : (line old new : List ℕ) (held held' : Held) → Moves (SaysLine line) held held' old new
     → Answers run_rules (ShowsRun (Some held)) line GoesOn (ShowsRun (Some held')) old new
 turn-moved line old new held held' moves = (moves.0, moves.1, by)
@@ -32,7 +32,7 @@ turn-moved line old new held held' moves = (moves.0, moves.1, by)
     by None sound shown = absurd shown
     by (Some card) led shown = let on = moves.2 card led shown in (Some on.0, on.1, on.2)
 
--- The line that has opened a card.
+-- The line that opened a card.
 pub turn-opened : (line old new : List ℕ) (held : Held) → is_silent (words_of line) ≡ false → OpensAs (words_of line) (Some held) old new
     → Answers run_rules (ShowsRun None) line GoesOn (ShowsRun (Some held)) old new
 turn-opened line old new held asks opened = (opened.0, opened.1, by)

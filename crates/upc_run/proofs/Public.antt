@@ -1,4 +1,4 @@
--- What the crates above may use in their proofs.
+-- The facts that higher crates may use in their proofs.
 use Rattle.std.proofs.Common.{◌≡◌, ◌∙◌, ℕ, false, List, [], ◌∷◌, ◌++◌, Option, Some, ap, codes}
 use Rattle.std.specs.Option.{option_map}
 use Rattle.text_io.specs.Words.{is_silent, words_of}
@@ -13,20 +13,20 @@ use Rattle.text_io.specs.declared.ending.Done.{Done}
 use Rattle.upc_run.specs.RunText.{IsRunText}
 use Rattle.upc_run.proofs.one_script.OneScript as run
 
--- A script has a text of `run`,
+-- A script has a text of `run`.
 pub some-run_text : (octets : List ℕ) → (text : List ℕ) × (done : Done) × IsRunText octets text done
 some-run_text = run.some-run_text
 
--- And one alone.
+-- It has only one.
 pub one-run_text : (octets one other : List ℕ) (ends other_ends : Done) → IsRunText octets one ends → IsRunText octets other other_ends
     → (one ≡ other) × (ends ≡ other_ends)
 one-run_text = run.one-run_text
 
--- A line that begins as that of a cell does asks for something.
+-- A line that begins as a cell line isn't silent.
 pub command-asks : (line rest : List ℕ) → line ≡ codes "cell " ++ rest → is_silent (words_of line) ≡ false
 command-asks = spelled.command-asks
 
--- A line of the common form has three words, of which the first is that of a cell.
+-- A line of the common form has three words, of which the first is `cell`.
 pub common-words : (line : List ℕ) (moment : ℕ) (here : List ℕ) → IsCommonLine line moment here
     → (number : List ℕ) × (word : List ℕ) × (words_of line ≡ codes "cell" ∷ number ∷ word ∷ [])
 common-words line moment here is =

@@ -1,4 +1,4 @@
--- The contracts that a script asks for, made one after another.
+-- The contracts that a script requests, made one after another.
 use Rattle.std.proofs.Common.{◌≡◌, ℕ, suc, ◌+◌, ◌<◌, List, [], ◌∷◌, ◌++◌, Option, Some, None, length, take, drop, get_or, refl, sym, ap, ◌∙◌, subst, arith, add-one, length-append, drop-cons}
 use Rattle.std.proofs.Math.Seq.{take-suc}
 use Rattle.std.proofs.lemmas.List.{take-append-drop}
@@ -7,7 +7,7 @@ use Rattle.leaky.specs.declared.gcra.GcraFault.{GcraFault}
 use Rattle.upc_run.specs.Rates.{AreContracts, IsContract, first_of_two, first_wanted_fault, wanted_fault}
 use Rattle.upc_run.specs.declared.script_words.Wanted.{Wanted}
 
--- The contracts of so many of the wanted are made, and none of these has a fault.
+-- The first `count` requested contracts are made, and none of these has an error.
 pub record MadeOf (asks : List Wanted) (made : List Contract) (count : ℕ) : Type 0 where
   pub contracts : AreContracts (take count asks) made
   pub sound : first_wanted_fault (take count asks) ≡ None
@@ -20,13 +20,13 @@ made-next [] (other ∷ made) ask contract so_far is = absurd so_far
 made-next (first ∷ asks) [] ask contract so_far is = absurd so_far
 made-next (first ∷ asks) (other ∷ made) ask contract so_far is = (so_far.0, made-next asks made ask contract so_far.1 is)
 
--- A fault is passed over where there is none.
+-- If the first of two errors is none, the second decides.
 none-first : (fault here joined later : Option GcraFault) → first_of_two fault here ≡ None → (here ≡ None → joined ≡ later)
     → first_of_two fault joined ≡ later
 none-first None here joined later sound behind = behind sound
 none-first (Some fault) here joined later sound behind = cc
 
--- The first fault of wanted that have none, and of others behind them.
+-- The first error of requested contracts without one, followed by others.
 fault-behind : (asks later : List Wanted) → first_wanted_fault asks ≡ None → first_wanted_fault (asks ++ later) ≡ first_wanted_fault later
 fault-behind [] later sound = refl
 fault-behind (ask ∷ asks) later sound =
@@ -47,7 +47,7 @@ made-one_more asks made count other contract below so_far is sound =
       many = omega (arith, length-append made (contract ∷ []), so_far.many);
     }
 
--- The first fault is that of the first faulty contract.
+-- The first error is that of the first contract with one.
 pub faulty-first : (asks : List Wanted) (made : List Contract) (count : ℕ) (other : Wanted) (fault : GcraFault)
     → count < length asks → MadeOf asks made count → wanted_fault (get_or asks count other) ≡ Some fault
     → first_wanted_fault asks ≡ Some fault

@@ -1,4 +1,4 @@
--- The words of a cell's line, and the command that they are.
+-- The words of a cell line, and their command.
 use Rattle.std.proofs.Common.{◌≡◌, ℕ, zero, suc, ◌+◌, ◌-◌, ◌*◌, ◌<◌, Bool, true, false, if◌then◌else◌, List, [], ◌∷◌, ◌++◌, Option, Some, None, length, get_or, refl, sym, ap, subst, ◌∙◌, arith, codes, option_map, append-nil}
 use Rattle.std.proofs.lemmas.Bool.Decides.{nat_tests}
 use Rattle.std.specs.Bool.{MatchBool}
@@ -16,7 +16,7 @@ use Rattle.upc_run.specs.inner.Policing.{Held, Moves, SaysLine}
 use Rattle.upc_run.proofs.ArrivalLemmas.{moves-cell}
 use Rattle.upc_run.proofs.MovesLemmas.{moves-line, moves-map}
 
--- A digit is no blank.
+-- A digit is not blank.
 digit-visible : (octet : ℕ) → is_digit octet ≡ true → is_blank octet ≡ false
 digit-visible octet digit = grind (arith, nat_tests)
 
@@ -25,7 +25,7 @@ at-place : (octet : ℕ) (octets : List ℕ) → is_blank octet ≡ false → ((
 at-place octet octets first later zero below = first
 at-place octet octets first later (suc k) below = later k (omega arith)
 
--- Nor is any octet of a number.
+-- No octet of a number is blank.
 digits-visible : (high : ℕ) (octets : List ℕ) (value : ℕ) → spelled_behind high octets ≡ Some value
     → (k : ℕ) → k < length octets → is_blank (get_or octets k 0) ≡ false
 unfolding spelled_behind
@@ -56,7 +56,7 @@ command-visible (suc (suc zero)) below = refl
 command-visible (suc (suc (suc zero))) below = refl
 command-visible (suc (suc (suc (suc k)))) below = absurd (omega arith)
 
--- A line that begins as that of a cell does asks for something.
+-- A line that begins as a cell line isn't silent.
 pub command-asks : (line rest : List ℕ) → line ≡ codes "cell " ++ rest → is_silent (words_of line) ≡ false
 command-asks line rest is =
     ap (λ octets. is_silent (words_of octets)) is ∙ ap is_silent (first-word (codes "cell") rest 32 (omega arith) command-visible refl)
@@ -85,7 +85,7 @@ pub moves-asked : (line old new : List ℕ) (held held' : Held) → is_silent (w
 moves-asked line old new held held' asks moves =
     moves-map (λ before. CommandLine before (words_of line)) (SaysLine line) held held' old new (λ before after text told. steps before after line text asks told) moves
 
--- A line that asks for nothing.
+-- A silent line.
 silent-said : (before : Card) (line text : List ℕ) → text ≡ [] → is_silent (words_of line) ≡ true → SaysLine line before text before
 silent-said before line text none silent =
     subst (λ (b : Bool). MatchBool b ((text ≡ []) × (Some (Some before) ≡ Some (Some before))) (Tells (Some before) (words_of line) text (Some (Some before)))) (sym silent)
@@ -94,7 +94,7 @@ silent-said before line text none silent =
 pub moves-silent : (line old : List ℕ) (held : Held) → is_silent (words_of line) ≡ true → Moves (SaysLine line) held held old old
 moves-silent line old held silent = ([], sym (append-nil old), λ before led shows. (before, shows, silent-said before line [] refl silent))
 
--- The line of a cell, which is policed.
+-- The line of a cell that is policed.
 pub moves-cell_line : (line : List ℕ) (moment : ℕ) (here old new : List ℕ) (held held' : Held) → SpellsCell line moment here
     → Moves (λ before. Polices before moment here) held held' old new → Moves (SaysLine line) held held' old new
 moves-cell_line line moment here old new held held' is moves =

@@ -75,7 +75,7 @@ fn shape_behind(line: &[u8]) -> Option<Shape>
     }
 }
 
-/// The shape that a line's words ask for; none if the line doesn't open a card.
+/// Returns the shape that a line's words request. None if the line doesn't open a card.
 pub fn read_card(line: &[u8]) -> Option<Shape>
     ensures { result ≡ card_of (words_of line.now) }
 {

@@ -12,24 +12,24 @@ use arrayvec::ArrayVec;
 use text_io::first_word;
 use upc_cell::{Side, Vc};
 
-/// What a line asks of the card. Programs are named by number, from 1. The octets of a program and of a
-/// cell are still a word, whose faults come after those of all other words. The contracts of a setup are still
-/// words: whoever obeys the command reads them by [`contracts`], so that no other command has room for them.
+/// A command of a line. Programs are named by number, from 1. The octets of a program and of a cell are still a word,
+/// since their errors come after those of all other words. The contracts of a setup are still words: the function that
+/// carries out the command reads them with [`contracts`], so that no other command has space for them.
 #[derive(Drop)]
 pub enum Command<'a> {
-    /// A program is put in.
+    /// Loads a program.
     Load(&'a [u8]),
-    /// A program is taken out.
+    /// Retires a program.
     Retire(u64),
-    /// A connection is set up, under the contracts of these words.
+    /// Sets up a connection with the contracts of these words.
     Setup(Vc, u64, &'a [u8]),
-    /// A connection gets another program.
+    /// Gives a connection another program.
     Reload(Vc, u64),
-    /// A connection ends.
+    /// Releases a connection.
     Release(Vc),
-    /// A connection's journal is returned, and a new one begins.
+    /// Returns a connection's journal and begins a new one.
     Cut(Vc),
-    /// A cell comes at a moment.
+    /// A cell arrives at a moment.
     Cell(u64, &'a [u8]),
 }
 
@@ -140,7 +140,7 @@ fn cut(side: Side, line: &[u8]) -> Option<Command<'_>>
     }
 }
 
-/// One to four contracts, one word each; none if a word is no contract or their number is another.
+/// Returns one to four contracts, one word each. None if a word is no contract, or if there are none or more than four.
 pub fn contracts(line: &[u8]) -> Option<ArrayVec<Wanted, 4>>
     ensures { option_map (λ wanted. wanted.items) result ≡ contracts_of (words_of line.now) }
 {
@@ -184,8 +184,8 @@ fn setup(side: Side, line: &[u8]) -> Option<Command<'_>>
     }
 }
 
-/// The command that a word and the words after it spell on a card of this side; none if they have no lawful form. The
-/// words of a setup's contracts are not read here.
+/// Returns the command that a word and the words after it spell on a card of this side. None if they spell no command.
+/// Doesn't read the words of a setup's contracts.
 pub fn named_command<'a>(side: Side, name: &[u8], rest: &'a [u8]) -> Option<Command<'a>>
     ensures { option_and_then command_seen result ≡ command_of side (name.now ∷ words_of rest.now) }
 {
@@ -208,7 +208,7 @@ pub fn named_command<'a>(side: Side, name: &[u8], rest: &'a [u8]) -> Option<Comm
     }
 }
 
-/// The command that a line's words spell, as [`named_command`] does.
+/// Returns the command that a line's words spell, as [`named_command`] does.
 pub fn read_command(side: Side, line: &[u8]) -> Option<Command<'_>>
     ensures { option_and_then command_seen result ≡ command_of side (words_of line.now) }
 {
@@ -218,8 +218,7 @@ pub fn read_command(side: Side, line: &[u8]) -> Option<Command<'_>>
     }
 }
 
-/// The first word of a line that asks for something, and what is after it: none where the line has no words or is a
-/// remark.
+/// Returns the first word of a line and the rest. None if the line has no words or is a comment.
 pub fn asking_word(line: &[u8]) -> Option<(&[u8], &[u8])>
     ensures silent { IfNone result (is_silent (words_of line.now) ≡ true) }
     ensures asks { IfSome result (λ found. is_silent (words_of line.now) ≡ false) }

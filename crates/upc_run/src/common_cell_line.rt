@@ -1,5 +1,5 @@
-//! The line of a cell in its common form, which is that of programs: its words with one space between them, and nothing
-//! before or after. A line of another form is read word by word.
+//! The line of a cell in the common form, which programs write: one space between its words, and nothing before or
+//! after them. A line of another form is read word by word.
 
 ghost use Rattle.std.specs.Prelude.{◌≡◌, ◌∷◌, ◌++◌, ℕ, List, codes, length, IfSome, IfNone};
 ghost use Rattle.upc_run.specs.CommonLine.{IsCommonLine};
@@ -8,14 +8,14 @@ use crate::script_words::number;
 use upc_cell::Cell;
 use upc_words::{CELL_DIGITS, HEADER_DIGITS, cell_of_digits};
 
-/// A cell of a script, and the moment when it comes, in ticks.
+/// A cell of a script, and the moment when it arrives, in ticks.
 #[derive(Clone, Copy, Debug)]
 pub struct Arrival {
     pub moment: u64,
     pub cell: Cell,
 }
 
-/// What is after the command of a cell and the space that ends it.
+/// Returns the text after `cell` and a space. None if the line doesn't begin so.
 #[inline(always)]
 pub fn after_command(line: &[u8]) -> Option<&[u8]>
     ensures rest { IfSome result (λ rest. line.now ≡ codes "cell " ++ rest.now) }
@@ -44,8 +44,8 @@ fn cut_before(text: &[u8], count: usize) -> Option<(&[u8], &[u8])>
     }
 }
 
-/// The cell of a line of the common form: none if the line has another form. No digit is a space, so the place
-/// of the last space gives the length of the word.
+/// Returns the cell of a line of the common form, and its moment. None if the line has another form. No digit is a
+/// space, so the place of the last space gives the length of the word.
 #[inline(always)]
 pub fn read_cell(line: &[u8]) -> Option<Arrival>
     ensures cell { IfSome result (λ found. IsCommonLine line.now found.moment found.cell) }

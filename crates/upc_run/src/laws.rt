@@ -1,12 +1,12 @@
-//! Laws of the definitions: functions that do nothing, each for the sake of its contract.
+//! Laws of the definitions: functions that do nothing. Each exists for its contract.
 
 ghost use Rattle.std.specs.Prelude.{◌≡◌, ℕ, List};
 ghost use Rattle.text_io.specs.declared.ending.Done.{Done as TheDone};
 ghost use Rattle.upc_run.specs.RunText.{IsRunText};
 
-/// A script has one text of `run`, although a card may choose to which slot a program comes, and to which line a
-/// connection. No answer shows either choice. Within the lines that an input may have, no slot runs out of
-/// generations and no line is full, so no refusal shows the choice either.
+/// A script has one text of `run`, although a card may choose the slot of a program and the line of a connection. No
+/// answer shows either choice. Within the lines that an input may have, no slot runs out of generations and no line is
+/// full, so no error shows the choice either.
 pub fn a_script_has_one_text()
     ensures { (octets : List ℕ) (one other : List ℕ) (ends other_ends : TheDone)
         → IsRunText octets one ends → IsRunText octets other other_ends

@@ -1,8 +1,8 @@
-//! The dialogue with a card: `run`, which answers the lines of a script by what a card replies to its desk's commands
-//! and its cells.
+//! The dialogue with a card: `run`, which answers the lines of a script with a card's replies to the commands of its
+//! desk and to its cells.
 //!
-//! What other dialogues with a card need is here too: the line that opens a card, commands, the names of programs,
-//! and the answers.
+//! It also contains the parts that other dialogues with a card need: the line that opens a card, commands, the names of
+//! programs, and the answers.
 #![tactic(auto)]
 
 mod card_faults;

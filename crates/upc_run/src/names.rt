@@ -1,5 +1,5 @@
-//! The names of the programs of a script: `p1` is the first that was put in, `p2` the next, and so on. A name
-//! stays for good.
+//! The names of the programs of a script: `p1` is the first program that was loaded, `p2` the next, and so on. A name
+//! is never given again.
 
 use gen_arena::Id;
 use std::alloc::{AllocError, Global};
@@ -10,7 +10,7 @@ use std::marker::Model;
 pub struct Names {
     ids: Vec<Id>,
 
-    /// By slot, the highest number of a program of that slot, or 0: where its name is looked for first.
+    /// By slot, the highest number of a program of that slot, or 0. The search for a name starts there.
     latest: Vec<usize>,
 }
 
@@ -30,7 +30,7 @@ impl Names {
     ghost use Rattle.std.specs.Prelude.{◌≡◌, ◌∷◌, ◌++◌, [], length, IfOk, OnOk};
     ghost use Rattle.upc_run.specs.Replies.{number_of_program, program_named};
 
-    /// No names yet, for programs in `slots` slots.
+    /// Makes an empty table of names, for programs in `slots` slots.
     pub fn new(alloc: Global, slots: usize) -> Result<Names, AllocError>
         ensures { IfOk result (λ names. names ≡ []) }
     {
@@ -44,14 +44,14 @@ impl Names {
         })
     }
 
-    /// How many names were given.
+    /// Returns the number of names.
     pub fn count(&self) -> usize
         ensures { result ≡ length self.now }
     {
         self.ids.len()
     }
 
-    /// The program of this number.
+    /// Returns the program with this number.
     pub fn named(&self, number: u64) -> Option<Id>
         ensures { result ≡ program_named self.now number }
     {
@@ -76,8 +76,8 @@ impl Names {
         Ok(())
     }
 
-    /// The number of the program's latest name, or 0. It is found at once where no later program has its
-    /// slot, as is so of each program that is still in the store.
+    /// Returns the number of the program's latest name, or 0. The search ends at once if no later program has the same
+    /// slot, as for each program that is still in the store.
     pub fn number_of(&self, id: Id) -> usize
         ensures { result ≡ number_of_program self.now id }
     {

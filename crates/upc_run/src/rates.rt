@@ -1,4 +1,4 @@
-//! The contracts that a script asks for, as the card takes them.
+//! The contracts that a script requests, as the card takes them.
 
 ghost use Rattle.std.specs.Prelude.{◌≡◌, None, Some, IfOk, IfErr, OnOk};
 ghost use Rattle.upc_run.specs.Rates.{AreContracts, IsContract, IsRate, first_of_two, first_wanted_fault, rate_fault, wanted_fault};
@@ -49,11 +49,11 @@ fn contract(wanted: Wanted) -> Result<Contract, GcraFault>
     }
 }
 
-/// The contracts that were asked for, in their order.
+/// Returns the requested contracts, in order.
 ///
 /// # Errors
 ///
-/// The fault of the first faulty rate of all of them, from left to right.
+/// The error of the first rate that has one, over all contracts from left to right.
 pub fn contracts_of(wanted: &ArrayVec<Wanted, 4>) -> Result<ArrayVec<Contract, 4>, GcraFault>
     ensures made { IfOk result (λ contracts. AreContracts wanted.now.items contracts.items) }
     ensures sound { OnOk result (first_wanted_fault wanted.now.items ≡ None) }

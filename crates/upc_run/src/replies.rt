@@ -1,4 +1,4 @@
-//! The lines by which what the card replies is answered, each added at the end of the answers.
+//! The answer lines for the replies of a card. Each function appends one to the answers.
 
 ghost use Rattle.std.specs.Prelude.{◌≡◌, ◌+◌, ◌≤◌, ◌++◌, codes, decimal, length, map, Ok, OnOk};
 ghost use Rattle.line_record.specs.Tally.{tally_of};
@@ -70,7 +70,7 @@ fn put_count(text: &mut TextFromEnd<REPLY_ROOM>, count: u64)
     text.put(b" ");
 }
 
-/// Adds the answer to a program that was put in, whose name has this number, from 1.
+/// Adds the answer to a program that was loaded, whose name has this number, from 1.
 #[tactic(auto, using(std::proofs::lemmas::List::append_assoc))]
 pub fn add_loaded(answers: &mut Vec<u8>, number: u64) -> Result<(), AllocError>
     ensures { OnOk result
@@ -82,7 +82,7 @@ pub fn add_loaded(answers: &mut Vec<u8>, number: u64) -> Result<(), AllocError>
     Ok(())
 }
 
-/// Adds the answer to a program that was taken out, whose name has this number.
+/// Adds the answer to a program that was retired, whose name has this number.
 #[tactic(auto, using(std::proofs::lemmas::List::append_assoc))]
 pub fn add_retired(answers: &mut Vec<u8>, number: u64) -> Result<(), AllocError>
     ensures { OnOk result
@@ -107,7 +107,7 @@ pub fn add_set(answers: &mut Vec<u8>, vc: Vc) -> Result<(), AllocError>
     answers.extend_from_slice(text.as_slice())
 }
 
-/// Adds the answer to a connection that got the program whose name has this number.
+/// Adds the answer to a connection that was given the program whose name has this number.
 #[tactic(auto, using(std::proofs::lemmas::List::append_assoc))]
 pub fn add_reloaded(answers: &mut Vec<u8>, vc: Vc, number: u64) -> Result<(), AllocError>
     ensures { OnOk result (answers.new.items ≡ answers.old.items
@@ -131,7 +131,7 @@ fn add_count(answers: &mut Vec<u8>, count: u64) -> Result<(), AllocError>
     add_number(answers, count)
 }
 
-/// Adds the counts of each verdict, each after a blank.
+/// Adds the counts of each verdict, each after a space.
 #[tactic(auto, using(std::proofs::lemmas::List::append_assoc))]
 pub fn add_tally(answers: &mut Vec<u8>, tally: Tally) -> Result<(), AllocError>
     ensures { OnOk result (answers.new.items ≡ answers.old.items ++ tally_text tally) }
@@ -173,7 +173,7 @@ fn put_piece(text: &mut TextFromEnd<REPLY_ROOM>, piece: &Piece)
     put_count(text, piece.entries().len() as u64);
 }
 
-/// Adds the answer to a connection that ended, whose last journal is this piece.
+/// Adds the answer to a connection that was released, whose last journal is this piece.
 #[tactic(auto, using(std::proofs::lemmas::List::append_assoc))]
 pub fn add_released(answers: &mut Vec<u8>, vc: Vc, piece: &Piece) -> Result<(), AllocError>
     ensures { OnOk result (answers.new.items ≡ answers.old.items
@@ -338,8 +338,8 @@ fn add_told(
     }
 }
 
-/// Adds the answer to a cell that came on this connection and was judged so, by the contract that the
-/// program named whose name has this number, from 1.
+/// Adds the answer to a cell that arrived on this connection and was judged. The program that named its contract has a
+/// name with this number, from 1.
 ///
 /// # Errors
 ///
@@ -358,8 +358,8 @@ pub fn add_judged(
     add_told(answers, judged.verdict, vc, number, judged.value, cell)
 }
 
-/// Adds the answer to a cell that came on this connection and wasn't judged. What takes the room of a cell
-/// that was stays in here.
+/// Adds the answer to a cell that arrived on this connection and wasn't judged. It isn't inlined, so that its caller
+/// doesn't need the stack space of an answer.
 ///
 /// # Errors
 ///
@@ -372,8 +372,8 @@ pub fn add_unjudged(answers: &mut Vec<u8>, vc: Vc, reason: Unjudged) -> Result<(
     add_answer(answers, 0, vc, &reason.answer())
 }
 
-/// Adds the answer to a cell that came on this connection, where the program that named its contract has
-/// a name of this number, from 1; a cell that isn't judged has no such program.
+/// Adds the answer to a cell that arrived on this connection. The program that named its contract has a name with this
+/// number, from 1. A cell that isn't judged has no such program.
 ///
 /// # Errors
 ///

@@ -9,16 +9,16 @@ ghost use Rattle.upc_run.specs.inner.Digits.{with_digit};
 use memchr::memchr;
 use upc_cell::{Side, Vc};
 
-/// A rate as a script asks for it, whose numbers may be out of all limits.
+/// A rate as a script requests it. Its numbers may be outside all limits.
 #[derive(Clone, Copy, Debug, PartialEq, Eq)]
 pub struct Rate {
-    /// The time from one cell to the next, in ticks.
+    /// The time between two cells, in ticks.
     pub increment: u64,
-    /// How much too early a cell may come, in ticks.
+    /// How much too early a cell may arrive, in ticks.
     pub limit: u64,
 }
 
-/// A contract as a script asks for it. Of two rates the first is the peak's.
+/// A contract as a script requests it. Of two rates the first is that of the peak.
 #[derive(Clone, Copy, Debug, PartialEq, Eq)]
 pub enum Wanted {
     Cbr1(Rate),
@@ -27,7 +27,7 @@ pub enum Wanted {
     Vbr3(Rate, Rate),
 }
 
-/// Both numbers 0: what no rate may be, in a place that no contract has taken yet.
+/// Both numbers are 0, which no rate may have. It fills a place that has no contract yet.
 impl Default for Wanted {
     ghost use Rattle.upc_run.specs.ScriptWords.{IsBlankContract};
 
@@ -116,7 +116,7 @@ fn long_number(word: &[u8]) -> Option<u64>
     Some(value)
 }
 
-/// The number that a word spells, of at most 2^64 - 1.
+/// Returns the number that a word spells, if it is at most 2^64 - 1.
 #[inline(always)]
 pub fn number(word: &[u8]) -> Option<u64>
     ensures { result ≡ number_of word.now }
@@ -140,7 +140,7 @@ fn number_at_most(most: u16, word: &[u8]) -> Option<u16>
     }
 }
 
-/// The number of a program's name.
+/// Returns the number in a program's name.
 pub fn program(word: &[u8]) -> Option<u64>
     ensures { result ≡ program_of word.now }
 {
@@ -150,7 +150,7 @@ pub fn program(word: &[u8]) -> Option<u64>
     }
 }
 
-/// The virtual connection that two words name at a side.
+/// Returns the virtual connection of two words on a card of this side.
 pub fn connection(side: Side, path: &[u8], channel: &[u8]) -> Option<Vc>
     ensures { result ≡ vc_named side path.now channel.now }
 {
@@ -187,7 +187,7 @@ fn one_rate(word: &[u8]) -> Option<Rate>
     })
 }
 
-/// Two rates with a colon between them.
+/// Returns two rates with a colon between them.
 fn both_rates(word: &[u8]) -> Option<(Rate, Rate)>
     ensures { (join : TheRate → TheRate → TheWanted) → option_map (λ both. join both.0 both.1) result ≡ two_rates join word.now }
 {
@@ -195,7 +195,7 @@ fn both_rates(word: &[u8]) -> Option<(Rate, Rate)>
     Some((one_rate(peak)?, one_rate(sustained)?))
 }
 
-/// The contract that a word asks for.
+/// Returns the contract of a word.
 pub fn contract(word: &[u8]) -> Option<Wanted>
     ensures { result ≡ wanted_of word.now }
 {

@@ -182,7 +182,7 @@ fn a_write_that_fails_leaves_a_beginning_of_what_ports_answered(rt: HostRuntime)
 }
 
 /// Expects an input that fails at any octet to be answered up to its last whole line. After all octets, one more call
-/// asks for the end.
+/// reports the end.
 fn expect_answers<R: Threads + Wait + Sync + Abort>(
     rt: &R,
     alloc: Global,

@@ -1,4 +1,4 @@
--- What the steps of a cell at port 0 come to: it enters, is picked or has no connection, and is judged or refused.
+-- The results of the steps of a cell at port 0: it enters, is picked or has no connection, and is judged or refused.
 use Rattle.std.proofs.Common.{◌≡◌, ◌⊎◌, ℕ, inl, inr, Bool, true, false, if◌then◌else◌, List, [], ◌∷◌, Option, Some, None, is_none, slice_get, option_map, refl, sym, ap, ◌∙◌, subst}
 use Rattle.std.specs.Prelude.{slice_set}
 use Rattle.std.specs.Option.{MatchOption}
@@ -16,12 +16,12 @@ use Rattle.card_core.specs.declared.reply.Reply.TheVariants.{Answered, Entered, 
 use Rattle.card_core.specs.declared.step.Step.TheVariants.{Enter, Judge, Pick}
 use Rattle.upc_run.specs.inner.PortZero.{PortIs}
 
--- What was put at place 0 stands there.
+-- A state that is written to place 0 is there.
 pub put-there : (ports : List PortState) (old new : PortState) → slice_get ports 0 ≡ Some old → slice_get (slice_set ports 0 new) 0 ≡ Some new
 put-there [] old new e = absurd (cc)
 put-there (state ∷ ports) old new e = refl
 
--- A free port is as it was once its cell was answered.
+-- After its cell was answered, the ports are as they were before it entered.
 pub put-back : (ports : List PortState) (state : PortState) → slice_get ports 0 ≡ Some outside → slice_set (slice_set ports 0 state) 0 outside ≡ ports
 put-back [] state e = absurd (cc)
 put-back (here ∷ ports) state e = ap (λ first. first ∷ ports) (sym (same_Some here outside e))
@@ -31,7 +31,7 @@ pub put-back_twice : (ports : List PortState) (state other : PortState) → slic
 put-back_twice [] state other e = absurd (cc)
 put-back_twice (here ∷ ports) state other e = ap (λ first. first ∷ ports) (sym (same_Some here outside e))
 
--- A cell that entered stands at the port.
+-- A cell that entered is at the port.
 pub entered-as : (before after : World) (cell : List ℕ) (moment : ℕ) → PortIs before outside
     → WorldStep before (Enter 0 cell moment) Entered after → after ≡ with_port before 0 (entered cell moment)
 entered-as before after cell moment free step =
@@ -44,8 +44,8 @@ entered-as before after cell moment free step =
       | inr lacks ↦ let no = lacks.answer in absurd (cc)
     ]
 
--- What a pick of an entered cell comes to: its virtual connection has no connection, or it is picked with a value
--- of the program that the connection names.
+-- The result of a pick of an entered cell: its virtual connection has no connection, or it is picked with a value of
+-- the program that the connection names.
 pub data PickCase (before : World) (cell : List ℕ) (moment : ℕ) (reply : Reply) (after : World) : Type 0 where
   missed_so : connection_in before.connections (vc_of before.shape.side cell) ≡ None → reply ≡ Answered answer.NoConnection
       → after ≡ with_port before 0 outside → PickCase before cell moment reply after
@@ -84,7 +84,7 @@ pick-case before after cell moment reply had step =
     by false e (inl goes) = picks-case before after cell moment reply had goes
     by false e (inr lacks) = let no = lacks.answer in absurd (cc)
 
--- What a picked cell comes to, whose connection stands: it is judged, or there is a reason to refuse it.
+-- The result of judging a picked cell whose connection exists: it is judged, or there is a reason to refuse it.
 pub data JudgeCase (before : World) (picking : Picking) (connection : Connection) (reply : Reply) (after : World) : Type 0 where
   judged_so : cell_refusal before connection picking.moment ≡ None → reply ≡ Answered (judgement_of before picking connection)
       → after ≡ judged_world before 0 picking connection → JudgeCase before picking connection reply after

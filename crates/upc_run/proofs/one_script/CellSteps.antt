@@ -1,4 +1,4 @@
--- A cell is answered alike where cards are seen alike.
+-- If the views of two cards are equal, a cell has the same answer on both.
 use Rattle.std.proofs.Common.{◌≡◌, ℕ, ◌+◌, ◌^◌, ◌<◌, ◌≤◌, ◌==◌, inl, inr, Bool, true, false, if◌then◌else◌, List, [], ◌∷◌, ◌++◌, length, length-append, map, drop, Option, Some, None, is_some, nat_lt, nat_le, option_map, codes, refl, sym, ap, ◌∙◌, subst, arith}
 use Rattle.std.specs.Option.{MatchOption}
 use Rattle.std.proofs.lemmas.Bool.{lt-leb}
@@ -31,7 +31,7 @@ use Rattle.upc_run.proofs.one_script.SeenConnections.{all-found, found-seen}
 use Rattle.upc_run.proofs.one_script.SeenPrograms.{code-seen}
 use Rattle.upc_run.proofs.one_script.Stands.{Stands, stands-later}
 
--- A cell that came, as a history is seen to have it.
+-- A cell that arrived, as the view of a history contains it.
 abbrev pub seen_cell : List ℕ → ℕ → ℕ → NamedCell
 seen_cell octets moment value = named_cell octets moment (record { slot = 0; generation = 0 }) value
 
@@ -43,41 +43,41 @@ seen_refusal s connection moment =
     else if nat_le s.shape.journal (length (drop connection.handed connection.history)) then Some answer.JournalFull
     else None
 
--- The verdict on it.
+-- The verdict on this cell.
 abbrev pub seen_verdict : SeenConnection → NamedCell → Verdict
 seen_verdict connection cell = verdict_after connection.contracts empty_buckets connection.history cell
 
--- What is printed of a judged cell.
+-- The text for a judged cell.
 abbrev pub judged_text : Vc → SeenConnection → List ℕ → ℕ → ℕ → List ℕ
 judged_text vc connection octets moment value =
     let verdict = seen_verdict connection (seen_cell octets moment value) in
     verdict_text verdict (judging_text vc connection.program value) (cell_after verdict octets)
 
--- The card behind it.
+-- The view of the card after a judged cell.
 abbrev pub judged_seen : Seen → Vc → SeenConnection → NamedCell → Seen
 judged_seen s vc connection cell = record s { connections = with_at s.connections vc (record connection { history = connection.history ++ cell ∷ [] }) }
 
--- How a cell with this value is answered.
+-- The answer to a cell with this value.
 abbrev pub JudgesSeen : Seen → Vc → SeenConnection → ℕ → List ℕ → ℕ → List ℕ → Seen → Type 0
 JudgesSeen s vc connection moment octets value text to =
     MatchOption (seen_refusal s connection moment)
     ((text ≡ judged_text vc connection octets moment value) × (to ≡ judged_seen s vc connection (seen_cell octets moment value)))
     (λ given. (answer_text [] vc given ≡ Some text) × (to ≡ s))
 
--- How a cell is answered whose connection is found.
+-- The answer to a cell whose connection is found.
 abbrev pub FoundSeen : Seen → Vc → SeenConnection → ℕ → List ℕ → List ℕ → Seen → Type 0
 FoundSeen s vc connection moment octets text to =
     (code : List Instr) × (value : ℕ) × (code_of s.live connection.program ≡ Some code) × Gives code octets value
     × JudgesSeen s vc connection moment octets value text to
 
--- How a cell is answered.
+-- The answer to a cell.
 abbrev pub PolicesSeen : Seen → ℕ → List ℕ → List ℕ → Seen → Type 0
 PolicesSeen s moment octets text to =
     MatchOption (found_at s.connections (vc_of s.shape.side octets))
     ((text ≡ arrive_fault (codes "1 NoConnection")) × (to ≡ s))
     (λ connection. FoundSeen s (vc_of s.shape.side octets) connection moment octets text to)
 
--- Behind fewer lines than a script may have no line has as many verdicts as it may.
+-- After fewer lines than a script may have, no line of the card is full, so the view decides whether a cell is refused.
 refusal-seen : (met : ℕ) (world : World) (connection : Connection) (moment : ℕ) → Stands met world → met < most_input_lines
     → cell_refusal world connection moment ≡ seen_refusal (seen world) (seen_connection world.given connection) moment
 refusal-seen met world connection moment stand few =
@@ -92,7 +92,7 @@ refusal-seen met world connection moment stand few =
     else if unworn i then Some answer.JournalFull
     else None
 
--- What is printed of a refusal names no program.
+-- The text for a refusal names no program.
 plain : (late back full : Bool) (last : ℕ) (given : Answer) (names : List Id) (vc : Vc)
     → (if late then Some answer.MomentTooLate else if back then Some (answer.MomentBack last) else if full then Some answer.JournalFull else None) ≡ Some given
     → answer_text names vc given ≡ answer_text [] vc given
@@ -110,13 +110,13 @@ refusal-plain s connection moment given names vc e =
     plain (nat_lt (2 ^ 62) moment) (nat_lt moment (last_moment 0 connection.history))
     (nat_le s.shape.journal (length (drop connection.handed connection.history))) (last_moment 0 connection.history) given names vc e
 
--- What a cell's answer comes to: what is seen, and that the world stands with the programs that it had.
+-- The result of a cell: its answer follows from the view, and the invariant of the world holds with the same programs.
 pub record CellComes (met : ℕ) (before after : World) (moment : ℕ) (octets : List ℕ) (text : List ℕ) : Type 0 where
   pub shown : PolicesSeen (seen before) moment octets text (seen after)
   pub stands : Stands (met + 1) after
   pub same : after.given ≡ before.given
 
--- A world whose ports alone are others'.
+-- A world that differs only in its ports.
 with-ports : (met : ℕ) (before : World) (ports : List PortState) → Stands met before → Stands (met + 1) (record before { ports = ports })
 with-ports met before ports stand =
     let later = stands-later met before stand in
@@ -146,12 +146,12 @@ code-there before sound met stand vc connection found code named =
     code-seen before.given before.live stand.programs.known connection.program
     ∙ choice (code_in before.live connection.program) refl live
 
--- A world in which a cell of this value was entered and picked.
+-- The world after a cell with this value has entered and was picked.
 abbrev picked_world : World → List ℕ → ℕ → Vc → Connection → ℕ → World
 picked_world before octets moment vc connection value =
     with_port (with_port before 0 (entered octets moment)) 0 (picked (picking_of octets moment vc connection value))
 
--- A cell of no connection.
+-- A cell without a connection.
 missed-comes : (met : ℕ) (before after : World) (names : List Id) (moment : ℕ) (octets : List ℕ) (given : Answer) (text : List ℕ)
     → Stands met before → PortIs before outside → connection_in before.connections (vc_of before.shape.side octets) ≡ None
     → given ≡ answer.NoConnection → after ≡ with_port (with_port before 0 (entered octets moment)) 0 outside
@@ -173,7 +173,7 @@ missed-comes met before after names moment octets given text stand free none is 
       same = ap (λ (w : World). w.given) world;
     }
 
--- What is printed of a judgement.
+-- The text for a judgement.
 judged-told : (before : World) (names : List Id) (vc : Vc) (connection : Connection) (octets : List ℕ) (moment value : ℕ) (text : List ℕ)
     → names ≡ names_of before.given
     → answer_text names vc (judgement_of (picked_world before octets moment vc connection value) (picking_of octets moment vc connection value) connection) ≡ Some text
@@ -185,7 +185,7 @@ judged-told before names vc connection octets moment value text known told =
     sym (same_Some _ text told)
     ∙ (λ i. verdict_text (sym verdict i) (judging_text vc (number i) value) (cell_after (sym verdict i) octets))
 
--- What is seen of a judgement.
+-- The view after a judgement.
 judged-shown : (before : World) (vc : Vc) (connection : Connection) (octets : List ℕ) (moment value : ℕ) → PortIs before outside
     → seen (judged_world (picked_world before octets moment vc connection value) 0 (picking_of octets moment vc connection value) connection)
     ≡ judged_seen (seen before) vc (seen_connection before.given connection) (seen_cell octets moment value)
@@ -258,7 +258,7 @@ found-comes met before after names moment octets given text stand sound few know
           }
     ]
 
--- How a cell is answered that has entered.
+-- The answer to a cell that has entered.
 answered-comes : (met : ℕ) (before after : World) (names : List Id) (moment : ℕ) (octets : List ℕ) (given : Answer) (text : List ℕ)
     → Stands met before → IsSound before → met < most_input_lines → names ≡ names_of before.given → PortIs before outside
     → IsAnswered (with_port before 0 (entered octets moment)) given after

@@ -1,4 +1,4 @@
--- Connections are set up, reloaded, released and cut alike where they are seen alike, whichever lines they have.
+-- If the views of two cards are equal, connections are set up with the same answers on both, on whatever lines.
 use Rattle.std.proofs.Common.{◌≡◌, ℕ, suc, ◌+◌, ◌^◌, ◌<◌, ◌==◌, Bool, false, if◌then◌else◌, not, List, [], ◌∷◌, ◌++◌, length, Option, Some, None, is_none, is_some, nat_le, nat_lt, option_map, codes, refl, sym, ap, ◌∙◌, subst}
 use Rattle.std.specs.List.{filter}
 use Rattle.std.proofs.lemmas.Bool.{not-true}
@@ -30,7 +30,7 @@ length-connections : (given : List Loading) (connections : List (Vc × Connectio
 length-connections given [] = refl
 length-connections given (here ∷ later) = ap suc (length-connections given later)
 
--- A line is open where there are fewer connections than lines.
+-- A line is open exactly if there are fewer connections than lines.
 open-lines : (met : ℕ) (world : World) → Stands met world
     → any_below world.shape.lines (is_open_line world) ≡ nat_lt (length (seen_connections world.given world.connections)) world.shape.lines
 open-lines met world stand =
@@ -46,12 +46,12 @@ pub none-seen : (given : List Loading) (connections : List (Vc × Connection)) (
 none-seen given connections vc =
     sym (ap is_none (found-seen given connections vc) ∙ is-none_mapped (seen_connection given) (connection_in connections vc))
 
--- A connection that is looked up is seen there.
+-- A connection that is looked up is in the view.
 pub found-there : (given : List Loading) (connections : List (Vc × Connection)) (vc : Vc) (connection : Connection)
     → connection_in connections vc ≡ Some connection → found_at (seen_connections given connections) vc ≡ Some (seen_connection given connection)
 found-there given connections vc connection found = found-seen given connections vc ∙ ap (option_map (seen_connection given)) found
 
--- The connections without one stand.
+-- The invariant holds for the connections without one of them.
 pub connections-without : (bound : ℕ) (given : List Loading) (connections : List (Vc × Connection)) (vc : Vc)
     → StandConnections bound given connections → StandConnections bound given (without_connection connections vc)
 connections-without bound given connections vc stand =
@@ -63,7 +63,7 @@ connections-without bound given connections vc stand =
     } in
     subst (λ others. StandConnections bound given others) (sym (gone-filter connections vc)) less
 
--- And so do they with one in its place, on a line that is free.
+-- It also holds with another in its place, on a free line.
 pub connections-with : (bound : ℕ) (given : List Loading) (connections : List (Vc × Connection)) (vc : Vc) (connection : Connection)
     → StandConnections bound given connections → 0 < number_in given connection.program → connection.line < bound
     → is_taken line_of (without_connection connections vc) connection.line ≡ false
@@ -72,7 +72,7 @@ connections-with bound given connections vc connection stand known below free =
     let less = connections-without bound given connections vc stand in
     record { known = (known, less.known); apart = (free, less.apart); below = (below, less.below) }
 
--- A connection on the line of one that it takes the place of.
+-- A connection that replaces another on the same line.
 pub connections-changed : (bound : ℕ) (given : List Loading) (connections : List (Vc × Connection)) (vc : Vc) (old new : Connection)
     → StandConnections bound given connections → connection_in connections vc ≡ Some old → new.line ≡ old.line
     → 0 < number_in given new.program → StandConnections bound given (with_connection connections vc new)
@@ -83,12 +83,12 @@ connections-changed bound given connections vc old new stand found same known =
     (subst (λ number. number < bound) (sym same) below)
     (subst (λ number. is_taken line_of (without_connection connections vc) number ≡ false) (sym same) free)
 
--- A connection seen with another in its place.
+-- The view of the connections after one was replaced.
 pub with-seen : (given : List Loading) (connections : List (Vc × Connection)) (vc : Vc) (connection : Connection)
     → seen_connections given (with_connection connections vc connection) ≡ with_at (seen_connections given connections) vc (seen_connection given connection)
 with-seen given connections vc connection = ap (λ others. (vc, seen_connection given connection) ∷ others) (gone-seen given connections vc)
 
--- The connection there changed, if there is one.
+-- The connections with that one changed, if there is one.
 abbrev pub changed_by : Option SeenConnection → List (Vc × SeenConnection) → Vc → (SeenConnection → SeenConnection) → List (Vc × SeenConnection)
 changed_by None connections vc change = connections
 changed_by (Some connection) connections vc change = with_at connections vc (change connection)

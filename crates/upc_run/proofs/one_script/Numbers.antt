@@ -1,5 +1,5 @@
--- The numbers of programs' names: which of all that were put in a program is. They tell programs apart, and
--- stay when more are put in.
+-- The numbers of programs' names, in the order of loading. They distinguish programs, and remain when more programs are
+-- loaded.
 use Rattle.std.proofs.Common.{◌≡◌, ◌≢◌, ℕ, zero, suc, ◌<◌, ◌≤◌, ◌==◌, Bool, true, false, if◌then◌else◌, ◌⊎◌, List, [], ◌∷◌, ◌++◌, length, length-append, Option, Some, None, slice_get, nat_lt, refl, sym, ap, ◌∙◌, subst, inl, inr, arith}
 use Rattle.std.specs.Bool.{⊤}
 use Rattle.std.proofs.lemmas.Bool.{eq-eqb, ne_eqb, lt-ltb, le-ltb}
@@ -12,12 +12,12 @@ use Rattle.card_core.specs.World.{Loading, code_in}
 use Rattle.upc_run.specs.Replies.{number_of_program, program_named}
 use Rattle.upc_run.proofs.NamingLemmas.{number-push}
 
--- The ids of these codes, of which the latest stands first, in the order in which they were given.
+-- The ids of these codes in the order in which they were given. The list has the latest first.
 abbrev pub names_of : List Loading → List Id
 names_of [] = []
 names_of (loading ∷ earlier) = names_of earlier ++ loading.id ∷ []
 
--- Which of these codes has the id, counted from the earliest, 1; and 0 where none has it.
+-- The number of the code with this id, counted from the earliest, which is 1. If none has it, the number is 0.
 abbrev pub number_in : List Loading → Id → ℕ
 number_in [] id = 0
 number_in (loading ∷ earlier) id = if is_same_id id loading.id then suc (length earlier) else number_in earlier id
@@ -31,7 +31,7 @@ pub length-names : (given : List Loading) → length (names_of given) ≡ length
 length-names [] = refl
 length-names (loading ∷ earlier) = omega (arith, length-append (names_of earlier) (loading.id ∷ []), length-names earlier)
 
--- The number that the names give to an id.
+-- The number of an id among the names.
 pub number-is : (given : List Loading) (id : Id) → number_of_program (names_of given) id ≡ number_in given id
 number-is [] id = refl
 number-is (loading ∷ earlier) id =
@@ -39,7 +39,7 @@ number-is (loading ∷ earlier) id =
     let rest = number-is earlier id in
     number-push id loading.id (names_of earlier) ∙ (λ i. if is_same_id id loading.id then suc (many i) else rest i)
 
--- Numbers are at most as many as there are.
+-- No number is above the number of codes.
 pub number-most : (given : List Loading) (id : Id) → number_in given id ≤ length given
 number-most [] id = omega arith
 number-most (loading ∷ earlier) id =
@@ -50,7 +50,7 @@ number-most (loading ∷ earlier) id =
     ] in
     choice (is_same_id id loading.id)
 
--- A number that is some name's is one id's.
+-- A number above 0 belongs to one id only.
 pub number-apart : (given : List Loading) (one other : Id) → number_in given one ≡ number_in given other → 0 < number_in given one → one ≡ other
 number-apart [] one other same some = absurd (omega (arith, some))
 number-apart (loading ∷ earlier) one other same some =
@@ -70,7 +70,7 @@ number-apart (loading ∷ earlier) one other same some =
     ] in
     choice (is_same_id one loading.id) (is_same_id other loading.id) refl refl same some
 
--- So two ids, of which one has a name, are the same exactly where their numbers are.
+-- So two ids, of which the first has a name, are equal exactly if their numbers are.
 pub number-tells : (given : List Loading) (one other : Id) → 0 < number_in given one
     → is_same_id one other ≡ (number_in given one == number_in given other)
 number-tells given one other some = elim (id_cases one other) [
@@ -94,7 +94,7 @@ number-tells_back given one other some = elim (id_cases one other) [
       (λ same. apart (sym (number-apart given other one (sym same) some))))
 ]
 
--- An id under which a code was put in has a name.
+-- An id under which a code was loaded has a name.
 pub number-some : (given : List Loading) (id : Id) (code : List Instr) → code_in given id ≡ Some code → 0 < number_in given id
 number-some [] id code found = absurd (cc)
 number-some (loading ∷ earlier) id code found =
@@ -115,7 +115,7 @@ number-none (loading ∷ earlier) id none =
     ] in
     choice (is_same_id id loading.id) none
 
--- A name stays the number that it was when one more id is given.
+-- The number of a name remains when one more id is given.
 pub number-stays : (loading : Loading) (given : List Loading) (id : Id) → number_in given loading.id ≡ 0 → 0 < number_in given id
     → number_in (loading ∷ given) id ≡ number_in given id
 number-stays loading given id new some =
@@ -126,7 +126,7 @@ number-stays loading given id new some =
 pub number-next : (loading : Loading) (given : List Loading) → number_in (loading ∷ given) loading.id ≡ suc (length given)
 number-next loading given = ap (λ b. if b then suc (length given) else number_in given loading.id) (id_itself loading.id)
 
--- What stands at a place of a list with one more behind it.
+-- The entry at a place of a list with one more entry at its end.
 get-append : (names : List Id) (last id : Id) (place : ℕ) → slice_get (names ++ last ∷ []) place ≡ Some id
     → (slice_get names place ≡ Some id) ⊎ ((place ≡ length names) × (last ≡ id))
 get-append [] last id zero found = inr (refl, same_Some last id found)
@@ -137,7 +137,7 @@ get-append (here ∷ later) last id (suc place) found = elim (get-append later l
   | inr behind ↦ inr (ap suc behind.0, behind.1)
 ]
 
--- The id at a place of the names has that place for its number.
+-- The number of the id at a place of the names is that place plus one.
 number-at : (given : List Loading) → AreOnce given → (place : ℕ) (id : Id) → slice_get (names_of given) place ≡ Some id
     → number_in given id ≡ suc place
 number-at [] once place id found = absurd (cc)
@@ -153,12 +153,12 @@ number-at (loading ∷ earlier) once place id found = elim (get-append (names_of
       omega (arith, here, behind.0, many)
 ]
 
--- A number is a name's where so many programs were put in.
+-- If so many programs were loaded, this is the number of a name.
 abbrev pub is_number : ℕ → ℕ → Bool
 is_number programs zero = false
 is_number programs (suc before) = nat_lt before programs
 
--- What a number names.
+-- The program that a number names, if it names one.
 pub data IsNamed (given : List Loading) (number : ℕ) : Option Id → Type 0 where
   named : (id : Id) → is_number (length given) number ≡ true → number_in given id ≡ number → 0 < number → IsNamed given number (Some id)
   unnamed : is_number (length given) number ≡ false → IsNamed given number None

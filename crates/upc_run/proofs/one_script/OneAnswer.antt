@@ -1,4 +1,4 @@
--- What is seen of a card leaves one answer to each line, and one that is seen behind it.
+-- The view of a card leaves one answer to each line, and one view after it.
 use Rattle.std.proofs.Common.{◌≡◌, ℕ, ◌==◌, Bool, true, false, List, [], ◌∷◌, length, codes, Option, Some, None, refl, sym, ap, ◌∙◌, subst}
 use Rattle.std.specs.Bool.{MatchBool}
 use Rattle.std.specs.Option.{MatchOption}
@@ -30,7 +30,7 @@ use Rattle.upc_run.proofs.one_script.Numbers.{is_number}
 use Rattle.upc_run.proofs.one_script.Seen.{Seen, SeenConnection, found_at}
 use Rattle.upc_run.proofs.one_script.SeenLines.{AsksSeen, LineSeen, LoadsSeen, NamedSeen, ObeysSeen, ReadingSeen, ReloadsSeen, RetiresSeen, SetsUpSeen, SizedSeen, StaysSeen, TakesSeen}
 
--- The contract that a script asks for in a contract's place.
+-- The request that gives this contract.
 abbrev asked : Contract → Wanted
 asked (Cbr1 peak) = wanted.Cbr1 (record { increment = peak.increment; limit = peak.limit })
 asked (Vbr1 peak other) = wanted.Vbr1 (record { increment = peak.increment; limit = peak.limit }) (record { increment = other.increment; limit = other.limit })
@@ -60,7 +60,7 @@ asked-once (Vbr2 a b) (Vbr2 c d) same = let one = rate-once a c cc in let two = 
 asked-once (Vbr3 a b) (Vbr3 c d) same = let one = rate-once a c cc in let two = rate-once b d cc in λ i. Vbr3 (one i) (two i)
 asked-once _ _ same = absurd (cc)
 
--- A script's contracts are asked for in one way.
+-- Requested contracts are made in one way.
 contracts-once : (asks : List Wanted) (one other : List Contract) → AreContracts asks one → AreContracts asks other → one ≡ other
 contracts-once [] [] [] p q = refl
 contracts-once [] [] (contract ∷ other) p q = absurd q
@@ -72,7 +72,7 @@ contracts-once (ask ∷ later) (contract ∷ one) (another ∷ other) p q =
     let rest = contracts-once later one other p.1 q.1 in
     λ i. first i ∷ rest i
 
--- One text, and one that is seen behind it.
+-- The texts are equal, and so are the views after them.
 abbrev pub Same : List ℕ → List ℕ → Seen → Seen → Type 0
 Same one other to to' = (one ≡ other) × (to ≡ to')
 

@@ -1,5 +1,5 @@
--- A script has one run text: cards behind as many lines that are seen alike answer a line alike, and are seen
--- alike behind it.
+-- A script has one run text: if two cards, each after the same number of lines, have equal views, then a line has the
+-- same answer on both, and their views after it are equal.
 use Rattle.std.proofs.Common.{◌≡◌, ℕ, ◌+◌, ◌<◌, Bool, true, false, List, [], codes, Option, Some, None, refl, sym, ◌∙◌, subst}
 use Rattle.std.specs.Bool.{MatchBool, ⊤}
 use Rattle.std.specs.Option.{MatchOption}
@@ -22,29 +22,29 @@ use Rattle.upc_run.proofs.one_script.Seen.{Seen, seen}
 use Rattle.upc_run.proofs.one_script.SeenLines.{IsBehind, LineSeen, line-comes}
 use Rattle.upc_run.proofs.one_script.Stands.{opening-stands, stands-later}
 
--- Both cards are behind so many lines, and are seen alike.
+-- Both cards have had this number of lines, and their views are equal.
 pub record AreCardsAlike (met : ℕ) (one other : Card) : Type 0 where
   pub first : IsBehind met one
   pub second : IsBehind met other
   pub same : seen one.world ≡ seen other.world
 
--- No card was opened yet, or both are alike.
+-- No card was opened yet, or both cards are alike.
 abbrev pub AreAlike : ℕ → RunWorld → RunWorld → Type 0
 AreAlike met None None = ⊤
 AreAlike met (Some one) (Some other) = AreCardsAlike met one other
 AreAlike met _ _ = ⊥
 
--- What both lines lead to, once it is known.
+-- The worlds after both lines, once they are known.
 lead : (met : ℕ) (next next' known known' : Option RunWorld) → next ≡ known → next' ≡ known'
     → LeadAlike (AreAlike met) known known' → LeadAlike (AreAlike met) next next'
 lead met next next' known known' e e' alike =
     subst (λ n. LeadAlike (AreAlike met) n next') (sym e) (subst (λ n. LeadAlike (AreAlike met) known n) (sym e') alike)
 
--- Both lines have one text, and lead to worlds that are alike.
+-- Both lines have the same text and lead to worlds that are alike.
 abbrev AnswerAlike : ℕ → List ℕ → List ℕ → Option RunWorld → Option RunWorld → Type 0
 AnswerAlike met one other next next' = (one ≡ other) × LeadAlike (AreAlike met) next next'
 
--- A card is behind one more line that left it as it was.
+-- A line that leaves a card unchanged.
 behind-later : (met : ℕ) (card : Card) → IsBehind met card → IsBehind (met + 1) card
 behind-later met card behind = record { led = behind.led; stands = stands-later met card.world behind.stands; names = behind.names }
 
@@ -89,13 +89,13 @@ commands-alike met before before' words one other after after' few alike led led
       },
     )
 
--- What a run keeps, over a line that leads to a card.
+-- The invariant of a run after a line that leads to a card.
 keeps-led : (world : RunWorld) (line text : List ℕ) (next : Option RunWorld) (card : Card) → run_rules.is_sound world
     → RunSteps world line text next → next ≡ Some (Some card) → IsLed card
 keeps-led world line text next card sound steps e =
     run-total.keeps world line text (Some card) sound (subst (λ n. RunSteps world line text n) e steps)
 
--- A line that asks for nothing, or not.
+-- A line of a run without a card, silent or not.
 none-alike : (met : ℕ) (line one other : List ℕ) (next next' : Option RunWorld) (b : Bool)
     → ((card : Card) → next ≡ Some (Some card) → IsLed card)
     → MatchBool b ((one ≡ []) × (next ≡ Some None)) (Tells None (words_of line) one next)
@@ -141,7 +141,7 @@ close-alike met None (Some after) one other done done' alike p q = absurd alike
 close-alike met (Some before) None one other done done' alike p q = absurd alike
 close-alike met (Some before) (Some before') one other done done' alike p q = (p.0 ∙ sym q.0, p.1 ∙ sym q.1)
 
--- The rules of `run` don't tell such worlds apart.
+-- The rules of `run` give the same text in worlds that are alike.
 run-alike : KeepsAlike run_rules AreAlike
 run-alike = record { step = step-alike; close = close-alike }
 

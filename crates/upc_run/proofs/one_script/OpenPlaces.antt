@@ -1,5 +1,5 @@
--- Whether some place below a bound is open, where the list's things have places of their own below it: it is
--- exactly where the list is shorter than the bound.
+-- An open place below a bound: if the list's items have different places, all below it, there is one exactly if the
+-- list is shorter than the bound.
 use Rattle.std.proofs.Common.{◌≡◌, ◌≢◌, ℕ, zero, suc, ◌<◌, ◌≤◌, ◌==◌, Bool, true, false, cond, not, ◌||◌, List, [], ◌∷◌, length, nat_lt, refl, sym, ap, ◌∙◌, subst, arith}
 use Rattle.std.specs.Bool.{⊤}
 use Rattle.std.specs.List.{list_any, filter, AllByRecursion}
@@ -17,11 +17,11 @@ any-same (suc bound) test other same =
     λ i. here i || rest i
 
 module _ {X : Type 0} (key : X → ℕ) where
-  -- Something in the list has the place.
+  -- Some item of the list has the place.
   abbrev pub is_taken : List X → ℕ → Bool
   is_taken items place = list_any (λ item. key item == place) items
 
-  -- No two things in the list have one place.
+  -- No two items of the list have the same place.
   abbrev pub AreApart : List X → Type 0
   AreApart [] = ⊤
   AreApart (item ∷ later) = (is_taken later (key item) ≡ false) × AreApart later
@@ -30,7 +30,7 @@ module _ {X : Type 0} (key : X → ℕ) where
   abbrev pub AreBelow : ℕ → List X → Type 0
   AreBelow bound items = AllByRecursion (λ item. key item < bound) items
 
-  -- What is left of a list has no place that the list hadn't.
+  -- A filtered list has no place that the whole list doesn't have.
   pub taken-filter : (test : X → Bool) (items : List X) (place : ℕ) → is_taken items place ≡ false → is_taken (filter test items) place ≡ false
   taken-filter test [] place none = refl
   taken-filter test (item ∷ later) place none =
@@ -52,11 +52,11 @@ module _ {X : Type 0} (key : X → ℕ) where
       ] in
       choice (test item)
 
-  -- The list without what has the place.
+  -- The list without the items at this place.
   abbrev elsewhere : ℕ → List X → List X
   elsewhere place items = filter (λ item. not (key item == place)) items
 
-  -- It has every other place that the list had.
+  -- It has every other place of the list.
   taken-elsewhere : (items : List X) (gone place : ℕ) → place ≢ gone → is_taken (elsewhere gone items) place ≡ is_taken items place
   taken-elsewhere [] gone place apart = refl
   taken-elsewhere (item ∷ later) gone place apart =
@@ -71,7 +71,7 @@ module _ {X : Type 0} (key : X → ℕ) where
       ] in
       choice (key item == gone) refl
 
-  -- A place that the list hasn't takes nothing out of it.
+  -- If no item has the place, the list keeps its length.
   length-absent : (items : List X) (gone : ℕ) → is_taken items gone ≡ false → length (elsewhere gone items) ≡ length items
   length-absent [] gone none = refl
   length-absent (item ∷ later) gone none =
@@ -79,7 +79,7 @@ module _ {X : Type 0} (key : X → ℕ) where
       ap (λ b. length (cond (not b) (item ∷ elsewhere gone later) (elsewhere gone later))) parts.0
       ∙ ap suc (length-absent later gone parts.1)
 
-  -- A place that it has takes one thing out.
+  -- If an item has the place, the list gets shorter by one.
   length-elsewhere : (items : List X) (gone : ℕ) → AreApart items → is_taken items gone ≡ true
       → length items ≡ suc (length (elsewhere gone items))
   length-elsewhere [] gone apart some = absurd (cc)
@@ -94,7 +94,7 @@ module _ {X : Type 0} (key : X → ℕ) where
       ] in
       choice (key item == gone) refl some
 
-  -- Without the last place all are below one less.
+  -- Without the items at the last place, all places are below the next smaller bound.
   below-elsewhere : (items : List X) (bound : ℕ) → AreBelow (suc bound) items → AreBelow bound (elsewhere bound items)
   below-elsewhere [] bound below = tt
   below-elsewhere (item ∷ later) bound below =
@@ -107,11 +107,11 @@ module _ {X : Type 0} (key : X → ℕ) where
       ] in
       choice (key item == bound) refl
 
-  -- A place is open that nothing in the list has.
+  -- A place is open if no item of the list has it.
   abbrev pub is_open : List X → ℕ → Bool
   is_open items place = not (is_taken items place)
 
-  -- There are no more things than places, and an open one exactly where there are fewer.
+  -- There are no more items than places, and there is an open place exactly if there are fewer.
   pub record Counts (bound : ℕ) (items : List X) : Type 0 where
     pub most : length items ≤ bound
     pub some : any_below bound (is_open items) ≡ nat_lt (length items) bound

@@ -1,4 +1,5 @@
--- Programs are put in and retired alike where they are seen alike, whichever slots they have.
+-- If the views of two cards are equal, programs are loaded and retired with the same answers on both, in whatever
+-- slots.
 use Rattle.std.proofs.Common.{◌≡◌, ℕ, suc, ◌+◌, ◌<◌, ◌≤◌, ◌==◌, ◌&&◌, Bool, true, false, if◌then◌else◌, not, List, [], ◌∷◌, ◌++◌, length, Option, Some, None, is_none, nat_lt, codes, refl, sym, ap, ◌∙◌, subst, arith}
 use Rattle.std.specs.List.{list_all, filter}
 use Rattle.std.proofs.lemmas.Bool.{and_parts, lt-ltb, not-true}
@@ -35,7 +36,7 @@ length-live : (given live : List Loading) → length (seen_live given live) ≡ 
 length-live given [] = refl
 length-live given (loading ∷ later) = ap suc (length-live given later)
 
--- Behind fewer lines than a script may have, a slot is open where no live program has it.
+-- After fewer lines than a script may have, a slot is open exactly if there are fewer live programs than slots.
 open-slots : (met : ℕ) (world : World) → Stands met world → met < most_input_lines
     → any_below world.shape.programs (is_open_slot world) ≡ nat_lt (length (seen_live world.given world.live)) world.shape.programs
 open-slots met world stand few =
@@ -46,7 +47,7 @@ open-slots met world stand few =
     ∙ (open-place slot_of world.shape.programs world.live stand.programs.apart stand.programs.below).some
     ∙ ap (λ n. nat_lt n world.shape.programs) (sym (length-live world.given world.live))
 
--- Why no program is put in: some port has a cell; or there are as many as slots.
+-- The reason not to load a program: some port has a cell, or there are as many programs as slots.
 abbrev pub seen_load_fault : Seen → Option DeskFault
 seen_load_fault s =
     if not (list_all is_outside s.ports) then Some Busy
@@ -58,11 +59,11 @@ load_fault-seen met world stand few =
     let e = open-slots met world stand few in
     λ i. if is_busy world then Some Busy else if not (e i) then Some ProgramsFull else None
 
--- With one more program.
+-- The view with one more program.
 abbrev pub with_program : Seen → List Instr → Seen
 with_program s code = record s { programs = suc s.programs; live = record { number = suc s.programs; code = code } ∷ s.live }
 
--- The id of a program that is put in is new.
+-- The id of a program that is loaded is new.
 new-id : (world : World) → IsSound world → (id : Id) → id.generation ≡ times_given world.given id.slot + 1 → number_in world.given id ≡ 0
 new-id world sound id next =
     let choice : (found : Option (List Instr)) → code_in world.given id ≡ found → number_in world.given id ≡ 0 = elim [
@@ -135,7 +136,7 @@ loads-comes met before after code digits reply text stand sound told goes =
           ∙ ap (λ (r : Reply). names_of before.given ++ id_loaded r) (sym goes.answer);
     }
 
--- A program is put in.
+-- A program is loaded.
 pub load-comes : (met : ℕ) (before after : World) (code : List Instr) (digits : List ℕ) (reply : Reply) (text : List ℕ) → Stands met before
     → IsSound before → met < most_input_lines → reply_text (load digits) (length before.given) reply ≡ Some text
     → WorldStep before (Load code) reply after
@@ -151,7 +152,7 @@ load-comes met before after code digits reply text stand sound few told step =
     (λ fault is. refused-comes met before after reply fault text stand is.world (ap id_loaded is.answer)
     (retold (load digits) (length before.given) reply (NotLoaded fault code) text is.answer told)) step)
 
--- Why a program is not retired.
+-- The reason not to retire a program.
 abbrev pub seen_retire_fault : Seen → ℕ → Option DeskFault
 seen_retire_fault s number =
     if not (list_all is_outside s.ports) then Some Busy

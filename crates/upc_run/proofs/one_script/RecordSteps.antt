@@ -1,4 +1,5 @@
--- Connections are reloaded, released and cut alike where they are seen alike, whichever lines they have.
+-- If the views of two cards are equal, connections are reloaded, released and cut with the same answers on both, on
+-- whatever lines.
 use Rattle.std.proofs.Common.{◌≡◌, ℕ, ◌+◌, ◌<◌, if◌then◌else◌, List, ◌++◌, length, map, Option, Some, None, is_none, option_map, codes, decimal, refl, sym, ap, ◌∙◌, subst}
 use Rattle.upc_cell.specs.declared.vc.Vc.{Vc}
 use Rattle.gen_arena.specs.declared.id.Id.{Id}
@@ -85,11 +86,11 @@ reload-comes met before after vc id number reply text stand known told step =
 
 -- Pieces.
 
--- How many verdicts there are, and how many of each.
+-- The number of verdicts, and the number of each verdict.
 abbrev verdicts_text : List Verdict → List ℕ
 verdicts_text verdicts = codes " " ++ decimal (length verdicts) ++ tally_text (tally_of verdicts)
 
--- What is printed of the cells that no cut has handed out.
+-- The text for the cells that no cut has returned.
 abbrev pub kept_text : SeenConnection → List ℕ
 kept_text connection = verdicts_text (kept_verdicts connection)
 
@@ -102,7 +103,7 @@ kept-seen given connection =
     sym (judged-nameless connection.contracts empty_buckets (handed_cells connection) (kept_cells connection))
     ∙ (λ i. map verdict_in (judged connection.contracts empty_buckets (sym handed i) (sym kept i)))
 
--- What is printed of a piece of these entries.
+-- The text for a piece with these entries.
 piece-seen : (given : List Loading) (connection : Connection) (piece : PieceView)
     → piece.entries ≡ judged connection.contracts empty_buckets (handed_cells connection) (kept_cells connection)
     → piece_text piece ≡ kept_text (seen_connection given connection)
@@ -110,14 +111,14 @@ piece-seen given connection piece same =
     ap (λ n. codes " " ++ decimal n ++ tally_text (tally_of (map verdict_in piece.entries))) (sym (length-verdicts piece.entries))
     ∙ ap verdicts_text (ap (λ entries. map verdict_in entries) same ∙ kept-seen given connection)
 
--- Why there is no piece.
+-- The reason that there is no piece.
 abbrev pub seen_missing_fault : Seen → Vc → Option DeskFault
 seen_missing_fault s vc = if is_none (found_at s.connections vc) then Some NoConnection else None
 
 missing_fault-seen : (world : World) (vc : Vc) → missing_fault world vc ≡ seen_missing_fault (seen world) vc
 missing_fault-seen world vc = ap (λ b. if b then Some NoConnection else None) (none-seen world.given world.connections vc)
 
--- The text of a piece, behind its first word.
+-- The line of a piece, which begins with this word.
 abbrev pub told_piece : List ℕ → Vc → Option SeenConnection → Option (List ℕ)
 told_piece word vc found = option_map (λ connection. line (word ++ connection_name vc ++ kept_text connection)) found
 

@@ -1,6 +1,5 @@
--- What a script can see of a card: its programs by the numbers of their names, its connections without their
--- lines, and their cells without the ids of programs. It is what two cards have in common that gave the same
--- answers.
+-- The view of a card, which is all that a script's answers depend on: its programs by the numbers of their names, its
+-- connections without their lines, and their cells without the ids of programs.
 use Rattle.std.proofs.Common.{ℕ, ◌==◌, Bool, if◌then◌else◌, List, [], ◌∷◌, length, map, Option, Some, None, take, drop}
 use Rattle.std.specs.List.{list_any}
 use Rattle.upc_cell.specs.Connection.{is_same_vc}
@@ -29,8 +28,8 @@ pub record SeenProgram : Type 0 where
   pub number : ℕ
   pub code : List Instr
 
--- How many programs were put in, and which of them are live; the connections; how many there ever were; and
--- the ports.
+-- The number of programs that were loaded, the live ones, the connections, the number of all connections ever, and the
+-- ports.
 pub record Seen : Type 0 where
   pub shape : Shape
   pub programs : ℕ
@@ -59,7 +58,7 @@ seen_entry given here = (here.0, seen_connection given here.1)
 abbrev pub seen_connections : List Loading → List (Vc × Connection) → List (Vc × SeenConnection)
 seen_connections given connections = map (seen_entry given) connections
 
--- What is seen of a world.
+-- The view of a world.
 abbrev pub seen : World → Seen
 seen world = record {
   shape = world.shape;
@@ -70,12 +69,12 @@ seen world = record {
   ports = world.ports;
 }
 
--- The code of the program of this number.
+-- The code of the program with this number.
 abbrev pub code_of : List SeenProgram → ℕ → Option (List Instr)
 code_of [] number = None
 code_of (program ∷ later) number = if number == program.number then Some program.code else code_of later number
 
--- The programs without the one of this number.
+-- The programs without the one with this number.
 abbrev pub without_program : List SeenProgram → ℕ → List SeenProgram
 without_program [] number = []
 without_program (program ∷ later) number =
@@ -86,7 +85,7 @@ abbrev pub found_at : List (Vc × SeenConnection) → Vc → Option SeenConnecti
 found_at [] vc = None
 found_at (here ∷ later) vc = if is_same_vc vc here.0 then Some here.1 else found_at later vc
 
--- The connections without the one there.
+-- The connections without the one at this virtual connection.
 abbrev pub without_at : List (Vc × SeenConnection) → Vc → List (Vc × SeenConnection)
 without_at [] vc = []
 without_at (here ∷ later) vc = if is_same_vc vc here.0 then without_at later vc else here ∷ without_at later vc
@@ -98,7 +97,7 @@ with_at connections vc connection = (vc, connection) ∷ without_at connections 
 abbrev pub names_number : List (Vc × SeenConnection) → ℕ → Bool
 names_number connections number = list_any (λ here. here.1.program == number) connections
 
--- The verdicts on the cells that no cut has handed out.
+-- The verdicts on the cells that no cut has returned.
 abbrev pub kept_verdicts : SeenConnection → List Verdict
 kept_verdicts connection = map (λ entry. entry.verdict)
     (judged connection.contracts empty_buckets (take connection.handed connection.history) (drop connection.handed connection.history))

@@ -1,4 +1,4 @@
--- Buckets, verdicts and moments of a history don't look at the ids of programs.
+-- Buckets, verdicts and moments of a history don't depend on the ids of programs.
 use Rattle.std.proofs.Common.{◌≡◌, ℕ, zero, suc, ◌==◌, Bool, true, false, cond, List, [], ◌∷◌, ◌++◌, length, map, take, drop, Option, Some, None, refl, sym, ap, ◌∙◌}
 use Rattle.std.specs.List.{filter}
 use Rattle.leaky.specs.Contract.{Buckets}
@@ -24,7 +24,7 @@ under-nameless : (contract : Option Contract) (buckets : Buckets) (cell : NamedC
 under-nameless None buckets cell = refl
 under-nameless (Some contract) buckets cell = refl
 
--- The verdict on a cell behind a history.
+-- The verdict on a cell after a history.
 pub verdict-nameless : (contracts : List Contract) (opening : ℕ → Buckets) (history : List NamedCell) (cell : NamedCell)
     → verdict_after contracts opening (map nameless history) (nameless cell) ≡ verdict_after contracts opening history cell
 verdict-nameless contracts opening history cell =

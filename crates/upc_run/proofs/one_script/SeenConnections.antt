@@ -1,4 +1,4 @@
--- What is seen of a card's connections: looked up, and taken away. And their lines, of which no two have one.
+-- The view of a card's connections after a lookup and after a removal. No two connections have the same line.
 use Rattle.std.proofs.Common.{◌≡◌, ℕ, ◌==◌, Bool, true, false, cond, if◌then◌else◌, not, List, [], ◌∷◌, Option, Some, None, is_some, option_map, refl, sym, ap, ◌∙◌, subst}
 use Rattle.std.specs.List.{filter, AllByRecursion}
 use Rattle.std.proofs.lemmas.Bool.{or_from, or_left, or_right, eq-eqb, ne_eqb}
@@ -25,7 +25,7 @@ pub is-mapped : {X Y : Type 0} (f : X → Y) (found : Option X) → is_some (opt
 is-mapped f None = refl
 is-mapped f (Some x) = refl
 
--- A virtual connection has a connection exactly where it is seen to have one.
+-- A virtual connection has a connection exactly if the view has one there.
 pub some-seen : (given : List Loading) (connections : List (Vc × Connection)) (vc : Vc)
     → is_some (connection_in connections vc) ≡ is_some (found_at (seen_connections given connections) vc)
 some-seen given connections vc =
@@ -43,7 +43,7 @@ gone-seen given (here ∷ later) vc =
     ] in
     choice (is_same_vc vc here.0)
 
--- To take a connection away is to keep the others.
+-- Removing a connection keeps all others.
 pub gone-filter : (connections : List (Vc × Connection)) (vc : Vc)
     → without_connection connections vc ≡ filter (λ here. not (is_same_vc vc here.0)) connections
 gone-filter [] vc = refl
@@ -57,7 +57,7 @@ gone-filter (here ∷ later) vc =
     choice (is_same_vc vc here.0)
 
 module _ {X : Type 0} where
-  -- What holds of each holds of those that are kept.
+  -- A fact about each item holds for each that the filter keeps.
   pub all-filter : (P : X → Type 0) (test : X → Bool) (items : List X) → AllByRecursion P items → AllByRecursion P (filter test items)
   all-filter P test [] all = tt
   all-filter P test (item ∷ later) all =
@@ -68,7 +68,7 @@ module _ {X : Type 0} where
       ] in
       choice (test item)
 
--- What holds of each connection holds of one that is looked up.
+-- A fact about each connection holds for one that is looked up.
 pub all-found : (P : Connection → Type 0) (connections : List (Vc × Connection)) (vc : Vc) (connection : Connection)
     → AllByRecursion (λ here. P here.1) connections → connection_in connections vc ≡ Some connection → P connection
 all-found P [] vc connection all found = absurd (cc)
@@ -97,7 +97,7 @@ line-taken (here ∷ later) vc connection found =
     ] in
     choice (is_same_vc vc here.0) found
 
--- Without its connection a line is free.
+-- After its connection is removed, a line is free.
 pub line-freed : (connections : List (Vc × Connection)) (vc : Vc) (connection : Connection) → AreApart line_of connections
     → connection_in connections vc ≡ Some connection → is_taken line_of (without_connection connections vc) connection.line ≡ false
 line-freed [] vc connection apart found = absurd (cc)

@@ -1,4 +1,4 @@
--- How a line of a script is answered, by what is seen of the card alone. Each line of a script is answered so.
+-- The answer to a line of a script, as a function of the view of the card alone. Each line is answered so.
 use Rattle.std.proofs.Common.{◌≡◌, ℕ, ◌+◌, ◌<◌, ◌==◌, Bool, true, false, List, ◌++◌, length, Option, Some, None, sym, ap, ◌∙◌, subst}
 use Rattle.std.specs.Bool.{MatchBool}
 use Rattle.std.specs.Option.{MatchOption}
@@ -30,11 +30,11 @@ use Rattle.upc_run.proofs.one_script.RecordSteps.{cut-comes, cut_text, handed_ou
 use Rattle.upc_run.proofs.one_script.Seen.{Seen, seen}
 use Rattle.upc_run.proofs.one_script.Stands.{Comes, Stands, answered, left, stands-later}
 
--- The line has this text, if any, and leads to this.
+-- The line has this text, if there is one, and leads to this view.
 abbrev pub TakesSeen : Option (List ℕ) → Seen → List ℕ → Seen → Type 0
 TakesSeen found next text to = (found ≡ Some text) × (to ≡ next)
 
--- The line has a fault, and changes nothing.
+-- The line has an error and changes nothing.
 abbrev pub StaysSeen : Seen → List ℕ → List ℕ → Seen → Type 0
 StaysSeen s fault text to = (text ≡ fault) × (to ≡ s)
 
@@ -46,7 +46,7 @@ ReadingSeen s (is_refused fault) text to = StaysSeen s fault text to
 abbrev pub LoadsSeen : Seen → List ℕ → List ℕ → Seen → Type 0
 LoadsSeen s octets text to = (reading : Reading) × ReadsAs octets reading × ReadingSeen s reading text to
 
--- What is asked of the program of a number, where there is one.
+-- The command for the program with a number, if there is one.
 abbrev pub NamedSeen : Seen → ℕ → (List ℕ → Seen → Type 0) → List ℕ → Seen → Type 0
 NamedSeen s number AnswersSeen text to = MatchBool (is_number s.programs number) (AnswersSeen text to) (StaysSeen s no_such_program text to)
 
@@ -71,7 +71,7 @@ abbrev pub SizedSeen : Seen → ℕ → List ℕ → List ℕ → Seen → Type 
 SizedSeen s moment octets text to =
     MatchBool (length octets == 52) (PolicesSeen s moment octets text to) (StaysSeen s (wrong_length (length octets)) text to)
 
--- How a command is answered.
+-- The answer to a command.
 abbrev pub ObeysSeen : Seen → Command → List ℕ → Seen → Type 0
 ObeysSeen s (load digits) text to = MatchOption (octets_of digits) (StaysSeen s bad_hex text to) (λ octets. LoadsSeen s octets text to)
 ObeysSeen s (retire number) text to = NamedSeen s number (RetiresSeen s number) text to
@@ -85,19 +85,19 @@ ObeysSeen s (cut vc) text to =
 ObeysSeen s (cell moment digits) text to =
     MatchOption (octets_of digits) (StaysSeen s bad_hex text to) (λ octets. SizedSeen s moment (cell_of octets) text to)
 
--- How a line is answered.
+-- The answer to a line.
 abbrev pub LineSeen : Seen → List (List ℕ) → List ℕ → Seen → Type 0
 LineSeen s words text to =
     MatchOption (command_of s.shape.side words) (StaysSeen s bad_line text to) (λ command. ObeysSeen s command text to)
 
--- A card behind so many lines: a log has led to it, its world stands, and its names are those of all programs
--- that were put in.
+-- A card after this number of lines: a log leads to it, the invariant of its world holds, and its names are those of
+-- all programs that were loaded.
 pub record IsBehind (met : ℕ) (card : Card) : Type 0 where
   pub led : IsLed card
   pub stands : Stands met card.world
   pub names : card.names ≡ names_of card.world.given
 
--- What a line comes to: it is answered by what is seen, and all of that stays but for the log.
+-- The result of a line: the view decides its answer, and the invariant of the card holds again after one more line.
 pub record LineComes (met : ℕ) (after : Card) (AnswersSeen : Seen → Type 0) : Type 0 where
   pub shown : AnswersSeen (seen after.world)
   pub stands : Stands (met + 1) after.world
@@ -130,7 +130,7 @@ module _ (met : ℕ) (few : met < most_input_lines) (before : Card) (behind : Is
         names = takes.named ∙ ap (λ ids. ids ++ id_loaded takes.reply) behind.names ∙ sym done.named;
       }
 
-  -- What a number names.
+  -- The program that a number names.
   found-comes : (number : ℕ) (TakesWith : Id → List ℕ → Card → Type 0) (AnswersSeen : List ℕ → Seen → Type 0)
       → ((id : Id) → number_in before.world.given id ≡ number → 0 < number → TakesWith id text after → LineComes met after (AnswersSeen text))
       → (found : Option Id) → IsNamed before.world.given number found
@@ -162,7 +162,7 @@ module _ (met : ℕ) (few : met < most_input_lines) (before : Card) (behind : Is
       (named-number before.world.given behind.stands.programs.once number)
       (subst (λ ids. MatchOption (program_named ids number) (Refuses no_such_program before text after) (λ id. TakesWith id text after)) behind.names takes)
 
-  -- A program is put in.
+  -- A program is loaded.
   reading-comes : (digits : List ℕ) (reading : Reading) → TakesReading before digits reading text after
       → LineComes met after (ReadingSeen (seen before.world) reading text)
   reading-comes digits (is_program code) takes =
@@ -182,7 +182,7 @@ module _ (met : ℕ) (few : met < most_input_lines) (before : Card) (behind : Is
   load-line digits None refuses = refuses-comes bad_hex refuses
   load-line digits (Some octets) loads = loads-come digits octets loads
 
-  -- One is retired.
+  -- A program is retired.
   retire-line : (number : ℕ) → Obeys before (retire number) text after → LineComes met after (ObeysSeen (seen before.world) (retire number) text)
   retire-line number takes =
       named-comes (retire number) number (λ id. Takes before (retire number) (Retire id)) (RetiresSeen (seen before.world) number)
@@ -236,7 +236,7 @@ module _ (met : ℕ) (few : met < most_input_lines) (before : Card) (behind : Is
       (λ id is some asks. asks-come vc number wanted id is some asks) takes
   setup-line vc number wanted (Some fault) refuses = refuses-comes (gcra_fault fault) refuses
 
-  -- A cell comes.
+  -- A cell arrives.
   polices-come : (moment : ℕ) (octets : List ℕ) → Polices before moment octets text after
       → LineComes met after (PolicesSeen (seen before.world) moment octets text)
   polices-come moment octets polices =

@@ -1,4 +1,4 @@
--- What is seen of a card's programs: looked up, taken away, and when one more is put in.
+-- The view of a card's programs after a lookup, after a removal, and after one more was loaded.
 use Rattle.std.proofs.Common.{◌≡◌, ◌<◌, Bool, true, false, cond, if◌then◌else◌, not, ◌||◌, List, [], ◌∷◌, Some, refl, sym, ap, ◌∙◌, subst}
 use Rattle.std.specs.List.{list_any, filter, AllByRecursion}
 use Rattle.upc_cell.specs.declared.vc.Vc.{Vc}
@@ -48,7 +48,7 @@ named-seen given (here ∷ later) known id =
     let rest = named-seen given later known.1 id in
     λ i. same i || rest i
 
--- One more code leaves what was seen.
+-- One more code leaves the view of the others unchanged.
 pub live-stays : (loading : Loading) (given live : List Loading) → number_in given loading.id ≡ 0 → AreKnown given live
     → seen_live (loading ∷ given) live ≡ seen_live given live
 live-stays loading given [] new known = refl
@@ -82,7 +82,7 @@ names-stay loading given (here ∷ later) new known =
     let some = known.0 in
     (subst (λ n. 0 < n) (sym number) some, names-stay loading given later new known.1)
 
--- To take a code away is to keep the others.
+-- Removing a code keeps all others.
 pub without-filter : (live : List Loading) (id : Id) → without_code live id ≡ filter (λ loading. not (is_same_id id loading.id)) live
 without-filter [] id = refl
 without-filter (loading ∷ later) id =

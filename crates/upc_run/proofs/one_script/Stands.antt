@@ -1,4 +1,4 @@
--- What holds of a card's world behind so many lines of a script.
+-- The invariant of a card's world after this number of lines of a script.
 use Rattle.std.proofs.Common.{◌≡◌, ℕ, ◌+◌, ◌≤◌, ◌⊎◌, List, [], ◌++◌, length, Option, Some, None, option_map, sym, ap, ◌∙◌, subst, inl, inr, arith, append-nil}
 use Rattle.std.specs.Option.{MatchOption}
 use Rattle.upc_cell.specs.declared.vc.Vc.{Vc}
@@ -22,8 +22,8 @@ use Rattle.upc_run.proofs.one_script.SeenPrograms.{AreKnown, NameKnown}
 abbrev pub slot_of : Loading → ℕ
 slot_of loading = loading.id.slot
 
--- No id was given twice; live programs have names, and slots of their own; and no slot was given more often
--- than there were lines.
+-- No id was given twice. Live programs have names, and each has a slot of its own. No slot was given more often than
+-- there were lines.
 pub record StandPrograms (met bound : ℕ) (given live : List Loading) : Type 0 where
   pub once : AreOnce given
   pub known : AreKnown given live
@@ -31,13 +31,13 @@ pub record StandPrograms (met bound : ℕ) (given live : List Loading) : Type 0 
   pub below : AreBelow slot_of bound live
   pub worn : (slot : ℕ) → times_given given slot ≤ met
 
--- Connections' programs have names, and each has a line of its own.
+-- Connections' programs have names, and each connection has a line of its own.
 pub record StandConnections (bound : ℕ) (given : List Loading) (connections : List (Vc × Connection)) : Type 0 where
   pub known : NameKnown given connections
   pub apart : AreApart line_of connections
   pub below : AreBelow line_of bound connections
 
--- And no line has more verdicts than there were lines of the script.
+-- The invariants of programs and connections hold, and no line has more verdicts than there were lines of the script.
 pub record Stands (met : ℕ) (world : World) : Type 0 where
   pub programs : StandPrograms met world.shape.programs world.given world.live
   pub connections : StandConnections world.shape.lines world.given world.connections
@@ -59,7 +59,7 @@ programs-later met bound given live stand = record {
   worn = λ slot. let worn = stand.worn slot in omega arith;
 }
 
--- A world stands behind one more line.
+-- The invariant holds after one more line.
 pub stands-later : (met : ℕ) (world : World) → Stands met world → Stands (met + 1) world
 stands-later met world stand = record {
   programs = programs-later met world.shape.programs world.given world.live stand.programs;
@@ -67,20 +67,20 @@ stands-later met world stand = record {
   counted = λ line. let counted = stand.counted line in omega arith;
 }
 
--- A line led from a world to another and gave this reply: its text is the one that is found, the card is seen as
--- told, and stands behind one more line.
+-- A line led from one world to another with this reply: its text is the given one, the view after it is the given one,
+-- and the invariant holds after one more line.
 pub record Comes (met : ℕ) (before after : World) (reply : Reply) (found : Option (List ℕ)) (text : List ℕ) (to : Seen) : Type 0 where
   pub told : found ≡ Some text
   pub shown : seen after ≡ to
   pub stands : Stands (met + 1) after
   pub named : names_of after.given ≡ names_of before.given ++ id_loaded reply
 
--- The text of a command of the desk: that of its fault, or this where it has none.
+-- The text for a command of the desk: that of its error, or this text if it has none.
 abbrev pub answered : Option DeskFault → Option (List ℕ) → Option (List ℕ)
 answered None found = found
 answered (Some fault) found = desk_fault fault
 
--- What is seen after a command of the desk, where it has a fault and where it has none.
+-- The view after a command of the desk, with and without an error.
 abbrev pub left : Option DeskFault → Seen → Seen → Seen
 left None before after = after
 left (Some fault) before after = before
@@ -96,7 +96,7 @@ pub unnamed : (before after : World) (reply : Reply) → after.given ≡ before.
 unnamed before after reply same none =
     ap names_of same ∙ sym (ap (λ ids. names_of before.given ++ ids) none ∙ append-nil (names_of before.given))
 
--- A refusal of the desk.
+-- The desk refuses with an error.
 pub refused-comes : (met : ℕ) (before after : World) (reply : Reply) (fault : DeskFault) (text : List ℕ) → Stands met before
     → after ≡ before → id_loaded reply ≡ [] → desk_fault fault ≡ Some text → Comes met before after reply (desk_fault fault) text (seen before)
 refused-comes met before after reply fault text stand same none told = record {
@@ -106,7 +106,7 @@ refused-comes met before after reply fault text stand same none told = record {
   named = unnamed before after reply (ap (λ (world : World). world.given) same) none;
 }
 
--- A step of the desk succeeds, finds no memory, or is refused by the fault that is found.
+-- A step of the desk succeeds, fails to allocate, or is refused with the given error.
 pub desk-split : (P : Option DeskFault → Type 0) (wrap : DeskFault → Reply) (found : Option DeskFault) (before after : World) (step : Step) (reply : Reply)
     → (Succeeds before step reply after → P None) → (FindsNoMemory before step reply after → P None)
     → ((fault : DeskFault) → IsRefused before step (wrap fault) reply after → P (Some fault))

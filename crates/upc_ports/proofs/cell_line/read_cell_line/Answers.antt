@@ -1,4 +1,4 @@
--- The line has the common form, and so it is the command that brings this cell.
+-- The line has the common form, so it is the command with this cell.
 use Rattle.upc_run.proofs.Public.{common-command}
 use Rattle.upc_ports.proofs.cell_line.read_cell_line.Goals as goal
 

@@ -1,4 +1,4 @@
--- One line after another is dealt, and at the end none is left.
+-- The lines are assigned one after another, and at the end none is left.
 use Rattle.std.proofs.Common.{sym, ◌∙◌}
 use Rattle.std.proofs.lemmas.List.{length-map}
 use Rattle.upc_ports.specs.inner.Dealing.{dealt}

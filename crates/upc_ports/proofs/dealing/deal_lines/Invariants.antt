@@ -1,4 +1,4 @@
--- Of each way to read the octets as lines some are left, and whoever deals them has dealt all.
+-- For each way to read the octets as lines, some are left, and assigning them assigns all.
 use Rattle.std.proofs.Common.{◌≡◌, ℕ, List, length}
 use Rattle.upc_ports.specs.inner.Dealing.{AreLinesOf, dealt, none_dealt}
 use Rattle.upc_ports.proofs.DealingLemmas.{IsDealing}

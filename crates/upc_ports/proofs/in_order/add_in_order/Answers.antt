@@ -1,4 +1,4 @@
--- One answerer more has told.
+-- The text of one more answerer was appended.
 use Rattle.upc_ports.proofs.InOrderLemmas.{next_told}
 use Rattle.upc_ports.proofs.in_order.add_in_order.Goals as goal
 

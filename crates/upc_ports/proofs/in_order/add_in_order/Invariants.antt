@@ -1,4 +1,4 @@
--- What was added is what the answerers so far tell.
+-- The texts of the answerers so far were appended.
 use Rattle.std.proofs.Common.{map, take}
 use Rattle.text_io.specs.Devices.{Adds}
 use Rattle.upc_ports.specs.inner.InOrder.{AllTell}

@@ -1,4 +1,4 @@
--- The lines so far were none of cells.
+-- No line so far is a cell line.
 use Rattle.std.proofs.Common.{ℕ, List, length}
 use Rattle.upc_ports.specs.inner.Dealing.{AreLinesOf}
 use Rattle.upc_ports.proofs.DealingLemmas.{IsBefore}

@@ -1,4 +1,4 @@
--- Before anything was given there is some text all the same, and nothing is its beginning.
+-- Before the first write, the empty text is a prefix of some text.
 use Rattle.text_io.specs.declared.ending.Done.TheVariants.{Whole}
 use Rattle.text_io.proofs.Public.{nothing-begins}
 use Rattle.upc_ports.specs.PortsText.{IsClosedText}

@@ -1,4 +1,5 @@
--- The reading's text is that of a script that can't be run, and else nothing, before what the run gave.
+-- If the script can't run, the text is that of the reading. Otherwise the reading printed nothing, and the text is that
+-- of the run.
 use Rattle.std.proofs.Common.{ℕ, List, rules, subst, sym}
 use Rattle.std.proofs.lemmas.Result.{IfOk-weaker, on_err_weaker}
 use Rattle.text_io.specs.Devices.{Adds, TakesEnough}

@@ -1,4 +1,4 @@
--- A line that begins as that of a cell does has words.
+-- A line that begins as a cell line has words.
 use Rattle.std.proofs.Common.{sym}
 use Rattle.upc_run.proofs.Public.{command-asks}
 use Rattle.upc_ports.proofs.script.is_silent.Goals as goal

@@ -1,4 +1,4 @@
--- What was read so far, and what is left, are all contracts of the line.
+-- The contracts that were read so far and those of the remaining words are the contracts of the line.
 use Rattle.std.proofs.Common.{length}
 use Rattle.text_io.specs.Words.{words_of}
 use Rattle.upc_run.proofs.ContractWords.{ReadsOn}

@@ -1,4 +1,4 @@
--- A contract more is made, or its fault is the first.
+-- One more contract is made, or its error is the first.
 use Rattle.std.proofs.Common.{List, ◌+◌, sym, ap, ◌∙◌, subst}
 use Rattle.leaky.specs.declared.contract.Contract.{Contract}
 use Rattle.upc_run.specs.Rates.{first_wanted_fault}

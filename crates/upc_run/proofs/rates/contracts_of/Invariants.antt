@@ -1,4 +1,4 @@
--- The contracts of the wanted so far are made.
+-- The requested contracts so far are made.
 use Rattle.upc_run.proofs.RateLemmas.{MadeOf}
 use Rattle.upc_run.proofs.rates.contracts_of.Given as goal
 

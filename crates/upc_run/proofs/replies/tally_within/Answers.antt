@@ -1,4 +1,4 @@
--- No count at the piece's end is below that at its start, and what is between them is its entries'.
+-- No count at the piece's end is below that at its start, and the difference is the count of its entries.
 use Rattle.std.proofs.Common.{ap, arith}
 use Rattle.line_record.specs.declared.tally.Tally.{Tally}
 use Rattle.upc_run.proofs.PieceLemmas.{counts-between, counts-go_on, tally_in}

@@ -1,4 +1,4 @@
--- The first mark cuts the text; without one it stays whole.
+-- The first mark cuts the text. A text without a mark isn't cut.
 use Rattle.std.proofs.Common.{arith, sym}
 use Rattle.upc_run.proofs.MarkLemmas.{cut_there, uncut, not_true}
 use Rattle.upc_run.proofs.script_words.cut.Goals as goal

@@ -1,4 +1,4 @@
--- Digits go on to the number, or stop short of it.
+-- The digits lead to the number, or end before it.
 use Rattle.std.proofs.Common.{◌≡◌, ◌<◌, Some, None, length, get_or, sym, ◌∙◌, arith}
 use Rattle.std.proofs.lemmas.Grind.{common_steps}
 use Rattle.upc_run.specs.inner.Digits.{with_digit}

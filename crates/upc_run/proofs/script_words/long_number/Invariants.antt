@@ -1,4 +1,4 @@
--- What is left spells the number of the word behind the value so far.
+-- The remaining digits spell the number of the word after the value so far.
 use Rattle.std.proofs.Common.{◌≡◌, ◌≤◌, length}
 use Rattle.upc_run.specs.ScriptWords.{most_number, number_of}
 use Rattle.upc_run.proofs.NumberLemmas.{number_behind}

@@ -1,4 +1,4 @@
--- Digits go on to the number, which is never too large.
+-- The digits lead to the number, which is never too large.
 use Rattle.std.proofs.Common.{◌≡◌, Some, None, length, get_or, sym, ◌∙◌, arith}
 use Rattle.upc_run.specs.inner.Digits.{with_digit}
 use Rattle.upc_run.proofs.NumberLemmas.{digit-most, few-begins, few-ends, few-goes_on, few-within, number_begins, number_ends, number_goes_on, number_stops}

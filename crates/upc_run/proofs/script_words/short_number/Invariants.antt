@@ -1,4 +1,5 @@
--- What is left spells the number of the word behind the value so far, which has no more digits than were read.
+-- The remaining digits spell the number of the word after the value so far, which has at most as many digits as were
+-- read.
 use Rattle.std.proofs.Common.{◌≡◌, ◌<◌, ◌≤◌, ◌-◌, ◌^◌, length}
 use Rattle.upc_run.specs.ScriptWords.{number_of}
 use Rattle.upc_run.proofs.NumberLemmas.{number_behind}

@@ -1,4 +1,4 @@
--- The line has the common form, or is dealt as its first word asks.
+-- The line has the common form, or its first word decides how it is assigned.
 use Rattle.std.proofs.Common.{sym, ◌∙◌}
 use Rattle.std.proofs.lemmas.Result.{on_ok_weaker}
 use Rattle.upc_ports.specs.inner.Dealing.{dealt}

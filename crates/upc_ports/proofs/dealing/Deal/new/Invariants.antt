@@ -1,4 +1,4 @@
--- So many ports have no cells yet.
+-- The ports so far have no cells yet.
 use Rattle.std.proofs.Common.{◌≡◌, [], map, replicate, vec_len}
 use Rattle.upc_ports.proofs.dealing.Deal.new.Given as goal
 

@@ -1,4 +1,4 @@
--- So many slots have been set to 0.
+-- The slots so far are 0.
 use Rattle.std.proofs.Common.{◌≡◌, vec_len, vec_capacity, replicate}
 use Rattle.upc_run.proofs.names.Names.new.Given as goal
 

@@ -1,4 +1,4 @@
--- A line moves the card.
+-- A line changes the card.
 use Rattle.std.proofs.Common.{Some, subst, sym}
 use Rattle.text_io.specs.Answering.{Answers}
 use Rattle.text_io.specs.declared.machine.Turn.TheVariants.{GoesOn}

@@ -1,4 +1,4 @@
--- The command that the words spell is obeyed.
+-- The command that the words spell is carried out.
 use Rattle.std.proofs.Common.{◌∷◌, ap, sym, ◌∙◌}
 use Rattle.text_io.specs.Words.{words_of}
 use Rattle.upc_run.specs.CommandSeen.{command_seen}

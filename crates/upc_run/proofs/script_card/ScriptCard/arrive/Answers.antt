@@ -1,4 +1,4 @@
--- A cell is answered, where the port is free.
+-- A cell is answered if the port is free.
 use Rattle.std.proofs.Common.{option_map, refl, subst}
 use Rattle.card_core.specs.Sections.{answer_to}
 use Rattle.upc_run.specs.inner.Policing.{AnswersCell, Held}

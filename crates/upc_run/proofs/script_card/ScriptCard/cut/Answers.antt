@@ -1,4 +1,4 @@
--- The connection's journal is handed out, or that is refused.
+-- The connection's journal is returned, or the desk refuses.
 use Rattle.std.proofs.Common.{ap, refl}
 use Rattle.card_core.specs.declared.reply.Reply.TheVariants.{Refused, Cut as CutOff}
 use Rattle.card_core.specs.declared.step.Step.TheVariants.{Cut}

@@ -1,4 +1,4 @@
--- The octets that the digits spell are a program, which is put in.
+-- The octets that the digits spell are a program, which is loaded.
 use Rattle.std.proofs.Common.{◌≡◌, ◌∙◌, Some, ap, option_map, subst, sym}
 use Rattle.card_core.specs.declared.step.Step.TheVariants.{Load}
 use Rattle.upc_words.specs.Hexadecimal.{octets_of}

@@ -1,4 +1,4 @@
--- Each command is obeyed by its function.
+-- A function carries out each command.
 use Rattle.std.proofs.Common.{OnOk, subst, sym}
 use Rattle.upc_run.specs.CommandSeen.{command_seen}
 use Rattle.upc_run.specs.inner.Policing.{Moves, ObeysSeen}

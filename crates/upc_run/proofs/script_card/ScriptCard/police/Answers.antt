@@ -1,4 +1,4 @@
--- The cell's answer is told; there is one.
+-- The cell's answer is appended; there is one.
 use Rattle.std.proofs.Common.{◌≡◌, ◌∙◌, Ok, Err, Some, ap, option_map, subst, sym}
 use Rattle.upc_cell.specs.Connection.{vc_of}
 use Rattle.card_core.specs.Sections.{answer_to, unjudged_answer}

@@ -1,4 +1,4 @@
--- The program is put in, under the next name, or its putting in is refused.
+-- The program is loaded under the next name, or the desk refuses.
 use Rattle.std.proofs.Common.{◌≡◌, ◌∙◌, ◌+◌, ◌++◌, ◌∷◌, [], Some, ap, codes, length, length-append, sym, arith}
 use Rattle.std.specs.Prelude.{suc}
 use Rattle.card_core.specs.declared.reply.Reply.TheVariants.{Loaded, NotLoaded}

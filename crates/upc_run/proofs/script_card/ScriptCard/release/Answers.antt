@@ -1,4 +1,4 @@
--- The connection ends, or its ending is refused.
+-- The connection is released, or the desk refuses.
 use Rattle.std.proofs.Common.{ap, refl}
 use Rattle.card_core.specs.declared.reply.Reply.TheVariants.{Refused, Released}
 use Rattle.card_core.specs.declared.step.Step.TheVariants.{Release}

@@ -1,4 +1,4 @@
--- The connection gets the program, or its reloading is refused.
+-- The connection gets the program, or the desk refuses.
 use Rattle.std.proofs.Common.{◌∙◌, ap, sym, refl}
 use Rattle.card_core.specs.declared.reply.Reply.TheVariants.{Refused, Reloaded}
 use Rattle.card_core.specs.declared.step.Step.TheVariants.{Reload}

@@ -1,4 +1,4 @@
--- The program is taken out, or its taking out is refused.
+-- The program is retired, or the desk refuses.
 use Rattle.std.proofs.Common.{◌∙◌, ap, sym, refl}
 use Rattle.card_core.specs.declared.reply.Reply.TheVariants.{Refused, Retired}
 use Rattle.card_core.specs.declared.step.Step.TheVariants.{Retire}

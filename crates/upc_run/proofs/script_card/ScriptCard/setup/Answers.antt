@@ -1,4 +1,4 @@
--- The connection is set up, or its setting up is refused.
+-- The connection is set up, or the desk refuses.
 use Rattle.std.proofs.Common.{◌∙◌, ap, sym, refl}
 use Rattle.card_core.specs.declared.ask.Ask.{Ask}
 use Rattle.card_core.specs.declared.reply.Reply.TheVariants.{NotSetUp, SetUp}
