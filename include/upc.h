@@ -1,21 +1,21 @@
 /* upc.h: the proved policer for ATM cells, as a library for C and C++.
  *
- * Each call returns 0, or the number of the fault for which it refused, and fills *fault: with zeros, or with that fault.
- * A call that refuses writes nothing else. What each call answers is proved (crates/upc_c/README.md), as long as its
- * caller keeps this, which nothing checks:
+ * Each call returns 0, or the number of the fault for which it refused, and fills *fault with zeros, or with that
+ * fault. A call that refuses writes nothing else. The result of each call is proved (crates/upc_c/README.md) if its
+ * caller keeps these rules, which nothing checks:
  *
- *  - No pointer is null, also where the length beside it is 0. Each points to memory of its type, aligned for it; octets,
- *    contracts and entries to as many as the length beside them says, which take at most PTRDIFF_MAX octets. The call may
- *    read them, and write where the pointer is to no const.
- *  - What a call may write to is borrowed by that argument alone: it overlaps none of the others, and no other thread reads
- *    or writes it before the call returns. What it may only read nobody changes before that.
- *  - Calls that the list below marks with "memory" take it by malloc and realloc and give it back by free, all of one
- *    allocator, whose blocks are aligned for every type of at most 16 octets. They are called from no signal handler, nor
- *    from the child that a process with threads forked.
+ *  - No pointer is null, even if the length next to it is 0. Each points to memory of its type, aligned for it; octets,
+ *    contracts and entries to as many as the length next to them says, which take at most PTRDIFF_MAX octets. The call
+ *    may read them, and write if the pointer is to no const.
+ *  - Memory that a call may write is borrowed by that argument alone: it overlaps none of the others, and no other
+ *    thread reads or writes it before the call returns. Memory that a call may only read is not changed before that.
+ *  - Calls that the list below marks with "memory" allocate by malloc and realloc and free by free, all of one
+ *    allocator, whose blocks are aligned for every type of at most 16 octets. They are called from no signal handler,
+ *    nor from the child that a process with threads forked.
  *
- *  - A upc_program and a upc_card are all zeros, or what these calls left in them.
+ *  - A upc_program and a upc_card are all zeros, or as these calls left them.
  *
- * Any number of threads may call at once. Nothing is kept between calls but in what the caller holds.
+ * Any number of threads may call at once. The library stores nothing between calls except in its caller's objects.
  */
 #ifndef UPC_H
 #define UPC_H
@@ -29,20 +29,20 @@ extern "C" {
 
 /* ---- Faults ---- */
 
-/* Why a call refused. What a fault doesn't have is 0. */
+/* The reason why a call refused. A member that the fault doesn't use is 0. */
 typedef struct upc_fault {
 	uint32_t kind;   /* one of enum upc_kind */
-	uint32_t number; /* from 1: the fault of this kind with this number, also what the call returned */
+	uint32_t number; /* from 1: the fault of this kind with this number, also the result of the call */
 	size_t place;    /* see enum upc_kind */
 	uint32_t word;   /* the scratch word, 0 to 15, of verify 8 Unwritten */
 	uint32_t code;   /* the code of decode 2 UnknownCode */
 } upc_fault;
 
-/* Whose fault it is. Names and numbers are those of docs/FORMATS.md, but for UPC_CALL, which the library alone has. */
+/* The kind of a fault. Names and numbers are those of docs/FORMATS.md, except UPC_CALL, which only the library has. */
 enum upc_kind {
 	UPC_FINE = 0,   /* none */
 	UPC_CALL = 1,   /* one of enum upc_call */
-	UPC_CELL = 2,   /* 1 WrongLength; place: how many octets there are */
+	UPC_CELL = 2,   /* 1 WrongLength; place: the number of octets */
 	UPC_DECODE = 3, /* 1 Ragged, 2 UnknownCode; place: of the instruction, from 0 */
 	UPC_ASM = 4,    /* 1 BadLine, 2 BadNumber, 3 LabelTwice, 4 UnknownLabel, 5 Backward, 6 TooFar, 7 DanglingLabel;
 	                   place: the line, from 1 */
@@ -51,15 +51,15 @@ enum upc_kind {
 	UPC_GCRA = 6,   /* 1 ZeroIncrement, 2 TooLarge; place: the bucket, 1 or 2 */
 	UPC_BURST = 7,  /* 1 ZeroMbs, 2 PeakSlower, 3 TooLarge */
 	UPC_ARRIVE = 8, /* 1 NoConnection, 4 MomentBack, 5 MomentTooLate, 6 JournalFull; place: of MomentBack, the moment of the
-	                   connection's last judged cell. 2 and 3 are of cards in threads */
+	                   connection's last judged cell. Only cards in threads report 2 and 3 */
 	UPC_SHAPE = 9,  /* 1 Programs, 2 Lines, 3 Ports, 4 Journal */
 	UPC_DESK = 10   /* 1 NoProgram, 2 NoConnection, 3 Taken, 4 NoLine, 5 InUse, 6 ProgramsFull, 7 Exhausted,
-	                   8 BadContracts. 9 and 11 are of cards in threads, and 10 is UPC_NO_MEMORY here */
+	                   8 BadContracts. Only cards in threads report 9 and 11, and 10 is UPC_NO_MEMORY here */
 };
 
 enum upc_call {
 	UPC_NO_MEMORY = 1,     /* malloc or realloc returned null */
-	UPC_NO_ROOM = 2,       /* the room is too small; place: how many octets or entries are needed */
+	UPC_NO_ROOM = 2,       /* the room is too small; place: the number of octets or entries that are needed */
 	UPC_UNKNOWN_KIND = 3,  /* the contract is of none of the four kinds */
 	UPC_LATE_LEVELS = 4,   /* the levels are above UPC_LAST_LEVEL */
 	UPC_UNKNOWN_SIDE = 5,  /* the side is none of enum upc_side */
@@ -71,7 +71,7 @@ enum upc_call {
 	UPC_MANY_CONTRACTS = 11 /* there are more than UPC_MOST_CONTRACTS */
 };
 
-/* ---- A meter on the caller's state (no call takes memory) ---- */
+/* ---- A meter on the caller's state (no call allocates) ---- */
 
 /* The greatest increment, limit and burst tolerance, the last moment, and the greatest level, in ticks. */
 #define UPC_MOST_TICKS ((uint64_t)1 << 48)
@@ -97,29 +97,30 @@ typedef struct upc_levels {
 	uint64_t second;
 } upc_levels;
 
-/* UPC_REFUSE is a card's alone: the program's value was no contract's number. */
+/* Only a card gives UPC_REFUSE: the program's value was not the number of a contract. */
 enum upc_verdict { UPC_PASS = 0, UPC_TAG = 1, UPC_DISCARD = 2, UPC_REFUSE = 3 };
 
-/* Whether the numbers are a contract. Faults: UPC_UNKNOWN_KIND, then those of UPC_GCRA of the first faulty bucket. */
+/* Tests whether the numbers are a contract.
+ * Faults: UPC_UNKNOWN_KIND, then those of UPC_GCRA of the first faulty bucket. */
 uint32_t upc_contract_check(const upc_contract *contract, upc_fault *fault);
 
-/* Judges a cell of cell loss priority 0, or of 1 where clp is any other number, at a moment of at most UPC_LAST_MOMENT
- * ticks. *verdict becomes UPC_PASS, UPC_TAG or UPC_DISCARD, and *levels what the cell leaves. The moments of the cells of one
- * upc_levels don't go back: a cell that comes before another is still judged, but not as I.371 would.
+/* Judges a cell of cell loss priority 0, or of 1 if clp is any other number, at a moment of at most UPC_LAST_MOMENT
+ * ticks. *verdict becomes UPC_PASS, UPC_TAG or UPC_DISCARD, and *levels the levels after the cell. The moments of the
+ * cells of one upc_levels don't go back: a cell that comes before another is still judged, but not as by I.371.
  * Faults: those of upc_contract_check, then UPC_LATE_LEVELS, then arrive 5 MomentTooLate. */
 uint32_t upc_judge(const upc_contract *contract, upc_levels *levels, uint32_t clp, uint64_t moment, uint32_t *verdict,
                    upc_fault *fault);
 
-/* The burst tolerance (mbs - 1)(sustained - peak) in ticks, for a burst of mbs cells and the increments of the two rates.
+/* The burst tolerance (mbs - 1)(sustained - peak) in ticks, for a burst of mbs cells and the increments of two rates.
  * Faults: those of UPC_BURST. */
 uint32_t upc_burst_tolerance(uint64_t mbs, uint64_t sustained_increment, uint64_t peak_increment, uint64_t *ticks,
                              upc_fault *fault);
 
-/* ---- Cells (no call takes memory) ---- */
+/* ---- Cells (no call allocates) ---- */
 
 enum { UPC_CELL_OCTETS = 52 };
 
-/* Where a header is read: at the user network interface, or between nodes of the network. */
+/* The interface of a header: the user network interface, or that between nodes of the network. */
 enum upc_side { UPC_UNI = 0, UPC_NNI = 1 };
 
 /* The fields of a header. */
@@ -131,66 +132,68 @@ typedef struct upc_fields {
 	uint8_t clp;  /* cell loss priority, 0 or 1 */
 } upc_fields;
 
-/* The fields of the cell that 52 octets are. Faults: cell 1 WrongLength, then UPC_UNKNOWN_SIDE. */
+/* The fields of the cell with these 52 octets. Faults: cell 1 WrongLength, then UPC_UNKNOWN_SIDE. */
 uint32_t upc_cell_fields(const uint8_t *octets, size_t length, uint32_t side, upc_fields *fields, upc_fault *fault);
 
-/* Tags the cell that 52 octets are: its cell loss priority becomes 1. Faults: cell 1 WrongLength. */
+/* Tags the cell with these 52 octets: its cell loss priority becomes 1. Faults: cell 1 WrongLength. */
 uint32_t upc_cell_tag(uint8_t *octets, size_t length, upc_fault *fault);
 
 /* ---- Programs in octets (memory) ---- */
 
-/* Whether octets are a program that the check accepts. Faults: those of UPC_DECODE, then those of UPC_VERIFY. */
+/* Tests whether octets are a program that the check accepts. Faults: those of UPC_DECODE, then those of UPC_VERIFY. */
 uint32_t upc_check(const uint8_t *program, size_t length, upc_fault *fault);
 
-/* Writes the octets of the code that a source means into the room, and how many there are into *count. The code is not
- * checked. Faults: those of UPC_ASM, then UPC_NO_ROOM. */
+/* Writes the octets of the code that a source means into the room, and their number into *count. Doesn't check the
+ * code.
+ * Faults: those of UPC_ASM, then UPC_NO_ROOM. */
 uint32_t upc_assemble(const uint8_t *source, size_t source_length, uint8_t *room, size_t room_length, size_t *count,
                       upc_fault *fault);
 
-/* Writes the listing of the code that octets spell, which upc_assemble reads again, into the room, and how many octets
- * it has into *count. The code needn't pass the check, but its jumps lead to places of the code.
+/* Writes the listing of the code that octets spell, which upc_assemble reads again, into the room, and its number of
+ * octets into *count. The code needn't pass the check, but its jumps lead to places of the code.
  * Faults: those of UPC_DECODE, then verify 6 JumpOutside, then UPC_NO_ROOM. */
 uint32_t upc_listing(const uint8_t *program, size_t length, uint8_t *room, size_t room_length, size_t *count,
                      upc_fault *fault);
 
-/* ---- A program that is kept (memory) ---- */
+/* ---- A program that the library stores (memory) ---- */
 
-/* A program, or none: all zeros are none, as in `upc_program p = {0, 0};`. It is filled by these calls alone: its owner
- * neither reads nor writes what is in it and makes no second copy, and lets the program go before it forgets the
- * upc_program. It may be moved to another place, but stays with the thread that made it. */
+/* A program, or none: all zeros are none, as in `upc_program p = {0, 0};`. Only these calls fill it: its owner neither
+ * reads nor writes its members and makes no second copy, and frees the program before the upc_program is gone. It may
+ * be moved to another place, but only the thread that made it may use it. */
 typedef struct upc_program {
 	uint32_t live;
 	void *at;
 } upc_program;
 
-/* Puts in the program that octets spell, where there is none. Faults: UPC_PROGRAM_THERE, then those of upc_check. */
+/* Makes the program that octets spell, if there is none yet. Faults: UPC_PROGRAM_THERE, then those of upc_check. */
 uint32_t upc_program_new(const uint8_t *octets, size_t length, upc_program *program, upc_fault *fault);
 
-/* Runs the program on the cell that 52 octets are: *value becomes what it gave, and *steps how many instructions it began.
- * It doesn't allocate. Faults: cell 1 WrongLength, then UPC_NO_PROGRAM. */
+/* Runs the program on the cell with these 52 octets: *value becomes its value, and *steps the number of instructions
+ * that it began. It doesn't allocate.
+ * Faults: cell 1 WrongLength, then UPC_NO_PROGRAM. */
 uint32_t upc_program_run(upc_program *program, const uint8_t *octets, size_t length, uint32_t *value, uint32_t *steps,
                          upc_fault *fault);
 
-/* Lets the program go, and leaves none. Where there is none it does nothing. */
+/* Frees the program, so that there is none. Does nothing if there is none. */
 void upc_program_free(upc_program *program);
 
 /* ---- A card (memory) ---- */
 
-/* A card with programs and connections, which judges each cell on the connection that its header names; or none: all zeros
- * are none, as in `upc_card c = {0, 0};`. As with a upc_program, it is filled by these calls alone, has
- * no second copy, is let go before it is forgotten, and stays with the thread that made it. A card serves one caller. */
+/* A card with programs and connections, which judges each cell on the connection that its header names; or none: all
+ * zeros are none, as in `upc_card c = {0, 0};`. As with a upc_program, only these calls fill it, it has no second copy,
+ * it is freed before it is gone, and only the thread that made it may use it. A card serves one caller. */
 typedef struct upc_card {
 	uint32_t live;
 	void *at;
 } upc_card;
 
-/* How large a card is. */
+/* The size of a card. */
 typedef struct upc_shape {
-	uint32_t side;     /* one of enum upc_side: which header its cells have */
-	uint64_t programs; /* how many programs it holds at most, 1 to 1024 */
-	uint64_t lines;    /* how many connections it has at most, 1 to 4096 */
+	uint32_t side;     /* one of enum upc_side: the header of its cells */
+	uint64_t programs; /* the most programs that it holds, 1 to 1024 */
+	uint64_t lines;    /* the most connections that it has, 1 to 4096 */
 	uint64_t ports;    /* 1 to 16; the calls below use one */
-	uint64_t journal;  /* how many cells a connection has between two cuts at most, 1 to 65536 */
+	uint64_t journal;  /* the most cells of a connection between two cuts, 1 to 65536 */
 } upc_shape;
 
 /* The name of a program on a card. No other program of that card ever has the same. */
@@ -202,14 +205,14 @@ typedef struct upc_id {
 /* The answer to a judged cell. */
 typedef struct upc_answer {
 	uint32_t verdict; /* one of enum upc_verdict */
-	uint32_t value;   /* what the program gave: the number of a contract, from 1, or any other, which names none */
-	uint64_t number;  /* how many cells with this verdict were judged on the line, this one included */
-	uint64_t moment;  /* when the cell came, in ticks */
+	uint32_t value;   /* the value of the program: the number of a contract, from 1, or any other, which names none */
+	uint64_t number;  /* the number of cells with this verdict that were judged on the line, this one included */
+	uint64_t moment;  /* the moment at which the cell arrived, in ticks */
 	upc_id program;   /* the program that gave the value */
 	uint16_t line;    /* the number of the line, from 0 */
 } upc_answer;
 
-/* How many cells of each verdict were judged on a line since the card was made. */
+/* The number of cells of each verdict that were judged on a line since the card was made. */
 typedef struct upc_counts {
 	uint64_t passed;
 	uint64_t tagged;
@@ -219,14 +222,14 @@ typedef struct upc_counts {
 
 /* A judged cell of a journal. */
 typedef struct upc_entry {
-	uint64_t moment;  /* when the cell came, in ticks */
+	uint64_t moment;  /* the moment at which the cell arrived, in ticks */
 	upc_id program;   /* the program that gave the value */
-	uint32_t value;   /* what the program gave: the number of a contract, from 1, or any other, which names none */
+	uint32_t value;   /* the value of the program: the number of a contract, from 1, or any other, which names none */
 	uint32_t clp;     /* its cell loss priority before it was judged, 0 or 1 */
 	uint32_t verdict; /* one of enum upc_verdict */
 } upc_entry;
 
-/* What a release or a cut returns of a connection's journal beside its entries. */
+/* The part of a connection's journal that a release or a cut returns in addition to its entries. */
 typedef struct upc_journal {
 	size_t cells;      /* the cells judged since the last cut, or since the connection was set up */
 	upc_counts before; /* the counts of its line before the first of them */
@@ -235,33 +238,36 @@ typedef struct upc_journal {
 
 enum { UPC_MOST_CONTRACTS = 4 };
 
-/* Makes a card without programs and connections, where there is none.
+/* Makes a card without programs and connections, if there is none yet.
  * Faults: UPC_CARD_THERE, then UPC_UNKNOWN_SIDE, then those of UPC_SHAPE. */
 uint32_t upc_card_new(const upc_shape *shape, upc_card *card, upc_fault *fault);
 
-/* Lets the card go, with its programs and connections, and leaves none. Where there is none it does nothing. */
+/* Frees the card, with its programs and connections, so that there is none. Does nothing if there is none. */
 void upc_card_free(upc_card *card);
 
-/* Puts the program that octets spell into the card; *id becomes its name.
+/* Loads the program that octets spell; *id becomes its name.
  * Faults: those of upc_check, then UPC_NO_CARD, then desk 6 ProgramsFull. */
 uint32_t upc_card_load(upc_card *card, const uint8_t *octets, size_t length, upc_id *id, upc_fault *fault);
 
-/* Takes a program out that no connection names. It doesn't allocate.
+/* Retires a program that no connection names. It doesn't allocate.
  * Faults: UPC_NO_CARD, then desk 1 NoProgram, 5 InUse. */
 uint32_t upc_card_retire(upc_card *card, const upc_id *program, upc_fault *fault);
 
-/* Sets up a connection on this path and channel. For each of its cells the program names one of the contracts, by 1 for the
- * first of the one to four. Faults: UPC_MANY_CONTRACTS, then those of upc_contract_check of the first faulty contract, then
- * UPC_NO_CARD, UPC_LARGE_PATH, then desk 1 NoProgram, 3 Taken, 8 BadContracts (there is none), 4 NoLine, 7 Exhausted. */
+/* Sets up a connection on this path and channel. For each of its cells the program names one of the one to four
+ * contracts, the first by 1.
+ * Faults: UPC_MANY_CONTRACTS, then those of upc_contract_check of the first faulty contract, then UPC_NO_CARD,
+ * UPC_LARGE_PATH, then desk 1 NoProgram, 3 Taken, 8 BadContracts (there is none), 4 NoLine, 7 Exhausted. */
 uint32_t upc_card_setup(upc_card *card, uint16_t path, uint16_t channel, const upc_id *program,
                         const upc_contract *contracts, size_t count, upc_fault *fault);
 
-/* Gives a connection another program; *earlier becomes the one that it had. Its buckets and its journal stay. It takes no
- * memory. Faults: UPC_NO_CARD, UPC_LARGE_PATH, then desk 1 NoProgram, 2 NoConnection. */
+/* Gives a connection another program; *earlier becomes the one that it had. Its buckets and its journal are unchanged.
+ * It doesn't allocate.
+ * Faults: UPC_NO_CARD, UPC_LARGE_PATH, then desk 1 NoProgram, 2 NoConnection. */
 uint32_t upc_card_reload(upc_card *card, uint16_t path, uint16_t channel, const upc_id *program, upc_id *earlier,
                          upc_fault *fault);
 
-/* Writes how many cells the journal of a connection has: as many entries a release or a cut writes. It doesn't allocate.
+/* Writes the number of cells in the journal of a connection: a release or a cut writes as many entries. It doesn't
+ * allocate.
  * Faults: UPC_NO_CARD, UPC_LARGE_PATH, then desk 2 NoConnection. */
 uint32_t upc_card_journal(upc_card *card, uint16_t path, uint16_t channel, size_t *cells, upc_fault *fault);
 
@@ -270,19 +276,21 @@ uint32_t upc_card_journal(upc_card *card, uint16_t path, uint16_t channel, size_
 uint32_t upc_card_counts(upc_card *card, uint16_t path, uint16_t channel, upc_counts *counts, upc_fault *fault);
 
 /* Ends a connection, and returns its last journal: its cells, the earliest first, become the first entries of the room.
- * Its other entries stay as they were, and *journal has their number. It doesn't allocate. A room of length 0 is
- * enough for an empty journal. Where the room is too small the connection goes on, and the fault's place is the number of
- * entries that are needed. Faults: UPC_NO_CARD, UPC_LARGE_PATH, then desk 2 NoConnection, then UPC_NO_ROOM. */
+ * The other entries of the room are unchanged, and *journal has the number of cells. It doesn't allocate. A room of
+ * length 0 is enough for an empty journal. If the room is too small, the connection continues, and the fault's place is
+ * the number of entries that are needed.
+ * Faults: UPC_NO_CARD, UPC_LARGE_PATH, then desk 2 NoConnection, then UPC_NO_ROOM. */
 uint32_t upc_card_release(upc_card *card, uint16_t path, uint16_t channel, upc_entry *room, size_t room_length,
                           upc_journal *journal, upc_fault *fault);
 
-/* Returns a connection's journal in the same way, and empties it. The connection goes on: its buckets and its last moment
- * stay. Faults: UPC_NO_CARD, UPC_LARGE_PATH, then desk 2 NoConnection, then UPC_NO_ROOM. */
+/* Returns a connection's journal in the same way, and empties it. The connection continues: its buckets and its last
+ * moment are unchanged.
+ * Faults: UPC_NO_CARD, UPC_LARGE_PATH, then desk 2 NoConnection, then UPC_NO_ROOM. */
 uint32_t upc_card_cut(upc_card *card, uint16_t path, uint16_t channel, upc_entry *room, size_t room_length,
                       upc_journal *journal, upc_fault *fault);
 
-/* Judges the cell that 52 octets are, which came at this moment, on the connection that its header names, and writes
- * its answer. If the verdict is UPC_TAG, the octets become the tagged cell. It doesn't allocate.
+/* Judges the cell with these 52 octets, which arrived at this moment, on the connection that its header names, and
+ * writes its answer. If the verdict is UPC_TAG, the octets become the tagged cell. It doesn't allocate.
  * Faults: cell 1 WrongLength, then UPC_NO_CARD, then those of UPC_ARRIVE: 1, then 5, 4, 6. */
 uint32_t upc_card_arrive(upc_card *card, uint8_t *octets, size_t length, uint64_t moment, upc_answer *answer,
                          upc_fault *fault);

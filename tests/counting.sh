@@ -1,15 +1,15 @@
-# What the scripts of this folder share: where the repository is, and how results are counted. A script sources it,
-# calls `pass`, `fail` or `check` for each thing that it tried, and ends with `finish`.
+# The common part of the scripts of this folder: the path of the repository, and the counts of results. A script sources it,
+# calls `pass`, `fail` or `check` for each result, and ends with `finish`.
 root="$(cd "$(dirname "${BASH_SOURCE[0]}")/.." && pwd)"
 passed=0
 failed=0
 
-# Counts what is as it should be.
+# Counts a success.
 pass() {
   passed=$((passed + 1))
 }
 
-# fail WORDS..: counts what is not, and says what.
+# fail WORDS..: counts a failure, and prints it.
 fail() {
   echo "otherwise: $*"
   failed=$((failed + 1))
@@ -24,7 +24,7 @@ check() {
   fi
 }
 
-# Prints the counts. The status is 0 where nothing failed.
+# Prints the counts. The status is 0 if nothing failed.
 finish() {
   echo "$passed passed, $failed failed"
   [ "$failed" = 0 ]

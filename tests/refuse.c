@@ -1,6 +1,6 @@
-/* Loaded before the C library, refuses requests of a process for memory: the one whose number, from 1, is in the variable
-   REFUSE, and all from the one on whose number is in REFUSE_FROM. A line on descriptor 9 for each says that it came to
-   that. Where REFUSE_NONE is set, none is refused, and descriptor 9 gets a line for each request. */
+/* Loaded before the C library, this lets requests of a process for memory fail: the one whose number, from 1, is in the
+   variable REFUSE, and all from the one on whose number is in REFUSE_FROM. Descriptor 9 gets a line for each failed one. If
+   REFUSE_NONE is set, none fails, and descriptor 9 gets a line for each request. */
 #include <errno.h>
 #include <stdlib.h>
 #include <unistd.h>
@@ -12,7 +12,7 @@ extern void *__libc_memalign(size_t alignment, size_t size);
 
 static long requests;
 
-/* The number in a variable, and 0 where it isn't set. */
+/* The number in a variable, and 0 if it isn't set. */
 static long number_of(const char *name) {
   const char *digits = getenv(name);
   return digits ? atol(digits) : 0;

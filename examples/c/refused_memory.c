@@ -102,7 +102,7 @@ static uint32_t set_up(upc_fault *fault)
 	return upc_card_release(&card, 1, 100, &entry, 1, &journal, &later) == 0 && journal.cells == 1 ? 0 : 99;
 }
 
-/* Has a cell judged on a connection and empties its journal. Where that is refused the cell is still there. */
+/* Has a cell judged on a connection and empties its journal. If that is refused, the cell is still there. */
 static uint32_t cut(upc_fault *fault)
 {
 	uint8_t cell[UPC_CELL_OCTETS] = {0, 0x10, 0x06, 0x50};
@@ -123,7 +123,7 @@ static uint32_t cut(upc_fault *fault)
 	return number == 0 || (entry.moment == 7 && entry.verdict == 7) ? number : 99;
 }
 
-/* Asks for what takes no memory: how many cells a journal has, and the counts of its line. */
+/* Makes the calls that don't allocate: the number of cells of a journal, and the counts of its line. */
 static uint32_t inspect(upc_fault *fault)
 {
 	upc_counts counts;

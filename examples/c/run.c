@@ -211,7 +211,7 @@ static upc_entry *room_for(size_t cells)
 	return room;
 }
 
-/* Asks how many cells the journal has, has it handed out, and prints how many of them there are of each verdict. */
+/* Reads the number of cells of the journal, has it returned, and prints the number of its cells with each verdict. */
 static void print_journal(const char *word, unsigned path, unsigned channel, hand_out *call)
 {
 	unsigned long counts[4] = {0, 0, 0, 0};

@@ -53,7 +53,7 @@ extern "C" {
 /// A card. It is dropped once, has no copy, and stays with its thread: a raw pointer is neither `Send` nor `Sync`.
 pub struct Card { held: Held, own_thread: PhantomData<*mut ()> }
 
-/// Makes a call that fills a value, or a fault where it returns another number than 0.
+/// Makes a call that fills a value, or a fault if it returns another number than 0.
 fn ask<T: Default>(call: impl FnOnce(&mut T, &mut Fault) -> u32) -> Result<T, Fault> {
     let (mut value, mut fault) = (T::default(), Fault::default());
     if call(&mut value, &mut fault) == 0 { Ok(value) } else { Err(fault) }

@@ -1,5 +1,5 @@
-# Inputs of the cases that are too long for a file, and texts that are. `input-NAME` prints the input of the case NAME, and
-# `answers-NAME` its text where there is no file NAME.answers.
+# The inputs and the texts that are too long for a file. `input-NAME` prints the input of the case NAME, and
+# `answers-NAME` its text if there is no file NAME.answers.
 
 # octets OCTET COUNT: an octet COUNT times.
 octets() {
@@ -16,7 +16,7 @@ words() {
   lines "$1" "$2" | tr -d '\n'
 }
 
-# Programs of the most instructions: jumps to the next place, and a return.
+# Programs with the most instructions: jumps to the next place, and a return.
 input-21-the-longest-program() {
   words 0005000000000000 4095
   printf '0006000000000007\n00100640\n'
@@ -27,7 +27,7 @@ input-21-one-instruction-more() {
   printf '0006000000000007\n00100640\n'
 }
 
-# A store of word 15, and a thousand branches that go round another store; a read is to come.
+# A store of word 15, and a thousand branches around another store; a read follows.
 a_thousand_branches() {
   printf '000200000000000f'
   words 00450001000000010002000000000000 1000
@@ -67,7 +67,7 @@ for_each_word() {
   done
 }
 
-# A branch over a store of word 3 as often as a program has room for, a read of each word, and `ret a`.
+# As many branches over a store of word 3 as a program may have, a read of each word, and `ret a`.
 branches_and_reads() {
   words 004d0001000000000003000000000003 2031
   for_each_word 00600000
@@ -81,7 +81,7 @@ input-scratch-words-on-every-path() {
   branches_and_reads
 }
 
-# In the place of the store of word 3 is `txa`: word 3 is stored on all paths but one.
+# In place of the store of word 3 there is `txa`: word 3 is stored on all paths but one.
 input-a-scratch-word-that-one-path-lacks() {
   printf '0000000000000007'
   for_each_word 00020000 | sed 's/0002000000000003/0087000000000000/'
@@ -148,7 +148,7 @@ input-a-number-up-to-the-limit-less-one() { source_of 1048575 'ret #' 0 1; }
 input-a-number-up-to-the-limit() { source_of 1048576 'ret #' 0 1; }
 input-a-number-over-the-limit() { source_of 1048577 'ret #' 0 1; }
 
-# remark COUNT END: a remark of COUNT octets, and its end.
+# remark COUNT END: a comment of COUNT octets, and its end.
 remark() {
   octets '#' "$1"
   printf '%b' "$2"
@@ -171,7 +171,7 @@ input-a-line-1000001() {
   echo
 }
 
-# script_of COUNT: a script of COUNT lines: the card's, remarks, and a cell's.
+# script_of COUNT: a script of COUNT lines: a card line, comments, and a cell line.
 script_of() {
   echo 'card 1 1 1 1'
   lines '#' $(($1 - 2))
@@ -183,7 +183,7 @@ input-a-script-of-1000001-lines() { script_of 1000001; }
 input-ports-of-1000000-lines() { script_of 1000000; }
 input-ports-of-1000001-lines() { script_of 1000001; }
 
-# card_and_remark COUNT END: a script of the card's line and a remark.
+# card_and_remark COUNT END: a script of a card line and a comment.
 card_and_remark() {
   echo 'card 1 1 1 1'
   remark "$@"
