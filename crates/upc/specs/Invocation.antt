@@ -27,7 +27,7 @@ Tells E errors errors' text =
     (E.held errors' ≡ E.held errors ++ text)
     ⊎ (IsPart (E.held errors) (E.held errors') text × (E.failures errors' ≡ one_more (E.failures errors)))
 
--- The message for a failed run was written to the error output. After any other run nothing was written to it.
+-- After a failed run its message is on the error output, as `Tells` says. After any other run nothing was written to it.
 abbrev pub Reports : {Errors : Type 0} → OutputView Errors → Errors → Errors → Result Done RunFault → Type 0
 Reports E errors errors' (Ok done) = E.held errors' ≡ E.held errors
 Reports E errors errors' (Err fault) = Tells E errors errors' (failure_line fault)
