@@ -3,7 +3,7 @@
 
     tools/build.py NAME
 
-Standard error says which crate was proved, how many are left, and how long it took so far. The status is 0 where the
+Standard error says which crate was proved, how many are left, and how long it took so far. The status is 0 if the
 program or the library is built.
 """
 import os
@@ -23,7 +23,7 @@ def jobs_for(ready, idle):
 
 
 def built(crate, jobs):
-    """Proves a library and builds it. Returns what the prover said where it refused, or nothing."""
+    """Proves a library and builds it. Returns what the prover printed if it refused, or nothing."""
     rtlib, stamp = kit.module(), crate.stamp()
     if crate.is_built():
         return ""

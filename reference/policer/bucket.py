@@ -18,7 +18,7 @@ class Bucket:
         return max(0, self.level - (moment - self.last))
 
     def conforms(self, moment):
-        """A cell conforms where it finds at most the limit."""
+        """A cell conforms if it finds at most the limit."""
         return self.level_at(moment) <= self.limit
 
     def fill(self, moment):

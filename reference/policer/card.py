@@ -121,7 +121,7 @@ class Card:
             raise Fault("desk", "NoProgram")
 
     def find_connection(self, vc):
-        """The connection that stands under this path and channel."""
+        """The connection of this path and channel."""
         if vc not in self.connections:
             raise Fault("desk", "NoConnection")
         return self.connections[vc]

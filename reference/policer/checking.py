@@ -22,7 +22,7 @@ def check(program):
 
 
 def check_alone(instruction, place, length):
-    """What is asked of an instruction by itself, also where no path reaches it."""
+    """The rules for an instruction by itself, even if no path reaches it."""
     constant = instruction.k if instruction.form == "#k" else None
     if instruction.form == "M[k]" and instruction.k >= SCRATCH_WORDS:
         raise Fault("verify", "BadScratch", place)
@@ -37,7 +37,7 @@ def check_alone(instruction, place, length):
 def check_scratch(program):
     """On every path from place 0 a scratch word is stored before it is read.
 
-    Jumps go forward, so each place stands behind all that lead to it: going once from the first place to the
+    Jumps go forward, so each place is after all that lead to it: going once from the first place to the
     last, what every path to a place has stored is what all of its ways in have stored.
     """
     stored = [None] * len(program)

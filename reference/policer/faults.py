@@ -39,7 +39,7 @@ NUMBERS = {
 
 
 class Fault(Exception):
-    """What is wrong, and where: the numbers or digits that stand behind its name."""
+    """What is wrong, and where: the numbers or digits after its name."""
 
     def __init__(self, family, name, *places):
         super().__init__(family, name, *places)

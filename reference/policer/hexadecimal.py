@@ -14,7 +14,7 @@ def octets_of(word):
 
 
 def cell_of(word):
-    """The cell that a word spells; eight digits stand for that header with a payload of zeros."""
+    """The cell that a word spells; eight digits are a header, with a payload of zeros."""
     octets = octets_of(word)
     if len(octets) == cell.HEADER_OCTETS:
         return octets + bytes(cell.OCTETS - cell.HEADER_OCTETS)

@@ -18,7 +18,7 @@ class Instruction(NamedTuple):
 
     @property
     def form(self):
-        """What stands behind the name."""
+        """What follows the name."""
         return TABLE[self.code][1]
 
 
@@ -37,7 +37,7 @@ ARITHMETIC = {
 
 BRANCHES = {"jeq": 0x10, "jgt": 0x20, "jge": 0x30, "jset": 0x40}
 
-# Each code's mnemonic, and the form of what stands behind it.
+# Each code's mnemonic, and the form of what follows it.
 TABLE = {
     0x20: ("ld", "[k]"),
     0x28: ("ldh", "[k]"),

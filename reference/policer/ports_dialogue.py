@@ -1,4 +1,4 @@
-"""`upc ports`, as far as its answers are told: where no desk line follows the first cell they are those of `upc run`."""
+"""`upc ports`, as far as its answers are fixed: if no desk line follows the first cell, they are those of `upc run`."""
 
 from .dialogue import answered
 from .run_dialogue import RunDialogue

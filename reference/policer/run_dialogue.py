@@ -9,7 +9,7 @@ from .script_words import bad_line, connection_of, contracts_of, number_of, prog
 
 
 def card_of(words):
-    """`card PROGRAMS LINES PORTS JOURNAL`, and perhaps the side behind it."""
+    """`card PROGRAMS LINES PORTS JOURNAL`, and perhaps the side after it."""
     side = words[5].decode("latin-1") if len(words) == 6 else "uni"
     if words[0] != b"card" or len(words) not in (5, 6) or side not in PATH_BITS:
         raise Fault("script", "NoCard")
@@ -86,7 +86,7 @@ class RunDialogue:
         return "released %d/%d %d %d %d %d %d" % (*vc, *self.card.release(vc))
 
     def cell(self, moment, word):
-        """`cell MOMENT HEX`: the header is told of a cell that leaves."""
+        """`cell MOMENT HEX`: the answer has the header of a cell that leaves."""
         number = number_of(moment)
         vc, program, value, verdict, leaving = self.card.arrive(number, cell_of(word))
         answer = "%s %d/%d p%d %d" % (verdict, *vc, program, value)
@@ -95,7 +95,7 @@ class RunDialogue:
         return answer
 
 
-# Each command but `setup`, with the number of the words behind it.
+# Each command but `setup`, with the number of the words after it.
 COMMANDS = {
     (b"load", 1): RunDialogue.load,
     (b"retire", 1): RunDialogue.retire,

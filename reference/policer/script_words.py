@@ -50,7 +50,7 @@ def rate_of(word):
 
 
 def contract_of(word):
-    """A contract: its kind, and as many buckets as that has, each behind a colon."""
+    """A contract: its kind, and as many buckets as that has, each after a colon."""
     kind, *rates = word.split(b":")
     if len(rates) != BUCKETS.get(kind):
         raise bad_line()

@@ -13,7 +13,7 @@ WORD = re.compile(rb"[^ \t]+")
 def raw_lines(text):
     """The lines with the carriage return that may end them, and whether a line feed follows.
 
-    A line ends by a line feed, the last one perhaps by the end of the text; behind a last line feed there is
+    A line ends with a line feed, the last one perhaps with the end of the text; after a last line feed there is
     no further line.
     """
     begin = 0

@@ -21,7 +21,7 @@ def header(rng, path, channel, priority, side):
 
 
 def cell(rng, head, first=None):
-    """A whole cell behind its header, whose payload begins with an octet."""
+    """A whole cell after its header, whose payload begins with an octet."""
     payload = bytearray(rng.getrandbits(8) for _ in range(48)) if rng.random() < 0.7 else bytearray(48)
     if first is not None:
         payload[0] = first

@@ -79,7 +79,7 @@ def first_difference(ours, theirs):
 
 
 def lines_of(answer):
-    """The lines of the text, and an empty one behind the last."""
+    """The lines of the text, and an empty one after the last."""
     return answer[0].splitlines(keepends=True) + [b""]
 
 

@@ -1,4 +1,4 @@
-"""Fixed inputs of each subcommand: what stands just at a limit, one below and one above. Each run compares them."""
+"""Fixed inputs of each subcommand: what is just at a limit, one below and one above. Each run compares them."""
 
 from policer.instructions import BRANCHES, CODES, Instruction
 
@@ -39,7 +39,7 @@ def long_lines(first, last):
 
 
 def many_lines(first, last):
-    """The input with about as many lines as there may be, behind its first lines."""
+    """The input with about as many lines as there may be, after its first lines."""
     begun = first.count(b"\n")
     for count in (MOST_INPUT_LINES - 1, MOST_INPUT_LINES, MOST_INPUT_LINES + 1):
         yield first + b"\n" * (count - begun - 1) + last.split(b"\n")[0]
@@ -97,7 +97,7 @@ def ladder(count, words):
 
 
 def jumping_programs():
-    """Jumps to the last place and just behind it, from the first place, and in code that no path reaches."""
+    """Jumps to the last place and just past it, from the first place, and in code that no path reaches."""
     for between in (0, 1, 253, 254, 255):
         for reach in (between, between + 1):
             tail = [one("neg", "")] * between + [one("ret", "a")]
@@ -148,7 +148,7 @@ def far_labels():
 
 
 def numbers():
-    """Numbers about the greatest, in each spelling, and in each place where a number may stand."""
+    """Numbers about the greatest, in each spelling, and in each place where a number may be."""
     spelled = [b"4294967294", b"4294967295", b"4294967296", b"00004294967295", b"42949672950"]
     spelled += [b"0xfffffffe", b"0XFFFFFFFF", b"0x100000000", b"0x0ffffffff"]
     spelled += [b"0", b"00", b"0x0", b"0x", b"0X", b"1x", b"0b1", b"08", b"1_", b"0xg"]

@@ -1,4 +1,4 @@
-"""Inputs of `upc ports` whose answers are told: all cells behind all commands."""
+"""Inputs of `upc ports` whose answers are known: all cells come after all commands."""
 
 from policer.ports_dialogue import Open, ported
 

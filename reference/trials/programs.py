@@ -21,7 +21,7 @@ RECALLS = [("ld", "M[k]"), ("ldx", "M[k]")]
 MOVES = [("ld", "#k"), ("ldx", "#k"), ("ld", "#len"), ("ldx", "#len"), ("tax", ""), ("txa", ""), ("neg", "")]
 RETURNS = [("ret", "#k"), ("ret", "a")]
 
-# Groups of spellings, each with how often one of them stands in a program.
+# Groups of spellings, each with how often a program has one of them.
 GROUPS = (
     (PACKET_SPELLINGS, 20),
     (ARITHMETIC_SPELLINGS, 25),
@@ -77,7 +77,7 @@ def accepted(rng, count=None):
 
 
 def lead(instruction, place, stored):
-    """Carries what is stored on to the places behind."""
+    """Carries what is stored on to the later places."""
     if stored[place] is None:
         return
     word_of = word_stored(instruction)
@@ -89,7 +89,7 @@ def lead(instruction, place, stored):
 
 
 def next_instruction(rng, place, count, stored):
-    """An instruction that may stand at the place; a return at the last."""
+    """An instruction that may be at the place; a return at the last."""
     if place == count - 1:
         return filled(rng, rng.choice(RETURNS), place, count, stored)
     group = rng.choices([names for names, _ in GROUPS], [weight for _, weight in GROUPS])[0]
@@ -99,7 +99,7 @@ def next_instruction(rng, place, count, stored):
 
 
 def filled(rng, spelling, place, count, stored):
-    """The instruction of this spelling with lawful fields."""
+    """The instruction of this spelling with valid fields."""
     mnemonic, form = spelling
     code = CODES[spelling]
     room = count - place - 2  # the greatest offset, to the last place
@@ -126,7 +126,7 @@ def compared_behind(rng, before, branch):
 
 
 def offset(rng, most):
-    """An offset of at most so many: often 0, seldom the greatest."""
+    """An offset of at most this number: often 0, seldom the greatest."""
     way = rng.random()
     if way < 0.35:
         return 0
@@ -176,7 +176,7 @@ def shift_outside(rng, program):
 
 
 def jump_outside(rng, program):
-    """A jump to the last place or behind it."""
+    """A jump to the last place or past it."""
     at = rng.randrange(len(program))
     reach = max(0, len(program) - at - 2 + rng.choice((0, 1, 1, 2)))
     if rng.random() < 0.4:
@@ -199,7 +199,7 @@ def unwritten(rng, program):
 
 
 def diamonds(rng, _):
-    """Branches, of whose arms each may store a word, and loads behind them."""
+    """Branches, each of whose arms may store a word, and loads after them."""
     program = []
     for _ in range(rng.randrange(1, 5)):
         arms = [[Instruction(CODES[rng.choice(STORES)], k=rng.randrange(3))] for _ in range(2)]

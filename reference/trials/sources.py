@@ -61,13 +61,13 @@ class Speller:
         return self.names[place]
 
     def blank(self, least=""):
-        """Blanks between two tokens: as a rule the least, which is one where they would run together without."""
+        """Blanks between two tokens: as a rule as few as possible: one if they would run together without it."""
         if self.rng.random() < 0.15:
             return self.rng.choice((" ", "\t", "  ")) if least or self.rng.random() < 0.5 else self.blanks
         return least
 
     def number(self, value):
-        """A number in decimal or hexadecimal, seldom behind zeros."""
+        """A number in decimal or hexadecimal, seldom after zeros."""
         way = self.rng.random()
         if way < 0.6:
             return str(value)
@@ -86,7 +86,7 @@ class Speller:
         return "#" + self.blank() + self.number(value)
 
     def joined(self, *tokens):
-        """The tokens with perhaps a blank behind each."""
+        """The tokens with perhaps a blank after each."""
         return "".join(token + self.blank() for token in tokens)
 
     def instruction(self, one, place):

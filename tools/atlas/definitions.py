@@ -1,7 +1,7 @@
 """The definitions of specs/, and which of them are promised.
 
-A definition is promised where the contract of a public function, the view of a public type or a law cites it, or
-where a promised definition does.
+A definition is promised if the contract of a public function, the view of a public type, a law or a promised
+definition cites it.
 """
 import os
 import re
@@ -274,8 +274,8 @@ def faults(specs, promised, allowed):
             if it in promised and not it.sentence:
                 yield f"{where} is promised, and has no sentence"
             if it in promised and module.helps():
-                yield f"{where} is promised, and stands among what only helps"
+                yield f"{where} is promised, and is in the folder of those that only help"
             if it not in promised and it not in allowed and not module.helps():
-                yield f"{where} only helps, and stands among what is promised"
+                yield f"{where} only helps, and is among the promised ones"
             if it in promised:
                 yield from (f"{where} is promised, and cites {name}, which no caller can name" for name in hidden_types(it))

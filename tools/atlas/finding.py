@@ -26,7 +26,7 @@ def stem(word):
 
 
 def score_of(words, name, said):
-    """Returns how well words fit a name and its sentence: nothing unless all are there; more where they are in the name."""
+    """Returns how well words fit a name and its sentence: nothing unless all are there; more if they are in the name."""
     name, said = words_of(name), words_of(said)
     stems = [stem(it) for it in words]
     if not all(it in name or it in said for it in stems):

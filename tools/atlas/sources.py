@@ -118,7 +118,7 @@ class Sources:
             return owner == function.owner
         if not is_method:
             return not function.owner
-        # A method's type isn't in the call: where several types have a method of this name, the file has to name the type.
+        # A method's type isn't in the call: if several types have a method of this name, the file has to name the type.
         others = self.owners_of_methods[function.name] if function.owner else ()
         return bool(function.owner) and (len(others) == 1 or any(re.search(rf"\b{function.owner}\b", text_of(it)) for it in paths))
 

@@ -45,7 +45,7 @@ def parsed(lines):
 
 
 def refuse_dangling(lines):
-    """An instruction follows each label, in its line or behind."""
+    """An instruction follows each label, in its line or later."""
     last = max((at for at, (_, statement) in enumerate(lines) if statement is not None), default=-1)
     for at, (label, _) in enumerate(lines):
         if label is not None and at > last:
@@ -53,7 +53,7 @@ def refuse_dangling(lines):
 
 
 def places_of(lines):
-    """A label stands for the number of instructions in the lines before it."""
+    """A label means the number of instructions in the lines before it."""
     places = {}
     count = 0
     for label, statement in lines:
@@ -68,7 +68,7 @@ def instruction_of(statement, place, places, number):
     """The instruction of a statement at this place, in the line of this number."""
 
     def offset(label, most):
-        """The label's place less this place less one; 0 for a side that goes on behind the branch."""
+        """The label's place less this place less one; 0 for a side that continues after the branch."""
         if label is None:
             return 0
         if label not in places:

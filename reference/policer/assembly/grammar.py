@@ -12,7 +12,7 @@ class NoLine(Exception):
 class Statement(NamedTuple):
     """What an instruction line says: a row of the instruction table, and the labels of a jump or a branch.
 
-    A side of a branch without a label goes on behind it.
+    A side of a branch without a label continues after it.
     """
 
     mnemonic: str
@@ -23,7 +23,7 @@ class Statement(NamedTuple):
     on_false: Optional[bytes] = None
 
 
-# The branches that go on behind themselves where their test holds, and the test that is their opposite.
+# The branches that continue after themselves if their test is true, and the test that is their opposite.
 INVERSES = {"jne": "jeq", "jneq": "jeq", "jlt": "jge", "jle": "jgt"}
 
 PACKET_LOADS = ("ld", "ldh", "ldb")
@@ -71,7 +71,7 @@ class Reader:
 
 
 def line_of(tokens):
-    """The label and the statement of a line, each None where there is none."""
+    """The label and the statement of a line, each None if there is none."""
     reader = Reader(tokens)
     label = None
     if len(tokens) >= 2 and tokens[0].kind == "name" and tokens[1] == ("mark", b":"):
@@ -156,7 +156,7 @@ def header(reader):
 
 
 def constant(reader):
-    """What stands behind `#`: a number, or `-` and a number n for 2^32 - n modulo 2^32."""
+    """What follows `#`: a number, or `-` and a number n for 2^32 - n modulo 2^32."""
     if reader.is_mark(b"-"):
         reader.marks("-")
         return -reader.take("number") % 2**32
@@ -173,7 +173,7 @@ def operand(reader):
 
 
 def branch(reader, mnemonic):
-    """A branch with the label of its test, and perhaps one for where the test doesn't hold."""
+    """A branch with the label of its test, and perhaps one for when the test is false."""
     form, k = operand(reader)
     reader.marks(",")
     on_true = reader.take("name")
@@ -185,7 +185,7 @@ def branch(reader, mnemonic):
 
 
 def inverse_branch(reader, mnemonic):
-    """A branch that goes on behind itself where its test holds."""
+    """A branch that continues after itself if its test is true."""
     form, k = operand(reader)
     reader.marks(",")
     return Statement(mnemonic, form, k, on_false=reader.take("name"))

@@ -34,7 +34,7 @@ def without_comment(line):
 
 
 def number_of(word):
-    """The value of a number: decimal, or hexadecimal behind `0x` or `0X`, at most 4294967295. No octal."""
+    """The value of a number: decimal, or hexadecimal after `0x` or `0X`, at most 4294967295. No octal."""
     if word[:2] in (b"0x", b"0X"):
         spelled = HEXADECIMAL.fullmatch(word) if len(word) > 2 else None
         base = 16
@@ -71,7 +71,7 @@ def tokens_of(line):
 
 
 def token_of(run):
-    """A longest run of letters, digits and `_` is a number where it begins with a digit, and else a name."""
+    """A longest run of letters, digits and `_` is a number if it begins with a digit, and else a name."""
     if run[:1].isdigit():
         return Token("number", number_of(run))
     return Token("name", run)
