@@ -4,7 +4,7 @@ use Rattle.bpf_asm.specs.StatementSpelling.{Part, Statement, spelling_tokens, sp
 use Rattle.bpf_asm.specs.Tokens.{Token, name, mark, tokens_in}
 
 -- A line is empty, a label, an instruction, or a label and an instruction.
-pub record Line : Type 0 where
+pub record SourceLine : Type 0 where
   pub label : Option (List ℕ)
   pub statement : Option Statement
 
@@ -24,15 +24,15 @@ label_tokens None = []
 label_tokens (Some octets) = name octets ∷ mark 58 ∷ []
 
 -- The tokens are those of this line: its label, and then a spelling of its statement.
-abbrev pub IsLineOf : List Token → Line → Type 0
-IsLineOf tokens line = (rest : List Token) × (tokens ≡ label_tokens line.label ++ rest) × IsStatement rest line.statement
+abbrev pub AreLineTokens : List Token → SourceLine → Type 0
+AreLineTokens tokens line = (rest : List Token) × (tokens ≡ label_tokens line.label ++ rest) × IsStatement rest line.statement
 
 -- The octets of a line are in the grammar and parse as this.
-unfoldable pub IsLine : List ℕ → Line → Type 0
-IsLine octets line = IsLineOf (tokens_in octets) line
+unfoldable pub IsSourceLine : List ℕ → SourceLine → Type 0
+IsSourceLine octets line = AreLineTokens (tokens_in octets) line
 
 -- The lines of a source parse as these, in order.
-abbrev pub AreLines : List (List ℕ) → List Line → Type 0
+abbrev pub AreLines : List (List ℕ) → List SourceLine → Type 0
 AreLines [] lines = lines ≡ []
 AreLines (octets ∷ more) [] = ⊥
-AreLines (octets ∷ more) (line ∷ lines) = IsLine octets line × AreLines more lines
+AreLines (octets ∷ more) (line ∷ lines) = IsSourceLine octets line × AreLines more lines

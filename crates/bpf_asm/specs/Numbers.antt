@@ -34,5 +34,5 @@ within_word None = None
 within_word (Some value) = if nat_lt value (2 ^ 32) then Some value else None
 
 -- The number of a word, if it spells one of at most 4294967295.
-unfoldable pub number_of : List ℕ → Option ℕ
-number_of word = within_word (value_of word)
+unfoldable pub number_of_word : List ℕ → Option ℕ
+number_of_word word = within_word (value_of word)

@@ -2,7 +2,7 @@
 use Rattle.std.specs.Prelude.{ℕ, ◌-◌, ◌%◌, ◌^◌, Bool, true, false, ◌&&◌, ◌||◌, ◌==◌, nat_le, if◌then◌else◌, List, [], ◌∷◌, Option, Some, None, IsTrue}
 use Rattle.std.specs.List.{filter_map}
 use Rattle.bpf_asm.specs.SourceLines.{without_comment}
-use Rattle.bpf_asm.specs.Numbers.{number_of}
+use Rattle.bpf_asm.specs.Numbers.{number_of_word}
 use Rattle.text_io.specs.Words.{is_blank, is_digit}
 
 -- A token: a name, a number, a word that begins with a digit and is no number, or any other octet. The grammar uses
@@ -41,7 +41,7 @@ number_token None = faulty
 -- The token of a word: a number if it begins with a digit, otherwise a name.
 unfoldable pub word_token : List ℕ → Token
 word_token [] = name []
-word_token (octet ∷ rest) = if is_digit octet then number_token (number_of (octet ∷ rest)) else name (octet ∷ rest)
+word_token (octet ∷ rest) = if is_digit octet then number_token (number_of_word (octet ∷ rest)) else name (octet ∷ rest)
 
 -- The token of a piece. A blank has none.
 abbrev pub token_of : List ℕ → Option Token

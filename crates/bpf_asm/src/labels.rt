@@ -31,11 +31,11 @@ fn tail(name: &[u8]) -> u64
 }
 
 impl<'a> Labels<'a> {
-    ghost use Rattle.bpf_asm.specs.inner.LabelPlaces.{place_of};
+    ghost use Rattle.bpf_asm.specs.inner.LabelPlaces.{label_place};
 
     /// Returns a map without labels.
     pub(crate) fn new(alloc: Global) -> Labels<'a>
-        ensures { (name : List ℕ) → place_of result name ≡ None }
+        ensures { (name : List ℕ) → label_place result name ≡ None }
     {
         Labels {
             places: BTreeMap::new(alloc),
@@ -44,16 +44,16 @@ impl<'a> Labels<'a> {
 
     /// Returns the place of a name, if it has one.
     pub(crate) fn find(&self, name: &'a [u8]) -> Option<usize>
-        ensures { result ≡ place_of self.now name.entry.now }
+        ensures { result ≡ label_place self.now name.entry.now }
     {
         self.places.get(&(tail(name), name)).copied()
     }
 
     /// Sets the place of a name. Returns whether the name is new.
     pub(crate) fn define(&mut self, name: &'a [u8], place: usize) -> Result<bool, AllocError>
-        ensures fresh { IfOk result (λ fresh. fresh ≡ is_none (place_of self.old name.entry.now)) }
-        ensures places { IfOk result (λ _. (other : List ℕ) → place_of self.new other
-            ≡ (if bytes_eq name.entry.now other then Some place else place_of self.old other)) }
+        ensures fresh { IfOk result (λ fresh. fresh ≡ is_none (label_place self.old name.entry.now)) }
+        ensures places { IfOk result (λ _. (other : List ℕ) → label_place self.new other
+            ≡ (if bytes_eq name.entry.now other then Some place else label_place self.old other)) }
     {
         let before = self.places.insert((tail(name), name), place)?;
         Ok(before.is_none())

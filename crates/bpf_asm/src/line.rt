@@ -2,7 +2,7 @@
 
 ghost use Rattle.std.specs.Prelude.{◌≡◌, List, Some, IfErr, IfOk, MatchOption};
 ghost use Rattle.bpf_asm.specs.Faults.{IsLineFault};
-ghost use Rattle.bpf_asm.specs.Grammar.{IsLine, Line};
+ghost use Rattle.bpf_asm.specs.Grammar.{IsSourceLine, SourceLine};
 ghost use Rattle.bpf_asm.specs.inner.Reading.{body_in, line_in};
 ghost use Rattle.bpf_asm.specs.inner.LineTokens.{line_tokens};
 ghost use Rattle.bpf_asm.specs.inner.Seen.{line_seen};
@@ -83,8 +83,8 @@ fn line_of(text: &[u8]) -> Option<LentLine<'_>>
 
 /// Reads a line, or returns the fault of its own.
 pub(crate) fn read_line(line: &[u8]) -> Result<LentLine<'_>, AsmKind>
-    ensures said { IfOk result (λ said. IsLine line.now (line_seen said)) }
-    ensures fault { IfErr result (λ kind. (before : List Line) → IsLineFault before line.now kind) }
+    ensures said { IfOk result (λ said. IsSourceLine line.now (line_seen said)) }
+    ensures fault { IfErr result (λ kind. (before : List SourceLine) → IsLineFault before line.now kind) }
 {
     match line_of(line) {
         Some(said) => Ok(said),

@@ -1,7 +1,7 @@
 //! Mnemonics, and the operands that each takes.
 
 ghost use Rattle.std.specs.Prelude.{◌≡◌, map, MatchOption};
-ghost use Rattle.bpf_asm.specs.inner.Reading.{ended, entry_of, inverse_of, moved_in, named_in, op_of, other_in, statement_in, test_of};
+ghost use Rattle.bpf_asm.specs.inner.Reading.{ended, table_entry, inverse_of, moved_in, named_in, op_of, other_in, statement_in, branch_named};
 ghost use Rattle.bpf_asm.specs.inner.Seen.{statement_seen};
 ghost use Rattle.bpf_asm.specs.StatementSpelling.{plain};
 ghost use Rattle.bpf_asm.specs.Tokens.{tokens_in};
@@ -46,7 +46,7 @@ const INVERSES: [(&[u8], Test); 4] = [
 /// Returns the entry of a table for a name.
 #[inline(always)]
 fn found_in<T: Copy>(name: &[u8], rows: &[(&[u8], T)]) -> Option<T>
-    ensures { result ≡ entry_of name.now (map (λ row. (row.0.now, row.1)) rows.now) }
+    ensures { result ≡ table_entry name.now (map (λ row. (row.0.now, row.1)) rows.now) }
 {
     let mut left = rows;
     while let [row, rest @ ..] = left {
@@ -67,7 +67,7 @@ fn op_named(name: &[u8]) -> Option<Op>
 
 /// Returns the test of a mnemonic of a branch.
 fn test_named(name: &[u8]) -> Option<Test>
-    ensures { result ≡ test_of name.now }
+    ensures { result ≡ branch_named name.now }
 {
     found_in(name, &TESTS)
 }

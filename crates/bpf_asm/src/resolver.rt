@@ -2,10 +2,10 @@
 
 ghost use Rattle.std.specs.Prelude.{◌≤◌, ℕ, List, option_copied, IfErr, IfOk};
 ghost use Rattle.bpf_asm.specs.Faults.{IsFirstOperandFault, IsOperandFault, IsStatementFault};
-ghost use Rattle.bpf_asm.specs.Grammar.{Line};
+ghost use Rattle.bpf_asm.specs.Grammar.{SourceLine};
 ghost use Rattle.bpf_asm.specs.Labels.{IsOffset, statements_of};
 ghost use Rattle.bpf_asm.specs.Meaning.{IsSide, MeanFrom, Means};
-ghost use Rattle.bpf_asm.specs.inner.LabelPlaces.{place_of};
+ghost use Rattle.bpf_asm.specs.inner.LabelPlaces.{label_place};
 ghost use Rattle.bpf_asm.specs.inner.Seen.{statement_seen};
 ghost use Rattle.bpf_asm.specs.inner.Drafts.{AgreesWith, Drafts, IsSideFault};
 
@@ -28,10 +28,10 @@ fn offset<'a>(
     label: &'a [u8],
     most: usize,
 ) -> Result<usize, AsmKind>
-    ensures ok { (lines : List Line) (count : ℕ) → AgreesWith lines (place_of labels.now) count →
+    ensures ok { (lines : List SourceLine) (count : ℕ) → AgreesWith lines (label_place labels.now) count →
         IfOk result (IsOffset lines place (record { label = label.entry.now; most = most })) }
     ensures fits { IfOk result (λ offset. offset ≤ most) }
-    ensures fault { (lines : List Line) (count : ℕ) → AgreesWith lines (place_of labels.now) count →
+    ensures fault { (lines : List SourceLine) (count : ℕ) → AgreesWith lines (label_place labels.now) count →
         IfErr result (IsOperandFault lines place (record { label = label.entry.now; most = most })) }
 {
     match labels.find(label) {
@@ -52,9 +52,9 @@ fn offset<'a>(
 
 /// Returns the offset of one side of a branch.
 fn side<'a>(labels: &Labels<'a>, place: usize, label: Option<&'a [u8]>) -> Result<u8, AsmKind>
-    ensures ok { (lines : List Line) (count : ℕ) → AgreesWith lines (place_of labels.now) count →
+    ensures ok { (lines : List SourceLine) (count : ℕ) → AgreesWith lines (label_place labels.now) count →
         IfOk result (IsSide lines place (option_copied label.entry)) }
-    ensures fault { (lines : List Line) (count : ℕ) → AgreesWith lines (place_of labels.now) count →
+    ensures fault { (lines : List SourceLine) (count : ℕ) → AgreesWith lines (label_place labels.now) count →
         IfErr result (IsSideFault lines place (option_copied label.entry)) }
 {
     match label {
@@ -72,9 +72,9 @@ fn resolved<'a>(
     place: usize,
     statement: LentStatement<'a>,
 ) -> Result<Instr, AsmKind>
-    ensures ok { (lines : List Line) (count : ℕ) → AgreesWith lines (place_of labels.now) count →
+    ensures ok { (lines : List SourceLine) (count : ℕ) → AgreesWith lines (label_place labels.now) count →
         IfOk result (Means lines place (statement_seen statement.entry)) }
-    ensures fault { (lines : List Line) (count : ℕ) → AgreesWith lines (place_of labels.now) count →
+    ensures fault { (lines : List SourceLine) (count : ℕ) → AgreesWith lines (label_place labels.now) count →
         IfErr result (IsStatementFault lines place (statement_seen statement.entry)) }
 {
     match statement {
@@ -100,10 +100,10 @@ fn resolved<'a>(
 
 /// Resolves the labels of a draft in place, and returns its code. An instruction follows each label of the draft.
 pub(crate) fn resolve_all(draft: Draft<'_>) -> Result<Vec<Instr>, AsmFault>
-    requires { (lines : List Line) × Drafts lines draft }
-    ensures code { (lines : List Line) → Drafts lines draft.entry →
+    requires { (lines : List SourceLine) × Drafts lines draft }
+    ensures code { (lines : List SourceLine) → Drafts lines draft.entry →
         IfOk result (λ code. MeanFrom lines 0 (statements_of lines) code.items) }
-    ensures fault { (lines : List Line) → Drafts lines draft.entry → IfErr result (IsFirstOperandFault lines) }
+    ensures fault { (lines : List SourceLine) → Drafts lines draft.entry → IfErr result (IsFirstOperandFault lines) }
 {
     let Draft {
         mut code,

@@ -2,7 +2,7 @@
 
 ghost use Rattle.std.specs.Prelude.{◌≡◌, ◌==◌, ◌≤◌, ◌<◌, ℕ, List, [], ◌∷◌, true, false, length, take, drop, slice_index, IfSome, IsTrue, MatchOption, None};
 ghost use Rattle.bpf_asm.specs.inner.Reading.{HasNoWord, cut_mark, is_ended};
-ghost use Rattle.bpf_asm.specs.Numbers.{digit_of, is_hexadecimal, number_of, value_in, within_word};
+ghost use Rattle.bpf_asm.specs.Numbers.{digit_of, is_hexadecimal, number_of_word, value_in, within_word};
 ghost use Rattle.bpf_asm.specs.inner.Seen.{token_seen};
 ghost use Rattle.bpf_asm.specs.Tokens.{is_run, is_word, mark, tokens_in, word_token};
 ghost use Rattle.bpf_asm.specs.inner.LineTokens.{line_tokens};
@@ -113,9 +113,9 @@ fn hexadecimal(word: &[u8]) -> bool
 }
 
 /// Returns the number that a word spells.
-#[tactic(auto, unfolding(crate::specs::Numbers::number_of))]
+#[tactic(auto, unfolding(crate::specs::Numbers::number_of_word))]
 pub(crate) fn number(word: &[u8]) -> Option<u32>
-    ensures { result ≡ number_of word.now }
+    ensures { result ≡ number_of_word word.now }
 {
     if hexadecimal(word) {
         value(16, &word[2..])

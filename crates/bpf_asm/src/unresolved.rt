@@ -1,7 +1,7 @@
 //! The draft of a code, whose labels are not resolved yet.
 
 ghost use Rattle.std.specs.Prelude.{◌≡◌, ◌++◌, List, [], ◌∷◌, length};
-ghost use Rattle.bpf_asm.specs.Grammar.{Line};
+ghost use Rattle.bpf_asm.specs.Grammar.{SourceLine};
 ghost use Rattle.bpf_asm.specs.inner.Pending.{IsPending};
 ghost use Rattle.bpf_asm.specs.inner.Seen.{line_seen};
 ghost use Rattle.bpf_asm.specs.inner.Drafts.{drafted};
@@ -56,7 +56,7 @@ fn first_form(statement: LentStatement<'_>) -> Instr
 
 /// Returns the first line whose label no instruction follows yet, after one more line.
 fn pending_after(pending: Option<usize>, at: usize, said: &LentLine<'_>) -> Option<usize>
-    ensures { (before : List Line) → length before ≡ at → IsPending before pending →
+    ensures { (before : List SourceLine) → length before ≡ at → IsPending before pending →
         IsPending (before ++ line_seen said.now ∷ []) result }
 {
     match said.statement {
@@ -73,11 +73,11 @@ fn pending_after(pending: Option<usize>, at: usize, said: &LentLine<'_>) -> Opti
 
 impl<'a> Draft<'a> {
     ghost use Rattle.std.specs.Prelude.{◌≡◌, ◌++◌, ◌+◌, ◌-◌, ◌^◌, ◌<◌, ℕ, List, [], ◌∷◌, false, length, IfErr, IfOk, IsTrue, OnOk};
-    ghost use Rattle.bpf_asm.specs.Grammar.{Line};
+    ghost use Rattle.bpf_asm.specs.Grammar.{SourceLine};
     ghost use Rattle.bpf_asm.specs.inner.Counts.{statement_count};
-    ghost use Rattle.bpf_asm.specs.inner.LabelPlaces.{place_of};
+    ghost use Rattle.bpf_asm.specs.inner.LabelPlaces.{label_place};
     ghost use Rattle.bpf_asm.specs.inner.Seen.{line_seen};
-    ghost use Rattle.bpf_asm.specs.inner.Drafts.{AgreesWith, Drafts, IsAddFault, IsTakeFault, IsTwice, Takes, drafted, unresolved_of};
+    ghost use Rattle.bpf_asm.specs.inner.Drafts.{AgreesWith, Drafts, IsAddFault, IsTakeFault, IsTwice, AddsLine, drafted, unresolved_of};
 
     /// Returns the draft of no lines.
     pub(crate) fn new(alloc: Global) -> Draft<'a>
@@ -96,11 +96,11 @@ impl<'a> Draft<'a> {
         ensures code { self.new.code ≡ self.old.code }
         ensures unresolved { self.new.unresolved ≡ self.old.unresolved }
         ensures dangling { self.new.dangling ≡ self.old.dangling }
-        ensures twice { IfOk result (λ fresh. fresh ≡ false → (lines : List Line) (count : ℕ) →
-            AgreesWith lines (place_of self.old.labels) count → IsTwice lines (line_seen said.entry)) }
-        ensures agree { IfOk result (λ fresh. IsTrue fresh → (lines : List Line) →
-            AgreesWith lines (place_of self.old.labels) (length self.old.code.items) →
-            AgreesWith (lines ++ line_seen said.entry ∷ []) (place_of self.new.labels)
+        ensures twice { IfOk result (λ fresh. fresh ≡ false → (lines : List SourceLine) (count : ℕ) →
+            AgreesWith lines (label_place self.old.labels) count → IsTwice lines (line_seen said.entry)) }
+        ensures agree { IfOk result (λ fresh. IsTrue fresh → (lines : List SourceLine) →
+            AgreesWith lines (label_place self.old.labels) (length self.old.code.items) →
+            AgreesWith (lines ++ line_seen said.entry ∷ []) (label_place self.new.labels)
             (length self.old.code.items + statement_count (line_seen said.entry).statement)) }
     {
         match said.label {
@@ -132,9 +132,9 @@ impl<'a> Draft<'a> {
     /// Adds the label and the statement of a line, which is counted from 0.
     fn add(&mut self, at: usize, said: LentLine<'a>) -> Result<(), AsmKind>
         requires { at < 2 ^ 64 - 1 }
-        ensures drafts { OnOk result ((lines : List Line) → length lines ≡ at → Drafts lines self.old →
+        ensures drafts { OnOk result ((lines : List SourceLine) → length lines ≡ at → Drafts lines self.old →
             Drafts (lines ++ line_seen said.entry ∷ []) self.new) }
-        ensures fault { (lines : List Line) → Drafts lines self.old →
+        ensures fault { (lines : List SourceLine) → Drafts lines self.old →
             IfErr result (IsAddFault lines (line_seen said.entry)) }
     {
         match self.define(said) {
@@ -152,9 +152,9 @@ impl<'a> Draft<'a> {
     /// Reads a line, which is counted from 0, and adds its label and its statement.
     pub(crate) fn take_line(&mut self, at: usize, line: &'a [u8]) -> Result<(), AsmKind>
         requires { at < 2 ^ 64 - 1 }
-        ensures taken { OnOk result ((lines : List Line) → length lines ≡ at → Drafts lines self.old →
-            Takes lines self.new line.entry.now) }
-        ensures fault { (lines : List Line) → Drafts lines self.old →
+        ensures taken { OnOk result ((lines : List SourceLine) → length lines ≡ at → Drafts lines self.old →
+            AddsLine lines self.new line.entry.now) }
+        ensures fault { (lines : List SourceLine) → Drafts lines self.old →
             IfErr result (IsTakeFault lines line.entry.now) }
     {
         match read_line(line) {

@@ -4,7 +4,7 @@ use Rattle.std.proofs.lemmas.List.{take-append-le, drop-append-le, take_more}
 use Rattle.std.proofs.Math.Seq.{take-length, drop-length}
 use Rattle.std.proofs.lemmas.Grind.{flat_map-append}
 use Rattle.std.proofs.lemmas.List.{append-nil}
-use Rattle.bpf_code.specs.Encoding.{code_octets, octets_of}
+use Rattle.bpf_code.specs.Encoding.{code_octets, octets_of_instr}
 use Rattle.bpf_code.specs.OctetSpelling.{Spells, SpellsCode, SpellsPlainly, UnusedAreZero}
 use Rattle.bpf_code.specs.declared.instr.Instr.{Instr}
 use Rattle.bpf_code.proofs.Spelled.{Spells-length, SpellsCode-unique}
@@ -46,10 +46,10 @@ plainly-step octets octets' eight code k d within s is spells unused =
 
 -- The octets so far, for the loop's place.
 pub octets-step : (octets octets' eight : List ℕ) (code : List Instr) (k : ℕ) (d : Instr) → k < length code → octets ≡ code_octets (take k code)
-    → octets' ≡ octets ++ eight → eight ≡ octets_of (get_or code k d) → octets' ≡ code_octets (take (k + 1) code)
+    → octets' ≡ octets ++ eight → eight ≡ octets_of_instr (get_or code k d) → octets' ≡ code_octets (take (k + 1) code)
 octets-step octets octets' eight code k d within so_far is here =
     let i = get_or code k d in
     is ∙ ap (λ xs. xs ++ eight) so_far
-    ∙ ap (λ xs. code_octets (take k code) ++ xs) (here ∙ sym (append-nil (octets_of i)))
-    ∙ sym (flat_map-append octets_of (take k code) (i ∷ []))
+    ∙ ap (λ xs. code_octets (take k code) ++ xs) (here ∙ sym (append-nil (octets_of_instr i)))
+    ∙ sym (flat_map-append octets_of_instr (take k code) (i ∷ []))
     ∙ ap code_octets (sym (take_more code k d within))

@@ -4,7 +4,7 @@ use Rattle.bpf_code.proofs.OneFault as faults
 use Rattle.bpf_code.proofs.Spelled as spelled
 use Rattle.bpf_code.proofs.Total as total
 use Rattle.bpf_code.proofs.Written as written
-use Rattle.bpf_code.specs.Decoding.{IsFaultOf}
+use Rattle.bpf_code.specs.Decoding.{IsDecodeFault}
 use Rattle.bpf_code.specs.Encoding.{code_octets}
 use Rattle.bpf_code.specs.Flow.{StandsAt}
 use Rattle.bpf_code.specs.OctetSpelling.{Spells, SpellsCode, SpellsPlainly, eight_at}
@@ -26,15 +26,15 @@ pub SpellsCode-at : (octets : List ℕ) (code : List Instr) (place : ℕ) → Sp
 SpellsCode-at = spelled.SpellsCode-at
 
 -- Octets spell a code or have an error other than NoMemory.
-pub code-or_fault : (octets : List ℕ) → ((code : List Instr) × SpellsCode octets code) ⊎ ((fault : DecodeFault) × (fault ≢ NoMemory) × IsFaultOf octets fault)
+pub code-or_fault : (octets : List ℕ) → ((code : List Instr) × SpellsCode octets code) ⊎ ((fault : DecodeFault) × (fault ≢ NoMemory) × IsDecodeFault octets fault)
 code-or_fault = total.code-or_fault
 
 -- Octets that spell a code have no error other than NoMemory.
-pub code-no_fault : (octets : List ℕ) (code : List Instr) (fault : DecodeFault) → SpellsCode octets code → fault ≢ NoMemory → IsFaultOf octets fault → ⊥
+pub code-no_fault : (octets : List ℕ) (code : List Instr) (fault : DecodeFault) → SpellsCode octets code → fault ≢ NoMemory → IsDecodeFault octets fault → ⊥
 code-no_fault = faults.code-no_fault
 
 -- Octets have at most one error other than NoMemory.
-pub one-decode_fault : (octets : List ℕ) (one other : DecodeFault) → one ≢ NoMemory → other ≢ NoMemory → IsFaultOf octets one → IsFaultOf octets other → one ≡ other
+pub one-decode_fault : (octets : List ℕ) (one other : DecodeFault) → one ≢ NoMemory → other ≢ NoMemory → IsDecodeFault octets one → IsDecodeFault octets other → one ≡ other
 one-decode_fault = faults.one-decode_fault
 
 -- The octets of a code whose instructions fit their fields spell it, with 0 in unused fields.

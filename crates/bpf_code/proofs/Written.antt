@@ -3,8 +3,8 @@ use Rattle.std.proofs.Common.{◌≡◌, ℕ, zero, suc, ◌<◌, ◌^◌, List,
 use Rattle.std.specs.Option.{IfSome, IfNone}
 use Rattle.byteorder.specs.Endian.{big_bytes, big_number}
 use Rattle.byteorder.specs.Numbers.{big_number-reads_back}
-use Rattle.bpf_code.specs.Encoding.{code_octets, octets_of}
-use Rattle.bpf_code.specs.Fields.{code_in, jt_in, jf_in, k_in}
+use Rattle.bpf_code.specs.Encoding.{code_octets, octets_of_instr}
+use Rattle.bpf_code.specs.Fields.{instr_number, jt_in, jf_in, k_in}
 use Rattle.bpf_code.specs.Flow.{StandsAt}
 use Rattle.bpf_code.specs.OctetSpelling.{Spells, SpellsPlainly, UnusedAreZero}
 use Rattle.bpf_code.specs.Table.{code_of, jt_of, jf_of, k_of}
@@ -87,7 +87,7 @@ operand_unused None = refl
 operand_unused (Some n) = tt
 
 -- The octets of an instruction spell it.
-octets_spell : (i : Instr) → FitsFields i → Spells (octets_of i) i
+octets_spell : (i : Instr) → FitsFields i → Spells (octets_of_instr i) i
 octets_spell i fits = record {
   eight = refl;
   code = big_number-reads_back 2 (code_of i) [] (code_small i);
@@ -96,7 +96,7 @@ octets_spell i fits = record {
   k = operand_used (k_of i) fits.k;
 }
 
-octets_plain : (i : Instr) → UnusedAreZero (octets_of i) i
+octets_plain : (i : Instr) → UnusedAreZero (octets_of_instr i) i
 octets_plain i = record { jt = unused (jt_of i); jf = unused (jf_of i); k = operand_unused (k_of i) }
 
 -- The octets of a code spell it.

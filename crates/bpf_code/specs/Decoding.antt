@@ -5,7 +5,7 @@ use Rattle.bpf_code.specs.declared.decoder.DecodeFault.{DecodeFault}
 use Rattle.bpf_code.specs.declared.decoder.DecodeFault.TheVariants.{Ragged, UnknownCode, NoMemory}
 
 -- The error is allowed for these octets. NoMemory is allowed for any.
-abbrev pub IsFaultOf : List ℕ → DecodeFault → Type 0
-IsFaultOf octets Ragged = 0 < length octets % 8
-IsFaultOf octets (UnknownCode at code) = (length octets % 8 ≡ 0) × IsFirstUnknown octets at code
-IsFaultOf octets NoMemory = Unit {0}
+abbrev pub IsDecodeFault : List ℕ → DecodeFault → Type 0
+IsDecodeFault octets Ragged = 0 < length octets % 8
+IsDecodeFault octets (UnknownCode at code) = (length octets % 8 ≡ 0) × IsFirstUnknown octets at code
+IsDecodeFault octets NoMemory = Unit {0}

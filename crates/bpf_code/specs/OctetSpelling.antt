@@ -1,6 +1,6 @@
 -- The encoding of instructions (net/bpf.h).
 use Rattle.std.specs.Prelude.{◌≡◌, ◌+◌, ◌*◌, ◌≤◌, ◌<◌, ℕ, List, [], ◌∷◌, length, take, drop, IfSome, IfNone}
-use Rattle.bpf_code.specs.Fields.{code_in, jt_in, jf_in, k_in}
+use Rattle.bpf_code.specs.Fields.{instr_number, jt_in, jf_in, k_in}
 use Rattle.bpf_code.specs.Table.{code_of, jt_of, jf_of, k_of}
 use Rattle.bpf_code.specs.declared.instr.Instr.{Instr}
 
@@ -8,7 +8,7 @@ use Rattle.bpf_code.specs.declared.instr.Instr.{Instr}
 -- anything.
 pub record Spells (octets : List ℕ) (i : Instr) : Type 0 where
   pub eight : length octets ≡ 8
-  pub code : code_in octets ≡ code_of i
+  pub code : instr_number octets ≡ code_of i
   pub jt : IfSome (jt_of i) (λ offset. jt_in octets ≡ offset)
   pub jf : IfSome (jf_of i) (λ offset. jf_in octets ≡ offset)
   pub k : IfSome (k_of i) (λ operand. k_in octets ≡ operand)
@@ -36,6 +36,6 @@ eight_at octets place = take 8 (drop (8 * place) octets)
 -- The eight octets at this place spell no instruction, all before do, and the number in them is this code.
 pub record IsFirstUnknown (octets : List ℕ) (place code : ℕ) : Type 0 where
   pub within : 8 * place + 8 ≤ length octets
-  pub there : code_in (eight_at octets place) ≡ code
+  pub there : instr_number (eight_at octets place) ≡ code
   pub unknown : (i : Instr) → ¬ Spells (eight_at octets place) i
   pub before : (earlier : ℕ) → earlier < place → (i : Instr) × Spells (eight_at octets earlier) i

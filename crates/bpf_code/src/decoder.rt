@@ -2,8 +2,8 @@
 
 ghost use Rattle.std.specs.Prelude.{◌≡◌, ◌≢◌, ◌↔◌, ◌<◌, ◌%◌, ◌⊎◌, ℕ, List, length, IfErr, IfNone, IfOk, IfSome, OnErr};
 ghost use Rattle.std.specs.Result.{IsOkUnless};
-ghost use Rattle.bpf_code.specs.Decoding.{IsFaultOf};
-ghost use Rattle.bpf_code.specs.Fields.{code_in};
+ghost use Rattle.bpf_code.specs.Decoding.{IsDecodeFault};
+ghost use Rattle.bpf_code.specs.Fields.{instr_number};
 ghost use Rattle.bpf_code.specs.OctetSpelling.{IsFirstUnknown, Spells, SpellsCode};
 ghost use Rattle.bpf_code.specs.Table.{code_of};
 ghost use Rattle.bpf_code.specs.declared.instr.By.{By};
@@ -38,9 +38,9 @@ pub enum DecodeFault {
 /// Decodes arithmetic and branches, by the instruction table.
 fn operation(octets: &[u8; 8]) -> Option<Instr>
     ensures spelled { IfSome result (λ i. Spells octets.now i) }
-    ensures no_arithmetic { IfNone result ((op : Op) (by : By) → code_of (Instr.Alu op by) ≢ code_in octets.now) }
+    ensures no_arithmetic { IfNone result ((op : Op) (by : By) → code_of (Instr.Alu op by) ≢ instr_number octets.now) }
     ensures no_branch { IfNone result ((test : Test) (by : By) (jt jf : ℕ) →
-        code_of (Instr.Branch test by jt jf) ≢ code_in octets.now) }
+        code_of (Instr.Branch test by jt jf) ≢ instr_number octets.now) }
 {
     let (jt, jf) = (octets[2], octets[3]);
     let imm = Imm(BigEndian::read_u32(&octets[4..]));
@@ -82,7 +82,7 @@ fn operation(octets: &[u8; 8]) -> Option<Instr>
 /// Decodes any instruction, by the instruction table.
 fn instruction(octets: &[u8; 8]) -> Option<Instr>
     ensures spelled { IfSome result (λ i. Spells octets.now i) }
-    ensures no_row { IfNone result ((i : Instr) → code_of i ≢ code_in octets.now) }
+    ensures no_row { IfNone result ((i : Instr) → code_of i ≢ instr_number octets.now) }
 {
     let k = BigEndian::read_u32(&octets[4..]);
     Some(match BigEndian::read_u16(octets) {
@@ -119,7 +119,7 @@ fn instruction(octets: &[u8; 8]) -> Option<Instr>
 pub fn decode_one(octets: &[u8; 8]) -> Result<Instr, u16>
     ensures spelled { (i : Instr) → (Spells octets.now i ↔ (result ≡ Ok i)) }
     ensures nothing_spelled { OnErr result ((i : Instr) → ¬ Spells octets.now i) }
-    ensures code { IfErr result (λ code. code ≡ code_in octets.now) }
+    ensures code { IfErr result (λ code. code ≡ instr_number octets.now) }
 {
     instruction(octets).ok_or(BigEndian::read_u16(octets))
 }
@@ -132,7 +132,7 @@ pub fn decode_one(octets: &[u8; 8]) -> Result<Instr, u16>
 /// spell no instruction, or `NoMemory` in its place.
 pub fn decode(alloc: Global, octets: &[u8]) -> Result<Vec<Instr>, DecodeFault>
     ensures code { IfOk result (λ code. SpellsCode octets.now code.items) }
-    ensures fault { IfErr result (IsFaultOf octets.now) }
+    ensures fault { IfErr result (IsDecodeFault octets.now) }
 
     // Each case fixes the result, except that NoMemory may replace the last two.
     ensures ragged { 0 < length octets.now % 8 → result ≡ Err DecodeFault.Ragged }

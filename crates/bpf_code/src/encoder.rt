@@ -1,7 +1,7 @@
 //! Encoding.
 
 ghost use Rattle.std.specs.Prelude.{◌≡◌, ◌≤◌, ◌+◌, ℕ, unwrap_or, IfOk};
-ghost use Rattle.bpf_code.specs.Encoding.{octets_of, code_octets};
+ghost use Rattle.bpf_code.specs.Encoding.{octets_of_instr, code_octets};
 ghost use Rattle.bpf_code.specs.OctetSpelling.{Spells, SpellsPlainly, UnusedAreZero};
 ghost use Rattle.bpf_code.specs.Table.{code_of, jt_of, jf_of, k_of};
 
@@ -148,7 +148,7 @@ impl Fields {
 pub fn encode_one(instr: Instr) -> [u8; 8]
     ensures spells { Spells result instr }
     ensures unused { UnusedAreZero result instr }
-    ensures octets { result ≡ octets_of instr }
+    ensures octets { result ≡ octets_of_instr instr }
 {
     let Fields { code, jt, jf, k } = Fields::of(instr);
     let mut octets = [0, 0, jt, jf, 0, 0, 0, 0];

@@ -1,7 +1,7 @@
 //! Laws of the definitions. Each function does nothing; its contract is the law.
 
 ghost use Rattle.std.specs.Prelude.{◌≡◌, ◌≢◌, ◌⊎◌, ℕ, List};
-ghost use Rattle.bpf_code.specs.Decoding.{IsFaultOf};
+ghost use Rattle.bpf_code.specs.Decoding.{IsDecodeFault};
 ghost use Rattle.bpf_code.specs.EarlierTable.{SpelledCodeEarlier};
 ghost use Rattle.bpf_code.specs.Encoding.{code_octets};
 ghost use Rattle.bpf_code.specs.Flow.{StandsAt};
@@ -21,7 +21,7 @@ pub fn octets_spell_one_code()
 /// Octets spell a code or have an error other than NoMemory.
 pub fn octets_spell_a_code_or_are_faulty()
     ensures { (octets : List ℕ) → ((code : List Instr) × SpellsCode octets code)
-        ⊎ ((fault : TheFault) × (fault ≢ DecodeFault.NoMemory) × IsFaultOf octets fault) }
+        ⊎ ((fault : TheFault) × (fault ≢ DecodeFault.NoMemory) × IsDecodeFault octets fault) }
 {}
 
 /// Octets with 0 in all unused fields, as `encode` writes them, spell their code and no other.
@@ -33,14 +33,14 @@ pub fn plain_octets_spell_their_code()
 /// Octets that spell a code have no error other than NoMemory.
 pub fn octets_of_a_code_have_no_fault()
     ensures { (octets : List ℕ) (code : List Instr) (fault : TheFault) → SpellsCode octets code
-        → fault ≢ DecodeFault.NoMemory → ¬ IsFaultOf octets fault }
+        → fault ≢ DecodeFault.NoMemory → ¬ IsDecodeFault octets fault }
 {}
 
 /// Octets have at most one error other than NoMemory.
 pub fn octets_have_one_fault()
     ensures { (octets : List ℕ) (one other : TheFault)
         → one ≢ DecodeFault.NoMemory → other ≢ DecodeFault.NoMemory
-        → IsFaultOf octets one → IsFaultOf octets other → one ≡ other }
+        → IsDecodeFault octets one → IsDecodeFault octets other → one ≡ other }
 {}
 
 /// The octets that `encode` writes spell the code, with 0 in all unused fields, if each instruction fits its fields.

@@ -1,7 +1,7 @@
 //! Numbers in the octets of a packet.
 
 ghost use Rattle.std.specs.Prelude.{◌≡◌};
-ghost use Rattle.bpf_interp.specs.Packet.{number_at, octets_of};
+ghost use Rattle.bpf_interp.specs.Packet.{number_at, octets_loaded};
 
 use bpf_code::Size;
 use byteorder::{BigEndian, ByteOrder};
@@ -19,7 +19,7 @@ const LAST_OCTET: u64 = CELL_OCTETS as u64 - 1;
 /// Returns the big-endian number in the octets of the packet from an offset, if the packet has all of them.
 #[inline(always)]
 pub(crate) fn load(packet: &[u8; CELL_OCTETS], offset: u64, size: Size) -> Option<u32>
-    ensures { result ≡ number_at packet.now offset (octets_of size) }
+    ensures { result ≡ number_at packet.now offset (octets_loaded size) }
 {
     match size {
         Size::Word => word(packet, offset),

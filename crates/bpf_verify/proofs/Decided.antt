@@ -8,8 +8,8 @@ use Rattle.bpf_code.specs.Flow.{StandsAt, IsReturn, IsSuccessor, LeadsTo}
 use Rattle.bpf_code.specs.Scratch.{ReadsWord}
 use Rattle.bpf_verify.specs.declared.fault.Fault.{Fault}
 use Rattle.bpf_verify.specs.declared.fault.Fault.TheVariants.{Empty, TooLong, NoReturn, Unwritten}
-use Rattle.bpf_verify.specs.Accepted.{IsAccepted, IsSized, IsSound, EndsInReturn}
-use Rattle.bpf_verify.specs.Faults.{BreaksFirst, FailsFirst, IsFaultOf, IsSoundBelow, IsUnwrittenAt, LacksReturn}
+use Rattle.bpf_verify.specs.Accepted.{IsAccepted, IsSized, IsSoundInstr, EndsInReturn}
+use Rattle.bpf_verify.specs.Faults.{BreaksFirst, FailsFirst, IsOwnFault, IsSoundBelow, IsUnwrittenAt, LacksReturn}
 use Rattle.bpf_verify.specs.Paths.{IsPath, IsWrittenAt, Stores}
 use Rattle.bpf_verify.proofs.FirstFault.{sound_or_fault, fails-from_break, decide_return, decide_stores, last_stands, one_read}
 use Rattle.bpf_verify.proofs.Onward.{decide_leads, successor_forward}
@@ -44,11 +44,11 @@ sized_or_fault code =
 
 -- The instruction at this place has a fault.
 Breaks : List Instr → ℕ → Type 0
-Breaks code place = (fault : Fault) × ((i : Instr) × StandsAt code place i × IsFaultOf (length code) place i fault)
+Breaks code place = (fault : Fault) × ((i : Instr) × StandsAt code place i × IsOwnFault (length code) place i fault)
 
 -- Each instruction at this place is sound.
 Holds : List Instr → ℕ → Type 0
-Holds code place = (i : Instr) → StandsAt code place i → IsSound (length code) place i
+Holds code place = (i : Instr) → StandsAt code place i → IsSoundInstr (length code) place i
 
 breaks_or_holds : (code : List Instr) (place : ℕ) → Breaks code place ⊎ Holds code place
 unfolding Breaks Holds
@@ -57,7 +57,7 @@ breaks_or_holds code place =
       | inr past ↦ inr (λ i stands. absurd (omega (arith, past.0, slice_get_within code place i stands)))
       | inl here ↦ elim (sound_or_fault (length code) place here.0) [
         | inr faulty ↦ inl (faulty.0, (here.0, here.2, faulty.1))
-        | inl sound ↦ inr (λ i stands. subst (λ j. IsSound (length code) place j) (one_stands code place here.0 i here.2 stands) sound)
+        | inl sound ↦ inr (λ i stands. subst (λ j. IsSoundInstr (length code) place j) (one_stands code place here.0 i here.2 stands) sound)
       ]
     ]
 

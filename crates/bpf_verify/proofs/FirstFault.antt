@@ -11,14 +11,14 @@ use Rattle.bpf_code.specs.Operands.{DividesBy, ShiftsBy}
 use Rattle.bpf_code.specs.Scratch.{NamesWord, ReadsWord, StoresWord}
 use Rattle.bpf_verify.specs.declared.fault.Fault.{Fault}
 use Rattle.bpf_verify.specs.declared.fault.Fault.TheVariants.{Empty, TooLong, BadScratch, ZeroDivisor, BadShift, JumpOutside, NoReturn, Unwritten}
-use Rattle.bpf_verify.specs.Accepted.{IsAccepted, IsSized, IsSound, EndsInReturn}
-use Rattle.bpf_verify.specs.Faults.{BreaksFirst, FailsFirst, IsFaultOf, IsSoundBelow, IsUnwrittenAt}
+use Rattle.bpf_verify.specs.Accepted.{IsAccepted, IsSized, IsSoundInstr, EndsInReturn}
+use Rattle.bpf_verify.specs.Faults.{BreaksFirst, FailsFirst, IsOwnFault, IsSoundBelow, IsUnwrittenAt}
 use Rattle.bpf_verify.specs.Paths.{IsWrittenAt, Stores}
 use Rattle.bpf_verify.proofs.Masks.{decide_store}
 use Rattle.bpf_verify.proofs.Places.{decide_any, one_stands}
 
 -- An instruction that has a fault isn't sound.
-unsound-from_fault : (size place : ℕ) (i : Instr) (fault : Fault) → IsFaultOf size place i fault → IsSound size place i → ⊥
+unsound-from_fault : (size place : ℕ) (i : Instr) (fault : Fault) → IsOwnFault size place i fault → IsSoundInstr size place i → ⊥
 unsound-from_fault size place i (BadScratch at) breaks sound = omega (arith, sound.scratch breaks.1.0 breaks.1.1, breaks.1.2)
 unsound-from_fault size place i (ZeroDivisor at) breaks sound = omega (arith, sound.divisor 0 breaks.1)
 unsound-from_fault size place i (BadShift at) breaks sound = omega (arith, sound.shift breaks.1.0 breaks.1.1, breaks.1.2)
@@ -68,7 +68,7 @@ kind-from_target place (Branch test by jt jf) target h = refl
 kind-from_target place _ target h = absurd h
 
 -- The instruction and its place determine its fault.
-fault-from_kind : (size place : ℕ) (i : Instr) (fault : Fault) → IsFaultOf size place i fault → fault ≡ fault_of_kind (kind_of i) place
+fault-from_kind : (size place : ℕ) (i : Instr) (fault : Fault) → IsOwnFault size place i fault → fault ≡ fault_of_kind (kind_of i) place
 fault-from_kind size place i (BadScratch at) h =
     ap BadScratch h.0 ∙ ap (λ kind. fault_of_kind kind place) (kind-from_word i h.1.0 h.1.1)
 fault-from_kind size place i (ZeroDivisor at) h =
@@ -79,7 +79,7 @@ fault-from_kind size place i (JumpOutside at) h =
     ap JumpOutside h.0 ∙ ap (λ kind. fault_of_kind kind place) (kind-from_target place i h.1.0 h.1.1)
 fault-from_kind size place i _ h = absurd h
 
-one_fault-of : (size place : ℕ) (i : Instr) (one other : Fault) → IsFaultOf size place i one → IsFaultOf size place i other → one ≡ other
+one_fault-of : (size place : ℕ) (i : Instr) (one other : Fault) → IsOwnFault size place i one → IsOwnFault size place i other → one ≡ other
 one_fault-of size place i one other p q = fault-from_kind size place i one p ∙ sym (fault-from_kind size place i other q)
 
 -- The number of the part of the check that finds this fault.
@@ -167,7 +167,7 @@ one_break code a b one other p q =
       | inl e ↦
           let there : StandsAt code a at_b.0 = subst (λ n. StandsAt code n at_b.0) (sym e) at_b.1 in
           let same : at_b.0 ≡ at_a.0 = one_stands code a at_b.0 at_a.0 there at_a.1 in
-          let breaks : IsFaultOf (length code) a at_a.0 other = subst (λ i. IsFaultOf (length code) a i other) same (subst (λ n. IsFaultOf (length code) n at_b.0 other) (sym e) at_b.2) in
+          let breaks : IsOwnFault (length code) a at_a.0 other = subst (λ i. IsOwnFault (length code) a i other) same (subst (λ n. IsOwnFault (length code) n at_b.0 other) (sym e) at_b.2) in
           one_fault-of (length code) a at_a.0 one other at_a.2 breaks
       | inr apart ↦ elim apart [
         | inl lt ↦ absurd (unsound-from_fault (length code) a at_a.0 one at_a.2 (q.0 a at_a.0 lt at_a.1))
@@ -242,7 +242,7 @@ one_comes_first code one other p q =
 -- Whether the one scratch word of an instruction is one of the sixteen.
 lawful_word : (size place : ℕ) (i : Instr) (k : ℕ) → NamesWord i k → ((word : ℕ) → NamesWord i word → word ≡ k)
     → ((divisor : ℕ) → DividesBy i divisor → ⊥) → ((count : ℕ) → ShiftsBy i count → ⊥) → ((target : ℕ) → JumpsTo place i target → ⊥)
-    → IsSound size place i ⊎ ((fault : Fault) × IsFaultOf size place i fault)
+    → IsSoundInstr size place i ⊎ ((fault : Fault) × IsOwnFault size place i fault)
 lawful_word size place i k names only no_divisor no_shift no_target =
     elim (cases_lt k 16) [
       | inl lt ↦ inl (record {
@@ -261,7 +261,7 @@ only_stored : (word k : ℕ) → ⊥ ⊎ (word ≡ k) → word ≡ k
 only_stored word k h = elim h [ inl no_read ↦ absurd no_read | inr e ↦ e ]
 
 -- An instruction is sound, or has a fault.
-pub sound_or_fault : (size place : ℕ) (i : Instr) → IsSound size place i ⊎ ((fault : Fault) × IsFaultOf size place i fault)
+pub sound_or_fault : (size place : ℕ) (i : Instr) → IsSoundInstr size place i ⊎ ((fault : Fault) × IsOwnFault size place i fault)
 sound_or_fault size place (LoadMem k) = lawful_word size place (LoadMem k) k (inl refl) (λ word h. only_read word k h) (λ _ h. h) (λ _ h. h) (λ _ h. h)
 sound_or_fault size place (LdxMem k) = lawful_word size place (LdxMem k) k (inl refl) (λ word h. only_read word k h) (λ _ h. h) (λ _ h. h) (λ _ h. h)
 sound_or_fault size place (Store k) = lawful_word size place (Store k) k (inr refl) (λ word h. only_stored word k h) (λ _ h. h) (λ _ h. h) (λ _ h. h)

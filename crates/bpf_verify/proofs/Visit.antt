@@ -5,7 +5,7 @@ use Rattle.std.proofs.lemmas.Option.{slice_get-get_or, slice_get_within}
 use Rattle.bpf_code.specs.declared.instr.Instr.{Instr}
 use Rattle.bpf_code.specs.declared.instr.Instr.TheVariants.{Branch, Jump, RetA, RetK}
 use Rattle.bpf_code.specs.Flow.{IsReturn, LeadsTo, StandsAt}
-use Rattle.bpf_verify.specs.Accepted.{EndsInReturn, IsSized, IsSound}
+use Rattle.bpf_verify.specs.Accepted.{EndsInReturn, IsSized, IsSoundInstr}
 use Rattle.bpf_verify.specs.Faults.{IsSoundBelow, LacksReturn}
 use Rattle.bpf_verify.specs.Paths.{IsWrittenAt}
 use Rattle.bpf_verify.proofs.Places.{one_stands}
@@ -15,7 +15,7 @@ module _ (code : List Instr) (at : ℕ) (default : Instr) (within : at < length 
   stands_there = slice_get-get_or code at default within
 
   -- One more place is sound.
-  pub one_sound : IsSoundBelow code at → IsSound (length code) at (get_or code at default) → IsSoundBelow code (at + 1)
+  pub one_sound : IsSoundBelow code at → IsSoundInstr (length code) at (get_or code at default) → IsSoundBelow code (at + 1)
   one_sound before here place i lt stands =
       elim (cases_lt place at) [
         | inl earlier ↦ before place i earlier stands
@@ -23,7 +23,7 @@ module _ (code : List Instr) (at : ℕ) (default : Instr) (within : at < length 
             let e : at ≡ place = omega arith in
             let there : StandsAt code at i = subst (λ n. StandsAt code n i) (sym e) stands in
             let same = one_stands code at (get_or code at default) i stands_there there in
-            subst (λ n. IsSound (length code) n i) e (subst (λ j. IsSound (length code) at j) same here)
+            subst (λ n. IsSoundInstr (length code) n i) e (subst (λ j. IsSoundInstr (length code) at j) same here)
       ]
 
 -- The last instruction decides whether the code ends in a return.
@@ -35,7 +35,7 @@ lacks_there code i stands goes_on j there returns =
     goes_on (subst IsReturn (one_stands code (length code - 1) j i there stands) returns)
 
 -- A sound instruction leads at most to the place after the last.
-pub next_within : (code : List Instr) (at : ℕ) (i : Instr) → IsSized code → at < length code → IsSound (length code) at i
+pub next_within : (code : List Instr) (at : ℕ) (i : Instr) → IsSized code → at < length code → IsSoundInstr (length code) at i
     → (next : ℕ) → LeadsTo at i next → next ≤ 4096
 next_within code at (Jump k) sized within sound next leads = omega (arith, sound.targets next leads, sized.most)
 next_within code at (Branch test by jt jf) sized within sound next leads = omega (arith, sound.targets next leads, sized.most)

@@ -15,7 +15,7 @@ pub record IsSized (code : List Instr) : Type 0 where
 -- An instruction is sound by itself, at this place of a code of this many instructions: each scratch word that it uses
 -- is one of the sixteen, a constant divisor isn't 0, a constant shift is less than 32, and each jump target is a place
 -- of the code.
-pub record IsSound (size place : ℕ) (i : Instr) : Type 0 where
+pub record IsSoundInstr (size place : ℕ) (i : Instr) : Type 0 where
   pub scratch : (word : ℕ) → NamesWord i word → word < 16
   pub divisor : (divisor : ℕ) → DividesBy i divisor → 0 < divisor
   pub shift : (count : ℕ) → ShiftsBy i count → count < 32
@@ -28,6 +28,6 @@ EndsInReturn code = (i : Instr) × StandsAt code (length code - 1) i × IsReturn
 -- A code that the check accepts.
 pub record IsAccepted (code : List Instr) : Type 0 where
   pub sized : IsSized code
-  pub sound : (place : ℕ) (i : Instr) → StandsAt code place i → IsSound (length code) place i
+  pub sound : (place : ℕ) (i : Instr) → StandsAt code place i → IsSoundInstr (length code) place i
   pub ends : EndsInReturn code
   pub written : (place : ℕ) → IsWrittenAt code place

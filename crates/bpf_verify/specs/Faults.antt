@@ -6,26 +6,26 @@ use Rattle.bpf_code.specs.Operands.{DividesBy, ShiftsBy}
 use Rattle.bpf_code.specs.Scratch.{NamesWord}
 use Rattle.bpf_verify.specs.declared.fault.Fault.{Fault}
 use Rattle.bpf_verify.specs.declared.fault.Fault.TheVariants.{Empty, TooLong, BadScratch, ZeroDivisor, BadShift, JumpOutside, NoReturn, Unwritten}
-use Rattle.bpf_verify.specs.Accepted.{IsSized, IsSound, EndsInReturn}
+use Rattle.bpf_verify.specs.Accepted.{IsSized, IsSoundInstr, EndsInReturn}
 use Rattle.bpf_verify.specs.Paths.{IsPath, IsWrittenAt, Reads, Stores}
 
 -- The instruction has this fault by itself, at this place of a code of this many instructions.
-abbrev pub IsFaultOf : ℕ → ℕ → Instr → Fault → Type 0
-IsFaultOf size place i (BadScratch at) = (at ≡ place) × ((word : ℕ) × NamesWord i word × (16 ≤ word))
-IsFaultOf size place i (ZeroDivisor at) = (at ≡ place) × DividesBy i 0
-IsFaultOf size place i (BadShift at) = (at ≡ place) × ((count : ℕ) × ShiftsBy i count × (32 ≤ count))
-IsFaultOf size place i (JumpOutside at) = (at ≡ place) × ((target : ℕ) × JumpsTo place i target × (size ≤ target))
-IsFaultOf size place i _ = ⊥
+abbrev pub IsOwnFault : ℕ → ℕ → Instr → Fault → Type 0
+IsOwnFault size place i (BadScratch at) = (at ≡ place) × ((word : ℕ) × NamesWord i word × (16 ≤ word))
+IsOwnFault size place i (ZeroDivisor at) = (at ≡ place) × DividesBy i 0
+IsOwnFault size place i (BadShift at) = (at ≡ place) × ((count : ℕ) × ShiftsBy i count × (32 ≤ count))
+IsOwnFault size place i (JumpOutside at) = (at ≡ place) × ((target : ℕ) × JumpsTo place i target × (size ≤ target))
+IsOwnFault size place i _ = ⊥
 
 -- Each instruction before this bound is sound by itself.
 abbrev pub IsSoundBelow : List Instr → ℕ → Type 0
 IsSoundBelow code bound =
-    (place : ℕ) (i : Instr) → place < bound → StandsAt code place i → IsSound (length code) place i
+    (place : ℕ) (i : Instr) → place < bound → StandsAt code place i → IsSoundInstr (length code) place i
 
 -- The instruction at this place has this fault, and each instruction before it is sound by itself.
 abbrev pub BreaksFirst : List Instr → ℕ → Fault → Type 0
 BreaksFirst code place fault =
-    IsSoundBelow code place × ((i : Instr) × StandsAt code place i × IsFaultOf (length code) place i fault)
+    IsSoundBelow code place × ((i : Instr) × StandsAt code place i × IsOwnFault (length code) place i fault)
 
 -- The last instruction isn't a return.
 abbrev pub LacksReturn : List Instr → Type 0

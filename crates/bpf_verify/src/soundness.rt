@@ -1,8 +1,8 @@
 //! The checks of each instruction by itself.
 
 ghost use Rattle.std.specs.Prelude.{◌+◌, ◌<◌, ◌≤◌, ◌↔◌, length, IsTrue, IfSome, IfNone};
-ghost use Rattle.bpf_verify.specs.Accepted.{IsSized, IsSound};
-ghost use Rattle.bpf_verify.specs.Faults.{FailsFirst, IsFaultOf, IsSoundBelow};
+ghost use Rattle.bpf_verify.specs.Accepted.{IsSized, IsSoundInstr};
+ghost use Rattle.bpf_verify.specs.Faults.{FailsFirst, IsOwnFault, IsSoundBelow};
 
 use crate::fault::Fault;
 use bpf_code::{By, Instr, Op};
@@ -27,8 +27,8 @@ pub(crate) fn first_unsound(code: &[Instr]) -> Option<Fault>
 /// Returns the fault that an instruction has by itself, at a place of a code of this many instructions.
 pub(crate) fn fault_of(instr: Instr, at: usize, size: usize) -> Option<Fault>
     requires { at < size }
-    ensures none { IfNone result (IsSound size at instr) }
-    ensures some { IfSome result (IsFaultOf size at instr) }
+    ensures none { IfNone result (IsSoundInstr size at instr) }
+    ensures some { IfSome result (IsOwnFault size at instr) }
 {
     match instr {
         Instr::LoadMem(word) | Instr::LdxMem(word) | Instr::Store(word) | Instr::StoreX(word) => {

@@ -19,7 +19,7 @@ use Rattle.card_core.specs.declared.step.Step.TheVariants.{Enter, Pick, Judge}
 use Rattle.card_core.specs.declared.shape.Shape.{Shape}
 use Rattle.card_core.specs.Log.{Event, Leads}
 use Rattle.card_core.specs.Agreement.{CoreView, Follows, FollowsAll}
-use Rattle.card_core.specs.Arrival.{Answers}
+use Rattle.card_core.specs.Arrival.{AnswersArrival}
 use Rattle.card_core.specs.inner.Ports.{is_idle, came_in, found_in}
 use Rattle.card_core.specs.inner.Parts.{IsFound, IsMissed, ChangesLine, JudgesOrRefuses}
 use Rattle.card_core.proofs.LineLemmas.{set-again}
@@ -87,7 +87,7 @@ module _ (shape : Shape) (store : List (Slot (List Instr))) (directory : Directo
 
   -- The pick answers the cell.
   pub arrives-missed : (answer : Answer) → IsMissed store directory (vc_of shape.side here.cell) answer
-      → Answers Old port here.cell here.moment answer Old
+      → AnswersArrival Old port here.cell here.moment answer Old
   arrives-missed answer missed =
       let enters = enter-goes shape store directory lines ports port here free in
       let picks = pick-missed shape store directory lines entered_ports port here (ap came_in entered-there) answer missed in
@@ -98,7 +98,7 @@ module _ (shape : Shape) (store : List (Slot (List Instr))) (directory : Directo
   -- The judgement answers the cell.
   pub arrives-judged : (found : Found) → IsFound store directory shape.side here found → (answer : Answer) (after : List LineView)
       → ChangesLine lines found.seating.line (JudgesOrRefuses found answer) after
-      → Answers Old port here.cell here.moment answer (core_of shape store directory after ports)
+      → AnswersArrival Old port here.cell here.moment answer (core_of shape store directory after ports)
   arrives-judged found is answer after changes =
       let picked_ports : List Port = slice_set entered_ports port (PickedPort found) in
       let Entering : CoreView = core_of shape store directory lines entered_ports in

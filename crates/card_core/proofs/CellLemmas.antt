@@ -12,7 +12,7 @@ use Rattle.leaky.specs.Contract.{Buckets}
 use Rattle.leaky.specs.declared.verdict.Verdict.{Verdict}
 use Rattle.leaky.specs.declared.verdict.Verdict.TheVariants.{Pass, Tag, Discard, Refuse}
 use Rattle.leaky.proofs.Public.{tagged_cells_came_untagged}
-use Rattle.line_record.specs.History.{NamedCell, verdict_under}
+use Rattle.line_record.specs.History.{NamedCell, named_verdict}
 use Rattle.card_core.specs.Steps.{cell_after}
 use Rattle.card_core.specs.Headline.{came_with}
 
@@ -48,7 +48,7 @@ vc-after side Discard cell = refl
 vc-after side Refuse cell = refl
 
 -- A tagged cell arrived with CLP 0.
-untagged : (contract : Option Contract) (buckets : Buckets) (cell : NamedCell) → verdict_under contract buckets cell ≡ Tag
+untagged : (contract : Option Contract) (buckets : Buckets) (cell : NamedCell) → named_verdict contract buckets cell ≡ Tag
     → cell.clp ≡ false
 untagged None buckets cell e = absurd (cc)
 untagged (Some contract) buckets cell e = tagged_cells_came_untagged contract buckets cell.clp cell.moment e
@@ -56,13 +56,13 @@ untagged (Some contract) buckets cell e = tagged_cells_came_untagged contract bu
 -- The reply to a judged cell determines the CLP on arrival.
 pub came : (cell : List ℕ) (contract : Option Contract) (buckets : Buckets) (named : NamedCell)
     → named.clp ≡ has_low_priority cell
-    → came_with (verdict_under contract buckets named) (cell_after (verdict_under contract buckets named) cell) ≡ named.clp
+    → came_with (named_verdict contract buckets named) (cell_after (named_verdict contract buckets named) cell) ≡ named.clp
 came cell contract buckets named same =
-    let choice : (verdict : Verdict) → verdict_under contract buckets named ≡ verdict
+    let choice : (verdict : Verdict) → named_verdict contract buckets named ≡ verdict
     → came_with verdict (cell_after verdict cell) ≡ named.clp = elim [
       | Pass ↦ λ e. sym same
       | Tag ↦ λ e. sym (untagged contract buckets named e)
       | Discard ↦ λ e. sym same
       | Refuse ↦ λ e. sym same
     ] in
-    choice (verdict_under contract buckets named) refl
+    choice (named_verdict contract buckets named) refl

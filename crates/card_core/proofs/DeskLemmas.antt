@@ -12,7 +12,7 @@ use Rattle.upc_cell.specs.declared.vc.Vc.{Vc}
 use Rattle.line_record.specs.declared.owner.Owner.{Owner}
 use Rattle.line_record.specs.declared.state.State.{State}
 use Rattle.line_record.specs.History.{NamedCell, empty_buckets, judged}
-use Rattle.line_record.specs.Line.{LineView, Opens, free_line}
+use Rattle.line_record.specs.Line.{LineView, OpensLine, free_line}
 use Rattle.line_record.specs.Piece.{PieceView, IsJournalOf}
 use Rattle.line_record.specs.JournalRun.{tallied}
 use Rattle.line_record.specs.StateAfter.{IsStateAfter}
@@ -64,7 +64,7 @@ cut-serves vc connection line verdicts serves counts =
 
 -- A line that was opened serves the new connection.
 pub open-serves : (ask : Ask) (number incarnation : ℕ) (line next : LineView) (owner : Owner) (verdicts : List Verdict)
-    → owner ≡ record { vc = ask.vc; incarnation = incarnation } → Opens line owner ask.contracts.items next
+    → owner ≡ record { vc = ask.vc; incarnation = incarnation } → OpensLine line owner ask.contracts.items next
     → IsStateAfter ask.contracts.items [] next.state → line.state.counts ≡ tally_of verdicts
     → Serves next ask.vc (new_connection ask number incarnation) verdicts
 open-serves ask number incarnation line next owner verdicts given opens history counts = record {

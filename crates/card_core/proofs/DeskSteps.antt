@@ -22,7 +22,7 @@ use Rattle.card_core.specs.Refusals.{reload_fault, missing_fault}
 use Rattle.card_core.specs.Steps.{WorldStep}
 use Rattle.card_core.specs.Agreement.{CoreView, CoreAgrees, Follows, Serves, LinesAgree, seating_of}
 use Rattle.card_core.specs.Sections.{holder, IsUncut}
-use Rattle.card_core.specs.inner.Parts.{ChangesLine, ReleasesOrRefuses, CutsOrRefuses, IsReleased}
+use Rattle.card_core.specs.inner.Parts.{ChangesLine, ReleasesOrRefuses, CutsOrRefuses, LeavesLine}
 use Rattle.card_core.proofs.Follow.{follows, step-refused, step-taken, step-without_memory}
 use Rattle.card_core.proofs.LookUps.{mapped, unmapped, same_some}
 use Rattle.card_core.proofs.LineLemmas.{Change, set-again, lines-with, lines-without, seatings-with, seatings-kept, seatings-without}
@@ -89,7 +89,7 @@ module _ (shape : Shape) (store : List (Slot (List Instr))) (directory : Directo
       let there : slice_get lines number ≡ Some line = subst (λ (n : ℕ). slice_get lines n ≡ Some line) (sym on) change.there in
       let serves = line-serves before agrees vc seating connection line known.1 known.2 change.there in
       let counts = agrees.lines.counts number line there in
-      let did : IsReleased directory new vc piece line next =
+      let did : LeavesLine directory new vc piece line next =
       subst (λ (r : Result PieceView DeskFault). ReleasesOrRefuses directory new vc seating r line next) is change.did in
       let changed : Change before.shape lines before.connections before.judged agrees.lines number line next before.judged = record {
         there = there;

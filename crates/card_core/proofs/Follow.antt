@@ -7,7 +7,7 @@ use Rattle.card_core.specs.Refusals.{refusal}
 use Rattle.card_core.specs.Steps.{WorldStep, Succeeds, without_memory}
 use Rattle.card_core.specs.Log.{Event, Run}
 use Rattle.card_core.specs.Agreement.{CoreView, CoreAgrees, Follows}
-use Rattle.card_core.proofs.Sound.{IsSound}
+use Rattle.card_core.proofs.Sound.{WorldInvariant}
 use Rattle.card_core.proofs.LeftLemmas.{left_with, left-as}
 use Rattle.card_core.proofs.SoundSteps.{reached-sound}
 
@@ -38,7 +38,7 @@ step-without_memory before step reply e lacks = rw e (inr (record { answer = lac
 -- For every world that satisfies the invariant and agrees with the old core, the step with this reply leads to a world
 -- that agrees with the new core.
 abbrev pub GoesOn : CoreView → Step → Reply → CoreView → Type 0
-GoesOn old step reply new = (before : World) → IsSound before → CoreAgrees old before
+GoesOn old step reply new = (before : World) → WorldInvariant before → CoreAgrees old before
     → (after : World) × WorldStep before step reply after × CoreAgrees new after
 
 pub follows : (old new : CoreView) (step : Step) (reply : Reply) → GoesOn old step reply new → Follows old step reply new

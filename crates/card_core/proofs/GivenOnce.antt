@@ -12,7 +12,7 @@ use Rattle.card_core.specs.World.{World, Loading, PortState, entered, picked, co
 use Rattle.card_core.specs.Steps.{Succeeds, WorldStep, left_by, left_by_pick, left_by_judge}
 use Rattle.card_core.specs.Log.{Event, Run}
 use Rattle.card_core.specs.Laws.{IdsAreGivenOnce, IdsNameOneCode}
-use Rattle.card_core.proofs.Sound.{IsSound}
+use Rattle.card_core.proofs.Sound.{WorldInvariant}
 use Rattle.card_core.proofs.LookUps.{same_some}
 use Rattle.card_core.proofs.CodeLemmas.{code-first, code-later}
 use Rattle.card_core.proofs.Allowed.{succeeded, starved, rejected, step-case}
@@ -39,7 +39,7 @@ given-left before (Judge port) = given-left_by_judge before port (slice_get befo
 given-left before _ = refl
 
 -- An id with the next generation of its slot was not given.
-pub new-id : (world : World) → IsSound world → (id : Id) → id.generation ≡ times_given world.given id.slot + 1
+pub new-id : (world : World) → WorldInvariant world → (id : Id) → id.generation ≡ times_given world.given id.slot + 1
     → code_in world.given id ≡ None
 new-id world sound id next =
     let choice : (o : Option (List Instr)) → code_in world.given id ≡ o → o ≡ None = elim [
@@ -48,7 +48,7 @@ new-id world sound id next =
     ] in
     choice (code_in world.given id) refl
 
-given-success : (before : World) (step : Step) (reply : Reply) (after : World) → IsSound before
+given-success : (before : World) (step : Step) (reply : Reply) (after : World) → WorldInvariant before
     → Succeeds before step reply after → GivenCase before.given after.given
 given-success before (Enter port cell moment) reply after sound w = as_before (ap (λ (v : World). v.given) w.world)
 given-success before (Pick port) reply after sound w = as_before (ap (λ (v : World). v.given) w.world)
@@ -62,7 +62,7 @@ given-success before (Reload vc program) reply after sound w = as_before (ap (λ
 given-success before (Release vc) reply after sound w = as_before (ap (λ (v : World). v.given) w.world)
 given-success before (Cut vc) reply after sound w = as_before (ap (λ (v : World). v.given) w.world)
 
-pub given-step : (before : World) (step : Step) (reply : Reply) (after : World) → IsSound before
+pub given-step : (before : World) (step : Step) (reply : Reply) (after : World) → WorldInvariant before
     → WorldStep before step reply after → GivenCase before.given after.given
 given-step before step reply after sound w = elim (step-case before step reply after w) [
   | succeeded allowed success ↦ given-success before step reply after sound success
@@ -82,7 +82,7 @@ code-kept before after (one_more loading same accepted new) id code e =
     subst (λ (l : List Loading). code_in l id ≡ Some code) (sym same)
     (code-later loading before id (id_differs id loading.id apart) ∙ e)
 
-code-run : (before : World) (log : List Event) (after : World) → IsSound before → Run before log after
+code-run : (before : World) (log : List Event) (after : World) → WorldInvariant before → Run before log after
     → (id : Id) (code : List Instr) → code_in before.given id ≡ Some code → code_in after.given id ≡ Some code
 code-run before [] after sound run id code e =
     subst (λ (v : World). code_in v.given id ≡ Some code) (sym run) e
@@ -146,7 +146,7 @@ given-kept before after (one_more loading same accepted new) keeps =
     subst (λ (l : List Loading). IsGivenOnce l × AreAccepted l) (sym same)
     (once-more before loading new keeps.0, accepted-more before loading accepted keeps.1)
 
-given-run : (before : World) (log : List Event) (after : World) → IsSound before → Run before log after
+given-run : (before : World) (log : List Event) (after : World) → WorldInvariant before → Run before log after
     → IsGivenOnce before.given × AreAccepted before.given → IsGivenOnce after.given × AreAccepted after.given
 given-run before [] after sound run keeps =
     subst (λ (v : World). IsGivenOnce v.given × AreAccepted v.given) (sym run) keeps

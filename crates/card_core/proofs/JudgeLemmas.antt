@@ -6,7 +6,7 @@ use Rattle.std.proofs.lemmas.List.{take-append-drop, take-append-le, drop-append
 use Rattle.leaky.specs.declared.verdict.Verdict.{Verdict}
 use Rattle.line_record.specs.declared.entry.Entry.{Entry}
 use Rattle.line_record.specs.declared.fault.LineFault.TheVariants.{TooLate, Back, Full}
-use Rattle.line_record.specs.History.{NamedCell, last_moment, cell_of, entry_of, empty_buckets, verdict_after, judged}
+use Rattle.line_record.specs.History.{NamedCell, last_moment, named_cell_of, entry_of, empty_buckets, verdict_after, judged}
 use Rattle.line_record.specs.Line.{LineView, line_refusal}
 use Rattle.line_record.specs.declared.tally.Tally.{Tally}
 use Rattle.line_record.specs.JournalRun.{tallied}
@@ -65,7 +65,7 @@ handed-with_cell connection cell within = take-append-le connection.handed conne
 
 -- The journal with one more cell is that of the longer history.
 pub judged-with_cell : (connection : Connection) (cell : NamedCell) (entry : Entry) → connection.handed ≤ length connection.history
-    → cell_of entry ≡ cell → entry.verdict ≡ verdict_after connection.contracts empty_buckets connection.history cell
+    → named_cell_of entry ≡ cell → entry.verdict ≡ verdict_after connection.contracts empty_buckets connection.history cell
     → judged connection.contracts empty_buckets (handed_cells connection) (kept_cells connection) ++ entry ∷ []
     ≡ judged connection.contracts empty_buckets (handed_cells (with_cell connection cell)) (kept_cells (with_cell connection cell))
 judged-with_cell connection cell entry within cells verdict =

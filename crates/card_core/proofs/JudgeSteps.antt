@@ -11,7 +11,7 @@ use Rattle.line_record.specs.declared.entry.Entry.{Entry}
 use Rattle.line_record.specs.declared.owner.Owner.{Owner}
 use Rattle.line_record.specs.declared.state.State.{State}
 use Rattle.line_record.specs.Directory.{DirectoryView}
-use Rattle.line_record.specs.History.{NamedCell, cell_of, empty_buckets, verdict_after}
+use Rattle.line_record.specs.History.{NamedCell, named_cell_of, empty_buckets, verdict_after}
 use Rattle.line_record.specs.Line.{LineView, line_refusal}
 use Rattle.line_record.specs.JournalRun.{tallied}
 use Rattle.line_record.specs.StateAfter.{IsStateAfter}
@@ -30,9 +30,9 @@ use Rattle.card_core.specs.Refusals.{refusal, judge_refusal, picking_refusal, ce
 use Rattle.card_core.specs.Steps.{WorldStep, cell_of_picking, cell_after, verdict_on, with_cell, judged_world, number_with}
 use Rattle.card_core.specs.Agreement.{CoreView, CoreAgrees, Follows, Serves, LinesAgree, seating_of}
 use Rattle.card_core.specs.Sections.{holder, is_owned_by, answer_for, judging_refusal, JudgesAt}
-use Rattle.card_core.specs.inner.Ports.{found_in, picking_of}
+use Rattle.card_core.specs.inner.Ports.{found_in, found_picking}
 use Rattle.card_core.specs.inner.Parts.{ChangesLine, JudgesOrRefuses}
-use Rattle.card_core.proofs.Sound.{IsSound}
+use Rattle.card_core.proofs.Sound.{WorldInvariant}
 use Rattle.card_core.proofs.Follow.{follows, step-refused, step-taken}
 use Rattle.card_core.proofs.LookUps.{same_some}
 use Rattle.card_core.proofs.LineLemmas.{Change, set-again, lines-with, seatings-kept}
@@ -47,7 +47,7 @@ module _ (line next : LineView) (vc : Vc) (connection : Connection) (verdicts : 
     (counts : line.state.counts ≡ tally_of verdicts)
     (judges : JudgesAt line found.seating found.named found.moment answer next) where
   abbrev Cell : NamedCell
-  Cell = cell_of_picking (picking_of found)
+  Cell = cell_of_picking (found_picking found)
 
   stands : IsStateAfter line.contracts connection.history line.state
   stands = subst (λ (under : List Contract). IsStateAfter under connection.history line.state) (sym serves.contracts) serves.state
@@ -55,7 +55,7 @@ module _ (line next : LineView) (vc : Vc) (connection : Connection) (verdicts : 
   pub judged-verdict : judges.entry.verdict ≡ verdict_on connection Cell
   judged-verdict =
       judges.verdict connection.history stands
-      ∙ ap (λ (under : List Contract). verdict_after under empty_buckets connection.history (cell_of judges.entry)) serves.contracts
+      ∙ ap (λ (under : List Contract). verdict_after under empty_buckets connection.history (named_cell_of judges.entry)) serves.contracts
       ∙ ap (verdict_after connection.contracts empty_buckets connection.history) judges.cell
 
   pub judged-counts : next.state.counts ≡ tally_of (verdicts ++ verdict_on connection Cell ∷ [])
@@ -114,7 +114,7 @@ module _ (shape : Shape) (store : List (Slot (List Instr))) (directory : Directo
   abbrev New : List LineView → CoreView
   New after = core_of shape store directory after (slice_set ports port Outside)
 
-  had : (before : World) → CoreAgrees Old before → slice_get before.ports port ≡ Some (picked (picking_of found))
+  had : (before : World) → CoreAgrees Old before → slice_get before.ports port ≡ Some (picked (found_picking found))
   had before agrees = at-port shape store directory lines ports port before agrees ∙ found_there (slice_get ports port) found there
 
   -- The refusal of a picked cell leaves the port without a cell and changes nothing else.
@@ -129,7 +129,7 @@ module _ (shape : Shape) (store : List (Slot (List Instr))) (directory : Directo
   )
 
   -- The line serves the picked connection and judges the cell.
-  taken : (before : World) → IsSound before → CoreAgrees Old before → (answer : Answer) (line next : LineView) (connection : Connection)
+  taken : (before : World) → WorldInvariant before → CoreAgrees Old before → (answer : Answer) (line next : LineView) (connection : Connection)
       → slice_get lines found.seating.line ≡ Some line
       → connection_in before.connections found.vc ≡ Some connection → connection.line ≡ found.seating.line
       → Serves line found.vc connection (before.judged connection.line)
@@ -143,9 +143,9 @@ module _ (shape : Shape) (store : List (Slot (List Instr))) (directory : Directo
       let here : slice_get lines number ≡ Some line = subst (λ (n : ℕ). slice_get lines n ≡ Some line) (sym on) at in
       let counts : line.state.counts ≡ tally_of verdicts = agrees.lines.counts number line here in
       let within = (sound.connections.each vc connection known).handed in
-      let cell = cell_of_picking (picking_of found) in
+      let cell = cell_of_picking (found_picking found) in
       let verdict = verdict_on connection cell in
-      let after : World = judged_world before port (picking_of found) connection in
+      let after : World = judged_world before port (found_picking found) connection in
       let added = with_verdict-here before.judged number verdict in
       let change : Change before.shape lines before.connections before.judged agrees.lines number line next after.judged = record {
         there = here;
@@ -163,7 +163,7 @@ module _ (shape : Shape) (store : List (Slot (List Instr))) (directory : Directo
       (λ old is. ap (λ (c : Connection). c.line) (same_some old connection (sym is ∙ known))) in (
         after,
         step-taken before after (Judge port) (Answered answer) free (record {
-          picking = picking_of found;
+          picking = found_picking found;
           had = had before agrees;
           connection = connection;
           found = known;
@@ -204,18 +204,18 @@ module _ (shape : Shape) (store : List (Slot (List Instr))) (directory : Directo
         (same_some serving.0 change.line (sym at ∙ change.there)) serving.2
 
     -- The line doesn't serve the picked connection.
-    gone : (before : World) → IsSound before → CoreAgrees Old before → is_owned_by change.line.owner Holder ≡ false
+    gone : (before : World) → WorldInvariant before → CoreAgrees Old before → is_owned_by change.line.owner Holder ≡ false
         → (now : Option Connection) → connection_in before.connections found.vc ≡ now
-        → picking_refusal before (picking_of found) now ≡ Some Released
+        → picking_refusal before (found_picking found) now ≡ Some Released
     gone before sound agrees other None known = refl
     gone before sound agrees other (Some connection) known =
         let choice : (b : Bool) → (connection.incarnation == found.seating.incarnation) ≡ b
-        → picking_refusal before (picking_of found) (Some connection) ≡ Some Released = elim [
+        → picking_refusal before (found_picking found) (Some connection) ≡ Some Released = elim [
           | true ↦ λ e.
               let same : connection.incarnation ≡ found.seating.incarnation =
               (Decides-eqb connection.incarnation found.seating.incarnation).0 e in
               let on : connection.line ≡ found.seating.line =
-              (sound.ports port (picking_of found) (had before agrees)).same_line connection known same in
+              (sound.ports port (found_picking found) (had before agrees)).same_line connection known same in
               let serves = line-of before agrees connection known on in
               let owner : change.line.owner ≡ Some Holder =
               serves.owner ∙ ap (λ (n : ℕ). Some (record { vc = found.vc; incarnation = n })) same in
@@ -226,7 +226,7 @@ module _ (shape : Shape) (store : List (Slot (List Instr))) (directory : Directo
         ] in
         choice (connection.incarnation == found.seating.incarnation) refl
 
-    released : (before : World) → IsSound before → CoreAgrees Old before → is_owned_by change.line.owner Holder ≡ false → Result before
+    released : (before : World) → WorldInvariant before → CoreAgrees Old before → is_owned_by change.line.owner Holder ≡ false → Result before
     released before sound agrees other =
         let core : judging_refusal change.line found.vc found.seating found.moment ≡ Some Released =
         ap (λ (b : Bool). cond b (option_map answer_for (line_refusal change.line found.moment)) (Some Released)) other in
@@ -234,12 +234,12 @@ module _ (shape : Shape) (store : List (Slot (List Instr))) (directory : Directo
         (JudgesAt change.line found.seating found.named found.moment answer change.next)
         (λ why. (answer ≡ why) × (change.next ≡ change.line)) Released core change.did in
         refused before agrees answer after (unchanged did.1)
-        (refused-as before port (picking_of found) (had before agrees)
+        (refused-as before port (found_picking found) (had before agrees)
         ∙ ap (option_map Answered) (gone before sound agrees other (connection_in before.connections found.vc) refl)
         ∙ ap (λ (a : Answer). Some (Answered a)) (sym did.0))
 
     -- The line serves the picked connection.
-    held : (before : World) → IsSound before → CoreAgrees Old before → is_owned_by change.line.owner Holder ≡ true → Result before
+    held : (before : World) → WorldInvariant before → CoreAgrees Old before → is_owned_by change.line.owner Holder ≡ true → Result before
     held before sound agrees own =
         let owner : change.line.owner ≡ Some Holder = owned change.line.owner Holder own in
         let of = agrees.lines.owned found.seating.line change.line Holder change.there owner in
@@ -258,9 +258,9 @@ module _ (shape : Shape) (store : List (Slot (List Instr))) (directory : Directo
         let core : judging_refusal change.line found.vc found.seating found.moment ≡ cell_refusal before connection found.moment =
         ap (λ (b : Bool). cond b (option_map answer_for (line_refusal change.line found.moment)) (Some Released)) own ∙ same in
         let world : refusal before (Judge port) ≡ option_map Answered (cell_refusal before connection found.moment) =
-        refused-as before port (picking_of found) (had before agrees)
-        ∙ ap (λ (o : Option Connection). option_map Answered (picking_refusal before (picking_of found) o)) of.found
-        ∙ ap (option_map Answered) (same-incarnation before (picking_of found) connection of.incarnation) in
+        refused-as before port (found_picking found) (had before agrees)
+        ∙ ap (λ (o : Option Connection). option_map Answered (picking_refusal before (found_picking found) o)) of.found
+        ∙ ap (option_map Answered) (same-incarnation before (found_picking found) connection of.incarnation) in
         let Judges = JudgesAt change.line found.seating found.named found.moment answer change.next in
         let Refuses : Answer → Type 0 = λ why. (answer ≡ why) × (change.next ≡ change.line) in
         let choice : (o : Option Answer) → cell_refusal before connection found.moment ≡ o → Result before = elim [

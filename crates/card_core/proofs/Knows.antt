@@ -12,8 +12,8 @@ use Rattle.card_core.specs.declared.step.Step.TheVariants.{Enter, Pick, Setup}
 use Rattle.card_core.specs.World.{World, Loading, Connection, Picking, outside, entered, picked, code_in, connection_in, opening_world}
 use Rattle.card_core.specs.Steps.{Gives, WorldStep}
 use Rattle.card_core.specs.Log.{Event, Run, Leads}
-use Rattle.card_core.specs.Headline.{Never, moves, changes, loads, retires, named_after, program_named, verdicts_on, cells_on, cells_of, entering, picking, setting_up, HasEntered, StandsSince, IsLoadedOnce}
-use Rattle.card_core.proofs.Sound.{IsSound}
+use Rattle.card_core.specs.Headline.{Never, moves, changes, loads, retires, named_after, program_after, verdicts_on, cells_on, cells_judged_on, entering, picking, setting_up, HasEntered, StandsSince, IsLoadedOnce}
+use Rattle.card_core.proofs.Sound.{WorldInvariant}
 use Rattle.card_core.proofs.GivenOnce.{given-step, code-kept}
 use Rattle.card_core.proofs.Told.{Kept, IsFresh, kept, fresh, IsPickedNow, StepTold}
 use Rattle.card_core.proofs.Telling.{step-tells}
@@ -28,7 +28,7 @@ pub record Stood (shape : Shape) (log : List Event) (vc : Vc) (connection : Conn
   pub stands : StandsSince log vc ask since
   pub incarnation : stands.incarnation ≡ connection.incarnation
   pub contracts : connection.contracts ≡ ask.contracts.items
-  pub cells : connection.history ≡ cells_of shape vc since
+  pub cells : connection.history ≡ cells_judged_on shape vc since
   pub held : connection.history ≡ cells_on connection.line since
 
 -- Its program is the latest that the log gave it.
@@ -36,7 +36,7 @@ pub record KnowsConnection (shape : Shape) (log : List Event) (vc : Vc) (connect
   pub ask : Ask
   pub since : List Event
   pub stood : Stood shape log vc connection ask since
-  pub program : connection.program ≡ program_named vc ask.program since
+  pub program : connection.program ≡ program_after vc ask.program since
 
 -- One more event.
 pub stood-more : (shape : Shape) (log : List Event) (vc : Vc) (old connection : Connection) (ask : Ask) (since : List Event) (step : Step) (reply : Reply)
@@ -54,7 +54,7 @@ stood-more shape log vc old connection ask since step reply keeps known =
       };
       incarnation = known.incarnation ∙ sym keeps.incarnation;
       contracts = keeps.contracts ∙ known.contracts;
-      cells = keeps.cells ∙ ap (λ cells. cells ++ cells_of shape vc (event ∷ [])) known.cells
+      cells = keeps.cells ∙ ap (λ cells. cells ++ cells_judged_on shape vc (event ∷ [])) known.cells
           ∙ sym (cells_of-append shape vc since (event ∷ []));
       held = subst (λ line. connection.history ≡ cells_on line (since ++ event ∷ [])) (sym keeps.line)
           (keeps.held ∙ ap (λ cells. cells ++ cells_on old.line (event ∷ [])) known.held
@@ -124,7 +124,7 @@ pub record KnowsPickedOn (shape : Shape) (log since : List Event) (port : ℕ) (
   pub ask : Ask
   pub until : List Event
   pub stood : Stood shape log pick.vc connection ask (until ++ picking port ∷ since)
-  pub named : pick.program ≡ program_named pick.vc ask.program until
+  pub named : pick.program ≡ program_after pick.vc ask.program until
 
 pub record KnowsPick (shape : Shape) (log : List Event) (given : List Loading) (connections : List (Vc × Connection)) (port : ℕ) (pick : Picking) : Type 0 where
   pub at_pick : List Event
@@ -141,7 +141,7 @@ pub record KnowsPick (shape : Shape) (log : List Event) (given : List Loading) (
 
 -- One more event that doesn't move the port.
 pick-more : (shape : Shape) (log : List Event) (before after : World) (step : Step) (reply : Reply) (port : ℕ) (pick : Picking)
-    → IsSound before → StepTold shape before step reply after
+    → WorldInvariant before → StepTold shape before step reply after
     → ((id : Id) (code : List Instr) → code_in before.given id ≡ Some code → code_in after.given id ≡ Some code)
     → slice_get before.ports port ≡ Some (picked pick) → moves port (event_of step reply) ≡ false
     → KnowsPick shape log before.given before.connections port pick
@@ -180,7 +180,7 @@ pick-now : (shape : Shape) (log : List Event) (before after : World) (step : Ste
     → KnowsCodes log before.given before.live
     → ((vc : Vc) (connection : Connection) → connection_in before.connections vc ≡ Some connection → KnowsConnection shape log vc connection)
     → HasEntered log port pick.cell pick.moment
-    → IsSound before
+    → WorldInvariant before
     → IsPickedNow before port pick step reply
     → KnowsPick shape (log ++ event_of step reply ∷ []) after.given after.connections port pick
 pick-now shape log before after step reply port pick tells keeps_codes codes connections arrived sound now =
@@ -245,7 +245,7 @@ knows-opening shape = record {
   verdicts = λ line. refl;
 }
 
-pub knows-step : (shape : Shape) (log : List Event) (before after : World) (step : Step) (reply : Reply) → IsSound before
+pub knows-step : (shape : Shape) (log : List Event) (before after : World) (step : Step) (reply : Reply) → WorldInvariant before
     → Knows shape log before → WorldStep before step reply after → Knows shape (log ++ event_of step reply ∷ []) after
 knows-step shape log before after step reply sound known w =
     let tells = step-tells shape before step reply after sound known.shape_is w in
@@ -274,7 +274,7 @@ knows-step shape log before after step reply sound known w =
           ∙ sym (verdicts_on-append line log (event_of step reply ∷ []));
     }
 
-pub knows-run : (shape : Shape) (log : List Event) (before : World) (further : List Event) (after : World) → IsSound before
+pub knows-run : (shape : Shape) (log : List Event) (before : World) (further : List Event) (after : World) → WorldInvariant before
     → Knows shape log before → Run before further after → Knows shape (log ++ further) after
 knows-run shape log before [] after sound known run =
     subst (λ (w : World). Knows shape (log ++ []) w) (sym run)

@@ -12,7 +12,7 @@ use Rattle.card_core.specs.declared.shape.Shape.{Shape}
 use Rattle.card_core.specs.declared.step.Step.{Step}
 use Rattle.card_core.specs.Judged.{JudgedView}
 use Rattle.card_core.specs.Log.{Event}
-use Rattle.card_core.specs.Headline.{Never, named_after, program_named, judged_in, judged_cells, verdicts_on, cells_on, cells_of, as_it_came}
+use Rattle.card_core.specs.Headline.{Never, named_after, program_after, judged_in, judged_cells, verdicts_on, cells_on, cells_judged_on, as_it_came}
 
 abbrev pub event_of : Step → Reply → Event
 event_of step reply = record { step = step; reply = reply }
@@ -153,12 +153,12 @@ pub cells_on-append : (line : ℕ) (log further : List Event) → cells_on line 
 cells_on-append line log further = chosen-append (λ judged. judged.line == line) as_it_came log further
 
 pub cells_of-append : (shape : Shape) (vc : Vc) (log further : List Event)
-    → cells_of shape vc (log ++ further) ≡ cells_of shape vc log ++ cells_of shape vc further
+    → cells_judged_on shape vc (log ++ further) ≡ cells_judged_on shape vc log ++ cells_judged_on shape vc further
 cells_of-append shape vc log further =
     chosen-append (λ judged. is_same_vc vc (vc_of shape.side judged.cell)) as_it_came log further
 
 pub program_named-append : (vc : Vc) (program : Id) (log further : List Event)
-    → program_named vc program (log ++ further) ≡ program_named vc (program_named vc program log) further
+    → program_after vc program (log ++ further) ≡ program_after vc (program_after vc program log) further
 program_named-append vc program log further =
     fold-append (λ (named : Id) (event : Event). named_after vc named event.reply event.step) program log further
 

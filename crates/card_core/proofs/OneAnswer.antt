@@ -17,7 +17,7 @@ use Rattle.card_core.specs.declared.step.Step.TheVariants.{Enter, Load, Setup}
 use Rattle.card_core.specs.Judged.{JudgedView}
 use Rattle.card_core.specs.Steps.{Gives, cell_after, named_cell, number_with}
 use Rattle.card_core.specs.Log.{Event}
-use Rattle.card_core.specs.Headline.{moves, changes, loads, program_named, cells_of, verdicts_on, entering, picking, setting_up, loading, HasEntered, StandsSince, IsLoadedOnce, IsPromised}
+use Rattle.card_core.specs.Headline.{moves, changes, loads, program_after, cells_judged_on, verdicts_on, entering, picking, setting_up, loading, HasEntered, StandsSince, IsLoadedOnce, IsPromised}
 use Rattle.card_core.specs.Laws.{PromisesLeaveOneAnswer}
 use Rattle.card_core.proofs.LogLemmas.{one-cut}
 
@@ -113,9 +113,9 @@ module _ (shape : Shape) (before : List Event) (port : ℕ) (one other : JudgedV
   one-program : one.program ≡ other.program
   one-program =
       p.named
-      ∙ ap (λ (v : Vc). program_named v p.ask.program p.until) one-vc
-      ∙ ap (λ (a : Ask). program_named q.vc a.program p.until) one-asked.0
-      ∙ ap (program_named q.vc q.ask.program) one-until
+      ∙ ap (λ (v : Vc). program_after v p.ask.program p.until) one-vc
+      ∙ ap (λ (a : Ask). program_after q.vc a.program p.until) one-asked.0
+      ∙ ap (program_after q.vc q.ask.program) one-until
       ∙ sym q.named
 
   -- The program gives one value.
@@ -136,7 +136,7 @@ module _ (shape : Shape) (before : List Event) (port : ℕ) (one other : JudgedV
 
   -- Both have one history, so they have one verdict.
   one-history : p.history ≡ q.history
-  one-history = p.cells ∙ ap (λ (v : Vc). cells_of shape v p.standing) one-vc ∙ ap (cells_of shape q.vc) one-asked.1 ∙ sym q.cells
+  one-history = p.cells ∙ ap (λ (v : Vc). cells_judged_on shape v p.standing) one-vc ∙ ap (cells_judged_on shape q.vc) one-asked.1 ∙ sym q.cells
 
   one-verdict : one.verdict ≡ other.verdict
   one-verdict =

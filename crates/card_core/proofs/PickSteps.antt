@@ -22,7 +22,7 @@ use Rattle.card_core.specs.World.{World, Connection, Picking, PortState, outside
 use Rattle.card_core.specs.Refusals.{refusal, pick_refusal}
 use Rattle.card_core.specs.Steps.{picking_of as picking_at}
 use Rattle.card_core.specs.Agreement.{CoreView, CoreAgrees, Follows, seating_of}
-use Rattle.card_core.specs.inner.Ports.{came_in, picking_of}
+use Rattle.card_core.specs.inner.Ports.{came_in, found_picking}
 use Rattle.card_core.specs.inner.Parts.{IsFound, IsMissed}
 use Rattle.card_core.proofs.Follow.{follows, step-refused, step-taken}
 use Rattle.card_core.proofs.LookUps.{mapped, unmapped}
@@ -49,7 +49,7 @@ missed-refused world state cell moment had missed =
 same-picking : (found : Found) (cell : List ℕ) (moment : ℕ) (vc : Vc) (connection : Connection)
     → found.named.cell ≡ cell → found.moment ≡ moment → found.vc ≡ vc → seating_of connection ≡ found.seating
     → found.named.program ≡ found.seating.program
-    → picking_of found ≡ picking_at cell moment vc connection found.named.value
+    → found_picking found ≡ picking_at cell moment vc connection found.named.value
 same-picking found cell moment vc connection cells moments vcs seatings programs =
     let Of : Seating → Picking = λ seating. record {
       cell = cell;
@@ -60,7 +60,7 @@ same-picking found cell moment vc connection cells moments vcs seatings programs
       program = seating.program;
       value = found.named.value;
     } in
-    let first : picking_of found ≡ Of found.seating = λ i. record {
+    let first : found_picking found ≡ Of found.seating = λ i. record {
       cell = cells i;
       moment = moments i;
       vc = vcs i;
@@ -92,7 +92,7 @@ module _ (shape : Shape) (store : List (Slot (List Instr))) (directory : Directo
       let live : code_in before.live connection.program ≡ Some is.naming.code =
       subst (λ (id : Id). code_in before.live id ≡ Some is.naming.code) same_program
       (sym (agrees.store.values found.seating.program) ∙ is.naming.live) in
-      let same : picking_of found ≡ picking_at here.cell here.moment vc connection found.named.value =
+      let same : found_picking found ≡ picking_at here.cell here.moment vc connection found.named.value =
       same-picking found here.cell here.moment vc connection is.naming.same is.moment same_vc (sym known.2) is.naming.program in
       let taken : refusal before (Pick port) ≡ None =
       found-not_refused before (slice_get before.ports port) here.cell here.moment connection (had before agrees) known.1 in

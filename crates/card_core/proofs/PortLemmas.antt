@@ -18,7 +18,7 @@ use Rattle.card_core.specs.World.{World, PortState, outside, entered, picked, wi
 use Rattle.card_core.specs.Refusals.{enter_refusal, pick_refusal, judge_refusal}
 use Rattle.card_core.specs.Agreement.{CoreView, CoreAgrees}
 use Rattle.gen_arena.proofs.Public.{slice_get-set_other}
-use Rattle.card_core.specs.inner.Ports.{state_of, states_of, picking_of, is_idle, came_in, found_in, IsCore}
+use Rattle.card_core.specs.inner.Ports.{port_state_of, states_of, found_picking, is_idle, came_in, found_in, IsCore}
 
 -- A core with these parts.
 abbrev pub core_of : Shape → List (Slot (List Instr)) → DirectoryView → List LineView → List Port → CoreView
@@ -31,24 +31,24 @@ core_of shape store directory lines ports = record {
 }
 
 -- The state of the port in the world.
-pub state-at : (ports : List Port) (port : ℕ) → slice_get (states_of ports) port ≡ option_map state_of (slice_get ports port)
-state-at ports port = slice_get-map state_of ports port
+pub state-at : (ports : List Port) (port : ℕ) → slice_get (states_of ports) port ≡ option_map port_state_of (slice_get ports port)
+state-at ports port = slice_get-map port_state_of ports port
 
 -- A port with no cell.
-pub idle : (port : Option Port) → is_idle port ≡ true → option_map state_of port ≡ Some outside
+pub idle : (port : Option Port) → is_idle port ≡ true → option_map port_state_of port ≡ Some outside
 idle None e = absurd (cc)
 idle (Some Outside) e = refl
 idle (Some (Entered came)) e = absurd (cc)
 idle (Some (Picked found)) e = absurd (cc)
 
-pub not_idle : (port : Option Port) → is_idle port ≡ false → enter_refusal (option_map state_of port) ≡ Some NotNow
+pub not_idle : (port : Option Port) → is_idle port ≡ false → enter_refusal (option_map port_state_of port) ≡ Some NotNow
 not_idle None e = refl
 not_idle (Some Outside) e = absurd (cc)
 not_idle (Some (Entered came)) e = refl
 not_idle (Some (Picked found)) e = refl
 
 -- A port with a cell that entered.
-pub came : (port : Option Port) (here : Came) → came_in port ≡ Some here → option_map state_of port ≡ Some (entered here.cell here.moment)
+pub came : (port : Option Port) (here : Came) → came_in port ≡ Some here → option_map port_state_of port ≡ Some (entered here.cell here.moment)
 came None here e = absurd (cc)
 came (Some Outside) here e = absurd (cc)
 came (Some (Entered other)) here e =
@@ -56,22 +56,22 @@ came (Some (Entered other)) here e =
     ap (λ (c : Came). Some (entered c.cell c.moment)) same
 came (Some (Picked found)) here e = absurd (cc)
 
-pub not_came : (world : World) (port : Option Port) → came_in port ≡ None → pick_refusal world (option_map state_of port) ≡ Some NotNow
+pub not_came : (world : World) (port : Option Port) → came_in port ≡ None → pick_refusal world (option_map port_state_of port) ≡ Some NotNow
 not_came world None e = refl
 not_came world (Some Outside) e = refl
 not_came world (Some (Entered other)) e = absurd (cc)
 not_came world (Some (Picked found)) e = refl
 
 -- A port with a picked cell.
-pub found_there : (port : Option Port) (here : Found) → found_in port ≡ Some here → option_map state_of port ≡ Some (picked (picking_of here))
+pub found_there : (port : Option Port) (here : Found) → found_in port ≡ Some here → option_map port_state_of port ≡ Some (picked (found_picking here))
 found_there None here e = absurd (cc)
 found_there (Some Outside) here e = absurd (cc)
 found_there (Some (Entered other)) here e = absurd (cc)
 found_there (Some (Picked other)) here e =
     let same : other ≡ here = cc in
-    ap (λ (f : Found). Some (picked (picking_of f))) same
+    ap (λ (f : Found). Some (picked (found_picking f))) same
 
-pub not_found : (world : World) (port : Option Port) → found_in port ≡ None → judge_refusal world (option_map state_of port) ≡ Some NotNow
+pub not_found : (world : World) (port : Option Port) → found_in port ≡ None → judge_refusal world (option_map port_state_of port) ≡ Some NotNow
 not_found world None e = refl
 not_found world (Some Outside) e = refl
 not_found world (Some (Entered other)) e = refl
@@ -79,12 +79,12 @@ not_found world (Some (Picked found)) e = absurd (cc)
 
 -- A change of one port.
 pub moved : (ports : List Port) (states : List PortState) (port : ℕ) (next : Port) → states_of ports ≡ states
-    → states_of (slice_set ports port next) ≡ slice_set states port (state_of next)
+    → states_of (slice_set ports port next) ≡ slice_set states port (port_state_of next)
 moved ports states port next e =
-    map-set state_of ports port next ∙ ap (λ (s : List PortState). slice_set s port (state_of next)) e
+    map-set port_state_of ports port next ∙ ap (λ (s : List PortState). slice_set s port (port_state_of next)) e
 
 pub CoreAgrees-moved : (shape : Shape) (store : List (Slot (List Instr))) (directory : DirectoryView) (lines : List LineView) (ports : List Port) (world : World)
-    (port : ℕ) (next : Port) (state : PortState) → state_of next ≡ state → CoreAgrees (core_of shape store directory lines ports) world
+    (port : ℕ) (next : Port) (state : PortState) → port_state_of next ≡ state → CoreAgrees (core_of shape store directory lines ports) world
     → CoreAgrees (core_of shape store directory lines (slice_set ports port next)) (with_port world port state)
 CoreAgrees-moved shape store directory lines ports world port next state same agrees = record {
   shape = agrees.shape;

@@ -14,7 +14,7 @@ use Rattle.card_core.specs.declared.shape.Shape.{Shape}
 use Rattle.card_core.specs.World.{World, PortState, outside, entered, with_port}
 use Rattle.card_core.specs.Refusals.{refusal, enter_refusal, pick_refusal, judge_refusal}
 use Rattle.card_core.specs.Agreement.{CoreView, CoreAgrees, Follows}
-use Rattle.card_core.specs.inner.Ports.{state_of, is_idle, came_in, found_in}
+use Rattle.card_core.specs.inner.Ports.{port_state_of, is_idle, came_in, found_in}
 use Rattle.card_core.proofs.Follow.{follows, step-refused, step-taken}
 use Rattle.card_core.proofs.PortLemmas.{core_of, state-at, idle, not_idle, not_came, not_found, CoreAgrees-moved}
 
@@ -23,7 +23,7 @@ module _ (shape : Shape) (store : List (Slot (List Instr))) (directory : Directo
   Old = core_of shape store directory lines ports
 
   -- The state of the port in the world.
-  pub at-port : (before : World) → CoreAgrees Old before → slice_get before.ports port ≡ option_map state_of (slice_get ports port)
+  pub at-port : (before : World) → CoreAgrees Old before → slice_get before.ports port ≡ option_map port_state_of (slice_get ports port)
   at-port before agrees = ap (λ (states : List PortState). slice_get states port) (sym agrees.ports) ∙ state-at ports port
 
   pub enter-not : (cell : List ℕ) (moment : ℕ) → is_idle (slice_get ports port) ≡ false → Follows Old (Enter port cell moment) NotNow Old

@@ -14,8 +14,8 @@ use Rattle.card_core.specs.Refusals.{refusal}
 use Rattle.card_core.specs.Steps.{Judges, WorldStep, cell_of_picking, verdict_on, number_with}
 use Rattle.card_core.specs.Log.{Event, Run}
 use Rattle.card_core.specs.Judged.{JudgedView}
-use Rattle.card_core.specs.Headline.{Never, loads, retires, judged_in, picking, judging, loading, IsLoadedOnce, IsLive, IsLiveThrough, IsPromised, EachJudgedCellIsPromised}
-use Rattle.card_core.proofs.Sound.{IsSound}
+use Rattle.card_core.specs.Headline.{Never, loads, retires, judged_in, picking, judging, loading, IsLoadedOnce, IsLiveCode, IsLiveThrough, IsPromised, EachJudgedCellIsPromised}
+use Rattle.card_core.proofs.Sound.{WorldInvariant}
 use Rattle.card_core.proofs.LookUps.{same_some, there_is}
 use Rattle.card_core.proofs.Allowed.{IsAllowed, succeeded, starved, rejected, step-case, picking-allowed}
 use Rattle.card_core.proofs.SoundSteps.{history-more, reached-sound}
@@ -35,7 +35,7 @@ run-parts before (event ∷ log) further after run =
 
 -- A code that is live after the log and after all further events is live after each of them.
 live-through : (log further : List Event) (id : Id) (code : List Instr) → IsLoadedOnce log id code
-    → IsLive (log ++ further) id code → IsLiveThrough log further id code
+    → IsLiveCode (log ++ further) id code → IsLiveThrough log further id code
 live-through log further id code at_first at_last so_far rest parts =
     let loaded : loads id (loading code id) ≡ true = id_itself id in
     let whole : at_last.loaded.earlier ++ loading code id ∷ at_last.loaded.later
@@ -65,7 +65,7 @@ live-through log further id code at_first at_last so_far rest parts =
 
 -- The promise for a picked cell on its connection.
 
-module _ (shape : Shape) (log : List Event) (world : World) (sound : IsSound world) (known : Knows shape log world) (port : ℕ) (pick : Picking) (had : slice_get world.ports port ≡ Some (picked pick)) (connection : Connection) (found : connection_in world.connections pick.vc ≡ Some connection) (same : connection.incarnation ≡ pick.incarnation) (allowed : IsAllowed world connection pick.moment) where
+module _ (shape : Shape) (log : List Event) (world : World) (sound : WorldInvariant world) (known : Knows shape log world) (port : ℕ) (pick : Picking) (had : slice_get world.ports port ≡ Some (picked pick)) (connection : Connection) (found : connection_in world.connections pick.vc ≡ Some connection) (same : connection.incarnation ≡ pick.incarnation) (allowed : IsAllowed world connection pick.moment) where
   own-vc : pick.vc ≡ vc_of shape.side pick.cell
   own-vc = (sound.ports port pick had).own ∙ ap (λ (s : Shape). vc_of s.side pick.cell) known.shape_is
 
@@ -73,12 +73,12 @@ module _ (shape : Shape) (log : List Event) (world : World) (sound : IsSound wor
       → IsLiveThrough p.at_pick (picking port ∷ p.since) pick.program p.code
   live-picked p =
       let there = there_is (code_in world.live pick.program) (sound.ports port pick had).live in
-      let live : IsLive log pick.program p.code = record {
+      let live : IsLiveCode log pick.program p.code = record {
         loaded = known.codes.loaded pick.program p.code p.given_code;
         kept = known.codes.kept pick.program there.0 there.1;
       } in
       live-through p.at_pick (picking port ∷ p.since) pick.program p.code p.loaded
-      (subst (λ (l : List Event). IsLive l pick.program p.code) p.cut live)
+      (subst (λ (l : List Event). IsLiveCode l pick.program p.code) p.cut live)
 
   pub promised-picked : IsPromised shape log port (judgement_on world pick connection)
   promised-picked =
@@ -117,7 +117,7 @@ module _ (shape : Shape) (log : List Event) (world : World) (sound : IsSound wor
 -- The promise for the judged cell of an answer.
 
 promised-judges : (shape : Shape) (log : List Event) (before : World) (port : ℕ) (reply : Reply) (after : World) (judged : JudgedView)
-    → IsSound before → Knows shape log before → refusal before (Judge port) ≡ None → Judges before port reply after
+    → WorldInvariant before → Knows shape log before → refusal before (Judge port) ≡ None → Judges before port reply after
     → judged_in reply ≡ Some judged → IsPromised shape log port judged
 promised-judges shape log before port reply after judged sound known allowed w is =
     let may = picking-allowed before port w.picking w.connection w.had w.found allowed in
@@ -132,7 +132,7 @@ refused-none refused (at_no_time is) = ap judged_in is
 refused-none refused (with_answer answer is unjudged) = ap judged_in is ∙ unjudged
 
 promised-step : (shape : Shape) (log : List Event) (before : World) (port : ℕ) (reply : Reply) (after : World) (judged : JudgedView)
-    → IsSound before → Knows shape log before → WorldStep before (Judge port) reply after
+    → WorldInvariant before → Knows shape log before → WorldStep before (Judge port) reply after
     → judged_in reply ≡ Some judged → IsPromised shape log port judged
 promised-step shape log before port reply after judged sound known w is = elim (step-case before (Judge port) reply after w) [
   | succeeded allowed success ↦ promised-judges shape log before port reply after judged sound known allowed success is

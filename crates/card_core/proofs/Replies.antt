@@ -26,7 +26,7 @@ use Rattle.card_core.specs.World.{World, Connection, PortState, outside, entered
 use Rattle.card_core.specs.Refusals.{refusal, pick_refusal, judge_refusal, picking_refusal, load_fault, retire_fault, setup_fault, reload_fault, missing_fault}
 use Rattle.card_core.specs.Steps.{IsPieceOf, Succeeds, FindsNoMemory, IsRefused, WorldStep, left_by, picking_of, judgement_of, judged_world, new_connection}
 use Rattle.card_core.specs.Laws.{is_of_memory, LoadsAccepted, StepsHaveReplies}
-use Rattle.card_core.proofs.Sound.{IsSound, SoundConnection}
+use Rattle.card_core.proofs.Sound.{WorldInvariant, SoundConnection}
 use Rattle.card_core.proofs.JudgeLemmas.{tallied-append}
 use Rattle.card_core.proofs.LookUps.{passed_on, unmapped, is_there, there_is}
 use Rattle.card_core.proofs.SoundSteps.{reached-sound}
@@ -89,7 +89,7 @@ can-enter : (before : World) (port : ℕ) (cell : List ℕ) (moment : ℕ) → C
 can-enter before port cell moment =
     (Entered, with_port before port (entered cell moment), record { answer = refl; world = refl }, refl)
 
-can-pick : (before : World) (port : ℕ) → IsSound before → (o : Option PortState) → slice_get before.ports port ≡ o
+can-pick : (before : World) (port : ℕ) → WorldInvariant before → (o : Option PortState) → slice_get before.ports port ≡ o
     → pick_refusal before o ≡ None → CanSucceed before (Pick port)
 can-pick before port sound None had e = absurd (cc)
 can-pick before port sound (Some outside) had e = absurd (cc)
@@ -214,7 +214,7 @@ can-reload before vc program e =
       refl,
     )
 
-can-release : (before : World) (vc : Vc) → IsSound before → missing_fault before vc ≡ None → CanSucceed before (Release vc)
+can-release : (before : World) (vc : Vc) → WorldInvariant before → missing_fault before vc ≡ None → CanSucceed before (Release vc)
 can-release before vc sound e =
     let one = passed_on (is_none (connection_in before.connections vc)) _ _ e in
     let found = is_there (connection_in before.connections vc) one.0 in
@@ -225,7 +225,7 @@ can-release before vc sound e =
       refl,
     )
 
-can-cut : (before : World) (vc : Vc) → IsSound before → missing_fault before vc ≡ None → CanSucceed before (Cut vc)
+can-cut : (before : World) (vc : Vc) → WorldInvariant before → missing_fault before vc ≡ None → CanSucceed before (Cut vc)
 can-cut before vc sound e =
     let one = passed_on (is_none (connection_in before.connections vc)) _ _ e in
     let found = is_there (connection_in before.connections vc) one.0 in
@@ -239,7 +239,7 @@ can-cut before vc sound e =
       refl,
     )
 
-can-succeed : (before : World) (step : Step) → IsSound before → LoadsAccepted step → refusal before step ≡ None → CanSucceed before step
+can-succeed : (before : World) (step : Step) → WorldInvariant before → LoadsAccepted step → refusal before step ≡ None → CanSucceed before step
 can-succeed before (Enter port cell moment) sound accepted e = can-enter before port cell moment
 can-succeed before (Pick port) sound accepted e = can-pick before port sound (slice_get before.ports port) refl e
 can-succeed before (Judge port) sound accepted e = can-judge before port (slice_get before.ports port) refl e
@@ -259,7 +259,7 @@ step-with before step reply after o e done =
     subst (λ (r : Option Reply). MatchOption r (Succeeds before step reply after ⊎ FindsNoMemory before step reply after)
     (λ refused. IsRefused before step refused reply after)) (sym e) done
 
-sound-replied : (world : World) (step : Step) → IsSound world → LoadsAccepted step
+sound-replied : (world : World) (step : Step) → WorldInvariant world → LoadsAccepted step
     → (reply : Reply) × (after : World) × WorldStep world step reply after × (is_of_memory reply ≡ false)
 sound-replied world step sound accepted =
     let choice : (o : Option Reply) → refusal world step ≡ o

@@ -25,8 +25,8 @@ use Rattle.card_core.specs.Refusals.{setup_fault}
 use Rattle.card_core.specs.Steps.{WorldStep, new_connection}
 use Rattle.card_core.specs.Agreement.{CoreView, CoreAgrees, Follows, LinesAgree, SeatingsAgree, seating_of}
 use Rattle.card_core.specs.Sections.{Admits, IsUnfit, IsUnready}
-use Rattle.card_core.specs.inner.Parts.{ChangesLine, SetsUpOrRefuses, IsSetUp}
-use Rattle.card_core.proofs.Sound.{IsSound}
+use Rattle.card_core.specs.inner.Parts.{ChangesLine, SetsUpOrRefuses, TakesLine}
+use Rattle.card_core.proofs.Sound.{WorldInvariant}
 use Rattle.card_core.proofs.Follow.{follows, step-refused, step-taken, step-without_memory}
 use Rattle.card_core.proofs.LookUps.{mapped, unmapped, there_is}
 use Rattle.card_core.proofs.ConnectionLemmas.{connection_passes}
@@ -80,7 +80,7 @@ module _ (shape : Shape) (store : List (Slot (List Instr))) (directory : Directo
   absent before agrees none =
       unmapped seating_of (connection_in before.connections ask.vc) (sym (agrees.seatings.seatings ask.vc) ∙ none)
 
-  line-open : (before : World) → IsSound before → CoreAgrees Old before → (line : ℕ) → IsOpenLine directory line → is_open_line before line ≡ true
+  line-open : (before : World) → WorldInvariant before → CoreAgrees Old before → (line : ℕ) → IsOpenLine directory line → is_open_line before line ≡ true
   line-open before sound agrees line free =
       let test : (Vc × Connection) → Bool = λ here. here.1.line == line in
       let choice : (b : Bool) → list_any test before.connections ≡ b → not b ≡ true = elim [
@@ -119,13 +119,13 @@ module _ (shape : Shape) (store : List (Slot (List Instr))) (directory : Directo
       below-fails before.shape.lines (is_open_line before)
       (λ line within. line-taken before agrees line (all line (omega (arith, within, agrees.seatings.lines))))
 
-  some-room : (before : World) → IsSound before → CoreAgrees Old before → (line : ℕ) → line < directory.lines → IsOpenLine directory line
+  some-room : (before : World) → WorldInvariant before → CoreAgrees Old before → (line : ℕ) → line < directory.lines → IsOpenLine directory line
       → any_below before.shape.lines (is_open_line before) ≡ true
   some-room before sound agrees line within free =
       below-passes before.shape.lines (is_open_line before) line (omega (arith, within, agrees.seatings.lines))
       (line-open before sound agrees line free)
 
-  unfit-is : (before : World) → IsSound before → CoreAgrees Old before → (fault : DeskFault) → IsUnfit store directory ask fault
+  unfit-is : (before : World) → WorldInvariant before → CoreAgrees Old before → (fault : DeskFault) → IsUnfit store directory ask fault
       → setup_fault before ask ≡ Some fault
   unfit-is before sound agrees NoProgram why =
       tests-are before true (is_some (connection_in before.connections ask.vc)) (length ask.contracts.items == 0)
@@ -161,7 +161,7 @@ module _ (shape : Shape) (store : List (Slot (List Instr))) (directory : Directo
     agrees,
   ))
 
-  fit-is : (before : World) → IsSound before → CoreAgrees Old before → (line : ℕ) → Admits store directory ask line → setup_fault before ask ≡ None
+  fit-is : (before : World) → WorldInvariant before → CoreAgrees Old before → (line : ℕ) → Admits store directory ask line → setup_fault before ask ≡ None
   fit-is before sound agrees line admits =
       tests-are before false false false true false
       (is-live before agrees admits.live) (ap is_some (absent before agrees admits.new)) (some-is (length ask.contracts.items) admits.some)
@@ -174,7 +174,7 @@ module _ (shape : Shape) (store : List (Slot (List Instr))) (directory : Directo
     setup-goes owner is = follows Old _ (Setup ask) (SetUp owner) (λ before sound agrees.
         let line = change.line in
         let next = change.next in
-        let did : IsSetUp directory new number ask owner line next =
+        let did : TakesLine directory new number ask owner line next =
         subst (λ (r : Result Owner (DeskFault × Ask)). SetsUpOrRefuses directory new number ask r line next) is change.did in
         let connection : Connection = new_connection ask number (before.used + 1) in
         let given : owner ≡ record { vc = ask.vc; incarnation = before.used + 1 } =

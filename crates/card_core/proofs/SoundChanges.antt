@@ -9,12 +9,12 @@ use Rattle.leaky.specs.declared.verdict.Verdict.{Verdict}
 use Rattle.line_record.specs.Tally.{tally_of}
 use Rattle.card_core.specs.declared.shape.Shape.{Shape}
 use Rattle.card_core.specs.World.{World, Loading, Connection, Picking, PortState, outside, entered, picked, code_in, connection_in, with_connection, opening_world, with_port}
-use Rattle.card_core.proofs.Sound.{SoundPrograms, SoundConnection, SoundPicking, IsSound}
+use Rattle.card_core.proofs.Sound.{SoundPrograms, SoundConnection, SoundPicking, WorldInvariant}
 use Rattle.gen_arena.proofs.Public.{slice_get-set}
 use Rattle.card_core.proofs.LookUps.{same_some, replicated}
 use Rattle.card_core.proofs.ConnectionLemmas.{ConnectionChanges, changes-with, IsOnce, once-with}
 
-pub opening-sound : (shape : Shape) → IsSound (opening_world shape)
+pub opening-sound : (shape : Shape) → WorldInvariant (opening_world shape)
 opening-sound shape = record {
   programs = record {
     once = λ id code e. absurd (cc);
@@ -45,7 +45,7 @@ unfolding picking_in
 picked_same one other e = ap (λ state. picking_in state one) e
 
 -- The picked cells after a write to a port.
-pub picks-set : (before : World) (port : ℕ) (state : PortState) → IsSound before
+pub picks-set : (before : World) (port : ℕ) (state : PortState) → WorldInvariant before
     → ((picking : Picking) → state ≡ picked picking → SoundPicking before picking)
     → (place : ℕ) (picking : Picking) → slice_get (set before.ports port state) place ≡ Some (picked picking)
     → SoundPicking before picking
@@ -54,9 +54,9 @@ picks-set before port state sound new place picking e = elim (slice_get-set befo
   | inr there ↦ sound.ports place picking there.1
 ]
 
-pub sound-ported : (before : World) (ports : List PortState) → IsSound before → length ports ≡ before.shape.ports
+pub sound-ported : (before : World) (ports : List PortState) → WorldInvariant before → length ports ≡ before.shape.ports
     → ((port : ℕ) (picking : Picking) → slice_get ports port ≡ Some (picked picking) → SoundPicking before picking)
-    → IsSound (record before { ports = ports })
+    → WorldInvariant (record before { ports = ports })
 sound-ported before ports sound sized picks = record {
   programs = record {
     once = sound.programs.once;
@@ -89,9 +89,9 @@ sound-ported before ports sound sized picks = record {
   used = sound.used;
 }
 
-pub sound-port : (before : World) (port : ℕ) (state : PortState) → IsSound before
+pub sound-port : (before : World) (port : ℕ) (state : PortState) → WorldInvariant before
     → ((picking : Picking) → state ≡ picked picking → SoundPicking before picking)
-    → IsSound (with_port before port state)
+    → WorldInvariant (with_port before port state)
 sound-port before port state sound new =
     sound-ported before (set before.ports port state) sound (length-set before.ports port state ∙ sound.sized)
     (picks-set before port state sound new)
@@ -123,7 +123,7 @@ pub record OneChanges (before : World) (connections : List (Vc × Connection)) (
       → SoundConnection (changed before connections used judged ports) connection
   pub kept : (connection : Connection) → new ≡ Some connection → IsNewOrKept before vc connection
 
-module _ (before : World) (connections : List (Vc × Connection)) (used : ℕ) (judged : ℕ → List Verdict) (ports : List PortState) (vc : Vc) (new : Option Connection) (is : IsSound before) (c : OneChanges before connections used judged ports vc new) where
+module _ (before : World) (connections : List (Vc × Connection)) (used : ℕ) (judged : ℕ → List Verdict) (ports : List PortState) (vc : Vc) (new : Option Connection) (is : WorldInvariant before) (c : OneChanges before connections used judged ports vc new) where
   found_new : (other : Vc) (connection : Connection) → other ≡ vc → connection_in connections other ≡ Some connection
       → new ≡ Some connection
   found_new other connection same e =
@@ -210,7 +210,7 @@ module _ (before : World) (connections : List (Vc × Connection)) (used : ℕ) (
     | inr apart ↦ s.same_line connection (found_old picking.vc connection apart e) same
   ]
 
-  pub sound-changed : IsSound (changed before connections used judged ports)
+  pub sound-changed : WorldInvariant (changed before connections used judged ports)
   sound-changed = record {
     programs = record {
       once = is.programs.once;
@@ -236,11 +236,11 @@ module _ (before : World) (connections : List (Vc × Connection)) (used : ℕ) (
   }
 
 -- A connection keeps its line and its incarnation.
-pub sound-rewritten : (before : World) (vc : Vc) (connection new : Connection) → IsSound before
+pub sound-rewritten : (before : World) (vc : Vc) (connection new : Connection) → WorldInvariant before
     → connection_in before.connections vc ≡ Some connection
     → new.incarnation ≡ connection.incarnation → new.line ≡ connection.line
     → SoundConnection (record before { connections = with_connection before.connections vc new }) new
-    → IsSound (record before { connections = with_connection before.connections vc new })
+    → WorldInvariant (record before { connections = with_connection before.connections vc new })
 sound-rewritten before vc connection new sound found same_incarnation same_line one =
     let connections : List (Vc × Connection) = with_connection before.connections vc new in
     sound-changed before connections before.used before.judged before.ports vc (Some new) sound (record {
@@ -267,12 +267,12 @@ some-more loading later id there =
     choice (is_same_id id loading.id)
 
 -- A world of which only the programs changed.
-pub sound-programs : (before : World) (given live : List Loading) → IsSound before
+pub sound-programs : (before : World) (given live : List Loading) → WorldInvariant before
     → SoundPrograms (record before { given = given; live = live })
     → ((vc : Vc) (connection : Connection) → connection_in before.connections vc ≡ Some connection
     → IsSome (code_in live connection.program))
     → ((port : ℕ) (picking : Picking) → slice_get before.ports port ≡ Some (picked picking) → IsSome (code_in live picking.program))
-    → IsSound (record before { given = given; live = live })
+    → WorldInvariant (record before { given = given; live = live })
 sound-programs before given live sound programs named picks = record {
   programs = programs;
   connections = record {

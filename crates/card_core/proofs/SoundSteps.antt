@@ -23,7 +23,7 @@ use Rattle.card_core.specs.World.{World, Loading, Connection, Picking, PortState
 use Rattle.card_core.specs.Refusals.{refusal, reload_fault}
 use Rattle.card_core.specs.Steps.{Enters, Picks, Judges, Loads, Retires, SetsUp, Reloads, Releases, Cuts, Succeeds, WorldStep, left_by, left_by_pick, left_by_judge, picking_of, cell_of_picking, with_cell, verdict_on, new_connection}
 use Rattle.card_core.specs.Log.{Event, Run}
-use Rattle.card_core.proofs.Sound.{SoundPrograms, SoundConnection, SoundPicking, IsSound, ReachedWorldsAreSound}
+use Rattle.card_core.proofs.Sound.{SoundPrograms, SoundConnection, SoundPicking, WorldInvariant, ReachedWorldsAreSound}
 use Rattle.card_core.proofs.LookUps.{same_some, passed_on, unmapped, is_there, IsSome-of}
 use Rattle.card_core.proofs.ConnectionLemmas.{changes-with, changes-without, connection_passes, once-with, once-without}
 use Rattle.card_core.proofs.CodeLemmas.{code-first, code-later, code-cases, without_code-was, without_code-others, times-same, times-grow}
@@ -33,14 +33,14 @@ use Rattle.card_core.proofs.Allowed.{succeeded, starved, rejected, step-case, pi
 
 -- The steps of a port preserve it.
 
-sound-enters : (before : World) (port : ℕ) (cell : List ℕ) (moment : ℕ) (reply : Reply) (after : World) → IsSound before
-    → Enters before port cell moment reply after → IsSound after
+sound-enters : (before : World) (port : ℕ) (cell : List ℕ) (moment : ℕ) (reply : Reply) (after : World) → WorldInvariant before
+    → Enters before port cell moment reply after → WorldInvariant after
 sound-enters before port cell moment reply after sound w =
-    subst IsSound (sym w.world) (sound-port before port (entered cell moment) sound
+    subst WorldInvariant (sym w.world) (sound-port before port (entered cell moment) sound
     (λ picking e. absurd (cc)))
 
-sound-picks : (before : World) (port : ℕ) (reply : Reply) (after : World) → IsSound before
-    → Picks before port reply after → IsSound after
+sound-picks : (before : World) (port : ℕ) (reply : Reply) (after : World) → WorldInvariant before
+    → Picks before port reply after → WorldInvariant after
 sound-picks before port reply after sound w =
     let vc : Vc = vc_of before.shape.side w.cell in
     let new : Picking = picking_of w.cell w.moment vc w.connection w.value in
@@ -52,7 +52,7 @@ sound-picks before port reply after sound w =
       same_line = λ connection found same.
           ap (λ (c : Connection). c.line) (same_some connection w.connection (sym found ∙ w.found));
     } in
-    subst IsSound (sym w.world) (sound-port before port (picked new) sound
+    subst WorldInvariant (sym w.world) (sound-port before port (picked new) sound
     (λ picking e. subst (λ (p : Picking). SoundPicking before p) (picked_same new picking e) one))
 
 pub history-more : (earliest : ℕ) (history : List NamedCell) (cell : NamedCell) → GoesOn earliest (moments_of history)
@@ -64,8 +64,8 @@ history-more earliest (first ∷ later) cell goes last = (goes.0, history-more f
 abbrev judged_so : Connection → List Entry
 judged_so connection = judged connection.contracts empty_buckets [] connection.history
 
-sound-judges : (before : World) (port : ℕ) (reply : Reply) (after : World) → IsSound before
-    → refusal before (Judge port) ≡ None → Judges before port reply after → IsSound after
+sound-judges : (before : World) (port : ℕ) (reply : Reply) (after : World) → WorldInvariant before
+    → refusal before (Judge port) ≡ None → Judges before port reply after → WorldInvariant after
 sound-judges before port reply after sound allowed w =
     let connection : Connection = w.connection in
     let cell : NamedCell = cell_of_picking w.picking in
@@ -91,7 +91,7 @@ sound-judges before port reply after sound allowed w =
           (entry_of cell (verdict_on connection cell)) (verdict_on connection cell) refl s.counted
           ∙ ap tally_of (sym (with_verdict-here before.judged connection.line (verdict_on connection cell)));
     } in
-    subst IsSound (sym w.world) (sound-changed before connections before.used verdicts ports w.picking.vc (Some new) sound (record {
+    subst WorldInvariant (sym w.world) (sound-changed before connections before.used verdicts ports w.picking.vc (Some new) sound (record {
       changes = changes-with before.connections w.picking.vc new;
       once = once-with before.connections w.picking.vc new sound.connections.once;
       grows = omega arith;
@@ -109,15 +109,15 @@ sound-judges before port reply after sound allowed w =
 -- The steps of the desk preserve it.
 
 -- Another program, or more returned cells, leave the invariant intact.
-sound-reloads : (before : World) (vc : Vc) (program : Id) (reply : Reply) (after : World) → IsSound before
-    → refusal before (Reload vc program) ≡ None → Reloads before vc program reply after → IsSound after
+sound-reloads : (before : World) (vc : Vc) (program : Id) (reply : Reply) (after : World) → WorldInvariant before
+    → refusal before (Reload vc program) ≡ None → Reloads before vc program reply after → WorldInvariant after
 sound-reloads before vc program reply after sound allowed w =
     let connection : Connection = w.connection in
     let new : Connection = record connection { program = program } in
     let s = sound.connections.each vc connection w.found in
     let live = passed_on (is_none (code_in before.live program)) _ _ (unmapped _ (reload_fault before vc program) allowed) in
     let code = is_there (code_in before.live program) live.0 in
-    subst IsSound (sym w.world) (sound-rewritten before vc connection new sound w.found refl refl (record {
+    subst WorldInvariant (sym w.world) (sound-rewritten before vc connection new sound w.found refl refl (record {
       within = s.within;
       first = s.first;
       old = s.old;
@@ -130,13 +130,13 @@ sound-reloads before vc program reply after sound allowed w =
       counted = s.counted;
     }))
 
-sound-cuts : (before : World) (vc : Vc) (reply : Reply) (after : World) → IsSound before
-    → Cuts before vc reply after → IsSound after
+sound-cuts : (before : World) (vc : Vc) (reply : Reply) (after : World) → WorldInvariant before
+    → Cuts before vc reply after → WorldInvariant after
 sound-cuts before vc reply after sound w =
     let connection : Connection = w.connection in
     let new : Connection = record connection { handed = length connection.history } in
     let s = sound.connections.each vc connection w.found in
-    subst IsSound (sym w.world) (sound-rewritten before vc connection new sound w.found refl refl (record {
+    subst WorldInvariant (sym w.world) (sound-rewritten before vc connection new sound w.found refl refl (record {
       within = s.within;
       first = s.first;
       old = s.old;
@@ -149,11 +149,11 @@ sound-cuts before vc reply after sound w =
       counted = s.counted;
     }))
 
-sound-releases : (before : World) (vc : Vc) (reply : Reply) (after : World) → IsSound before
-    → Releases before vc reply after → IsSound after
+sound-releases : (before : World) (vc : Vc) (reply : Reply) (after : World) → WorldInvariant before
+    → Releases before vc reply after → WorldInvariant after
 sound-releases before vc reply after sound w =
     let connections : List (Vc × Connection) = without_connection before.connections vc in
-    subst IsSound (sym w.world) (sound-changed before connections before.used before.judged before.ports vc None sound (record {
+    subst WorldInvariant (sym w.world) (sound-changed before connections before.used before.judged before.ports vc None sound (record {
       changes = changes-without before.connections vc;
       once = once-without before.connections vc sound.connections.once;
       grows = omega arith;
@@ -165,8 +165,8 @@ sound-releases before vc reply after sound w =
       kept = λ found e. absurd (cc);
     }))
 
-sound-sets_up : (before : World) (ask : Ask) (reply : Reply) (after : World) → IsSound before
-    → refusal before (Setup ask) ≡ None → SetsUp before ask reply after → IsSound after
+sound-sets_up : (before : World) (ask : Ask) (reply : Reply) (after : World) → WorldInvariant before
+    → refusal before (Setup ask) ≡ None → SetsUp before ask reply after → WorldInvariant after
 sound-sets_up before ask reply after sound allowed w =
     let new : Connection = new_connection ask w.line (before.used + 1) in
     let connections : List (Vc × Connection) = with_connection before.connections ask.vc new in
@@ -183,7 +183,7 @@ sound-sets_up before ask reply after sound allowed w =
       opening = tally_of (before.judged w.line);
       counted = refl;
     } in
-    subst IsSound (sym w.world) (sound-changed before connections (before.used + 1) before.judged before.ports ask.vc (Some new) sound (record {
+    subst WorldInvariant (sym w.world) (sound-changed before connections (before.used + 1) before.judged before.ports ask.vc (Some new) sound (record {
       changes = changes-with before.connections ask.vc new;
       once = once-with before.connections ask.vc new sound.connections.once;
       grows = omega arith;
@@ -196,8 +196,8 @@ sound-sets_up before ask reply after sound allowed w =
           (inl (omega arith, line-held before w.line w.open_line));
     }))
 
-sound-loads : (before : World) (code : List Instr) (reply : Reply) (after : World) → IsSound before
-    → Loads before code reply after → IsSound after
+sound-loads : (before : World) (code : List Instr) (reply : Reply) (after : World) → WorldInvariant before
+    → Loads before code reply after → WorldInvariant after
 sound-loads before code reply after sound w =
     let loading : Loading = record { id = w.id; code = code } in
     let given : List Loading = loading ∷ before.given in
@@ -229,12 +229,12 @@ sound-loads before code reply after sound w =
         | inr there ↦ sound.programs.accepted id found there.1
       ];
     } in
-    subst IsSound (sym w.world) (sound-programs before given live sound programs
+    subst WorldInvariant (sym w.world) (sound-programs before given live sound programs
     (λ vc connection e. some-more loading before.live connection.program (sound.connections.each vc connection e).named_live)
     (λ port picking e. some-more loading before.live picking.program (sound.ports port picking e).live))
 
-sound-retires : (before : World) (id : Id) (reply : Reply) (after : World) → IsSound before
-    → refusal before (Retire id) ≡ None → Retires before id reply after → IsSound after
+sound-retires : (before : World) (id : Id) (reply : Reply) (after : World) → WorldInvariant before
+    → refusal before (Retire id) ≡ None → Retires before id reply after → WorldInvariant after
 sound-retires before id reply after sound allowed w =
     let may = retire-allowed before id allowed in
     let live : List Loading = without_code before.live id in
@@ -249,7 +249,7 @@ sound-retires before id reply after sound allowed w =
     (λ v. subst (λ (i : Id). is_same_id connection.program i ≡ true) same (id_itself connection.program)) in
     let unnamed = may.unnamed in
     absurd (cc) in
-    subst IsSound (sym w.world) (sound-programs before before.given live sound programs
+    subst WorldInvariant (sym w.world) (sound-programs before before.given live sound programs
     (λ vc connection e.
     ap is_some (without_code-others before.live id connection.program (named vc connection e))
     ∙ (sound.connections.each vc connection e).named_live)
@@ -257,21 +257,21 @@ sound-retires before id reply after sound allowed w =
 
 -- Every step with every reply preserves it.
 
-sound-left_by_pick : (before : World) (port : ℕ) (o : Option PortState) → IsSound before → IsSound (left_by_pick before port o)
+sound-left_by_pick : (before : World) (port : ℕ) (o : Option PortState) → WorldInvariant before → WorldInvariant (left_by_pick before port o)
 sound-left_by_pick before port (Some (entered cell moment)) sound = sound-port before port outside sound (λ picking e. absurd (cc))
 sound-left_by_pick before port _ sound = sound
 
-sound-left_by_judge : (before : World) (port : ℕ) (o : Option PortState) → IsSound before → IsSound (left_by_judge before port o)
+sound-left_by_judge : (before : World) (port : ℕ) (o : Option PortState) → WorldInvariant before → WorldInvariant (left_by_judge before port o)
 sound-left_by_judge before port (Some (picked picking)) sound = sound-port before port outside sound (λ picking e. absurd (cc))
 sound-left_by_judge before port _ sound = sound
 
-sound-left : (before : World) (step : Step) → IsSound before → IsSound (left_by before step)
+sound-left : (before : World) (step : Step) → WorldInvariant before → WorldInvariant (left_by before step)
 sound-left before (Pick port) sound = sound-left_by_pick before port (slice_get before.ports port) sound
 sound-left before (Judge port) sound = sound-left_by_judge before port (slice_get before.ports port) sound
 sound-left before _ sound = sound
 
-sound-success : (before : World) (step : Step) (reply : Reply) (after : World) → IsSound before
-    → refusal before step ≡ None → Succeeds before step reply after → IsSound after
+sound-success : (before : World) (step : Step) (reply : Reply) (after : World) → WorldInvariant before
+    → refusal before step ≡ None → Succeeds before step reply after → WorldInvariant after
 sound-success before (Enter port cell moment) reply after sound allowed w = sound-enters before port cell moment reply after sound w
 sound-success before (Pick port) reply after sound allowed w = sound-picks before port reply after sound w
 sound-success before (Judge port) reply after sound allowed w = sound-judges before port reply after sound allowed w
@@ -282,16 +282,16 @@ sound-success before (Reload vc program) reply after sound allowed w = sound-rel
 sound-success before (Release vc) reply after sound allowed w = sound-releases before vc reply after sound w
 sound-success before (Cut vc) reply after sound allowed w = sound-cuts before vc reply after sound w
 
-pub sound-step : (before : World) (step : Step) (reply : Reply) (after : World) → IsSound before
-    → WorldStep before step reply after → IsSound after
+pub sound-step : (before : World) (step : Step) (reply : Reply) (after : World) → WorldInvariant before
+    → WorldStep before step reply after → WorldInvariant after
 sound-step before step reply after sound w = elim (step-case before step reply after w) [
   | succeeded allowed success ↦ sound-success before step reply after sound allowed success
-  | starved memory ↦ subst IsSound (sym memory.world) sound
-  | rejected refused e refusing ↦ subst IsSound (sym refusing.world) (sound-left before step sound)
+  | starved memory ↦ subst WorldInvariant (sym memory.world) sound
+  | rejected refused e refusing ↦ subst WorldInvariant (sym refusing.world) (sound-left before step sound)
 ]
 
-pub sound-run : (before : World) (log : List Event) (after : World) → IsSound before → Run before log after → IsSound after
-sound-run before [] after sound run = subst IsSound (sym run) sound
+pub sound-run : (before : World) (log : List Event) (after : World) → WorldInvariant before → Run before log after → WorldInvariant after
+sound-run before [] after sound run = subst WorldInvariant (sym run) sound
 sound-run before (event ∷ later) after sound run =
     sound-run run.0 later after (sound-step before event.step event.reply run.0 sound run.1) run.2
 

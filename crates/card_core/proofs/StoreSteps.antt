@@ -27,7 +27,7 @@ use Rattle.card_core.specs.World.{World, Loading, Connection, PortState, is_outs
 use Rattle.card_core.specs.Refusals.{load_fault, retire_fault}
 use Rattle.card_core.specs.Agreement.{CoreView, CoreAgrees, Follows, seating_of}
 use Rattle.card_core.specs.inner.Ports.{states_of, is_free_port}
-use Rattle.card_core.proofs.Sound.{IsSound}
+use Rattle.card_core.proofs.Sound.{WorldInvariant}
 use Rattle.card_core.proofs.Follow.{follows, step-refused, step-taken}
 use Rattle.card_core.proofs.LookUps.{mapped}
 use Rattle.card_core.proofs.ConnectionLemmas.{connection_passes}
@@ -120,7 +120,7 @@ module _ (shape : Shape) (store : List (Slot (List Instr))) (directory : Directo
       (before, step-refused before (Retire id) (Refused Busy) (ap (option_map Refused) fault), agrees))
 
   -- Some connection of the directory names a program exactly if some connection of the world does.
-  named-there : (before : World) → IsSound before → CoreAgrees Old before → (id : Id) → is_named before id ≡ true → IsNamed directory id
+  named-there : (before : World) → WorldInvariant before → CoreAgrees Old before → (id : Id) → is_named before id ≡ true → IsNamed directory id
   named-there before sound agrees id e =
       let found = tested-connection before.connections (λ (here : Vc × Connection). is_same_id here.1.program id) e in
       let known = sound.connections.once found.0 found.1 in

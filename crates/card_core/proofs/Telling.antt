@@ -13,7 +13,7 @@ use Rattle.card_core.specs.declared.step.Step.TheVariants.{Enter, Pick, Judge, L
 use Rattle.card_core.specs.World.{World, Connection, without_code, times_given, connection_in, with_connection, without_connection}
 use Rattle.card_core.specs.Steps.{Loads, Retires, SetsUp, Reloads, Releases, Cuts, Succeeds, WorldStep, new_connection}
 use Rattle.card_core.specs.Headline.{named_after}
-use Rattle.card_core.proofs.Sound.{IsSound}
+use Rattle.card_core.proofs.Sound.{WorldInvariant}
 use Rattle.card_core.proofs.GivenOnce.{new-id}
 use Rattle.card_core.proofs.Told.{store_same, store_loaded, store_retired, Kept, IsFresh, kept, fresh, IsSilent, kept-silent, same-silent, connections-same, connections-with, ports-same, StepTold}
 use Rattle.card_core.proofs.ConnectionLemmas.{without-here, without-others}
@@ -24,7 +24,7 @@ use Rattle.card_core.proofs.TellingRefusals.{tells-refused, tells-starved}
 
 -- Each step of the desk has the effect that its reply shows.
 
-tells-loads : (shape : Shape) (before : World) (code : List Instr) (reply : Reply) (after : World) → IsSound before
+tells-loads : (shape : Shape) (before : World) (code : List Instr) (reply : Reply) (after : World) → WorldInvariant before
     → Loads before code reply after → StepTold shape before (Load code) reply after
 tells-loads shape before code reply after sound w =
     let later : World = record before {
@@ -152,7 +152,7 @@ tells-cuts shape before vc reply after w =
 
 -- Every step with every reply has the effect that the reply shows.
 
-tells-success : (shape : Shape) (before : World) (step : Step) (reply : Reply) (after : World) → IsSound before → before.shape ≡ shape
+tells-success : (shape : Shape) (before : World) (step : Step) (reply : Reply) (after : World) → WorldInvariant before → before.shape ≡ shape
     → Succeeds before step reply after → StepTold shape before step reply after
 tells-success shape before (Enter port cell moment) reply after sound same w = tells-enters shape before port cell moment reply after w
 tells-success shape before (Pick port) reply after sound same w = tells-picks shape before port reply after w
@@ -164,7 +164,7 @@ tells-success shape before (Reload vc program) reply after sound same w = tells-
 tells-success shape before (Release vc) reply after sound same w = tells-releases shape before vc reply after w
 tells-success shape before (Cut vc) reply after sound same w = tells-cuts shape before vc reply after w
 
-pub step-tells : (shape : Shape) (before : World) (step : Step) (reply : Reply) (after : World) → IsSound before → before.shape ≡ shape
+pub step-tells : (shape : Shape) (before : World) (step : Step) (reply : Reply) (after : World) → WorldInvariant before → before.shape ≡ shape
     → WorldStep before step reply after → StepTold shape before step reply after
 step-tells shape before step reply after sound same w = elim (step-case before step reply after w) [
   | succeeded allowed success ↦ tells-success shape before step reply after sound same success

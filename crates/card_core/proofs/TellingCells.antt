@@ -7,7 +7,7 @@ use Rattle.upc_cell.proofs.Public.{vc_itself, vc_differs}
 use Rattle.bpf_code.specs.declared.instr.Instr.{Instr}
 use Rattle.gen_arena.specs.declared.id.Id.{Id}
 use Rattle.leaky.specs.declared.verdict.Verdict.{Verdict}
-use Rattle.line_record.specs.History.{NamedCell, numbered, buckets_after, empty_buckets}
+use Rattle.line_record.specs.History.{NamedCell, numbered, buckets_after_cells, empty_buckets}
 use Rattle.card_core.specs.declared.answer.Answer.{Answer}
 use Rattle.card_core.specs.declared.ask.Ask.{Ask}
 use Rattle.card_core.specs.declared.fault.DeskFault.{DeskFault}
@@ -19,9 +19,9 @@ use Rattle.card_core.specs.declared.step.Step.TheVariants.{Enter, Pick, Judge}
 use Rattle.card_core.specs.World.{World, Connection, Picking, PortState, outside, entered, picked, connection_in, with_port, with_verdict}
 use Rattle.card_core.specs.Steps.{Enters, Picks, Judges, cell_after, cell_of_picking, with_cell, verdict_on, judgement_of, picking_of, judged_world, number_with}
 use Rattle.card_core.specs.Judged.{JudgedView, told}
-use Rattle.card_core.specs.Headline.{loads, retires, changes, named_after, judged_in, as_it_came, verdicts_on, cells_on, cells_of}
+use Rattle.card_core.specs.Headline.{loads, retires, changes, named_after, judged_in, as_it_came, verdicts_on, cells_on, cells_judged_on}
 use Rattle.card_core.proofs.LogLemmas.{event_of, none-judged}
-use Rattle.card_core.proofs.Sound.{IsSound}
+use Rattle.card_core.proofs.Sound.{WorldInvariant}
 use Rattle.card_core.proofs.CellLemmas.{vc-after, came}
 use Rattle.card_core.proofs.Told.{store_same, Kept, kept, IsSilent, connections-same, connections-with, IsPickedNow, PortsTold, ports-moved, StepTold}
 use Rattle.card_core.proofs.SoundChanges.{picked_same}
@@ -190,9 +190,9 @@ told-cell before picking connection =
       program = picking.program;
     } in
     ap as_told (came picking.cell (numbered connection.contracts picking.value)
-    (buckets_after connection.contracts empty_buckets connection.history picking.value) (cell_of_picking picking) refl)
+    (buckets_after_cells connection.contracts empty_buckets connection.history picking.value) (cell_of_picking picking) refl)
 
-module _ (shape : Shape) (before : World) (sound : IsSound before) (same_shape : before.shape ≡ shape) (port : ℕ) (picking : Picking) (had : slice_get before.ports port ≡ Some (picked picking)) (connection : Connection) (found : connection_in before.connections picking.vc ≡ Some connection) where
+module _ (shape : Shape) (before : World) (sound : WorldInvariant before) (same_shape : before.shape ≡ shape) (port : ℕ) (picking : Picking) (had : slice_get before.ports port ≡ Some (picked picking)) (connection : Connection) (found : connection_in before.connections picking.vc ≡ Some connection) where
   judged_reply : Reply
   judged_reply = Answered (judgement_of before picking connection)
 
@@ -209,14 +209,14 @@ module _ (shape : Shape) (before : World) (sound : IsSound before) (same_shape :
       ∙ ap (λ (s : Shape). vc_of s.side picking.cell) (sym same_shape)
       ∙ sym (sound.ports port picking had).own
 
-  told_here : cells_of shape picking.vc (event_of (Judge port) judged_reply ∷ []) ≡ cell_of_picking picking ∷ []
+  told_here : cells_judged_on shape picking.vc (event_of (Judge port) judged_reply ∷ []) ≡ cell_of_picking picking ∷ []
   unfolding judged_reply judgement shown
   told_here =
       let at : is_same_vc picking.vc (vc_of shape.side (judgement_on before picking connection).cell) ≡ true =
       subst (λ (v : Vc). is_same_vc picking.vc v ≡ true) (sym told_vc) (vc_itself picking.vc) in
       ap (shown as_it_came) at ∙ ap (λ (c : NamedCell). c ∷ []) (told-cell before picking connection)
 
-  told_others : (other : Vc) → other ≢ picking.vc → cells_of shape other (event_of (Judge port) judged_reply ∷ []) ≡ []
+  told_others : (other : Vc) → other ≢ picking.vc → cells_judged_on shape other (event_of (Judge port) judged_reply ∷ []) ≡ []
   unfolding judged_reply judgement shown
   told_others other apart =
       ap (shown as_it_came)
@@ -286,7 +286,7 @@ module _ (shape : Shape) (before : World) (sound : IsSound before) (same_shape :
     verdicts = told_verdict;
   }
 
-pub tells-judges : (shape : Shape) (before : World) (port : ℕ) (reply : Reply) (after : World) → IsSound before → before.shape ≡ shape
+pub tells-judges : (shape : Shape) (before : World) (port : ℕ) (reply : Reply) (after : World) → WorldInvariant before → before.shape ≡ shape
     → Judges before port reply after → StepTold shape before (Judge port) reply after
 unfolding judged_reply
 tells-judges shape before port reply after sound same_shape w =

@@ -14,7 +14,7 @@ use Rattle.card_core.specs.declared.step.Step.{Step}
 use Rattle.card_core.specs.declared.step.Step.TheVariants.{Enter, Pick, Load, Retire, Setup}
 use Rattle.card_core.specs.World.{World, Connection, Picking, PortState, entered, picked, code_in, without_code, connection_in, with_connection}
 use Rattle.card_core.specs.Steps.{Gives}
-use Rattle.card_core.specs.Headline.{loads, retires, changes, moves, named_after, judged_cells, verdicts_on, cells_on, cells_of, as_it_came}
+use Rattle.card_core.specs.Headline.{loads, retires, changes, moves, named_after, judged_cells, verdicts_on, cells_on, cells_judged_on, as_it_came}
 use Rattle.card_core.specs.Judged.{JudgedView}
 use Rattle.card_core.proofs.LogLemmas.{event_of}
 use Rattle.gen_arena.proofs.Public.{slice_get-set}
@@ -43,7 +43,7 @@ pub record Kept (shape : Shape) (old connection : Connection) (vc : Vc) (step : 
   pub contracts : connection.contracts ≡ old.contracts
   pub standing : changes vc (event_of step reply) ≡ false
   pub program : connection.program ≡ named_after vc old.program reply step
-  pub cells : connection.history ≡ old.history ++ cells_of shape vc (event_of step reply ∷ [])
+  pub cells : connection.history ≡ old.history ++ cells_judged_on shape vc (event_of step reply ∷ [])
   pub held : connection.history ≡ old.history ++ cells_on old.line (event_of step reply ∷ [])
 
 -- A connection that this step set up.

@@ -79,8 +79,8 @@ named_after vc program (Reloaded old) (Reload other next) = if is_same_vc vc oth
 named_after vc program _ _ = program
 
 -- The program of the virtual connection after these events, if it was this one before them.
-abbrev pub program_named : Vc → Id → List Event → Id
-program_named vc first log = fold (λ program event. named_after vc program event.reply event.step) first log
+abbrev pub program_after : Vc → Id → List Event → Id
+program_after vc first log = fold (λ program event. named_after vc program event.reply event.step) first log
 
 -- The judged cell of the reply, if it has one.
 abbrev pub judged_in : Reply → Option JudgedView
@@ -116,8 +116,8 @@ abbrev pub cells_on : ℕ → List Event → List NamedCell
 cells_on line log = map as_it_came (filter (λ judged. judged.line == line) (judged_cells log))
 
 -- The cells that were judged on the virtual connection, on a card of this shape.
-abbrev pub cells_of : Shape → Vc → List Event → List NamedCell
-cells_of shape vc log = map as_it_came (filter (λ judged. is_same_vc vc (vc_of shape.side judged.cell)) (judged_cells log))
+abbrev pub cells_judged_on : Shape → Vc → List Event → List NamedCell
+cells_judged_on shape vc log = map as_it_came (filter (λ judged. is_same_vc vc (vc_of shape.side judged.cell)) (judged_cells log))
 
 -- The event in which this cell entered the port at this moment.
 abbrev pub entering : ℕ → List ℕ → ℕ → Event
@@ -170,14 +170,14 @@ pub record IsLoadedOnce (log : List Event) (id : Id) (code : List Instr) : Type 
   pub last : Never (loads id) later
 
 -- The code is live under the id: it is the only code ever loaded under it, and the id was not retired.
-pub record IsLive (log : List Event) (id : Id) (code : List Instr) : Type 0 where
+pub record IsLiveCode (log : List Event) (id : Id) (code : List Instr) : Type 0 where
   pub loaded : IsLoadedOnce log id code
   pub kept : Never (retires id) log
 
 -- The code is live under the id after the log, and after each of the further events.
 abbrev pub IsLiveThrough : List Event → List Event → Id → List Instr → Type 0
 IsLiveThrough log further id code =
-    (so_far rest : List Event) → further ≡ so_far ++ rest → IsLive (log ++ so_far) id code
+    (so_far rest : List Event) → further ≡ so_far ++ rest → IsLiveCode (log ++ so_far) id code
 
 -- The promise for a cell that was judged at this port, on a card of this shape, after these events.
 pub record IsPromised (shape : Shape) (before : List Event) (port : ℕ) (judged : JudgedView) : Type 0 where
@@ -202,7 +202,7 @@ pub record IsPromised (shape : Shape) (before : List Event) (port : ℕ) (judged
   pub pick : standing ≡ until ++ picking port ∷ since
   -- The program is the one that the connection named when the cell was picked: one accepted code, live from then until
   -- the judgement. Its value on the cell is the one in the answer.
-  pub named : judged.program ≡ program_named vc ask.program until
+  pub named : judged.program ≡ program_after vc ask.program until
   pub code : List Instr
   pub accepted : IsAccepted code
   pub live : IsLiveThrough at_pick (picking port ∷ since) judged.program code
@@ -210,7 +210,7 @@ pub record IsPromised (shape : Shape) (before : List Event) (port : ℕ) (judged
   -- The history of the connection is the list of the cells judged on it since it was set up. These are also the cells
   -- judged on its line since then.
   pub history : List NamedCell
-  pub cells : history ≡ cells_of shape vc standing
+  pub cells : history ≡ cells_judged_on shape vc standing
   pub held : history ≡ cells_on judged.line standing
   -- From the first cell of the history to this one the moments never go back.
   pub in_order : IsHistory (history ++ named_cell came judged.moment judged.program judged.value ∷ [])

@@ -22,7 +22,7 @@ use Rattle.card_core.specs.Steps.{WorldStep}
 use Rattle.card_core.specs.Log.{Event, Run, Leads, IsLog}
 use Rattle.card_core.specs.Stale.{is_stale}
 use Rattle.card_core.specs.Judged.{JudgedView}
-use Rattle.card_core.specs.Headline.{program_named, cells_of, cells_on, StandsSince, IsPromised}
+use Rattle.card_core.specs.Headline.{program_after, cells_judged_on, cells_on, StandsSince, IsPromised}
 
 -- The program of each connection is live. So is the program of each picked cell, even if its connection has another
 -- program by now, or was released or set up again.
@@ -121,8 +121,8 @@ pub record IsAsTold (shape : Shape) (log : List Event) (vc : Vc) (connection : C
   pub stands : StandsSince log vc ask since
   pub incarnation : connection.incarnation ≡ stands.incarnation
   pub contracts : connection.contracts ≡ ask.contracts.items
-  pub program : connection.program ≡ program_named vc ask.program since
-  pub cells : connection.history ≡ cells_of shape vc since
+  pub program : connection.program ≡ program_after vc ask.program since
+  pub cells : connection.history ≡ cells_judged_on shape vc since
   pub held : connection.history ≡ cells_on connection.line since
 
 -- Each connection of the world agrees with the log. Each connection that, by the log, was set up and neither released
@@ -145,7 +145,7 @@ LogsBoundBursts = (shape : Shape) (log : List Event) → IsLog shape log
     → (vc : Vc) (ask : Ask) (since : List Event) → StandsSince log vc ask since
     → (number : ℕ) (contract : Contract) → numbered ask.contracts.items number ≡ Some contract
     → (first span : ℕ)
-    → IsBounded first span (peak_charges number (judged ask.contracts.items empty_buckets [] (cells_of shape vc since))) (peak_of contract)
+    → IsBounded first span (peak_charges number (judged ask.contracts.items empty_buckets [] (cells_judged_on shape vc since))) (peak_of contract)
 
 -- The headline leaves one answer: if two judged cells of one line are both promised at this port after these events,
 -- they are the same.

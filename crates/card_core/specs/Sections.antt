@@ -12,7 +12,7 @@ use Rattle.line_record.specs.declared.owner.Owner.{Owner}
 use Rattle.line_record.specs.declared.fault.LineFault.{LineFault}
 use Rattle.line_record.specs.declared.fault.LineFault.TheVariants.{TooLate, Back, Full, NoMemory as LineNoMemory}
 use Rattle.line_record.specs.Directory.{DirectoryView, seating_at, IsOpenLine, IsTakenLine}
-use Rattle.line_record.specs.History.{NamedCell, cell_of, empty_buckets, verdict_after}
+use Rattle.line_record.specs.History.{NamedCell, named_cell_of, empty_buckets, verdict_after}
 use Rattle.line_record.specs.Line.{LineView, line_refusal, Gains}
 use Rattle.line_record.specs.StateAfter.{IsStateAfter}
 use Rattle.line_record.specs.Tally.{count_of}
@@ -69,12 +69,12 @@ judging_refusal line vc seating moment =
 -- verdict is that of the history, and the new state agrees with the history and this cell.
 pub record JudgesAt (old : LineView) (seating : Seating) (named : NamedView) (moment : ℕ) (answer : Answer) (new : LineView) : Type 0 where
   pub entry : Entry
-  pub cell : cell_of entry ≡ named_cell named.cell moment named.program named.value
+  pub cell : named_cell_of entry ≡ named_cell named.cell moment named.program named.value
   pub gains : Gains old entry new
   pub verdict : (history : List NamedCell) → IsStateAfter old.contracts history old.state
-      → entry.verdict ≡ verdict_after old.contracts empty_buckets history (cell_of entry)
+      → entry.verdict ≡ verdict_after old.contracts empty_buckets history (named_cell_of entry)
   pub history : (history : List NamedCell) → IsStateAfter old.contracts history old.state
-      → IsStateAfter new.contracts (history ++ cell_of entry ∷ []) new.state
+      → IsStateAfter new.contracts (history ++ named_cell_of entry ∷ []) new.state
   pub answered : answer ≡ Judged seating.line (count_of old.state.counts entry.verdict + 1)
       moment named.value named.program entry.verdict (cell_after entry.verdict named.cell)
 

@@ -8,7 +8,7 @@ ghost use Rattle.gen_arena.specs.Live.{live_value, IsLive};
 ghost use Rattle.gen_arena.specs.Past.{KeepsPast};
 ghost use Rattle.gen_arena.specs.Remove.{Removes};
 ghost use Rattle.line_record.specs.Directory.{seating_at, IsNamed, IsOpenLine, Sits};
-ghost use Rattle.line_record.specs.Line.{Opens, free_line};
+ghost use Rattle.line_record.specs.Line.{OpensLine, free_line};
 ghost use Rattle.line_record.specs.Piece.{IsJournalOf, IsPiece};
 ghost use Rattle.line_record.specs.StateAfter.{IsStateAfter};
 ghost use Rattle.line_record.specs.declared.directory.Seating.{Seating};
@@ -130,7 +130,7 @@ pub fn setup(
         (Some (record { line = number; incarnation = directory.old.used + 1; program = ask.program }))
         directory.new) }
     ensures used { OnOk result (directory.new.used ≡ directory.old.used + 1) }
-    ensures opened { IfOk result (λ owner. Opens line.old owner ask.contracts.items line.new) }
+    ensures opened { IfOk result (λ owner. OpensLine line.old owner ask.contracts.items line.new) }
     ensures history { OnOk result (IsStateAfter ask.contracts.items [] line.new.state) }
 
     // There are two errors. After Stale nothing changed. After NoMemory the line may be ready now, and

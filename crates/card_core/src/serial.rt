@@ -56,7 +56,7 @@ impl Core {
     ghost use Rattle.card_core.specs.Shapes.{shape_fault};
     ghost use Rattle.card_core.specs.declared.step.Step.TheVariants.{Enter, Pick, Judge, Load, Retire, Setup, Reload, Release, Cut};
     ghost use Rattle.card_core.specs.Agreement.{CoreAgrees, Follows, FollowsAll};
-    ghost use Rattle.card_core.specs.Arrival.{Answers};
+    ghost use Rattle.card_core.specs.Arrival.{AnswersArrival};
     ghost use Rattle.card_core.specs.Inspection.{load_fault_of, IsRetireFault, PutsIn, TakesOut};
     ghost use Rattle.card_core.specs.Kept.{RefusalKeeps};
     ghost use Rattle.card_core.specs.Sections.{answer_to};
@@ -218,7 +218,7 @@ impl Core {
         moment: u64,
     ) -> Option<Result<Judgement, Unjudged>>
         ensures answered { IfSome result (λ told.
-            Answers self.old port cell.now moment (answer_to cell.now told) self.new) }
+            AnswersArrival self.old port cell.now moment (answer_to cell.now told) self.new) }
         ensures not_now { IfNone result (Follows self.old (Enter port cell.now moment) Reply.NotNow self.new) }
         ensures rest { self.new ≡ record self.old { lines = self.new.lines } }
         ensures unchanged { IfNone result (self.new ≡ self.old) }

@@ -11,7 +11,7 @@ use Rattle.gen_arena.specs.declared.id.Id.{Id}
 use Rattle.gen_arena.specs.SameId.{is_same_id}
 use Rattle.gen_arena.proofs.Public.{id_same}
 use Rattle.card_core.specs.World.{World, Connection, code_in, times_given, connection_in, without_connection, with_connection}
-use Rattle.card_core.specs.inner.Sound.{IsSound}
+use Rattle.card_core.specs.inner.Sound.{WorldInvariant}
 use Rattle.card_core.proofs.ConnectionLemmas.{connection-later}
 use Rattle.card_core.proofs.LookUps.{there_is}
 
@@ -49,7 +49,7 @@ found-same connections vc other found e at =
     subst (λ (v : Vc). connection_in connections v ≡ found) (sym (vc_same vc other e)) at
 
 -- A live program keeps its code after a load under a new id.
-pub code-stays : (world : World) (id program : Id) (code : List Instr) → IsSound world
+pub code-stays : (world : World) (id program : Id) (code : List Instr) → WorldInvariant world
     → id.generation ≡ times_given world.given id.slot + 1 → IsSome (code_in world.live program)
     → code_in (record { id = id; code = code } ∷ world.given) program ≡ code_in world.given program
 code-stays world id program code sound next live =

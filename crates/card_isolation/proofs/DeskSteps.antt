@@ -16,7 +16,7 @@ use Rattle.card_core.specs.declared.step.Step.TheVariants.{Load, Retire, Setup, 
 use Rattle.card_core.specs.World.{World, Loading, Connection, Picking, PortState, outside, entered, picked, code_in, without_code, times_given, handed_cells, kept_cells, connection_in, with_connection, without_connection}
 use Rattle.card_core.specs.Refusals.{refusal, setup_fault}
 use Rattle.card_core.specs.Steps.{Loads, Retires, SetsUp, Reloads, Releases, Cuts, IsPieceOf, new_connection}
-use Rattle.card_core.specs.inner.Sound.{IsSound}
+use Rattle.card_core.specs.inner.Sound.{WorldInvariant}
 use Rattle.card_isolation.specs.Act.{sets_up, reloads, releases, cuts}
 use Rattle.card_isolation.specs.Outcome.{Outcome, seen, done, named_before, handed_out, outcome_of_piece}
 use Rattle.card_isolation.specs.OwnEvents.{own_where}
@@ -47,7 +47,7 @@ standing-loaded before new None stays = refl
 standing-loaded before new (Some connection) stays =
     ap (λ code. Some (record (standing_of before.given connection) { code = code })) (stays connection refl)
 
-pub tells-loads : (vc : Vc) (before : World) (code : List Instr) (reply : Reply) (after : World) → IsSound before
+pub tells-loads : (vc : Vc) (before : World) (code : List Instr) (reply : Reply) (after : World) → WorldInvariant before
     → Loads before code reply after → Tells vc before (Load code) reply after
 tells-loads vc before code reply after sound w =
     let new : Loading = record { id = w.id; code = code } in
@@ -101,7 +101,7 @@ was-free before ask allowed =
     let two = passed_on (is_some (connection_in before.connections ask.vc)) _ _ one.1 in
     is_missing (connection_in before.connections ask.vc) two.0
 
-pub tells-sets_up : (vc : Vc) (before : World) (ask : Ask) (reply : Reply) (after : World) → IsSound before
+pub tells-sets_up : (vc : Vc) (before : World) (ask : Ask) (reply : Reply) (after : World) → WorldInvariant before
     → refusal before (Setup ask) ≡ None → SetsUp before ask reply after → Tells vc before (Setup ask) reply after
 tells-sets_up vc before ask reply after sound allowed w =
     let alone : Alone = alone_in vc before in

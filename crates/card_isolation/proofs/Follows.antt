@@ -15,7 +15,7 @@ use Rattle.card_core.specs.Refusals.{refusal}
 use Rattle.card_core.specs.Steps.{Succeeds, FindsNoMemory, IsRefused, WorldStep, without_memory}
 use Rattle.card_core.specs.Laws.{is_of_memory, LoadsAccepted}
 use Rattle.card_core.specs.Log.{Event, Leads}
-use Rattle.card_core.specs.inner.Sound.{IsSound}
+use Rattle.card_core.specs.inner.Sound.{WorldInvariant}
 use Rattle.card_core.proofs.Public.{step-replied}
 use Rattle.card_isolation.specs.Act.{Act}
 use Rattle.card_isolation.specs.OwnEvents.{OwnEvent, own_event}
@@ -61,8 +61,8 @@ of-memory (Release vc) reply e = absurd (cc)
 -- step has a reply there.
 pub record AreBeside (kept : Vc → Bool) (world shadow : World) : Type 0 where
   pub shadows : Shadows kept world shadow
-  pub sound : IsSound world
-  pub sound_too : IsSound shadow
+  pub sound : WorldInvariant world
+  pub sound_too : WorldInvariant shadow
   pub few : HasJudgedFew world
   pub few_too : HasJudgedFew shadow
   pub shape : Shape

@@ -4,7 +4,7 @@ use Rattle.std.proofs.lemmas.List.{map-append}
 use Rattle.leaky.specs.declared.contract.Contract.{Contract}
 use Rattle.leaky.specs.Contract.{Buckets}
 use Rattle.leaky.specs.Arrivals.{Arrival}
-use Rattle.line_record.specs.History.{NamedCell, numbered, arrival_of, arrivals_at, empty_buckets, buckets_under, buckets_after, verdict_under, verdict_after, last_moment, entry_of, judged}
+use Rattle.line_record.specs.History.{NamedCell, numbered, arrival_of, arrivals_at, empty_buckets, buckets_under, buckets_after_cells, named_verdict, verdict_after, last_moment, entry_of, judged}
 use Rattle.card_isolation.specs.Outcome.{SeenEntry, seen}
 
 abbrev pub forgotten : NamedCell → NamedCell
@@ -28,15 +28,15 @@ arrivals-forgotten number (cell ∷ later) =
     choice (cell.value == number)
 
 under-forgotten : (contract : Option Contract) (buckets : Buckets) (cell : NamedCell)
-    → verdict_under contract buckets (forgotten cell) ≡ verdict_under contract buckets cell
+    → named_verdict contract buckets (forgotten cell) ≡ named_verdict contract buckets cell
 under-forgotten None buckets cell = refl
 under-forgotten (Some contract) buckets cell = refl
 
 pub verdict-forgotten : (contracts : List Contract) (history : List NamedCell) (cell : NamedCell)
     → verdict_after contracts empty_buckets (map forgotten history) (forgotten cell) ≡ verdict_after contracts empty_buckets history cell
 verdict-forgotten contracts history cell =
-    under-forgotten (numbered contracts cell.value) (buckets_after contracts empty_buckets (map forgotten history) cell.value) cell
-    ∙ ap (λ (arrivals : List Arrival). verdict_under (numbered contracts cell.value) (buckets_under (numbered contracts cell.value) (empty_buckets cell.value) arrivals) cell)
+    under-forgotten (numbered contracts cell.value) (buckets_after_cells contracts empty_buckets (map forgotten history) cell.value) cell
+    ∙ ap (λ (arrivals : List Arrival). named_verdict (numbered contracts cell.value) (buckets_under (numbered contracts cell.value) (empty_buckets cell.value) arrivals) cell)
     (arrivals-forgotten cell.value history)
 
 pub last-forgotten : (earlier : ℕ) (cells : List NamedCell) → last_moment earlier (map forgotten cells) ≡ last_moment earlier cells

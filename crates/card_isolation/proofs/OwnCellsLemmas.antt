@@ -21,12 +21,12 @@ use Rattle.card_core.specs.Steps.{Judges, Succeeds, FindsNoMemory, IsRefused, Wo
 use Rattle.card_core.specs.Judged.{JudgedView, told}
 use Rattle.card_core.specs.Log.{Event, Run, Leads}
 use Rattle.card_core.specs.Headline.{judged_in, judged_cells}
-use Rattle.card_core.specs.inner.Sound.{IsSound}
+use Rattle.card_core.specs.inner.Sound.{WorldInvariant}
 use Rattle.card_core.proofs.Public.{worlds-sound, log-goes_on}
 use Rattle.card_isolation.specs.Act.{Act, judges}
 use Rattle.card_isolation.specs.Outcome.{Outcome, was_judged, was_not_judged, outcome_of}
 use Rattle.card_isolation.specs.OwnEvents.{OwnEvent, Notes, notes_after, own_event, own_where, behind, own_events_after, opening_notes}
-use Rattle.card_isolation.specs.OwnCells.{ToldCell, told_cell, judged_outcome, judged_own, judged_on, JudgedCellsAreOwn}
+use Rattle.card_isolation.specs.OwnCells.{ToldCell, own_answer, judged_outcome, judged_own, judged_on, JudgedCellsAreOwn}
 use Rattle.card_isolation.proofs.Views.{has_own_in, notes_in, Tells, same-notes}
 use Rattle.card_isolation.proofs.Steps.{HasJudgedFew, step-tells, enter-refused}
 use Rattle.card_core.proofs.LookUps.{mapped}
@@ -42,7 +42,7 @@ of_event (Some event) = judged_own (event ∷ [])
 
 abbrev in_reply : Shape → Vc → Option JudgedView → List ToldCell
 in_reply shape vc None = []
-in_reply shape vc (Some judged) = cond (is_same_vc vc (vc_of shape.side judged.cell)) (told_cell judged ∷ []) []
+in_reply shape vc (Some judged) = cond (is_same_vc vc (vc_of shape.side judged.cell)) (own_answer judged ∷ []) []
 
 first-one : {X : Type 0} (first : Option X) (later : List X) → cons_option first later ≡ cons_option first [] ++ later
 first-one None later = refl
@@ -56,11 +56,11 @@ reply-of : (shape : Shape) (vc : Vc) (event : Event) (later : List Event)
     → judged_on shape vc (event ∷ later) ≡ in_reply shape vc (judged_in event.reply) ++ judged_on shape vc later
 reply-of shape vc event later =
     let own : JudgedView → Bool = λ judged. is_same_vc vc (vc_of shape.side judged.cell) in
-    let choice : (o : Option JudgedView) → map told_cell (filter own (cons_option o (judged_cells later))) ≡ in_reply shape vc o ++ judged_on shape vc later = elim [
+    let choice : (o : Option JudgedView) → map own_answer (filter own (cons_option o (judged_cells later))) ≡ in_reply shape vc o ++ judged_on shape vc later = elim [
       | None ↦ refl
       | Some judged ↦
-          let inner : (b : Bool) → map told_cell (cond b (judged ∷ filter own (judged_cells later)) (filter own (judged_cells later)))
-          ≡ cond b (told_cell judged ∷ []) [] ++ judged_on shape vc later = elim [
+          let inner : (b : Bool) → map own_answer (cond b (judged ∷ filter own (judged_cells later)) (filter own (judged_cells later)))
+          ≡ cond b (own_answer judged ∷ []) [] ++ judged_on shape vc later = elim [
             | true ↦ refl
             | false ↦ refl
           ] in
@@ -149,7 +149,7 @@ untold : (vc : Vc) (world : World) (step : Step) (reply : Reply) → judged_in r
 untold vc world step reply e =
     plain-event world.shape.side vc (notes_in vc world) reply step e ∙ sym (ap (in_reply world.shape vc) e)
 
-judges-alike : (vc : Vc) (world : World) (port : ℕ) (reply : Reply) (after : World) → IsSound world → Judges world port reply after
+judges-alike : (vc : Vc) (world : World) (port : ℕ) (reply : Reply) (after : World) → WorldInvariant world → Judges world port reply after
     → TellsAlike vc world (Judge port) reply
 judges-alike vc world port reply after sound w =
     let verdict : Verdict = verdict_on w.connection (cell_of_picking w.picking) in
@@ -167,7 +167,7 @@ judges-alike vc world port reply after sound w =
     ∙ choice (is_same_vc vc w.picking.vc)
     ∙ ap (λ (v : Vc). cond (is_same_vc vc v) (cell ∷ []) []) vc_is)
 
-succeeded-alike : (vc : Vc) (world : World) (step : Step) (reply : Reply) (after : World) → IsSound world → Succeeds world step reply after
+succeeded-alike : (vc : Vc) (world : World) (step : Step) (reply : Reply) (after : World) → WorldInvariant world → Succeeds world step reply after
     → TellsAlike vc world step reply
 succeeded-alike vc world (Enter port cell moment) reply after sound w = untold vc world (Enter port cell moment) reply (ap judged_in w.answer)
 succeeded-alike vc world (Pick port) reply after sound w = untold vc world (Pick port) reply (ap judged_in w.answer)
@@ -179,7 +179,7 @@ succeeded-alike vc world (Reload other program) reply after sound w = untold vc 
 succeeded-alike vc world (Release other) reply after sound w = untold vc world (Release other) reply (ap judged_in w.answer)
 succeeded-alike vc world (Cut other) reply after sound w = untold vc world (Cut other) reply (ap judged_in w.answer)
 
-step-alike : (vc : Vc) (world : World) (step : Step) (reply : Reply) (after : World) → IsSound world → WorldStep world step reply after
+step-alike : (vc : Vc) (world : World) (step : Step) (reply : Reply) (after : World) → WorldInvariant world → WorldStep world step reply after
     → TellsAlike vc world step reply
 step-alike vc world step reply after sound w =
     let choice : (o : Option Reply) → refusal world step ≡ o

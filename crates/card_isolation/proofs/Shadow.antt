@@ -20,7 +20,7 @@ use Rattle.card_core.specs.declared.reply.Reply.{Reply}
 use Rattle.card_core.specs.declared.shape.Shape.{Shape}
 use Rattle.card_core.specs.declared.step.Step.{Step}
 use Rattle.card_core.specs.World.{World, Loading, Connection, Picking, PortState, outside, entered, picked, is_outside, code_in, connection_in}
-use Rattle.card_core.specs.inner.Sound.{IsSound}
+use Rattle.card_core.specs.inner.Sound.{WorldInvariant}
 use Rattle.card_isolation.specs.Act.{Act}
 use Rattle.card_isolation.specs.OwnEvents.{OwnEvent, own_event}
 use Rattle.card_core.proofs.LookUps.{mapped}
@@ -275,7 +275,7 @@ found-too vc world shadow holding =
     ∙ is_there held (connection_in world.connections vc)
 
 -- If no connection of the world holds something, none of the shadow does.
-pub unheld-too : (kept : Vc → Bool) (world shadow : World) → Shadows kept world shadow → IsSound shadow → (test : Holding → Bool)
+pub unheld-too : (kept : Vc → Bool) (world shadow : World) → Shadows kept world shadow → WorldInvariant shadow → (test : Holding → Bool)
     → list_any (λ here. test (held here.1)) world.connections ≡ false → list_any (λ here. test (held here.1)) shadow.connections ≡ false
 unheld-too kept world shadow s sound test none =
     let holds : (Vc × Connection) → Bool = λ here. test (held here.1) in

@@ -11,7 +11,7 @@ use Rattle.card_core.specs.declared.step.Step.TheVariants.{Enter, Pick, Judge, L
 use Rattle.card_core.specs.World.{World, PortState, outside, entered, picked}
 use Rattle.card_core.specs.Refusals.{refusal, enter_refusal, load_fault, retire_fault, setup_fault, reload_fault, missing_fault}
 use Rattle.card_core.specs.Steps.{Succeeds, FindsNoMemory, IsRefused, WorldStep}
-use Rattle.card_core.specs.inner.Sound.{IsSound}
+use Rattle.card_core.specs.inner.Sound.{WorldInvariant}
 use Rattle.card_core.proofs.LookUps.{mapped}
 use Rattle.card_isolation.proofs.Views.{Tells, no-more, tells-at}
 use Rattle.card_isolation.proofs.PortSteps.{tells-enters, tells-picks}
@@ -22,7 +22,7 @@ use Rattle.card_isolation.proofs.DeskSteps.{tells-loads, tells-retires, tells-se
 abbrev pub HasJudgedFew : World → Type 0
 HasJudgedFew world = (line : ℕ) → length (world.judged line) < 2 ^ 62
 
-succeeded : (vc : Vc) (before : World) (step : Step) (reply : Reply) (after : World) → IsSound before → HasJudgedFew before
+succeeded : (vc : Vc) (before : World) (step : Step) (reply : Reply) (after : World) → WorldInvariant before → HasJudgedFew before
     → refusal before step ≡ None → Succeeds before step reply after → Tells vc before step reply after
 succeeded vc before (Enter port cell moment) reply after sound few allowed w = tells-enters vc before port cell moment reply after allowed w
 succeeded vc before (Pick port) reply after sound few allowed w = tells-picks vc before port reply after w
@@ -122,7 +122,7 @@ starved vc before (Retire id) reply after w = let none = w.answer in absurd (cc)
 starved vc before (Reload other program) reply after w = let none = w.answer in absurd (cc)
 starved vc before (Release other) reply after w = let none = w.answer in absurd (cc)
 
-pub step-tells : (vc : Vc) (before : World) (step : Step) (reply : Reply) (after : World) → IsSound before → HasJudgedFew before
+pub step-tells : (vc : Vc) (before : World) (step : Step) (reply : Reply) (after : World) → WorldInvariant before → HasJudgedFew before
     → WorldStep before step reply after → Tells vc before step reply after
 step-tells vc before step reply after sound few w =
     let choice : (o : Option Reply) → refusal before step ≡ o

@@ -18,8 +18,8 @@ pub record ToldCell : Type 0 where
   pub cell : List ℕ
 
 -- The answer without these.
-abbrev pub told_cell : JudgedView → ToldCell
-told_cell judged = record {
+abbrev pub own_answer : JudgedView → ToldCell
+own_answer judged = record {
   moment = judged.moment;
   value = judged.value;
   verdict = judged.verdict;
@@ -42,7 +42,7 @@ judged_own events = filter_map (λ event. judged_outcome event.outcome) events
 
 -- The judged cells of this virtual connection in the log, by the headers of the leaving cells.
 abbrev pub judged_on : Shape → Vc → List Event → List ToldCell
-judged_on shape vc log = map told_cell (filter (λ judged. is_same_vc vc (vc_of shape.side judged.cell)) (judged_cells log))
+judged_on shape vc log = map own_answer (filter (λ judged. is_same_vc vc (vc_of shape.side judged.cell)) (judged_cells log))
 
 -- In each log of at most 2^62 events both lists are the same.
 abbrev pub JudgedCellsAreOwn : Type 0

@@ -20,7 +20,7 @@ use Rattle.card_isolation.specs.Outcome.{outcome_of}
 use Rattle.card_shelf.specs.declared.arrival.Arrival.{Arrival}
 use Rattle.card_shelf.specs.Dealing.{card_of, card_for}
 use Rattle.card_shelf.specs.Own.{ServesAll}
-use Rattle.card_shelf.specs.Policing.{Serves, Polices, PolicesAll}
+use Rattle.card_shelf.specs.Policing.{ServesArrival, Polices, PolicesAll}
 use Rattle.card_shelf.specs.OneCard.{IsLogOf, IsBeside, HasTimeFor, codes_in, AreAlike, IsToldAlike, AreToldAlike, ShelvesTellAsOneCard}
 use Rattle.card_shelf.proofs.GoingOn.{run-append}
 use Rattle.gen_arena.proofs.Public.{slice_get-set}
@@ -84,7 +84,7 @@ module _ (one shape : Shape) (side : one.side ≡ shape.side) (journal : one.jou
       → length log + 3 ≤ 2 ^ 62 → length another + 3 ≤ 2 ^ 62
       → IsLogOf one log card → IsLogOf shape another core
       → ((vc : Vc) → is_same_vc vc (vc_of one.side arrival.cell) ≡ true → account_of one.side vc log ≡ account_of shape.side vc another)
-      → Serves arrival answer card next → Serves arrival told core after
+      → ServesArrival arrival answer card next → ServesArrival arrival told core after
       → BothGo one shape log another arrival (answer_to arrival.cell answer) (answer_to arrival.cell told) next after
   both-go log another arrival answer told card next core after few few_too is is_too accounts (inl here) (inl there) =
       let a = answer_to arrival.cell answer in
@@ -148,7 +148,7 @@ module _ (one shape : Shape) (side : one.side ≡ shape.side) (journal : one.jou
   one-on : (log : List Event) (card next : CoreView) (logs : List (List Event)) (cards between : List CoreView) (arrival : Arrival) (answer told : Told)
       → IsBeside one log card shape logs cards → length log + 3 ≤ 2 ^ 62
       → ((number : ℕ) (own : List Event) → slice_get logs number ≡ Some own → length own + 3 ≤ 2 ^ 62)
-      → Serves arrival answer card next → Polices shape.side cards arrival told between
+      → ServesArrival arrival answer card next → Polices shape.side cards arrival told between
       → OneOn log next logs between arrival answer told
   one-on log card next logs cards between arrival answer told beside few each_few serves polices =
       let mine = vc_of shape.side arrival.cell in

@@ -8,7 +8,7 @@ use Rattle.card_core.specs.declared.answer.Judgement.{Judgement}
 use Rattle.card_core.specs.declared.answer.Unjudged.{Unjudged}
 use Rattle.card_shelf.specs.declared.arrival.Arrival.{Arrival}
 use Rattle.card_shelf.specs.Dealing.{card_for}
-use Rattle.card_shelf.specs.Policing.{Serves}
+use Rattle.card_shelf.specs.Policing.{ServesArrival}
 use Rattle.card_shelf.specs.Own.{own_arrivals, own_told, ServesAll}
 use Rattle.card_shelf.specs.inner.Places.{picked, with_arrival}
 
@@ -58,9 +58,9 @@ module _ (side : Side) (cards number : ℕ) where
 
 -- A card that has answered some arrivals answers one more.
 pub serves-next : (old middle new : CoreView) (xs : List Arrival) (ts : List Told) (x : Arrival) (t : Told)
-    → ServesAll old xs ts middle → Serves x t middle new → ServesAll old (xs ++ x ∷ []) (ts ++ t ∷ []) new
+    → ServesAll old xs ts middle → ServesArrival x t middle new → ServesAll old (xs ++ x ∷ []) (ts ++ t ∷ []) new
 serves-next old middle new [] [] x t so_far next =
-    (new, subst (λ (core : CoreView). Serves x t core new) so_far next, refl)
+    (new, subst (λ (core : CoreView). ServesArrival x t core new) so_far next, refl)
 serves-next old middle new [] (u ∷ ts) x t so_far next = absurd so_far
 serves-next old middle new (y ∷ xs) [] x t so_far next = absurd so_far
 serves-next old middle new (y ∷ xs) (u ∷ ts) x t so_far next =

@@ -2,7 +2,7 @@
 use Rattle.std.proofs.Common.{◌≡◌, ◌⊎◌, ℕ, zero, suc, ◌≤◌, List, [], ◌∷◌, ◌++◌, Option, Some, None, replicate, refl, ap, ◌∙◌, inl, inr, arith}
 use Rattle.std.specs.Prelude.{slice_get, slice_set, MatchOption}
 use Rattle.card_core.specs.Agreement.{CoreView, CoreAgrees, Follows, events_of}
-use Rattle.card_core.specs.Arrival.{Answers}
+use Rattle.card_core.specs.Arrival.{AnswersArrival}
 use Rattle.card_core.specs.World.{World, Picking, PortState, outside, entered, picked, opening_world}
 use Rattle.card_core.specs.Refusals.{refusal, enter_refusal, pick_refusal, judge_refusal}
 use Rattle.card_core.specs.Steps.{Succeeds, FindsNoMemory, IsRefused, left_by_pick, left_by_judge}
@@ -119,7 +119,7 @@ judge-frees before port answer after (Some (picked picking)) e goes =
     judged-picked before port answer after picking e (judge_refusal before (Some (picked picking))) goes
 
 pub serving-rests : (old new : CoreView) (cell : List ℕ) (moment : ℕ) (answer : Answer) → IsAtRest old
-    → Answers old 0 cell moment answer new → IsAtRest new
+    → AnswersArrival old 0 cell moment answer new → IsAtRest new
 serving-rests old new cell moment answer rest (inl goes) =
     let gone = goes rest.shape rest.log rest.world rest.leads rest.agrees in
     let run = gone.stepped in

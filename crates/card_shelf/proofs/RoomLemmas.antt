@@ -3,7 +3,7 @@ use Rattle.std.proofs.Common.{◌≡◌, ℕ, ◌+◌, ◌≤◌, List, length, 
 use Rattle.std.specs.Prelude.{slice_get}
 use Rattle.card_shelf.specs.declared.batch.Batch.{Batch}
 use Rattle.card_shelf.specs.declared.card.Card.{Card}
-use Rattle.card_shelf.specs.inner.Rooms.{HaveRoom, AreShort, CardsRoom, HasRoom}
+use Rattle.card_shelf.specs.inner.Rooms.{HaveRoom, AreShort, CardsRoom, BatchHasRoom}
 use Rattle.gen_arena.proofs.Public.{slice_get-set}
 
 -- A list of places keeps its room, or gets one with at least as much.
@@ -37,7 +37,7 @@ cards-room-set most cards number old new at grown room other card e = elim (slic
 ]
 
 -- Room for a batch is room for a smaller one.
-pub room-for-fewer : (count most fewer : ℕ) (batch : Batch) → fewer ≤ most → HasRoom count most batch → HasRoom count fewer batch
+pub room-for-fewer : (count most fewer : ℕ) (batch : Batch) → fewer ≤ most → BatchHasRoom count most batch → BatchHasRoom count fewer batch
 room-for-fewer count most fewer batch below had = record {
   sized = had.sized;
   dealt = λ number places e. (let room = had.dealt number places e in omega (arith, room, below));

@@ -6,7 +6,7 @@ use Rattle.card_core.specs.declared.answer.Judgement.{Judgement}
 use Rattle.card_core.specs.declared.answer.Unjudged.{Unjudged}
 use Rattle.card_shelf.specs.declared.arrival.Arrival.{Arrival}
 use Rattle.card_shelf.specs.Dealing.{card_for}
-use Rattle.card_shelf.specs.Policing.{Serves}
+use Rattle.card_shelf.specs.Policing.{ServesArrival}
 
 -- The arrivals of the card of this number, among this number of cards.
 abbrev pub own_arrivals : Side → ℕ → ℕ → List Arrival → List Arrival
@@ -31,7 +31,7 @@ ServesAll old [] [] new = new ≡ old
 ServesAll old [] (told ∷ more) new = ⊥
 ServesAll old (arrival ∷ later) [] new = ⊥
 ServesAll old (arrival ∷ later) (told ∷ more) new =
-    (between : CoreView) × Serves arrival told old between × ServesAll between later more new
+    (between : CoreView) × ServesArrival arrival told old between × ServesAll between later more new
 
 -- Each card answers its own of these arrivals, one after another, and these are the answers to all.
 abbrev pub EachServes : Side → List CoreView → List Arrival → List (Result Judgement Unjudged) → List CoreView → Type 0

@@ -2,7 +2,7 @@
 use Rattle.std.specs.Prelude.{◌≡◌, List, [], ◌∷◌, length, Result}
 use Rattle.upc_cell.specs.declared.side.Side.{Side}
 use Rattle.card_core.specs.Agreement.{CoreView}
-use Rattle.card_core.specs.Arrival.{Answers}
+use Rattle.card_core.specs.Arrival.{AnswersArrival}
 use Rattle.card_core.specs.Sections.{answer_to}
 use Rattle.card_core.specs.declared.answer.Judgement.{Judgement}
 use Rattle.card_core.specs.declared.answer.Unjudged.{Unjudged}
@@ -11,12 +11,12 @@ use Rattle.card_shelf.specs.Dealing.{card_for}
 use Rattle.card_shelf.specs.Shelf.{ChangesCard}
 
 -- A card answers the arrival at its port 0: the cell goes its whole way there.
-abbrev pub Serves : Arrival → Result Judgement Unjudged → CoreView → CoreView → Type 0
-Serves arrival told old new = Answers old 0 arrival.cell arrival.moment (answer_to arrival.cell told) new
+abbrev pub ServesArrival : Arrival → Result Judgement Unjudged → CoreView → CoreView → Type 0
+ServesArrival arrival told old new = AnswersArrival old 0 arrival.cell arrival.moment (answer_to arrival.cell told) new
 
 -- The card of the arrival's connection answers it, and every other card is as before.
 abbrev pub Polices : Side → List CoreView → Arrival → Result Judgement Unjudged → List CoreView → Type 0
-Polices side old arrival told new = ChangesCard old (card_for side (length old) arrival) (Serves arrival told) new
+Polices side old arrival told new = ChangesCard old (card_for side (length old) arrival) (ServesArrival arrival told) new
 
 -- The arrivals are policed one after another, in their order, with these answers.
 abbrev pub PolicesAll : Side → List CoreView → List Arrival → List (Result Judgement Unjudged) → List CoreView → Type 0

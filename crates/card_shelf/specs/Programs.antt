@@ -9,12 +9,12 @@ use Rattle.card_core.specs.declared.reply.Reply.TheVariants.{Loaded, Retired}
 use Rattle.card_core.specs.declared.step.Step.TheVariants.{Load, Retire}
 use Rattle.card_shelf.specs.declared.fault.ProgramFault.{ProgramFault}
 use Rattle.card_shelf.specs.declared.fault.ProgramFault.TheVariants.{NoMemory, Ids, Card}
-use Rattle.card_shelf.specs.Shelf.{Takes}
+use Rattle.card_shelf.specs.Shelf.{TakesStep}
 
 -- The card had no reason to refuse a program, and took the step Load: the code is live there under this id.
 pub record LoadsOn (code : List Instr) (id : Id) (old new : CoreView) : Type 0 where
   pub free : load_fault_of old ≡ None
-  pub takes : Takes (Load code) (Loaded id) old new
+  pub takes : TakesStep (Load code) (Loaded id) old new
   pub puts_in : PutsIn old id code new
 
 -- Every card has loaded this code, each under the id at its place.
@@ -47,7 +47,7 @@ IsLoadRefusal cards (Card number fault) = IsFirstLoadFault cards number fault
 pub record RetiresOn (id : Id) (old new : CoreView) : Type 0 where
   pub free : IsRetireFault old id None
   pub code : List Instr
-  pub takes : Takes (Retire id) (Retired code) old new
+  pub takes : TakesStep (Retire id) (Retired code) old new
   pub takes_out : TakesOut old id code new
 
 -- Every card has retired a program, each the program of the id at its place.

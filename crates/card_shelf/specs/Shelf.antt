@@ -29,7 +29,7 @@ pub record ChangesCard (old : List CoreView) (number : ℕ) (Did : CoreView → 
 
 -- The card takes the step with this reply. A refusal leaves the card as it was, and is not one that only a card in
 -- threads may give.
-pub record Takes (step : Step) (reply : Reply) (old new : CoreView) : Type 0 where
+pub record TakesStep (step : Step) (reply : Reply) (old new : CoreView) : Type 0 where
   pub follows : Follows old step reply new
   pub unchanged : RefusalKeeps reply step old new
   pub fresh : IsNeverStale old reply

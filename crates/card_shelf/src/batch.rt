@@ -1,7 +1,7 @@
 //! What is written down while a batch of arrivals is policed.
 
 ghost use Rattle.std.specs.Prelude.{◌≡◌, ◌≤◌, [], IfOk, length, vec_capacity};
-ghost use Rattle.card_shelf.specs.inner.Rooms.{HaveRoom, TellRoom, HasRoom};
+ghost use Rattle.card_shelf.specs.inner.Rooms.{HaveRoom, TellRoom, BatchHasRoom};
 
 use crate::arrival::Told;
 use std::alloc::{AllocError, Global};
@@ -21,7 +21,7 @@ impl Batch {
     /// Empty lists for this number of cards. Each has room for this number of arrivals.
     pub(crate) fn new(alloc: Global, cards: usize, most: usize) -> Result<Batch, AllocError>
         ensures cards { IfOk result (λ batch. length batch.dealt.items ≡ cards) }
-        ensures room { IfOk result (λ batch. HasRoom cards most batch) }
+        ensures room { IfOk result (λ batch. BatchHasRoom cards most batch) }
         ensures empty { IfOk result (λ batch. batch.told.items ≡ []) }
     {
         let dealt = place_lists(alloc, cards, most)?;

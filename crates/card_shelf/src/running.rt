@@ -6,8 +6,8 @@ ghost use Rattle.card_shelf.specs.Policing.{PolicesAll};
 ghost use Rattle.card_shelf.specs.inner.Cards.{cores_of, AreAtRest, IsReady};
 ghost use Rattle.card_shelf.specs.inner.Places.{picked};
 ghost use Rattle.card_shelf.specs.inner.Rest.{IsAtRest, IsOfDesk};
-ghost use Rattle.card_shelf.specs.inner.Rooms.{AreShort, TellRoom, CardsRoom, HasRoom, IsRoom};
-ghost use Rattle.card_shelf.specs.Shelf.{ChangesCard, Takes};
+ghost use Rattle.card_shelf.specs.inner.Rooms.{AreShort, TellRoom, CardsRoom, BatchHasRoom, IsRoom};
+ghost use Rattle.card_shelf.specs.Shelf.{ChangesCard, TakesStep};
 
 use crate::arrival::{Arrival, Told};
 use crate::batch::Batch;
@@ -96,9 +96,9 @@ fn police_batch<R: Threads + Sync>(
     ensures one_each { OnOk result (length batch.new.told.items ≡ length arrivals.now) }
     ensures unchanged { OnErr result (cores_of cards.new ≡ cores_of cards.old) }
     ensures rest { AreAtRest (cores_of cards.new) }
-    ensures succeeds { (count : ℕ) → HasRoom count (length arrivals.now) batch.old
+    ensures succeeds { (count : ℕ) → BatchHasRoom count (length arrivals.now) batch.old
         → CardsRoom (length arrivals.now) cards.old → IsOk result }
-    ensures room { (count most : ℕ) → HasRoom count most batch.old → HasRoom count most batch.new }
+    ensures room { (count most : ℕ) → BatchHasRoom count most batch.old → BatchHasRoom count most batch.new }
     ensures cards_room { (most : ℕ) → CardsRoom most cards.old → CardsRoom most cards.new }
 {
     deal(
@@ -185,7 +185,7 @@ pub(crate) fn step_on(cards: &mut [Card], number: usize, step: Step) -> Reply
     requires within { number < length cards.old }
     requires desk { IsOfDesk step }
     requires rest { AreAtRest (cores_of cards.old) }
-    ensures taken { ChangesCard (cores_of cards.old) number (Takes step result) (cores_of cards.new) }
+    ensures taken { ChangesCard (cores_of cards.old) number (TakesStep step result) (cores_of cards.new) }
     ensures rest { AreAtRest (cores_of cards.new) }
 {
     let card = &mut cards[number];

@@ -45,7 +45,7 @@ impl Shelf {
     ghost use Rattle.card_core.specs.Agreement.{CoreAgrees};
     ghost use Rattle.card_core.specs.World.{opening_world};
     ghost use Rattle.card_shelf.specs.Dealing.{card_of};
-    ghost use Rattle.card_shelf.specs.Shelf.{shelf_fault, ChangesCard, Takes};
+    ghost use Rattle.card_shelf.specs.Shelf.{shelf_fault, ChangesCard, TakesStep};
     ghost use Rattle.card_shelf.specs.inner.Rest.{IsOfDesk};
     ghost use Rattle.card_shelf.specs.Policing.{PolicesAll};
     ghost use Rattle.card_shelf.specs.Own.{EachServes};
@@ -114,7 +114,7 @@ impl Shelf {
     /// Sets up a connection on its card: the step `Setup`, with its reply.
     pub fn setup(&mut self, ask: Ask) -> Reply
         ensures taken { ChangesCard self.old.cards (card_of ask.vc (length self.old.cards))
-            (Takes (Step.Setup ask) result) self.new.cards }
+            (TakesStep (Step.Setup ask) result) self.new.cards }
         ensures shape { self.new.shape ≡ self.old.shape }
     {
         let number = self.card_of(ask.vc);
@@ -124,7 +124,7 @@ impl Shelf {
     /// Gives a connection another program of its card: the step `Reload`, with its reply.
     pub fn reload(&mut self, vc: Vc, program: Id) -> Reply
         ensures taken { ChangesCard self.old.cards (card_of vc (length self.old.cards))
-            (Takes (Step.Reload vc program) result) self.new.cards }
+            (TakesStep (Step.Reload vc program) result) self.new.cards }
         ensures shape { self.new.shape ≡ self.old.shape }
     {
         let number = self.card_of(vc);
@@ -134,7 +134,7 @@ impl Shelf {
     /// Ends a connection on its card: the step `Release`, with its reply.
     pub fn release(&mut self, vc: Vc) -> Reply
         ensures taken { ChangesCard self.old.cards (card_of vc (length self.old.cards))
-            (Takes (Step.Release vc) result) self.new.cards }
+            (TakesStep (Step.Release vc) result) self.new.cards }
         ensures shape { self.new.shape ≡ self.old.shape }
     {
         let number = self.card_of(vc);
@@ -144,7 +144,7 @@ impl Shelf {
     /// Hands out a connection's journal on its card: the step `Cut`, with its reply.
     pub fn cut(&mut self, vc: Vc) -> Reply
         ensures taken { ChangesCard self.old.cards (card_of vc (length self.old.cards))
-            (Takes (Step.Cut vc) result) self.new.cards }
+            (TakesStep (Step.Cut vc) result) self.new.cards }
         ensures shape { self.new.shape ≡ self.old.shape }
     {
         let number = self.card_of(vc);
@@ -198,7 +198,7 @@ impl Shelf {
     pub fn load_on(&mut self, number: usize, program: Program) -> Result<Reply, Program>
         ensures which { IsOk result ↔ (number < length self.old.cards) }
         ensures taken { IfOk result (λ reply. ChangesCard self.old.cards number
-            (Takes (Step.Load program) reply) self.new.cards) }
+            (TakesStep (Step.Load program) reply) self.new.cards) }
         ensures returned { IfErr result (λ returned. returned ≡ program) }
         ensures unchanged { OnErr result (self.new ≡ self.old) }
         ensures shape { self.new.shape ≡ self.old.shape }
@@ -214,7 +214,7 @@ impl Shelf {
     pub fn retire_on(&mut self, number: usize, id: Id) -> Option<Reply>
         ensures which { IsSome result ↔ (number < length self.old.cards) }
         ensures taken { IfSome result (λ reply. ChangesCard self.old.cards number
-            (Takes (Step.Retire id) reply) self.new.cards) }
+            (TakesStep (Step.Retire id) reply) self.new.cards) }
         ensures unchanged { IfNone result (self.new ≡ self.old) }
         ensures shape { self.new.shape ≡ self.old.shape }
     {
@@ -228,7 +228,7 @@ impl Shelf {
     fn take(&mut self, number: usize, step: Step) -> Reply
         requires within { number < length self.old.cards }
         requires desk { IsOfDesk step }
-        ensures taken { ChangesCard self.old.cards number (Takes step result) self.new.cards }
+        ensures taken { ChangesCard self.old.cards number (TakesStep step result) self.new.cards }
         ensures shape { self.new.shape ≡ self.old.shape }
     {
         step_on(self.cards.as_mut_slice(), number, step)

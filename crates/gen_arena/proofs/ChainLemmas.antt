@@ -12,7 +12,7 @@ use Rattle.gen_arena.specs.Insert.{Inserts}
 use Rattle.gen_arena.specs.Remove.{Removes}
 use Rattle.gen_arena.specs.declared.id.Id.{Id}
 use Rattle.gen_arena.specs.inner.PlaceRow.{no_place, place_at, AreFresh}
-use Rattle.gen_arena.specs.inner.Chain.{slot_of, IsChain, IsSound}
+use Rattle.gen_arena.specs.inner.Chain.{slot_of, IsFreeChain, IsSoundArena}
 use Rattle.gen_arena.specs.declared.place.Place.{Place}
 use Rattle.gen_arena.proofs.SlotLemmas.{slot_of_live, value_of_live, is_free-parts, IsArena-set, is_free-empty_slot, is_free-worn}
 use Rattle.gen_arena.proofs.FreeLemmas.{one_if, weight, free_slots-set, not_all_free}
@@ -23,37 +23,37 @@ module _ {T : Type 0} where
   free_at places k = is_free (slot_of (place_at places k))
 
   -- Only one chain leads from a place to the end.
-  chain_once : (places : List (Place T)) (k m n : ℕ) → IsChain places k m → IsChain places k n → m ≡ n
+  chain_once : (places : List (Place T)) (k m n : ℕ) → IsFreeChain places k m → IsFreeChain places k n → m ≡ n
   chain_once places k zero zero one other = refl
   chain_once places k zero (suc n) one other = absurd (omega (arith, one, other.0))
   chain_once places k (suc m) zero one other = absurd (omega (arith, one.0, other))
   chain_once places k (suc m) (suc n) one other = ap suc (chain_once places (place_at places k).next m n one.2 other.2)
 
   -- A chain survives a write to a place that isn't in it.
-  chain_passes : (places : List (Place T)) (j k m : ℕ) (new : Place T) → j ≢ k → IsChain places j (suc m) → IsChain (set places k new) (place_at places j).next m → IsChain (set places k new) j (suc m)
+  chain_passes : (places : List (Place T)) (j k m : ℕ) (new : Place T) → j ≢ k → IsFreeChain places j (suc m) → IsFreeChain (set places k new) (place_at places j).next m → IsFreeChain (set places k new) j (suc m)
   chain_passes places j k m new differs chain later =
       let same = get_or-set_other places k j new no_place differs in
       let long = length-set places k new in
-      let P : Place T → Type 0 = λ place. IsChain (set places k new) place.next m in (
+      let P : Place T → Type 0 = λ place. IsFreeChain (set places k new) place.next m in (
         omega (arith, chain.0, long),
         ap (λ place. is_free (slot_of place)) same ∙ chain.1,
         subst P (sym same) later,
       )
 
   -- A chain doesn't return to an earlier place.
-  chain-set_before : (places : List (Place T)) (j k m n : ℕ) (new : Place T) → m < n → IsChain places k n → IsChain places j m → IsChain (set places k new) j m
+  chain-set_before : (places : List (Place T)) (j k m n : ℕ) (new : Place T) → m < n → IsFreeChain places k n → IsFreeChain places j m → IsFreeChain (set places k new) j m
   chain-set_before places j k zero n new less before chain = chain ∙ sym (length-set places k new)
   chain-set_before places j k (suc m) n new less before chain =
       elim (cases_eq j k) [
         | inl same ↦
-            let P : ℕ → Type 0 = λ i. IsChain places i (suc m) in
+            let P : ℕ → Type 0 = λ i. IsFreeChain places i (suc m) in
             absurd (omega (arith, less, chain_once places k (suc m) n (subst P same chain) before))
         | inr differs ↦
             chain_passes places j k m new differs chain (chain-set_before places (place_at places j).next k m n new (omega (arith, less)) before chain.2)
       ]
 
   -- Nor does it have a place that isn't free.
-  chain-set_taken : (places : List (Place T)) (j k m : ℕ) (new : Place T) → free_at places k ≡ false → IsChain places j m → IsChain (set places k new) j m
+  chain-set_taken : (places : List (Place T)) (j k m : ℕ) (new : Place T) → free_at places k ≡ false → IsFreeChain places j m → IsFreeChain (set places k new) j m
   chain-set_taken places j k zero new taken chain = chain ∙ sym (length-set places k new)
   chain-set_taken places j k (suc m) new taken chain =
       elim (cases_eq j k) [
@@ -66,17 +66,17 @@ module _ {T : Type 0} where
   pub record StartsAt (places : List (Place T)) (first count : ℕ) : Type 0 where
     pub there : first < length places
     pub free : free_at places first ≡ true
-    pub later : IsChain places (place_at places first).next (count - 1)
+    pub later : IsFreeChain places (place_at places first).next (count - 1)
 
-  pub starts_at : (places : List (Place T)) (first count : ℕ) → 0 < count → IsChain places first count → StartsAt places first count
+  pub starts_at : (places : List (Place T)) (first count : ℕ) → 0 < count → IsFreeChain places first count → StartsAt places first count
   starts_at places first zero some chain = absurd (omega arith)
   starts_at places first (suc count) some chain =
       let less : suc count - 1 ≡ count = omega arith in
-      let P : ℕ → Type 0 = λ n. IsChain places (place_at places first).next n in
+      let P : ℕ → Type 0 = λ n. IsFreeChain places (place_at places first).next n in
       record { there = chain.0; free = chain.1; later = subst P (sym less) chain.2 }
 
   -- A value goes into the first free place.
-  pub IsSound-filled : (places : List (Place T)) (first count : ℕ) (new : Place T) (v : T) → 0 < count → IsSound places first count → slot_of new ≡ full_slot ((place_at places first).generation + 1) v → IsSound (set places first new) (place_at places first).next (count - 1)
+  pub IsSound-filled : (places : List (Place T)) (first count : ℕ) (new : Place T) (v : T) → 0 < count → IsSoundArena places first count → slot_of new ≡ full_slot ((place_at places first).generation + 1) v → IsSoundArena (set places first new) (place_at places first).next (count - 1)
   IsSound-filled places first count new v some sound filled =
       let start = starts_at places first count some sound.chained in
       let slots = map slot_of places in
@@ -110,7 +110,7 @@ module _ {T : Type 0} where
   pub stood_there : (places : List (Place T)) (k generation : ℕ) (v : T) → WasFull places k generation v → slice_get (map slot_of places) k ≡ Some (full_slot generation v)
   stood_there places k generation v was = slot_at places k was.there ∙ ap Some was.full
 
-  pub room_for_one : (places : List (Place T)) (first count k generation : ℕ) (v : T) → IsSound places first count → WasFull places k generation v → count < 65535
+  pub room_for_one : (places : List (Place T)) (first count k generation : ℕ) (v : T) → IsSoundArena places first count → WasFull places k generation v → count < 65535
   room_for_one places first count k generation v sound was =
       let fewer = not_all_free (map slot_of places) k generation v (stood_there places k generation v was) in
       omega (arith, fewer, length-map places (slot_of {T = T}), sound.few, sound.count)
@@ -131,12 +131,12 @@ module _ {T : Type 0} where
       omega (arith, moved, now)
 
   -- An emptied place becomes the head, if it has a generation left.
-  pub IsSound-relisted : (places : List (Place T)) (first count k generation : ℕ) (v : T) (new : Place T) → IsSound places first count → WasFull places k generation v → slot_of new ≡ empty_slot generation → new.next ≡ first → generation < greatest_generation → IsSound (set places k new) k (suc count)
+  pub IsSound-relisted : (places : List (Place T)) (first count k generation : ℕ) (v : T) (new : Place T) → IsSoundArena places first count → WasFull places k generation v → slot_of new ≡ empty_slot generation → new.next ≡ first → generation < greatest_generation → IsSoundArena (set places k new) k (suc count)
   IsSound-relisted places first count k generation v new sound was emptied names below =
       let now = is_free-empty_slot T generation below in
       let same : place_at (set places k new) k ≡ new = get_or-set_same places k new no_place was.there in
       let chain = chain-set_taken places first k count new (taken_there places k generation v was) sound.chained in
-      let P : ℕ → Type 0 = λ n. IsChain (set places k new) n count in
+      let P : ℕ → Type 0 = λ n. IsFreeChain (set places k new) n count in
       record {
         lawful = emptied_lawful places k generation v new sound.lawful was emptied;
         chained = (
@@ -153,7 +153,7 @@ module _ {T : Type 0} where
       }
 
   -- Otherwise it is left out.
-  pub IsSound-worn : (places : List (Place T)) (first count k generation : ℕ) (v : T) (new : Place T) → IsSound places first count → WasFull places k generation v → slot_of new ≡ empty_slot generation → greatest_generation ≤ generation → IsSound (set places k new) first count
+  pub IsSound-worn : (places : List (Place T)) (first count k generation : ℕ) (v : T) (new : Place T) → IsSoundArena places first count → WasFull places k generation v → slot_of new ≡ empty_slot generation → greatest_generation ≤ generation → IsSoundArena (set places k new) first count
   IsSound-worn places first count k generation v new sound was emptied above =
       record {
         lawful = emptied_lawful places k generation v new sound.lawful was emptied;
@@ -167,12 +167,12 @@ module _ {T : Type 0} where
       }
 
   -- Fresh places form a chain, from any place on.
-  fresh_chain : (places : List (Place T)) (count used k n : ℕ) → used < greatest_generation → AreFresh places count used → k + n ≡ count → IsChain places k n
+  fresh_chain : (places : List (Place T)) (count used k n : ℕ) → used < greatest_generation → AreFresh places count used → k + n ≡ count → IsFreeChain places k n
   fresh_chain places count used k zero below fresh long = omega (arith, long, fresh.0)
   fresh_chain places count used k (suc n) below fresh long =
       let within : k < count = omega (arith, long) in
       let is = fresh.1 k within in
-      let P : Place T → Type 0 = λ place. IsChain places place.next n in (
+      let P : Place T → Type 0 = λ place. IsFreeChain places place.next n in (
         omega (arith, within, fresh.0),
         ap (λ place. is_free (slot_of place)) is ∙ is_free-empty_slot T used below,
         subst P (sym is) (fresh_chain places count used (k + 1) n below fresh (omega (arith, long))),
@@ -195,7 +195,7 @@ module _ {T : Type 0} where
       ap free_slots (AreFresh-slots places count used fresh) ∙ sum_by-replicate (weight {T = T}) count (empty_slot used)
 
   -- An arena of fresh places.
-  pub IsSound-fresh : (places : List (Place T)) (count used : ℕ) → count ≤ 65535 → AreFresh places count used → used < greatest_generation → IsSound places 0 count
+  pub IsSound-fresh : (places : List (Place T)) (count used : ℕ) → count ≤ 65535 → AreFresh places count used → used < greatest_generation → IsSoundArena places 0 count
   IsSound-fresh places count used few fresh below =
       record {
         lawful = fresh_lawful places count used (omega (arith, below)) fresh;
@@ -207,7 +207,7 @@ module _ {T : Type 0} where
         few = omega (arith, few, fresh.0);
       }
 
-  pub IsSound-worn_out : (places : List (Place T)) (count used : ℕ) → count ≤ 65535 → AreFresh places count used → used ≡ greatest_generation → IsSound places count 0
+  pub IsSound-worn_out : (places : List (Place T)) (count used : ℕ) → count ≤ 65535 → AreFresh places count used → used ≡ greatest_generation → IsSoundArena places count 0
   IsSound-worn_out places count used few fresh worn =
       record {
         lawful = fresh_lawful places count used (omega (arith, worn)) fresh;
@@ -219,7 +219,7 @@ module _ {T : Type 0} where
         few = omega (arith, few, fresh.0);
       }
 
-  pub Inserts-filled : (places : List (Place T)) (count : ℕ) (id : Id) (new : Place T) (v : T) → 0 < count → IsSound places id.slot count → id.generation ≡ (place_at places id.slot).generation + 1 → slot_of new ≡ full_slot id.generation v → Inserts (map slot_of places) (map slot_of (set places id.slot new)) id v
+  pub Inserts-filled : (places : List (Place T)) (count : ℕ) (id : Id) (new : Place T) (v : T) → 0 < count → IsSoundArena places id.slot count → id.generation ≡ (place_at places id.slot).generation + 1 → slot_of new ≡ full_slot id.generation v → Inserts (map slot_of places) (map slot_of (set places id.slot new)) id v
   Inserts-filled places count id new v some sound next filled =
       let start = starts_at places id.slot count some sound.chained in
       record {

@@ -13,7 +13,7 @@ use Rattle.gen_arena.specs.Past.{IsPast, KeepsPast}
 use Rattle.gen_arena.specs.Free.{is_free, free_slots, NoneIsFree}
 use Rattle.gen_arena.specs.Insert.{Inserts}
 use Rattle.gen_arena.specs.Remove.{Removes}
-use Rattle.gen_arena.specs.Change.{Change, inserted, removed, nothing, Makes, Leads, given_ids}
+use Rattle.gen_arena.specs.Change.{Change, inserted, removed, nothing, Makes, ChangesLead, given_ids}
 use Rattle.gen_arena.specs.declared.id.Id.{Id}
 use Rattle.gen_arena.proofs.ListLemmas.{slice_get-set_same, slice_get-set_other}
 use Rattle.gen_arena.proofs.SlotLemmas.{is_free-parts, IsArena-set, slot_of_live, generation_at-there}
@@ -27,7 +27,7 @@ module _ {T : Type 0} where
       let P : List (Slot T) → Type 0 = λ slots. IsPast slots id in subst P (sym made) past
 
   -- Past ids stay past after any changes.
-  pub Leads-past : (changes : List (Change T)) (first last : List (Slot T)) → Leads changes first last → KeepsPast first last
+  pub Leads-past : (changes : List (Change T)) (first last : List (Slot T)) → ChangesLead changes first last → KeepsPast first last
   Leads-past [] first last leads id past =
       let P : List (Slot T) → Type 0 = λ slots. IsPast slots id in subst P (sym leads) past
   Leads-past (change ∷ later) first last leads id past =
@@ -76,7 +76,7 @@ module _ {T : Type 0} where
   Makes-live nothing old new made id v given live = inl (ap (λ slots. live_value slots id) made ∙ live)
 
   -- After any changes a live id has its value or is past.
-  pub Leads-live : (changes : List (Change T)) (first last : List (Slot T)) → Leads changes first last → (id : Id) (v : T) → 1 ≤ id.generation → live_value first id ≡ Some v → (live_value last id ≡ Some v) ⊎ IsPast last id
+  pub Leads-live : (changes : List (Change T)) (first last : List (Slot T)) → ChangesLead changes first last → (id : Id) (v : T) → 1 ≤ id.generation → live_value first id ≡ Some v → (live_value last id ≡ Some v) ⊎ IsPast last id
   Leads-live [] first last leads id v given live = inl (ap (λ slots. live_value slots id) leads ∙ live)
   Leads-live (change ∷ later) first last leads id v given live =
       elim (Makes-live change first leads.0 leads.1 id v given live) [
@@ -123,7 +123,7 @@ module _ {T : Type 0} where
       ap (λ slots. generation_at slots id.slot) insert.after ∙ generation_at-there _ id.slot _ (slice_get-set_same old id.slot (full_slot id.generation v) (Inserts-within old new id v insert))
 
   -- Changes give only ids whose generations their slots had not used.
-  pub Leads-fresh : (changes : List (Change T)) (first last : List (Slot T)) → Leads changes first last → All (λ id. generation_at first id.slot < id.generation) (given_ids changes)
+  pub Leads-fresh : (changes : List (Change T)) (first last : List (Slot T)) → ChangesLead changes first last → All (λ id. generation_at first id.slot < id.generation) (given_ids changes)
   Leads-fresh [] first last leads k d within = absurd (omega arith)
   Leads-fresh (inserted id v ∷ later) first last leads zero d within = Inserts-fresh first leads.0 id v leads.1
   Leads-fresh (inserted id v ∷ later) first last leads (suc k) d within =
@@ -143,7 +143,7 @@ module _ {T : Type 0} where
       omega (arith, above, grows)
 
   -- No id is given twice.
-  pub Leads-once : (changes : List (Change T)) (first last : List (Slot T)) → Leads changes first last → AllPairs (λ earlier later. earlier ≢ later) (given_ids changes)
+  pub Leads-once : (changes : List (Change T)) (first last : List (Slot T)) → ChangesLead changes first last → AllPairs (λ earlier later. earlier ≢ later) (given_ids changes)
   Leads-once [] first last leads = λ i j d order within. absurd (omega arith)
   Leads-once (inserted id v ∷ later) first last leads =
       AllPairs-cons (λ a b. a ≢ b) id (given_ids later)
@@ -212,7 +212,7 @@ module _ {T : Type 0} where
       let P : List (Slot T) → Type 0 = λ slots. IsArena slots in subst P (sym made) lawful
 
   -- Changes preserve the invariant of an arena.
-  pub Leads-lawful : (changes : List (Change T)) (first last : List (Slot T)) → Leads changes first last → IsArena first → IsArena last
+  pub Leads-lawful : (changes : List (Change T)) (first last : List (Slot T)) → ChangesLead changes first last → IsArena first → IsArena last
   Leads-lawful [] first last leads lawful =
       let P : List (Slot T) → Type 0 = λ slots. IsArena slots in subst P (sym leads) lawful
   Leads-lawful (change ∷ later) first last leads lawful =

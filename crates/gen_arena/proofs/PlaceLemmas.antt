@@ -4,7 +4,7 @@ use Rattle.std.specs.Prelude.{slice_get}
 use Rattle.std.proofs.lemmas.Bool.{cases_eq}
 use Rattle.std.proofs.lemmas.List.{length-map, length-replicate, map-set}
 use Rattle.gen_arena.specs.Slot.{empty_slot}
-use Rattle.gen_arena.specs.inner.Cells.{Holds, IsFull}
+use Rattle.gen_arena.specs.inner.Cells.{CellHolds, IsFull}
 use Rattle.gen_arena.specs.inner.PlaceRow.{place_in, places_in, place_at, fresh_place, AreFresh}
 use Rattle.gen_arena.specs.inner.Chain.{slot_of}
 use Rattle.gen_arena.specs.declared.place.Place.{Place}
@@ -49,7 +49,7 @@ module _ {X : Type 0} where
   pub record ClearedTo (cells : List (Option X)) (count k : ℕ) : Type 0 where
     pub long : length cells ≡ count
     pub blank : (j : ℕ) → j < k → get_or cells j None ≡ None
-    pub held : (j : ℕ) → k ≤ j → j < count → Holds cells j
+    pub held : (j : ℕ) → k ≤ j → j < count → CellHolds cells j
 
   pub ClearedTo-first : (cells : List (Option X)) (count : ℕ) → IsFull cells count → ClearedTo cells count 0
   ClearedTo-first cells count full = record {

@@ -19,10 +19,10 @@ module _ {T : Type 0} where
   Makes nothing old new = new ≡ old
 
   -- Calls with these effects, in order, may change the first slots into the last ones.
-  abbrev pub Leads : List (Change T) → List (Slot T) → List (Slot T) → Type 0
-  Leads [] first last = last ≡ first
-  Leads (change ∷ later) first last =
-      (next : List (Slot T)) × Makes change first next × Leads later next last
+  abbrev pub ChangesLead : List (Change T) → List (Slot T) → List (Slot T) → Type 0
+  ChangesLead [] first last = last ≡ first
+  ChangesLead (change ∷ later) first last =
+      (next : List (Slot T)) × Makes change first next × ChangesLead later next last
 
   -- The ids that these calls inserted, in order.
   abbrev pub given_ids : List (Change T) → List Id

@@ -33,11 +33,11 @@ impl<T> Model for Arena<T> {
 
     ghost Value = { List (Slot T) };
 
-    ghost use Rattle.gen_arena.specs.inner.Chain.{slot_of, IsSound};
+    ghost use Rattle.gen_arena.specs.inner.Chain.{slot_of, IsSoundArena};
 
     ghost view = { λ a. map slot_of a.places };
 
-    ghost invariant = { λ a. IsSound a.places a.first a.free };
+    ghost invariant = { λ a. IsSoundArena a.places a.first a.free };
 }
 
 impl<T> Arena<T> {

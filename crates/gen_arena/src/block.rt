@@ -9,7 +9,7 @@ ghost use Rattle.std.specs.Borrow.{sem};
 ghost use Rattle.std.specs.Vec.Ownership.{FitsInBlock};
 ghost use base.Fml.{ftrue};
 ghost use denote.RawPtr.{Ptr};
-ghost use Rattle.gen_arena.specs.inner.Cells.{Holds};
+ghost use Rattle.gen_arena.specs.inner.Cells.{CellHolds};
 ghost use Rattle.gen_arena.specs.inner.BlockMemory.{row_owned, row_lent, way_back};
 
 use std::alloc::{AllocError, Allocator};
@@ -122,7 +122,7 @@ impl<E> Cells<E> {
 
     /// Moves the value out of a cell. The cell is blank afterwards.
     pub(crate) fn take(&mut self, start: Start<E>, k: usize) -> E
-        requires { (start.to ≡ self.old.start) × Holds self.old.held k }
+        requires { (start.to ≡ self.old.start) × CellHolds self.old.held k }
         ensures value { get_or self.old.held k None ≡ Some result }
         ensures blank { (self.new.start ≡ self.old.start) × (self.new.held ≡ slice_set self.old.held k None) }
     {
@@ -131,7 +131,7 @@ impl<E> Cells<E> {
 
     /// Borrows the value in a cell.
     pub(crate) fn lend(&self, start: Start<E>, k: usize) -> &E
-        requires { (start.to ≡ self.now.start) × Holds self.now.held k }
+        requires { (start.to ≡ self.now.start) × CellHolds self.now.held k }
         ensures { get_or self.now.held k None ≡ Some result.now }
     {
         unsafe { &*start.to.add(k) }
@@ -139,7 +139,7 @@ impl<E> Cells<E> {
 
     /// Borrows the value in a cell mutably.
     pub(crate) fn lend_mut(&mut self, start: Start<E>, k: usize) -> &mut E
-        requires { (start.to ≡ self.old.start) × Holds self.old.held k }
+        requires { (start.to ≡ self.old.start) × CellHolds self.old.held k }
         ensures* writes_back { sem 𝓛 (lends_cell E.row self.entry k result) }
         ensures value { get_or self.old.held k None ≡ Some result.now }
     {

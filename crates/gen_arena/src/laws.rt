@@ -11,7 +11,7 @@ ghost use Rattle.gen_arena.specs.Past.{IsPast, KeepsPast};
 ghost use Rattle.gen_arena.specs.Free.{free_slots, NoneIsFree};
 ghost use Rattle.gen_arena.specs.Insert.{Inserts};
 ghost use Rattle.gen_arena.specs.Remove.{Removes};
-ghost use Rattle.gen_arena.specs.Change.{Change, Leads, given_ids};
+ghost use Rattle.gen_arena.specs.Change.{Change, ChangesLead, given_ids};
 ghost use Rattle.gen_arena.specs.declared.id.Id.{Id};
 
 /// An id has a value exactly if its slot has the id's generation and that value. So the slot of a live id exists and
@@ -54,15 +54,15 @@ pub fn a_removal_changes_one_id<T>()
 
 /// A past id is never live again and stays past, whatever calls follow.
 pub fn past_is_never_live_again<T>()
-    ensures never_live { (changes : List (Change T)) (first last : List (Slot T)) → Leads changes first last
+    ensures never_live { (changes : List (Change T)) (first last : List (Slot T)) → ChangesLead changes first last
         → (id : Id) → IsPast first id → live_value last id ≡ None }
-    ensures past { (changes : List (Change T)) (first last : List (Slot T)) → Leads changes first last
+    ensures past { (changes : List (Change T)) (first last : List (Slot T)) → ChangesLead changes first last
         → KeepsPast first last }
 {}
 
 /// After any calls, a live id has its value or is past.
 pub fn live_keeps_its_value<T>()
-    ensures { (changes : List (Change T)) (first last : List (Slot T)) → Leads changes first last
+    ensures { (changes : List (Change T)) (first last : List (Slot T)) → ChangesLead changes first last
         → IsArena first → (id : Id) (value : T) → live_value first id ≡ Some value
         → (live_value last id ≡ Some value) ⊎ IsPast last id }
 {}
@@ -70,9 +70,9 @@ pub fn live_keeps_its_value<T>()
 /// No id is given twice: ids given by any sequence of calls are distinct, and each has a generation above those that
 /// its slot had used before the first call.
 pub fn no_id_is_given_twice<T>()
-    ensures fresh { (changes : List (Change T)) (first last : List (Slot T)) → Leads changes first last
+    ensures fresh { (changes : List (Change T)) (first last : List (Slot T)) → ChangesLead changes first last
         → All (λ id. generation_at first id.slot < id.generation) (given_ids changes) }
-    ensures once { (changes : List (Change T)) (first last : List (Slot T)) → Leads changes first last
+    ensures once { (changes : List (Change T)) (first last : List (Slot T)) → ChangesLead changes first last
         → AllPairs (λ earlier later. earlier ≢ later) (given_ids changes) }
 {}
 
@@ -83,6 +83,6 @@ pub fn none_is_free_where_the_count_is_zero<T>()
 
 /// Calls preserve the invariant of an arena.
 pub fn an_arena_stays_an_arena<T>()
-    ensures { (changes : List (Change T)) (first last : List (Slot T)) → Leads changes first last
+    ensures { (changes : List (Change T)) (first last : List (Slot T)) → ChangesLead changes first last
         → IsArena first → IsArena last }
 {}

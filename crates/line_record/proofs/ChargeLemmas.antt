@@ -10,7 +10,7 @@ use Rattle.leaky.specs.Arrivals.{Arrival, buckets_left, charges_first, charges_s
 use Rattle.leaky.specs.Laws.{IsBounded}
 use Rattle.leaky.proofs.Public.{contracts_bound_bursts, goes_on_from_earlier}
 use Rattle.line_record.specs.declared.entry.Entry.{Entry}
-use Rattle.line_record.specs.History.{NamedCell, moments_of, numbered, arrivals_at, buckets_under, verdict_under, verdict_after, entry_of, judged}
+use Rattle.line_record.specs.History.{NamedCell, moments_of, numbered, arrivals_at, buckets_under, named_verdict, verdict_after, entry_of, judged}
 use Rattle.line_record.specs.Laws.{HistoriesBoundBursts}
 use Rattle.line_record.proofs.HistoryLemmas.{arrivals_at-append, arrivals_at-named, arrivals_at-skips, buckets_left-append}
 
@@ -77,9 +77,9 @@ module _ (test : Verdict → Bool → Bool) (contracts : List Contract) (opening
       → verdict_after contracts opening history cell ≡ verdict_of contract (here history) cell.clp cell.moment
   verdict_here history cell is =
       let Under : ℕ → Verdict = λ n.
-      verdict_under (numbered contracts n) (buckets_under (numbered contracts n) (opening n) (arrivals_at n history)) cell in
+      named_verdict (numbered contracts n) (buckets_under (numbered contracts n) (opening n) (arrivals_at n history)) cell in
       ap Under is
-      ∙ ap (λ o. verdict_under o (buckets_under o (opening number) (arrivals_at number history)) cell) named
+      ∙ ap (λ o. named_verdict o (buckets_under o (opening number) (arrivals_at number history)) cell) named
 
   here_more : (history : List NamedCell) (cell : NamedCell)
       → here (history ++ cell ∷ []) ≡ buckets_left contract (here history) (arrivals_at number (cell ∷ []))

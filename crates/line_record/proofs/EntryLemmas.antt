@@ -11,8 +11,8 @@ use Rattle.leaky.specs.Contract.{Buckets, verdict_of, buckets_after as after_cel
 use Rattle.leaky.specs.KeptState.{Agrees, IsChargedBy}
 use Rattle.leaky.proofs.Public.{charges_keep_up}
 use Rattle.line_record.specs.declared.state.State.{State}
-use Rattle.line_record.specs.History.{NamedCell, numbered, arrivals_at, arrival_of, buckets_under, buckets_after, verdict_under, verdict_after}
-use Rattle.line_record.specs.JournalRun.{StandsFor}
+use Rattle.line_record.specs.History.{NamedCell, numbered, arrivals_at, arrival_of, buckets_under, buckets_after_cells, named_verdict, verdict_after}
+use Rattle.line_record.specs.JournalRun.{KeepsBuckets}
 use Rattle.line_record.proofs.NumberLemmas.{numbered-both}
 use Rattle.line_record.proofs.HistoryLemmas.{buckets_under-nil}
 
@@ -48,9 +48,9 @@ pub record Judges (contracts : List Contract) (before after : State) (cell : Nam
   pub none : numbered contracts cell.value ≡ None → given ≡ Refuse
 
 module _ (contracts : List Contract) (before after : State) (cell : NamedCell) (given : Verdict)
-    (judges : Judges contracts before after cell given) (opening : ℕ → Buckets) (stands : StandsFor before opening) where
+    (judges : Judges contracts before after cell given) (opening : ℕ → Buckets) (stands : KeepsBuckets before opening) where
   verdict_is : (named : Option Contract) → numbered contracts cell.value ≡ named
-      → given ≡ verdict_under named (buckets_under named (opening cell.value) []) cell
+      → given ≡ named_verdict named (buckets_under named (opening cell.value) []) cell
   verdict_is None is = judges.none is
   verdict_is (Some contract) is =
       let old = numbered-both contracts before.levels.items cell.value contract judges.one_each is in
@@ -78,13 +78,13 @@ module _ (contracts : List Contract) (before after : State) (cell : NamedCell) (
       )
 
   agrees_at : (number : ℕ) (new : Levels) → numbered after.levels.items number ≡ Some new
-      → Agrees new (buckets_after contracts opening (cell ∷ []) number)
-      × IsChargedBy (buckets_after contracts opening (cell ∷ []) number) after.last
+      → Agrees new (buckets_after_cells contracts opening (cell ∷ []) number)
+      × IsChargedBy (buckets_after_cells contracts opening (cell ∷ []) number) after.last
   agrees_at number new at = elim (cases_eq number cell.value) [
     | inl same ↦
         let Own : ℕ → Type 0 = λ n. (numbered after.levels.items n ≡ Some new)
-        → Agrees new (buckets_after contracts opening (cell ∷ []) n)
-        × IsChargedBy (buckets_after contracts opening (cell ∷ []) n) after.last in
+        → Agrees new (buckets_after_cells contracts opening (cell ∷ []) n)
+        × IsChargedBy (buckets_after_cells contracts opening (cell ∷ []) n) after.last in
         let own : Own cell.value = λ here.
         let left = own_agrees new (numbered contracts cell.value) refl here in
         rw (arrivals_at-own cell, judges.last) left in
@@ -92,14 +92,14 @@ module _ (contracts : List Contract) (before after : State) (cell : NamedCell) (
     | inr apart ↦
         let stood : numbered before.levels.items number ≡ Some new = sym (judges.others number apart) ∙ at in
         let bounded = charged_later (opening number) before.last cell.moment judges.later (stands.charged number new stood) in
-        let kept : buckets_after contracts opening (cell ∷ []) number ≡ opening number =
+        let kept : buckets_after_cells contracts opening (cell ∷ []) number ≡ opening number =
         ap (buckets_under (numbered contracts number) (opening number)) (arrivals_at-other cell number apart)
         ∙ buckets_under-nil (numbered contracts number) (opening number) in
         rw (kept, judges.last) (stands.agrees number new stood, bounded)
   ]
 
   -- The levels after the cell represent the buckets after it.
-  pub Judges-levels : StandsFor after (buckets_after contracts opening (cell ∷ []))
+  pub Judges-levels : KeepsBuckets after (buckets_after_cells contracts opening (cell ∷ []))
   Judges-levels = record {
     agrees = λ number new at. (agrees_at number new at).0;
     charged = λ number new at. (agrees_at number new at).1;

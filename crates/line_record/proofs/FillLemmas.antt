@@ -10,7 +10,7 @@ use Rattle.leaky.specs.Bursts.{Fills}
 use Rattle.leaky.specs.Contract.{Buckets, peak_of, second_of, verdict_of, buckets_after as after_cell}
 use Rattle.leaky.specs.Arrivals.{buckets_left, charges_first, charges_second}
 use Rattle.leaky.proofs.Public.{charges_are_fillings}
-use Rattle.line_record.specs.History.{NamedCell, numbered, arrivals_at, buckets_under, buckets_after, verdict_under, verdict_after}
+use Rattle.line_record.specs.History.{NamedCell, numbered, arrivals_at, buckets_under, buckets_after_cells, named_verdict, verdict_after}
 use Rattle.line_record.specs.Laws.{CountedCellsFill}
 use Rattle.line_record.proofs.HistoryLemmas.{arrivals_at-named, arrivals_at-skips, buckets_after-append}
 
@@ -31,10 +31,10 @@ leaves-if (Some gcra) bucket moment = leaves gcra bucket moment
 module _ (contracts : List Contract) (opening : ℕ → Buckets) (history : List NamedCell) (cell : NamedCell)
     (number : ℕ) (contract : Contract) (at : numbered contracts number ≡ Some contract) where
   abbrev before : Buckets
-  before = buckets_after contracts opening history number
+  before = buckets_after_cells contracts opening history number
 
   abbrev after : Buckets
-  after = buckets_after contracts opening (history ++ cell ∷ []) number
+  after = buckets_after_cells contracts opening (history ++ cell ∷ []) number
 
   abbrev verdict : Verdict
   verdict = verdict_after contracts opening history cell
@@ -52,8 +52,8 @@ module _ (contracts : List Contract) (opening : ℕ → Buckets) (history : List
       let becomes : after ≡ after_cell contract before cell.clp cell.moment =
       after-is ∙ ap (buckets_left contract before) (arrivals_at-named number cell [] same) in
       let decided : verdict ≡ verdict_of contract before cell.clp cell.moment =
-      ap (λ n. verdict_under (numbered contracts n) (buckets_after contracts opening history n) cell) numbers
-      ∙ ap (λ (named : Option Contract). verdict_under named before cell) at in
+      ap (λ n. named_verdict (numbered contracts n) (buckets_after_cells contracts opening history n) cell) numbers
+      ∙ ap (λ (named : Option Contract). named_verdict named before cell) at in
       let told = charges_are_fillings contract before cell.clp cell.moment in
       let Of : Buckets → Verdict → Type 0 = λ b v.
       Told contract before b cell.moment (charges_first v) (charges_second v contract cell.clp) in

@@ -12,8 +12,8 @@ use Rattle.line_record.specs.declared.entry.Entry.{Entry}
 use Rattle.line_record.specs.declared.state.State.{State}
 use Rattle.line_record.specs.declared.tally.Tally.{Tally}
 use Rattle.line_record.specs.Tally.{counted}
-use Rattle.line_record.specs.History.{NamedCell, numbered, moments_of, last_moment, arrival_of, arrivals_at, buckets_under, buckets_after, verdict_under, verdict_after, entry_of, cell_of, cells_of, judged}
-use Rattle.line_record.specs.JournalRun.{tallied, StandsFor}
+use Rattle.line_record.specs.History.{NamedCell, numbered, moments_of, last_moment, arrival_of, arrivals_at, buckets_under, buckets_after_cells, named_verdict, verdict_after, entry_of, named_cell_of, named_cells_of, judged}
+use Rattle.line_record.specs.JournalRun.{tallied, KeepsBuckets}
 use Rattle.line_record.specs.Laws.{EachCellIsJudged}
 
 -- Buckets.
@@ -51,8 +51,8 @@ arrivals_at-skips number cell later differs = rw differs refl
 
 -- The buckets after two histories, one after the other.
 pub buckets_after-append : (contracts : List Contract) (opening : ℕ → Buckets) (xs ys : List NamedCell) (number : ℕ)
-    → buckets_after contracts opening (xs ++ ys) number
-    ≡ buckets_after contracts (buckets_after contracts opening xs) ys number
+    → buckets_after_cells contracts opening (xs ++ ys) number
+    ≡ buckets_after_cells contracts (buckets_after_cells contracts opening xs) ys number
 buckets_after-append contracts opening xs ys number =
     ap (buckets_under (numbered contracts number) (opening number)) (arrivals_at-append number xs ys)
     ∙ buckets_under-append (numbered contracts number) (opening number) (arrivals_at number xs) (arrivals_at number ys)
@@ -60,22 +60,22 @@ buckets_after-append contracts opening xs ys number =
 -- Verdicts.
 
 pub verdict_after-append : (contracts : List Contract) (opening : ℕ → Buckets) (xs ys : List NamedCell) (cell : NamedCell)
-    → verdict_after contracts (buckets_after contracts opening xs) ys cell
+    → verdict_after contracts (buckets_after_cells contracts opening xs) ys cell
     ≡ verdict_after contracts opening (xs ++ ys) cell
 verdict_after-append contracts opening xs ys cell =
-    ap (λ buckets. verdict_under (numbered contracts cell.value) buckets cell)
+    ap (λ buckets. named_verdict (numbered contracts cell.value) buckets cell)
     (sym (buckets_after-append contracts opening xs ys cell.value))
 
 -- Cells judged from the buckets after a history are judged after that history.
 pub judged-after : (contracts : List Contract) (opening : ℕ → Buckets) (before history cells : List NamedCell)
-    → judged contracts (buckets_after contracts opening before) history cells
+    → judged contracts (buckets_after_cells contracts opening before) history cells
     ≡ judged contracts opening (before ++ history) cells
 judged-after contracts opening before history [] = refl
 judged-after contracts opening before history (cell ∷ later) =
     let rest = judged-after contracts opening before (history ++ cell ∷ []) later in
     let joined = append_assoc before history (cell ∷ []) in
     let one = verdict_after-append contracts opening before history cell in
-    ap (λ verdict. entry_of cell verdict ∷ judged contracts (buckets_after contracts opening before) (history ++ cell ∷ []) later) one
+    ap (λ verdict. entry_of cell verdict ∷ judged contracts (buckets_after_cells contracts opening before) (history ++ cell ∷ []) later) one
     ∙ ap (λ entries. entry_of cell (verdict_after contracts opening (before ++ history) cell) ∷ entries)
     (rest ∙ ap (λ whole. judged contracts opening whole later) (sym joined))
 
@@ -98,7 +98,7 @@ length-judged contracts opening history (cell ∷ later) =
     ap suc (length-judged contracts opening (history ++ cell ∷ []) later)
 
 pub cells_of-judged : (contracts : List Contract) (opening : ℕ → Buckets) (history cells : List NamedCell)
-    → cells_of (judged contracts opening history cells) ≡ cells
+    → named_cells_of (judged contracts opening history cells) ≡ cells
 cells_of-judged contracts opening history [] = refl
 cells_of-judged contracts opening history (cell ∷ later) =
     ap (λ cells. cell ∷ cells) (cells_of-judged contracts opening (history ++ cell ∷ []) later)
@@ -124,12 +124,12 @@ pub tallied-append : (counts : Tally) (xs ys : List Entry)
 tallied-append counts [] ys = refl
 tallied-append counts (x ∷ xs) ys = tallied-append (counted counts x.verdict) xs ys
 
-pub cells_of-append : (xs ys : List Entry) → cells_of (xs ++ ys) ≡ cells_of xs ++ cells_of ys
-cells_of-append xs ys = map-append cell_of xs ys
+pub cells_of-append : (xs ys : List Entry) → named_cells_of (xs ++ ys) ≡ named_cells_of xs ++ named_cells_of ys
+cells_of-append xs ys = map-append named_cell_of xs ys
 
 -- A state that represents buckets represents equal ones.
 pub StandsFor-same : (state : State) (one other : ℕ → Buckets)
-    → ((number : ℕ) → one number ≡ other number) → StandsFor state one → StandsFor state other
+    → ((number : ℕ) → one number ≡ other number) → KeepsBuckets state one → KeepsBuckets state other
 StandsFor-same state one other same stands = record {
   agrees = λ number levels at. subst (λ b. Agrees levels b) (same number) (stands.agrees number levels at);
   charged = λ number levels at. subst (λ b. IsChargedBy b state.last) (same number) (stands.charged number levels at);

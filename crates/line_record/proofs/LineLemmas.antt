@@ -13,8 +13,8 @@ use Rattle.line_record.specs.declared.owner.Owner.{Owner}
 use Rattle.line_record.specs.declared.state.State.{State}
 use Rattle.line_record.specs.declared.tally.Tally.{Tally}
 use Rattle.line_record.specs.Tally.{counted, cells_in}
-use Rattle.line_record.specs.History.{numbered, buckets_after, empty_buckets}
-use Rattle.line_record.specs.JournalRun.{IsRun}
+use Rattle.line_record.specs.History.{numbered, buckets_after_cells, empty_buckets}
+use Rattle.line_record.specs.JournalRun.{IsJournalRun}
 use Rattle.line_record.specs.StateAfter.{IsStateAfter}
 use Rattle.line_record.specs.Line.{LineView, line_refusal, IsOpening}
 use Rattle.line_record.specs.inner.LineFields.{view_of, KeepsRoom}
@@ -49,7 +49,7 @@ pub KeepsRoom-gains : (owner : Option Owner) (contracts : List Contract) (journa
     → KeepsRoom (view_of owner contracts journal start entries state capacity) capacity
     → IsSome owner
     → line_refusal (view_of owner contracts journal start entries state capacity) entry.moment ≡ None
-    → IsRun contracts state (entry ∷ []) next
+    → IsJournalRun contracts state (entry ∷ []) next
     → KeepsRoom (view_of owner contracts journal start (entries ++ entry ∷ []) next capacity) capacity
 KeepsRoom-gains owner contracts journal start entries state capacity entry next sound held none run =
     let admitted = IsAdmitted-refusal (view_of owner contracts journal start entries state capacity) entry.moment none in
@@ -74,7 +74,7 @@ KeepsRoom-gains owner contracts journal start entries state capacity entry next 
 pub IsStateAfter-opening : (contracts : List Contract) (before : Tally) (state : State)
     → IsOpening contracts before state → IsStateAfter contracts [] state
 IsStateAfter-opening contracts before state opening =
-    let empty : (number : ℕ) → buckets_after contracts empty_buckets [] number ≡ opening_buckets =
+    let empty : (number : ℕ) → buckets_after_cells contracts empty_buckets [] number ≡ opening_buckets =
     λ number. buckets_under-nil (numbered contracts number) opening_buckets in
     record {
       one_each = opening.one_each;

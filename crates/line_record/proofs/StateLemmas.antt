@@ -11,7 +11,7 @@ use Rattle.leaky.specs.Arrivals.{Arrival, buckets_left}
 use Rattle.leaky.specs.KeptState.{Agrees, IsChargedBy}
 use Rattle.leaky.proofs.Public.{levels_stand_for_buckets, levels_follow_buckets, charges_keep_up}
 use Rattle.line_record.specs.declared.state.State.{State}
-use Rattle.line_record.specs.History.{NamedCell, moments_of, last_moment, numbered, arrival_of, arrivals_at, empty_buckets, buckets_under, buckets_after}
+use Rattle.line_record.specs.History.{NamedCell, moments_of, last_moment, numbered, arrival_of, arrivals_at, empty_buckets, buckets_under, buckets_after_cells}
 use Rattle.line_record.proofs.NumberLemmas.{numbered-above, numbered-within, numbered-both}
 use Rattle.line_record.proofs.HistoryLemmas.{arrivals_at-named, arrivals_at-skips}
 use Rattle.line_record.proofs.EntryLemmas.{charged_later}
@@ -111,8 +111,8 @@ histories-have_states contracts history counts goes in_time =
     let state : State = record { levels = record { items = built.0 }; last = last; counts = counts } in
     let opened : IsChargedBy opening_buckets 0 = record { first = omega arith; second = omega arith } in
     let both : (number : ℕ) (levels : Levels) → numbered built.0 number ≡ Some levels
-    → Agrees levels (buckets_after contracts empty_buckets history number)
-    × IsChargedBy (buckets_after contracts empty_buckets history number) last = λ number levels at.
+    → Agrees levels (buckets_after_cells contracts empty_buckets history number)
+    × IsChargedBy (buckets_after_cells contracts empty_buckets history number) last = λ number levels at.
     let within = numbered-within built.0 number levels at in
     let named = numbered-both built.0 contracts number levels (sym built.1) at in
     let here : slice_get built.0 (number - 1) ≡ Some levels = sym (numbered-above built.0 number within.0) ∙ at in

@@ -7,7 +7,7 @@ use Rattle.leaky.specs.declared.verdict.Verdict.{Verdict}
 use Rattle.leaky.specs.declared.verdict.Verdict.TheVariants.{Pass, Tag, Discard, Refuse}
 use Rattle.line_record.specs.declared.tally.Tally.{Tally}
 use Rattle.line_record.specs.declared.entry.Entry.{Entry}
-use Rattle.line_record.specs.Tally.{nothing, counted, cells_in, tally_of, plus, total, FitsWords, IsPart}
+use Rattle.line_record.specs.Tally.{nothing, counted, cells_in, tally_of, plus, total, FitsWords, IsPartTally}
 use Rattle.line_record.specs.Laws.{TotalsCount, TotalsJoin, PartsAreWithin, VerdictsCount, EntriesCount}
 
 tally_is : (one other : Tally) → one.passed ≡ other.passed → one.tagged ≡ other.tagged
@@ -54,7 +54,7 @@ totals-join (first ∷ later) others =
 
 -- Parts.
 
-IsPart-plus_left : (one other : Tally) → IsPart one (plus one other)
+IsPart-plus_left : (one other : Tally) → IsPartTally one (plus one other)
 IsPart-plus_left one other = record {
   passed = omega arith;
   tagged = omega arith;
@@ -62,7 +62,7 @@ IsPart-plus_left one other = record {
   refused = omega arith;
 }
 
-IsPart-plus_right : (one other : Tally) → IsPart other (plus one other)
+IsPart-plus_right : (one other : Tally) → IsPartTally other (plus one other)
 IsPart-plus_right one other = record {
   passed = omega arith;
   tagged = omega arith;
@@ -70,7 +70,7 @@ IsPart-plus_right one other = record {
   refused = omega arith;
 }
 
-IsPart-trans : (part whole larger : Tally) → IsPart part whole → IsPart whole larger → IsPart part larger
+IsPart-trans : (part whole larger : Tally) → IsPartTally part whole → IsPartTally whole larger → IsPartTally part larger
 IsPart-trans part whole larger first second = record {
   passed = omega (arith, first.passed, second.passed);
   tagged = omega (arith, first.tagged, second.tagged);
@@ -79,10 +79,10 @@ IsPart-trans part whole larger first second = record {
 }
 
 IsPart-total : (tallies : List Tally) (place : ℕ) (tally : Tally)
-    → slice_get tallies place ≡ Some tally → IsPart tally (total tallies)
+    → slice_get tallies place ≡ Some tally → IsPartTally tally (total tallies)
 IsPart-total [] place tally at = cc
 IsPart-total (first ∷ later) zero tally at =
-    subst (λ (t : Tally). IsPart t (total (first ∷ later))) (same_Some first tally at)
+    subst (λ (t : Tally). IsPartTally t (total (first ∷ later))) (same_Some first tally at)
     (IsPart-plus_left first (total later))
 IsPart-total (first ∷ later) (suc place) tally at =
     IsPart-trans tally (total later) (total (first ∷ later)) (IsPart-total later place tally at)
@@ -105,7 +105,7 @@ total-from tallies place given sum within =
 
 pub FitsWords-part : (part rest whole : Tally) → plus part rest ≡ whole → FitsWords whole → FitsWords part
 FitsWords-part part rest whole is fits =
-    let within : IsPart part whole = subst (IsPart part) is (IsPart-plus_left part rest) in
+    let within : IsPartTally part whole = subst (IsPartTally part) is (IsPart-plus_left part rest) in
     record {
       passed = omega (arith, within.passed, fits.passed);
       tagged = omega (arith, within.tagged, fits.tagged);

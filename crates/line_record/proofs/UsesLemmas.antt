@@ -16,7 +16,7 @@ use Rattle.line_record.specs.Seatings.{seating_in}
 use Rattle.line_record.specs.inner.SeatingChanges.{ChangesAt}
 use Rattle.line_record.specs.Directory.{DirectoryView, seating_at, IsOpenLine, IsTakenLine, IsNamed, IsDirectory}
 use Rattle.line_record.specs.inner.DirectoryFields.{directory_of, KeepsDirectory}
-use Rattle.line_record.specs.inner.ProgramUses.{place_of, uses_of, with_uses, is_counted_at, CountsPrograms, CountsUses}
+use Rattle.line_record.specs.inner.ProgramUses.{use_place, uses_of, with_uses, is_counted_at, CountsPrograms, CountsUses}
 use Rattle.gen_arena.proofs.Public.{slice_get-set_same, slice_get-set_other}
 use Rattle.line_record.proofs.NumberLemmas.{slice_get-replicate}
 use Rattle.line_record.proofs.HeldLemmas.{stays_taken, KnowsLines-new}
@@ -54,7 +54,7 @@ CountsPrograms-new places lines some = record {
 }
 
 module _ (counts : List ℕ) (named : List (Option Id)) (counted : CountsPrograms counts named) where
-  pub place_within : (program : Id) → place_of counts program < length counts
+  pub place_within : (program : Id) → use_place counts program < length counts
   place_within program = mod_below program.slot (length counts) counted.some
 
   weight : ℕ → Option Id → ℕ
@@ -64,16 +64,16 @@ module _ (counts : List ℕ) (named : List (Option Id)) (counted : CountsProgram
   unfolding weight
   weight-none place = refl
 
-  weight-here : (program : Id) → weight (place_of counts program) (Some program) ≡ 1
+  weight-here : (program : Id) → weight (use_place counts program) (Some program) ≡ 1
   unfolding weight
   weight-here program =
-      let place = place_of counts program in
+      let place = use_place counts program in
       ap (λ b. cond b 1 0) (eq-eqb place place refl)
 
-  weight-elsewhere : (program : Id) (place : ℕ) → place ≢ place_of counts program → weight place (Some program) ≡ 0
+  weight-elsewhere : (program : Id) (place : ℕ) → place ≢ use_place counts program → weight place (Some program) ≡ 0
   unfolding weight
   weight-elsewhere program place apart =
-      ap (λ b. cond b 1 0) (ne_eqb (place_of counts program) place (λ e. apart (sym e)))
+      ap (λ b. cond b 1 0) (ne_eqb (use_place counts program) place (λ e. apart (sym e)))
 
   weight-replaced : (place line : ℕ) (old new : Option Id) → slice_get named line ≡ Some old
       → count_by (is_counted_at (length counts) place) (set named line new) + weight place old
@@ -112,7 +112,7 @@ module _ (counts : List ℕ) (named : List (Option Id)) (counted : CountsProgram
   pub CountsPrograms-added : (line : ℕ) (program : Id) → slice_get named line ≡ Some None
       → CountsPrograms (with_uses counts program (uses_of counts program + 1)) (set named line (Some program))
   CountsPrograms-added line program at =
-      let place = place_of counts program in
+      let place = use_place counts program in
       CountsPrograms-changed line None (Some program) place (uses_of counts program + 1) at (place_within program)
       (λ other apart. weight-none other ∙ sym (weight-elsewhere program other apart))
       (omega (arith, weight-none place, weight-here program))
@@ -120,7 +120,7 @@ module _ (counts : List ℕ) (named : List (Option Id)) (counted : CountsProgram
   -- A program that a line's connection names has a count above 0.
   pub uses-some : (line : ℕ) (program : Id) → slice_get named line ≡ Some (Some program) → 0 < uses_of counts program
   uses-some line program at =
-      let place = place_of counts program in
+      let place = use_place counts program in
       omega (
         arith,
         counted.each place (place_within program),
@@ -133,7 +133,7 @@ module _ (counts : List ℕ) (named : List (Option Id)) (counted : CountsProgram
   pub CountsPrograms-removed : (line : ℕ) (program : Id) → slice_get named line ≡ Some (Some program)
       → CountsPrograms (with_uses counts program (uses_of counts program - 1)) (set named line None)
   CountsPrograms-removed line program at =
-      let place = place_of counts program in
+      let place = use_place counts program in
       CountsPrograms-changed line (Some program) None place (uses_of counts program - 1) at (place_within program)
       (λ other apart. weight-elsewhere program other apart ∙ sym (weight-none other))
       (omega (arith, weight-none place, weight-here program, uses-some line program at))
@@ -141,7 +141,7 @@ module _ (counts : List ℕ) (named : List (Option Id)) (counted : CountsProgram
   -- If a line has no connection, the count is below the number of lines.
   pub uses-room : (line : ℕ) (program : Id) → slice_get named line ≡ Some None → uses_of counts program < length named
   uses-room line program at =
-      let place = place_of counts program in
+      let place = use_place counts program in
       let test = is_counted_at (length counts) place in
       omega (
         arith,

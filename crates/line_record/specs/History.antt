@@ -58,19 +58,19 @@ buckets_under None buckets arrivals = buckets
 buckets_under (Some contract) buckets arrivals = buckets_left contract buckets arrivals
 
 -- The buckets of each contract number after a history: the cells that name the contract change them.
-abbrev pub buckets_after : List Contract → (ℕ → Buckets) → List NamedCell → ℕ → Buckets
-buckets_after contracts opening history number =
+abbrev pub buckets_after_cells : List Contract → (ℕ → Buckets) → List NamedCell → ℕ → Buckets
+buckets_after_cells contracts opening history number =
     buckets_under (numbered contracts number) (opening number) (arrivals_at number history)
 
 -- The verdict of the contract that the cell names, from these buckets. Refuse if it names none.
-abbrev pub verdict_under : Option Contract → Buckets → NamedCell → Verdict
-verdict_under None buckets cell = Refuse
-verdict_under (Some contract) buckets cell = verdict_of contract buckets cell.clp cell.moment
+abbrev pub named_verdict : Option Contract → Buckets → NamedCell → Verdict
+named_verdict None buckets cell = Refuse
+named_verdict (Some contract) buckets cell = verdict_of contract buckets cell.clp cell.moment
 
 -- The verdict on the next cell after a history.
 abbrev pub verdict_after : List Contract → (ℕ → Buckets) → List NamedCell → NamedCell → Verdict
 verdict_after contracts opening history cell =
-    verdict_under (numbered contracts cell.value) (buckets_after contracts opening history cell.value) cell
+    named_verdict (numbered contracts cell.value) (buckets_after_cells contracts opening history cell.value) cell
 
 -- A cell with its verdict.
 abbrev pub entry_of : NamedCell → Verdict → Entry
@@ -83,8 +83,8 @@ entry_of cell verdict = record {
 }
 
 -- An entry without its verdict.
-abbrev pub cell_of : Entry → NamedCell
-cell_of entry = record {
+abbrev pub named_cell_of : Entry → NamedCell
+named_cell_of entry = record {
   moment = entry.moment;
   clp = entry.clp;
   value = entry.value;
@@ -92,8 +92,8 @@ cell_of entry = record {
 }
 
 -- Entries without their verdicts.
-abbrev pub cells_of : List Entry → List NamedCell
-cells_of entries = map cell_of entries
+abbrev pub named_cells_of : List Entry → List NamedCell
+named_cells_of entries = map named_cell_of entries
 
 -- Entries for these cells, which come after a history: each cell with its verdict.
 abbrev pub judged : List Contract → (ℕ → Buckets) → List NamedCell → List NamedCell → List Entry

@@ -10,9 +10,9 @@ use Rattle.leaky.specs.Laws.{IsBounded}
 use Rattle.line_record.specs.declared.entry.Entry.{Entry}
 use Rattle.line_record.specs.declared.state.State.{State}
 use Rattle.line_record.specs.declared.tally.Tally.{Tally}
-use Rattle.line_record.specs.Tally.{counted, cells_in, tally_of, plus, total, IsPart}
-use Rattle.line_record.specs.History.{NamedCell, IsHistory, moments_of, numbered, empty_buckets, cells_of, buckets_after, verdict_after, judged}
-use Rattle.line_record.specs.JournalRun.{tallied, StandsFor, IsRun}
+use Rattle.line_record.specs.Tally.{counted, cells_in, tally_of, plus, total, IsPartTally}
+use Rattle.line_record.specs.History.{NamedCell, IsHistory, moments_of, numbered, empty_buckets, named_cells_of, buckets_after_cells, verdict_after, judged}
+use Rattle.line_record.specs.JournalRun.{tallied, KeepsBuckets, IsJournalRun}
 use Rattle.line_record.specs.StateAfter.{IsStateAfter}
 use Rattle.line_record.specs.Charges.{peak_charges, sustained_charges}
 
@@ -25,22 +25,22 @@ HistoriesHaveStates = (contracts : List Contract) (history : List NamedCell) (co
 
 -- Every state represents some buckets, so what a run states about all such buckets isn't vacuous.
 abbrev pub StatesStandForBuckets : Type 0
-StatesStandForBuckets = (state : State) → (buckets : ℕ → Buckets) × StandsFor state buckets
+StatesStandForBuckets = (state : State) → (buckets : ℕ → Buckets) × KeepsBuckets state buckets
 
 -- A run and a run that starts from its end make one run.
 abbrev pub RunsJoin : Type 0
 RunsJoin = (contracts : List Contract) (start middle end : State) (first second : List Entry)
-    → IsRun contracts start first middle → IsRun contracts middle second end
-    → IsRun contracts start (first ++ second) end
+    → IsJournalRun contracts start first middle → IsJournalRun contracts middle second end
+    → IsJournalRun contracts start (first ++ second) end
 
 -- If a run starts from a state that agrees with a history, its verdicts are those of the history, and its end agrees
 -- with the longer history.
 abbrev pub RunsFollowHistories : Type 0
 RunsFollowHistories = (contracts : List Contract) (history : List NamedCell)
     → (start end : State) (entries : List Entry)
-    → IsStateAfter contracts history start → IsRun contracts start entries end
-    → (entries ≡ judged contracts empty_buckets history (cells_of entries))
-    × IsStateAfter contracts (history ++ cells_of entries) end
+    → IsStateAfter contracts history start → IsJournalRun contracts start entries end
+    → (entries ≡ judged contracts empty_buckets history (named_cells_of entries))
+    × IsStateAfter contracts (history ++ named_cells_of entries) end
 
 -- Cells in two parts are judged as one list, the second part after the first.
 abbrev pub CellsAreJudgedInTurn : Type 0
@@ -54,7 +54,7 @@ abbrev pub EachCellIsJudged : Type 0
 EachCellIsJudged = (contracts : List Contract) (opening : ℕ → Buckets)
     → (history cells : List NamedCell)
     → (length (judged contracts opening history cells) ≡ length cells)
-    × (cells_of (judged contracts opening history cells) ≡ cells)
+    × (named_cells_of (judged contracts opening history cells) ≡ cells)
 
 -- One more cell fills each bucket of the contract of this number for which the burst bound below counts it, and leaves
 -- the others unchanged.
@@ -70,8 +70,8 @@ CountedCellsFill = (contracts : List Contract) (opening : ℕ → Buckets)
     → (history : List NamedCell) (cell : NamedCell)
     → (number : ℕ) (contract : Contract) → numbered contracts number ≡ Some contract
     → FillsAsCounted contract
-    (buckets_after contracts opening history number)
-    (buckets_after contracts opening (history ++ cell ∷ []) number)
+    (buckets_after_cells contracts opening history number)
+    (buckets_after_cells contracts opening (history ++ cell ∷ []) number)
     number cell (verdict_after contracts opening history cell)
 
 -- The burst bound of ITU-T I.371, over a history from any buckets: at most 1 + (d + tau) div T of the cells that
@@ -97,9 +97,9 @@ TotalsJoin = (tallies others : List Tally)
 
 -- A tally is part of its sum with another one, and of the total of a list that has it.
 pub record PartsAreWithin : Type 0 where
-  pub plus : (one other : Tally) → IsPart one (plus one other) × IsPart other (plus one other)
+  pub plus : (one other : Tally) → IsPartTally one (plus one other) × IsPartTally other (plus one other)
   pub total : (tallies : List Tally) (place : ℕ) (tally : Tally)
-      → slice_get tallies place ≡ Some tally → IsPart tally (total tallies)
+      → slice_get tallies place ≡ Some tally → IsPartTally tally (total tallies)
 
 -- The tally of two lists of verdicts is the sum of both tallies. One more verdict at the end adds one. The tally has as
 -- many cells as there are verdicts.

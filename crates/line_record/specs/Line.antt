@@ -8,7 +8,7 @@ use Rattle.line_record.specs.declared.tally.Tally.{Tally}
 use Rattle.line_record.specs.declared.fault.LineFault.{LineFault}
 use Rattle.line_record.specs.declared.fault.LineFault.TheVariants.{TooLate, Back, Full}
 use Rattle.line_record.specs.Tally.{cells_in}
-use Rattle.line_record.specs.JournalRun.{IsRun}
+use Rattle.line_record.specs.JournalRun.{IsJournalRun}
 
 -- The owner (None if the line is free) and its contracts, the greatest number of entries of a journal, the state at the
 -- beginning of the journal, its entries, the present state, and whether the line is free with space reserved for a
@@ -55,7 +55,7 @@ IsHeld line = IsSome line.owner
 -- The line judged one more cell: its journal has one more entry, its state changed by it, and all else is unchanged.
 pub record Gains (old : LineView) (entry : Entry) (new : LineView) : Type 0 where
   pub after : new ≡ record old { entries = old.entries ++ entry ∷ []; state = new.state }
-  pub run : IsRun old.contracts old.state (entry ∷ []) new.state
+  pub run : IsJournalRun old.contracts old.state (entry ∷ []) new.state
 
 -- The state of a connection without cells: all theoretical arrival times and the last moment are 0.
 pub record IsOpening (contracts : List Contract) (before : Tally) (state : State) : Type 0 where
@@ -66,7 +66,7 @@ pub record IsOpening (contracts : List Contract) (before : Tally) (state : State
 
 -- The line now serves this connection under these contracts, with an empty journal and an opening state. The limit of
 -- the journal and the counts are those of the old line.
-pub record Opens (old : LineView) (holder : Owner) (under : List Contract) (new : LineView) : Type 0 where
+pub record OpensLine (old : LineView) (holder : Owner) (under : List Contract) (new : LineView) : Type 0 where
   pub owner : new.owner ≡ Some holder
   pub contracts : new.contracts ≡ under
   pub journal : new.journal ≡ old.journal
@@ -79,7 +79,7 @@ pub record Opens (old : LineView) (holder : Owner) (under : List Contract) (new 
 -- contracts, and its numbers are within their limits. A line that serves a connection has a contract; a free line has
 -- no contract and no entry.
 pub record IsLine (line : LineView) : Type 0 where
-  pub run : IsRun line.contracts line.start line.entries line.state
+  pub run : IsJournalRun line.contracts line.start line.entries line.state
   pub few : length line.contracts ≤ 4
   pub some : 1 ≤ line.journal
   pub journal : line.journal ≤ 65536

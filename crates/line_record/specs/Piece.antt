@@ -4,7 +4,7 @@ use Rattle.leaky.specs.declared.contract.Contract.{Contract}
 use Rattle.line_record.specs.declared.entry.Entry.{Entry}
 use Rattle.line_record.specs.declared.state.State.{State}
 use Rattle.line_record.specs.declared.owner.Owner.{Owner}
-use Rattle.line_record.specs.JournalRun.{IsRun}
+use Rattle.line_record.specs.JournalRun.{IsJournalRun}
 use Rattle.line_record.specs.Line.{LineView}
 
 -- The connection and its contracts, the state at the beginning of the journal, its entries, and the state at its end.
@@ -17,7 +17,7 @@ pub record PieceView : Type 0 where
 
 -- Invariant of a piece: its entries are a run from its start to its end.
 abbrev pub IsPiece : PieceView → Type 0
-IsPiece piece = IsRun piece.contracts piece.start piece.entries piece.end
+IsPiece piece = IsJournalRun piece.contracts piece.start piece.entries piece.end
 
 -- The piece has the line's owner, contracts, journal and both states.
 pub record IsJournalOf (line : LineView) (piece : PieceView) : Type 0 where
@@ -68,4 +68,4 @@ end_of earlier (piece ∷ later) = end_of piece.end later
 abbrev pub AreOneRun : List PieceView → Type 0
 AreOneRun [] = ⊤
 AreOneRun (piece ∷ later) =
-    IsRun piece.contracts piece.start (entries_in (piece ∷ later)) (end_of piece.end later)
+    IsJournalRun piece.contracts piece.start (entries_in (piece ∷ later)) (end_of piece.end later)

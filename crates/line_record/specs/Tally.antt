@@ -60,7 +60,7 @@ pub record FitsWords (tally : Tally) : Type 0 where
   pub refused : tally.refused < 2 ^ 64
 
 -- For each verdict, the part has at most as many cells as the whole.
-pub record IsPart (part whole : Tally) : Type 0 where
+pub record IsPartTally (part whole : Tally) : Type 0 where
   pub passed : part.passed ≤ whole.passed
   pub tagged : part.tagged ≤ whole.tagged
   pub discarded : part.discarded ≤ whole.discarded

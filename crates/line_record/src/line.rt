@@ -57,9 +57,9 @@ impl Model for Line {
 impl Line {
     ghost use Rattle.std.specs.Prelude.{◌≡◌, ℕ, ◌^◌, ◌<◌, ◌≤◌, ◌↔◌, List, [], ◌∷◌, ◌++◌, length, true, false, Some, None, IsTrue, IsOk, IfOk, IfErr, OnOk, OnErr, MatchResult, IsSome};
     ghost use Rattle.line_record.specs.Tally.{nothing, counted, cells_in};
-    ghost use Rattle.line_record.specs.History.{NamedCell, cell_of, empty_buckets, verdict_after, IsNoNumber};
+    ghost use Rattle.line_record.specs.History.{NamedCell, named_cell_of, empty_buckets, verdict_after, IsNoNumber};
     ghost use Rattle.line_record.specs.StateAfter.{IsStateAfter};
-    ghost use Rattle.line_record.specs.Line.{free_line, line_refusal, IsHeld, Gains, Opens, IsLine};
+    ghost use Rattle.line_record.specs.Line.{free_line, line_refusal, IsHeld, Gains, OpensLine, IsLine};
     ghost use Rattle.line_record.specs.Piece.{IsJournalOf, IsPiece};
 
     /// Makes a free line that has judged no cell. Its journals have at most `journal` entries (1 to 65536).
@@ -182,7 +182,7 @@ impl Line {
     ) -> Result<(), (LineFault, ArrayVec<Contract, 4>)>
         requires free { self.old.owner ≡ None }
         requires some { 0 < length contracts.items }
-        ensures opened { OnOk result (Opens self.old owner contracts.items self.new) }
+        ensures opened { OnOk result (OpensLine self.old owner contracts.items self.new) }
         ensures history { OnOk result (IsStateAfter contracts.items [] self.new.state) }
 
         // It fails only if the allocation fails, and then nothing changes.
@@ -249,7 +249,7 @@ impl Line {
 
         ensures owner { self.new.owner ≡ self.old.owner }
 
-        ensures cell { IfOk result (λ entry. cell_of entry
+        ensures cell { IfOk result (λ entry. named_cell_of entry
             ≡ record { moment = moment; clp = clp; value = value; program = program }) }
         ensures gained { IfOk result (λ entry. Gains self.old entry self.new) }
 
@@ -260,10 +260,10 @@ impl Line {
         // agrees with the history and the cell.
         ensures verdict { IfOk result (λ entry. (history : List NamedCell)
             → IsStateAfter self.old.contracts history self.old.state
-            → entry.verdict ≡ verdict_after self.old.contracts empty_buckets history (cell_of entry)) }
+            → entry.verdict ≡ verdict_after self.old.contracts empty_buckets history (named_cell_of entry)) }
         ensures history { IfOk result (λ entry. (history : List NamedCell)
             → IsStateAfter self.old.contracts history self.old.state
-            → IsStateAfter self.new.contracts (history ++ cell_of entry ∷ []) self.new.state) }
+            → IsStateAfter self.new.contracts (history ++ named_cell_of entry ∷ []) self.new.state) }
 
         ensures counts { IfOk result
             (λ entry. self.new.state.counts ≡ counted self.old.state.counts entry.verdict) }

@@ -24,7 +24,7 @@ pub struct Piece {
 
 impl Model for Piece {
     ghost use Rattle.line_record.specs.Piece.{PieceView};
-    ghost use Rattle.line_record.specs.JournalRun.{IsRun};
+    ghost use Rattle.line_record.specs.JournalRun.{IsJournalRun};
 
     ghost Value = { PieceView };
 
@@ -36,12 +36,12 @@ impl Model for Piece {
       end = p.end;
     } };
 
-    ghost invariant = { λ p. IsRun p.contracts.items p.start p.entries.items p.end };
+    ghost invariant = { λ p. IsJournalRun p.contracts.items p.start p.entries.items p.end };
 }
 
 impl Piece {
     ghost use Rattle.std.specs.Prelude.{◌≡◌, ◌↔◌, IsTrue};
-    ghost use Rattle.line_record.specs.JournalRun.{IsRun};
+    ghost use Rattle.line_record.specs.JournalRun.{IsJournalRun};
     ghost use Rattle.line_record.specs.Piece.{IsPiece, GoesOnFrom};
 
     /// Makes the piece of these parts.
@@ -52,7 +52,7 @@ impl Piece {
         entries: Vec<Entry>,
         end: State,
     ) -> Self
-        requires { IsRun contracts.items start entries.items end }
+        requires { IsJournalRun contracts.items start entries.items end }
         ensures { result ≡ record {
           owner = owner;
           contracts = contracts.items;

@@ -29,7 +29,7 @@ impl Model for ProgramUses {
 
 impl ProgramUses {
     ghost use Rattle.std.specs.Prelude.{◌≡◌, ◌+◌, ◌-◌, ◌<◌, ◌↔◌, length, replicate, IfSome, IsTrue};
-    ghost use Rattle.line_record.specs.inner.ProgramUses.{place_of, uses_of, with_uses};
+    ghost use Rattle.line_record.specs.inner.ProgramUses.{use_place, uses_of, with_uses};
 
     /// Makes this number of places with count 0. Returns None if an allocation fails.
     pub(crate) fn new(alloc: Global, places: u16) -> Option<Self>
@@ -67,7 +67,7 @@ impl ProgramUses {
 
     /// Returns the place of a program.
     fn place(&self, program: Id) -> usize
-        ensures place { result ≡ place_of self.now program }
+        ensures place { result ≡ use_place self.now program }
         ensures within { result < length self.now }
     {
         usize::from(program.slot) % self.counts.len()

@@ -22,8 +22,8 @@ pub struct State {
 impl State {
     ghost use Rattle.std.specs.Prelude.{◌≡◌, ◌↔◌, ◌^◌, ◌<◌, ◌≤◌, [], ◌∷◌, length, None, IsTrue};
     ghost use Rattle.line_record.specs.Tally.{cells_in};
-    ghost use Rattle.line_record.specs.History.{cell_of, numbered};
-    ghost use Rattle.line_record.specs.JournalRun.{IsRun};
+    ghost use Rattle.line_record.specs.History.{named_cell_of, numbered};
+    ghost use Rattle.line_record.specs.JournalRun.{IsJournalRun};
     ghost use Rattle.line_record.specs.Line.{resting, IsOpening};
 
     /// Returns the state of a line without contracts.
@@ -90,9 +90,9 @@ impl State {
         requires later { self.old.last ≤ moment }
         requires in_time { moment ≤ 2 ^ 62 }
         requires room { cells_in self.old.counts < 2 ^ 62 }
-        ensures cell { cell_of result
+        ensures cell { named_cell_of result
             ≡ record { moment = moment; clp = clp; value = value; program = program } }
-        ensures run { IsRun contracts.now self.old (result ∷ []) self.new }
+        ensures run { IsJournalRun contracts.now self.old (result ∷ []) self.new }
         ensures unnamed { numbered contracts.now value ≡ None → result.verdict ≡ Verdict.Refuse }
     {
         let verdict = judge_named(contracts, &mut self.levels, moment, clp, value);

@@ -4,7 +4,7 @@ use Rattle.std.specs.Prelude.{slice_get, slice_set}
 use Rattle.leaky.specs.declared.verdict.Verdict.{Verdict}
 use Rattle.leaky.specs.declared.verdict.Verdict.TheVariants.{Pass, Tag, Discard, Refuse}
 use Rattle.line_record.specs.declared.tally.Tally.{Tally}
-use Rattle.line_record.specs.Tally.{nothing, counted, count_of, plus, total, HasRoom, IsPart}
+use Rattle.line_record.specs.Tally.{nothing, counted, count_of, plus, total, HasRoom, IsPartTally}
 use Rattle.line_record.proofs.Public.{parts_are_within}
 use Rattle.port_card.specs.Seats.{SeatView, tally_or_nothing, counted_on}
 
@@ -14,14 +14,14 @@ total-unused zero = refl
 total-unused (suc lines) = ap (plus nothing) (total-unused lines)
 
 -- A tally that is part of a tally with room has room.
-pub room_in-part : (part whole : Tally) (verdict : Verdict) → IsPart part whole → HasRoom whole
+pub room_in-part : (part whole : Tally) (verdict : Verdict) → IsPartTally part whole → HasRoom whole
     → count_of part verdict + 1 < 18446744073709551616
 room_in-part part whole Pass within room = omega (arith, within.passed, room.passed)
 room_in-part part whole Tag within room = omega (arith, within.tagged, room.tagged)
 room_in-part part whole Discard within room = omega (arith, within.discarded, room.discarded)
 room_in-part part whole Refuse within room = omega (arith, within.refused, room.refused)
 
-IsPart-trans : (part whole larger : Tally) → IsPart part whole → IsPart whole larger → IsPart part larger
+IsPart-trans : (part whole larger : Tally) → IsPartTally part whole → IsPartTally whole larger → IsPartTally part larger
 IsPart-trans part whole larger first second = record {
   passed = omega (arith, first.passed, second.passed);
   tagged = omega (arith, first.tagged, second.tagged);
@@ -31,7 +31,7 @@ IsPart-trans part whole larger first second = record {
 
 -- One of several tallies has room if their sum is part of a tally with room.
 pub room_on-line : (tallies : List Tally) (line : ℕ) (tally whole : Tally) (verdict : Verdict)
-    → slice_get tallies line ≡ Some tally → IsPart (total tallies) whole → HasRoom whole
+    → slice_get tallies line ≡ Some tally → IsPartTally (total tallies) whole → HasRoom whole
     → count_of tally verdict + 1 < 18446744073709551616
 room_on-line tallies line tally whole verdict at within room =
     room_in-part tally whole verdict

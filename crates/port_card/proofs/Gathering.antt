@@ -3,7 +3,7 @@ use Rattle.std.proofs.Common.{◌≡◌, ℕ, ◌+◌, ◌<◌, Option, Some, No
 use Rattle.std.specs.Prelude.{slice_get}
 use Rattle.std.proofs.lemmas.List.{map-append, take_more, take-append-drop}
 use Rattle.line_record.specs.declared.tally.Tally.{Tally}
-use Rattle.line_record.specs.Tally.{nothing, plus, total, FitsWords, IsPart}
+use Rattle.line_record.specs.Tally.{nothing, plus, total, FitsWords, IsPartTally}
 use Rattle.line_record.proofs.Public.{totals_join, parts_are_within}
 use Rattle.port_card.specs.Seats.{tally_or_nothing}
 use Rattle.port_card.specs.inner.Columns.{column_on, columns_on, columns_total}
@@ -31,16 +31,16 @@ module _ {X : Type 0} where
   total-more f xs k d within = ap (λ (ys : List X). total (map f ys)) (take_more xs k d within) ∙ total-push f (take k xs) (get_or xs k d)
 
   -- The sum of a prefix is part of the whole.
-  pub IsPart-take : (f : X → Tally) (xs : List X) (k : ℕ) → IsPart (total (map f (take k xs))) (total (map f xs))
+  pub IsPart-take : (f : X → Tally) (xs : List X) (k : ℕ) → IsPartTally (total (map f (take k xs))) (total (map f xs))
   IsPart-take f xs k =
       let front = map f (take k xs) in
       let back = map f (drop k xs) in
       let whole : total (map f xs) ≡ plus (total front) (total back) =
       ap (λ (ys : List X). total (map f ys)) (sym (take-append-drop k xs)) ∙ ap total (map-append f (take k xs) (drop k xs))
       ∙ totals_join front back in
-      subst (λ (t : Tally). IsPart (total front) t) (sym whole) (parts_are_within.plus (total front) (total back)).0
+      subst (λ (t : Tally). IsPartTally (total front) t) (sym whole) (parts_are_within.plus (total front) (total back)).0
 
-pub FitsWords-part : (part whole : Tally) → IsPart part whole → FitsWords whole → FitsWords part
+pub FitsWords-part : (part whole : Tally) → IsPartTally part whole → FitsWords whole → FitsWords part
 FitsWords-part part whole within fits = record {
   passed = omega (arith, within.passed, fits.passed);
   tagged = omega (arith, within.tagged, fits.tagged);
@@ -48,7 +48,7 @@ FitsWords-part part whole within fits = record {
   refused = omega (arith, within.refused, fits.refused);
 }
 
-IsPart-plus : (one other more another : Tally) → IsPart one more → IsPart other another → IsPart (plus one other) (plus more another)
+IsPart-plus : (one other more another : Tally) → IsPartTally one more → IsPartTally other another → IsPartTally (plus one other) (plus more another)
 IsPart-plus one other more another first second = record {
   passed = omega (arith, first.passed, second.passed);
   tagged = omega (arith, first.tagged, second.tagged);
@@ -57,7 +57,7 @@ IsPart-plus one other more another first second = record {
 }
 
 -- One line of a seat is part of all its lines, also over several seats.
-IsPart-nothing : (tally : Tally) → IsPart nothing tally
+IsPart-nothing : (tally : Tally) → IsPartTally nothing tally
 IsPart-nothing tally = record {
   passed = omega arith;
   tagged = omega arith;
@@ -66,17 +66,17 @@ IsPart-nothing tally = record {
 }
 
 IsPart-on_by : (found : Option Tally) (column : List Tally) (line : ℕ) → slice_get column line ≡ found
-    → IsPart (tally_or_nothing found) (total column)
+    → IsPartTally (tally_or_nothing found) (total column)
 IsPart-on_by None column line at = IsPart-nothing (total column)
 IsPart-on_by (Some tally) column line at = parts_are_within.total column line tally at
 
-pub IsPart-columns_on : (columns : List (List Tally)) (line : ℕ) → IsPart (columns_on columns line) (columns_total columns)
+pub IsPart-columns_on : (columns : List (List Tally)) (line : ℕ) → IsPartTally (columns_on columns line) (columns_total columns)
 IsPart-columns_on [] line = IsPart-nothing nothing
 IsPart-columns_on (column ∷ later) line =
     IsPart-plus (column_on line column) (columns_on later line) (total column) (columns_total later)
     (IsPart-on_by (slice_get column line) column line refl) (IsPart-columns_on later line)
 
-pub IsPart-trans : (part whole larger : Tally) → IsPart part whole → IsPart whole larger → IsPart part larger
+pub IsPart-trans : (part whole larger : Tally) → IsPartTally part whole → IsPartTally whole larger → IsPartTally part larger
 IsPart-trans part whole larger first second = record {
   passed = omega (arith, first.passed, second.passed);
   tagged = omega (arith, first.tagged, second.tagged);

@@ -20,7 +20,7 @@ pub record IsGiven (cell : List ℕ) (value : ℕ) : Type 0 where
 -- A judged cell that arrived at this moment: the moment is in the answer and is at most 2^62. The cell leaves tagged if
 -- the verdict is Tag, otherwise unchanged. If the value is no contract's number, the verdict is Refuse. Some accepted
 -- code has this value for the cell.
-pub record IsTold (cell : List ℕ) (moment : ℕ) (judged : JudgedView) : Type 0 where
+pub record IsJudgedAnswer (cell : List ℕ) (moment : ℕ) (judged : JudgedView) : Type 0 where
   pub same_moment : judged.moment ≡ moment
   pub in_time : moment ≤ 2 ^ 62
   pub leaves : judged.cell ≡ cell_after judged.verdict cell

@@ -9,12 +9,12 @@ use Rattle.port_card.specs.declared.closing.CloseFault.{CloseFault}
 use Rattle.port_card.specs.declared.closing.CloseFault.TheVariants.{Missing, NoMemory}
 
 -- The counts of the line since it was made.
-abbrev pub counts_of : LineView → Tally
-counts_of line = line.state.counts
+abbrev pub line_counts : LineView → Tally
+line_counts line = line.state.counts
 
 -- The sum of the counts of all lines.
 abbrev pub lines_total : List LineView → Tally
-lines_total lines = total (map counts_of lines)
+lines_total lines = total (map line_counts lines)
 
 -- The sum of the tallies of all seats, over all lines.
 abbrev pub seats_total : List SeatView → Tally
@@ -27,13 +27,13 @@ seats_on seats line = total (map (tally_on line) seats)
 -- The counts of this line, if it exists, are those in `otherwise`.
 abbrev pub IsEven : List LineView → (ℕ → Tally) → ℕ → Type 0
 IsEven lines otherwise number = (line : LineView) → slice_get lines number ≡ Some line
-    → counts_of line ≡ otherwise number
+    → line_counts line ≡ otherwise number
 
 -- This line exists, and its counts differ from those in `otherwise`.
 pub record IsUneven (lines : List LineView) (otherwise : ℕ → Tally) (number : ℕ) : Type 0 where
   pub line : LineView
   pub there : slice_get lines number ≡ Some line
-  pub differs : counts_of line ≢ otherwise number
+  pub differs : line_counts line ≢ otherwise number
 
 -- The first uneven line, or None if all lines are even.
 abbrev pub IsFirstUneven : List LineView → (ℕ → Tally) → Option ℕ → Type 0

@@ -183,8 +183,8 @@ impl<S: Ledgers> Model for Books<S> {
 }
 
 impl<S: Ledgers> Books<S> {
-    ghost use Rattle.line_record.specs.Tally.{nothing, counted, count_of, HasRoom, IsPart};
-    ghost use Rattle.port_card.specs.inner.Marks.{unused_marks, counted_mark, IsBounded};
+    ghost use Rattle.line_record.specs.Tally.{nothing, counted, count_of, HasRoom, IsPartTally};
+    ghost use Rattle.port_card.specs.inner.Marks.{unused_marks, counted_mark, IsBoundedCount};
 
     /// Opens books that have counted no cell, and returns all marks of lines and of seats.
     pub(crate) fn open(blanks: Blanks) -> (Self, LineMarks<S>, SeatMarks<S>)
@@ -272,8 +272,8 @@ impl<S: Ledgers> Books<S> {
     pub(crate) fn bound(&mut self, seat: &mut SeatMarks<S>)
         ensures same { self.new ≡ self.old }
         ensures seat { seat.new ≡ seat.old }
-        ensures part { IsPart seat.old.tally self.old }
-        ensures most { IsBounded self.old }
+        ensures part { IsPartTally seat.old.tally self.old }
+        ensures most { IsBoundedCount self.old }
     {
         self.passed.bound(&mut seat.passed);
         self.tagged.bound(&mut seat.tagged);
@@ -288,7 +288,7 @@ impl<S: Ledgers> Books<S> {
         requires all_seats { seats.old.parts ≡ S.names.ports }
         ensures same { self.new ≡ self.old }
         ensures equal { lines.old.tally ≡ seats.old.tally }
-        ensures most { IsBounded seats.old.tally }
+        ensures most { IsBoundedCount seats.old.tally }
     {
         self.passed.audit(&mut lines.passed, &mut seats.passed);
         self.tagged.audit(&mut lines.tagged, &mut seats.tagged);

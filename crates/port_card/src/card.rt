@@ -48,7 +48,7 @@ impl<S: Ledgers> Card<S> {
     ghost use Rattle.card_core.specs.Sections.{told};
     ghost use Rattle.port_card.specs.Names.{AreFor};
     ghost use Rattle.port_card.specs.Seats.{AreNewSeats, seat_after};
-    ghost use Rattle.port_card.specs.Answers.{IsTold, BlamesRightly};
+    ghost use Rattle.port_card.specs.Answers.{IsJudgedAnswer, BlamesRightly};
 
     /// Makes a card of this shape, without programs and connections. Returns it with one seat for each port, in the
     /// order of the ports, and its only desk.
@@ -123,7 +123,7 @@ impl<S: Ledgers> Card<S> {
         ensures tallied { seat.new ≡ seat_after seat.old (told result) }
         ensures there { IfSome (told result) (λ judged. judged.line < self.now.lines) }
 
-        ensures told { IfSome (told result) (IsTold cell.now moment) }
+        ensures told { IfSome (told result) (IsJudgedAnswer cell.now moment) }
         ensures blames { BlamesRightly moment result }
         ensures memory { result ≢ Answer.NoMemory }
     {

@@ -26,7 +26,7 @@ impl<S: Ledgers> CountedLine<S> {
     ghost use Rattle.std.specs.Prelude.{◌≡◌, ◌≢◌, ◌+◌, ◌<◌, ◌≤◌, ◌^◌, [], length, Some, None, IfOk, IfErr, IfSome, IsSome, MatchOption, MatchResult, OnErr, OnOk};
     ghost use Rattle.line_record.specs.Directory.{seating_at, IsOpenLine, Sits};
     ghost use Rattle.line_record.specs.History.{IsNoNumber};
-    ghost use Rattle.line_record.specs.Line.{IsLine, Opens};
+    ghost use Rattle.line_record.specs.Line.{IsLine, OpensLine};
     ghost use Rattle.line_record.specs.Piece.{IsJournalOf, IsPiece};
     ghost use Rattle.line_record.specs.Tally.{nothing, HasRoom};
     ghost use Rattle.card_core.specs.Sections.{holder, judging_refusal, IsUncut, IsUnready, MayBecomeReady, JudgesAt, told};
@@ -110,7 +110,7 @@ impl<S: Ledgers> CountedLine<S> {
 
         // As the locked section of `card_core`, on this line and this directory.
         ensures opened { IfOk result (λ owner.
-            Opens self.old.line owner ask.contracts.items self.new.line) }
+            OpensLine self.old.line owner ask.contracts.items self.new.line) }
         ensures seating { OnOk result (Sits seatings.old.directory ask.vc
             (Some (record { line = number; incarnation = seatings.old.directory.used + 1; program = ask.program }))
             seatings.new.directory) }

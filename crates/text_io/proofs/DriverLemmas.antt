@@ -6,7 +6,7 @@ use Rattle.std.proofs.lemmas.Bool.Decides.{nat_tests}
 use Rattle.text_io.specs.Lines.{Line, lines_of}
 use Rattle.text_io.specs.Limits.{is_over, most_input_lines, most_line_octets}
 use Rattle.text_io.specs.Devices.{Adds, IsPart, TakesEnough}
-use Rattle.text_io.specs.inner.Moving.{Moves}
+use Rattle.text_io.specs.inner.Moving.{WritesPrefix}
 use Rattle.text_io.specs.Printing.{Rules, IsTotal, Prints, IsFront}
 use Rattle.text_io.specs.Answering.{OfEach}
 use Rattle.text_io.specs.inner.Progress.{Passes, Progress}
@@ -108,7 +108,7 @@ progress-line {World = World} rules shown now now' Known Held whole left line be
 -- The invariant after some answers are written.
 pub progress-given : {World : Type 0} (rules : Rules World) (shown now : World → Type 0) (Known Held : Type 0)
     (whole left before held held' waiting waiting' : List ℕ) (met : ℕ)
-    → (Held → Moves held held' waiting waiting')
+    → (Held → WritesPrefix held held' waiting waiting')
     → Progress rules shown now Known Held whole left before held waiting met → Progress rules shown now Known Held whole left before held' waiting' met
 progress-given rules shown now Known Held whole left before held held' waiting waiting' met moves p = record {
   answered = p.answered;
@@ -125,7 +125,7 @@ progress-given rules shown now Known Held whole left before held held' waiting w
 }
 
 -- All waiting octets were written.
-pub all-moved : (before after waiting left : List ℕ) → after ≡ before ++ waiting → left ≡ [] → Moves before after waiting left
+pub all-moved : (before after waiting left : List ℕ) → after ≡ before ++ waiting → left ≡ [] → WritesPrefix before after waiting left
 all-moved before after waiting left given none = (waiting, sym (append-nil waiting) ∙ ap (λ xs. waiting ++ xs) (sym none), given)
 
 -- Transport of the invariant along an equality of the octets left.

@@ -3,7 +3,7 @@
 ghost use Rattle.std.specs.Prelude.{◌≡◌, ◌≢◌, ℕ, ◌+◌, ◌<◌, ◌≤◌, ◌++◌, ◌||◌, List, [], true, Ok, Err, length, slice_index, nat_le, nat_lt, IfOk, OnOk, OnErr};
 ghost use Rattle.text_io.specs.Answering.{OfEach};
 ghost use Rattle.text_io.specs.Devices.{Adds, IsPart, TakesEnough, one_more};
-ghost use Rattle.text_io.specs.inner.Moving.{Moves};
+ghost use Rattle.text_io.specs.inner.Moving.{WritesPrefix};
 ghost use Rattle.text_io.specs.Limits.{most_ahead, most_input_lines, most_line_octets};
 ghost use Rattle.text_io.specs.Lines.{lines_of};
 ghost use Rattle.text_io.specs.Printing.{Prints, IsFront};
@@ -112,7 +112,7 @@ fn refill<I: Input, O: Output>(
 /// Writes the collected answers if there are enough of them.
 fn give_if_enough<O: Output>(output: &mut O, answers: &mut Vec<u8>) -> Result<(), Failed>
     ensures moved { O.is_known → OnOk result
-        (Moves (O.held output.old) (O.held output.new) answers.old.items answers.new.items) }
+        (WritesPrefix (O.held output.old) (O.held output.new) answers.old.items answers.new.items) }
     ensures front { O.is_known → OnErr result
         (IsPart (O.held output.old) (O.held output.new) answers.old.items) }
     ensures calm { OnOk result (O.failures output.new ≡ O.failures output.old) }

@@ -16,7 +16,7 @@ use Rattle.clap.specs.declared.parser.matches.ArgMatches.TheViews.{out-ArgMatche
 use Rattle.clap.specs.declared.parser.matches.SubCommand.{SubCommand}
 use Rattle.clap.proofs.FaultLemmas.{fails_as}
 use Rattle.clap.proofs.OnLiterals.{clap_on_literals}
-use Rattle.upc.specs.Choice.{Asks, IsChoiceOf, IsChosen, StopsAt, behind_name, choice_named, faults_in, subcommand_in, subcommands, upc_app, with_name}
+use Rattle.upc.specs.Choice.{NamesSubcommand, IsChoiceOf, IsChosen, StopsAt, behind_name, choice_named, faults_in, subcommand_in, subcommands, upc_app, with_name}
 use Rattle.upc.specs.inner.Stopping.{IsStopFor}
 use Rattle.std.specs.Str.{bytes_eq}
 use Rattle.std.proofs.lemmas.Slice.Eq.{bytes_eq-Decides}
@@ -103,7 +103,7 @@ stops_at given error (Words text) (inr among) is = (kind_of error, among, is.0)
 stops_at given error NoMemory h is = tt
 
 -- Words without an error are a name and nothing more.
-asks_at : (given : List Text) (choice : Choice) (found : Option Text) → IsChoiceOf found choice → Finds is_named given found → Asks given choice
+asks_at : (given : List Text) (choice : Choice) (found : Option Text) → IsChoiceOf found choice → Finds is_named given found → NamesSubcommand given choice
 asks_at given choice found chosen (inl h) = inl (h.0, subst (λ o. IsChoiceOf o choice) h.1 chosen)
 asks_at given choice found chosen (inr h) = inr (h.0, h.1, h.2, subst (λ o. IsChoiceOf o choice) h.3 chosen, h.5)
 
@@ -131,7 +131,7 @@ row_taken name choice named =
     go (Some row) e h = subst (λ n. is_taken n ≡ true) ((bytes_eq-Decides row.0 name).0 h.1) h.0
 
 -- A name and nothing more has no error.
-taken_at : (given : List Text) (choice : Choice) → Asks given choice → faults_in given ≡ []
+taken_at : (given : List Text) (choice : Choice) → NamesSubcommand given choice → faults_in given ≡ []
 taken_at given choice (inl h) = ⊎_elim (λ e. ap faults_in e ∙ nothing_taken) (λ e. ap faults_in e ∙ mark_taken) h.0
 taken_at given choice (inr h) =
     let name = h.0 in
@@ -151,10 +151,10 @@ memory_alone kinds error stop (inr among) is none = absurd (subst (λ ks. IsAmon
 pub record Answers (given : List Text) (answer : Result Choice Stop) : Type 0 where
   pub chosen : IfOk answer (IsChosen given)
   pub faultless : IfOk answer (λ _. faults_in given ≡ [])
-  pub asked : IfOk answer (Asks given)
+  pub asked : IfOk answer (NamesSubcommand given)
   pub stopped : IfErr answer (StopsAt given)
   pub taken : faults_in given ≡ [] → IfErr answer (λ stop. stop ≡ NoMemory)
-  pub granted : (choice : Choice) → Asks given choice → IfErr answer (λ stop. stop ≡ NoMemory)
+  pub granted : (choice : Choice) → NamesSubcommand given choice → IfErr answer (λ stop. stop ≡ NoMemory)
 
 pub answers : (given : List Text) (found : Result (Option (Bor Text)) Error) (answer : Result Choice Stop) → FailsBy (faults_in given) found
     → IfOk found (λ name. option_map (λ text. text.now) name ≡ subcommand_in given)

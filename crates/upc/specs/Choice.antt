@@ -54,8 +54,8 @@ abbrev pub IsEnd : List Text → Type 0
 IsEnd words = (words ≡ []) ⊎ (words ≡ codes "--" ∷ [])
 
 -- The words are the name of a subcommand, or none for `eval`, and nothing more.
-abbrev pub Asks : List Text → Choice → Type 0
-Asks words choice = (IsEnd words × (choice ≡ Eval))
+abbrev pub NamesSubcommand : List Text → Choice → Type 0
+NamesSubcommand words choice = (IsEnd words × (choice ≡ Eval))
     ⊎ ((name : Text) × (rest : List Text) × (words ≡ name ∷ rest) × (choice_named name ≡ Some choice)
     × IsEnd rest)
 

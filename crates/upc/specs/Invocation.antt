@@ -22,15 +22,15 @@ failure_line WriteFailed = codes "upc: writing failed\n"
 failure_line NoMemory = codes "upc: out of memory\n"
 
 -- The message was written to the error output, or that failed and only a prefix was written.
-abbrev pub Tells : {Errors : Type 0} → OutputView Errors → Errors → Errors → List ℕ → Type 0
-Tells E errors errors' text =
+abbrev pub WritesMessage : {Errors : Type 0} → OutputView Errors → Errors → Errors → List ℕ → Type 0
+WritesMessage E errors errors' text =
     (E.held errors' ≡ E.held errors ++ text)
     ⊎ (IsPart (E.held errors) (E.held errors') text × (E.failures errors' ≡ one_more (E.failures errors)))
 
--- After a failed run its message is on the error output, as `Tells` says. After any other run nothing was written to it.
+-- After a failed run its message is on the error output, as `WritesMessage` says. After any other run nothing was written to it.
 abbrev pub Reports : {Errors : Type 0} → OutputView Errors → Errors → Errors → Result Done RunFault → Type 0
 Reports E errors errors' (Ok done) = E.held errors' ≡ E.held errors
-Reports E errors errors' (Err fault) = Tells E errors errors' (failure_line fault)
+Reports E errors errors' (Err fault) = WritesMessage E errors errors' (failure_line fault)
 
 -- Nothing was written to the output and nothing was read.
 abbrev pub IsIdle : {Source Sink : Type 0} → InputView Source → Source → Source → OutputView Sink → Sink → Sink → Type 0
@@ -45,11 +45,11 @@ CarriesOut (Ok choice) I input input' O output output' E errors errors' status =
     × IsServed (IsTextOf choice) I input input' O output output' ended × Reports E errors errors' ended
 CarriesOut (Err (Help text)) I input input' O output output' E errors errors' status =
     ((status ≡ 0) × (O.held output' ≡ O.held output ++ string_bytes text) × (E.held errors' ≡ E.held errors))
-    ⊎ ((status ≡ 3) × IsPart (O.held output) (O.held output') (string_bytes text) × Tells E errors errors' (failure_line WriteFailed))
+    ⊎ ((status ≡ 3) × IsPart (O.held output) (O.held output') (string_bytes text) × WritesMessage E errors errors' (failure_line WriteFailed))
 CarriesOut (Err (Words text)) I input input' O output output' E errors errors' status =
-    (status ≡ 2) × IsIdle I input input' O output output' × Tells E errors errors' (string_bytes text)
+    (status ≡ 2) × IsIdle I input input' O output output' × WritesMessage E errors errors' (string_bytes text)
 CarriesOut (Err LacksMemory) I input input' O output output' E errors errors' status =
-    (status ≡ 3) × IsIdle I input input' O output output' × Tells E errors errors' (failure_line NoMemory)
+    (status ≡ 3) × IsIdle I input input' O output output' × WritesMessage E errors errors' (failure_line NoMemory)
 
 -- The exit status. No more is promised for devices whose octets no contract knows.
 abbrev pub IsStatusFor : Result Choice Stop → ℕ → Type 0

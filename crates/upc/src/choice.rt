@@ -5,7 +5,7 @@ ghost use Rattle.std.specs.String.{string_bytes};
 ghost use Rattle.clap.specs.Values.{kind_of};
 ghost use Rattle.clap.specs.Simple.{app_of, new_app};
 ghost use Rattle.clap.specs.Kinds.{FailsBy};
-ghost use Rattle.upc.specs.Choice.{Asks, IsChoiceOf, IsChosen, StopsAt, behind_name, choice_named, faults_in};
+ghost use Rattle.upc.specs.Choice.{NamesSubcommand, IsChoiceOf, IsChosen, StopsAt, behind_name, choice_named, faults_in};
 ghost use Rattle.upc.specs.inner.Stopping.{IsStopFor};
 ghost use Rattle.upc.specs.Choice.{subcommand_in, upc_app, with_name};
 
@@ -43,11 +43,11 @@ pub enum Stop {
 pub fn choose(alloc: Global, words: Vec<String>) -> Result<Choice, Stop>
     ensures chosen { IfOk result (IsChosen (map string_bytes words.items)) }
     ensures faultless { IfOk result (λ _. faults_in (map string_bytes words.items) ≡ []) }
-    ensures asked { IfOk result (Asks (map string_bytes words.items)) }
+    ensures asked { IfOk result (NamesSubcommand (map string_bytes words.items)) }
     ensures stopped { IfErr result (StopsAt (map string_bytes words.items)) }
     ensures taken { faults_in (map string_bytes words.items) ≡ []
         → IfErr result (λ stop. stop ≡ Stop.NoMemory) }
-    ensures granted { (choice : Choice) → Asks (map string_bytes words.items) choice
+    ensures granted { (choice : Choice) → NamesSubcommand (map string_bytes words.items) choice
         → IfErr result (λ stop. stop ≡ Stop.NoMemory) }
 {
     let Ok(words) = behind_own_name(alloc, words) else {

@@ -2,7 +2,7 @@
 
 ghost use Rattle.std.specs.Prelude.{◌≡◌, ◌≢◌, Ok as TheOk};
 ghost use Rattle.upc.specs.ExitStatus.{status_of};
-ghost use Rattle.upc.specs.Invocation.{CarriesOut, IsStatusFor, Reports, Tells, failure_line};
+ghost use Rattle.upc.specs.Invocation.{CarriesOut, IsStatusFor, Reports, WritesMessage, failure_line};
 ghost use Rattle.upc.specs.declared.choice.Choice.TheVariants.{Ports};
 
 use crate::choice::{Choice, Stop};
@@ -27,7 +27,7 @@ fn line_of(fault: RunFault) -> &'static [u8]
 
 /// Writes a message to the error output. If that fails too, the failure is ignored.
 fn tell<E: Output>(errors: &mut E, text: &[u8])
-    ensures { E.is_known → Tells E.Output errors.old errors.new text.now }
+    ensures { E.is_known → WritesMessage E.Output errors.old errors.new text.now }
 {
     let _ = give_all(errors, text);
 }

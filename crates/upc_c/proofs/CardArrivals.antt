@@ -4,7 +4,7 @@ use Rattle.std.specs.Option.{MatchOption, option_map}
 use Rattle.std.specs.Prelude.{slice_get, slice_set, if◌then◌else◌, is_none}
 use mathlib.Core.Logic.{∥∥₁_elim, ∥∥₁_map}
 use Rattle.card_core.specs.Agreement.{CoreView, CoreAgrees, Follows}
-use Rattle.card_core.specs.Arrival.{Answers}
+use Rattle.card_core.specs.Arrival.{AnswersArrival}
 use Rattle.card_core.specs.Log.{Event, Run}
 use Rattle.card_core.specs.Refusals.{enter_refusal, pick_refusal, judge_refusal, picking_refusal}
 use Rattle.card_core.specs.Shapes.{is_beyond, shape_fault}
@@ -19,7 +19,7 @@ use Rattle.card_core.specs.declared.shape.Shape.{Shape}
 use Rattle.card_core.specs.declared.step.Step.{Step}
 use Rattle.card_core.specs.declared.step.Step.TheVariants.{Enter, Pick, Judge}
 use Rattle.upc_cell.specs.Connection.{vc_of}
-use Rattle.upc_c.specs.inner.ReachedCore.{IsIdle, IsReached}
+use Rattle.upc_c.specs.inner.ReachedCore.{IsIdlePort, IsReachedCore}
 
 -- A state that is written to port 0, if it exists, is there.
 written : (ports : List PortState) (before state : PortState) → slice_get ports 0 ≡ Some before → slice_get (slice_set ports 0 state) 0 ≡ Some state
@@ -37,7 +37,7 @@ there before after state had e with = ap (λ (ports : List PortState). slice_get
 abbrev Taken : World → Step → Reply → World → Type 0
 Taken before step reply after = Succeeds before step reply after ⊎ FindsNoMemory before step reply after
 
-enters : (before after : World) (cell : List ℕ) (moment : ℕ) (reply : Reply) → IsIdle before
+enters : (before after : World) (cell : List ℕ) (moment : ℕ) (reply : Reply) → IsIdlePort before
     → WorldStep before (Enter 0 cell moment) reply after → Taken before (Enter 0 cell moment) reply after
 enters before after cell moment reply idle step =
     let P : Option PortState → Type 0 = λ port. MatchOption (enter_refusal port) (Taken before (Enter 0 cell moment) reply after)
@@ -108,11 +108,11 @@ at_judging cell moment answer =
     record { step = Enter 0 cell moment; reply = Entered } ∷ record { step = Pick 0; reply = Picked }
     ∷ record { step = Judge 0; reply = Answered answer } ∷ []
 
-same-idle : (before after : World) → after ≡ before → IsIdle before → IsIdle after
+same-idle : (before after : World) → after ≡ before → IsIdlePort before → IsIdlePort after
 same-idle before after same idle = ap (λ (w : World). slice_get w.ports 0) same ∙ idle
 
-pick-idle : (before after : World) (cell : List ℕ) (moment : ℕ) (answer : Answer) → IsIdle before
-    → Run before (at_pick cell moment answer) after → IsIdle after
+pick-idle : (before after : World) (cell : List ℕ) (moment : ℕ) (answer : Answer) → IsIdlePort before
+    → Run before (at_pick cell moment answer) after → IsIdlePort after
 pick-idle before after cell moment answer idle run =
     let one = run.0 in let entering = entered-there before one cell moment (enters before one cell moment Entered idle run.1) in
     let in_port = there before one (entered cell moment) outside idle entering in
@@ -121,8 +121,8 @@ pick-idle before after cell moment answer idle run =
     (picks one two cell moment (Answered answer) in_port run.2.1) in
     same-idle two after run.2.2 (there one two outside (entered cell moment) in_port left)
 
-judging-idle : (before after : World) (cell : List ℕ) (moment : ℕ) (answer : Answer) → IsIdle before
-    → Run before (at_judging cell moment answer) after → IsIdle after
+judging-idle : (before after : World) (cell : List ℕ) (moment : ℕ) (answer : Answer) → IsIdlePort before
+    → Run before (at_judging cell moment answer) after → IsIdlePort after
 judging-idle before after cell moment answer idle run =
     let one = run.0 in let entering = entered-there before one cell moment (enters before one cell moment Entered idle run.1) in
     let in_port = there before one (entered cell moment) outside idle entering in
@@ -135,8 +135,8 @@ judging-idle before after cell moment answer idle run =
     same-idle three after run.2.2.2 (there two three outside (picked picking.0) found left)
 
 -- The log with the events of the cell.
-pub answers-reached : (old new : CoreView) (cell : List ℕ) (moment : ℕ) (answer : Answer) → IsReached old
-    → Answers old 0 cell moment answer new → IsReached new
+pub answers-reached : (old new : CoreView) (cell : List ℕ) (moment : ℕ) (answer : Answer) → IsReachedCore old
+    → AnswersArrival old 0 cell moment answer new → IsReachedCore new
 answers-reached old new cell moment answer reached (inl follows) = ∥∥₁_map reached (λ r.
     let gone = follows r.shape r.log r.world r.leads r.agrees in
     record {
@@ -159,7 +159,7 @@ answers-reached old new cell moment answer reached (inr follows) = ∥∥₁_map
     })
 
 -- NotNow is never the answer.
-pub always-now : (old new : CoreView) (cell : List ℕ) (moment : ℕ) → IsReached old → Follows old (Enter 0 cell moment) NotNow new → ⊥
+pub always-now : (old new : CoreView) (cell : List ℕ) (moment : ℕ) → IsReachedCore old → Follows old (Enter 0 cell moment) NotNow new → ⊥
 always-now old new cell moment reached follows = ∥∥₁_elim reached (λ x y. absurd x) (λ r.
     let gone = follows r.shape r.log r.world r.leads r.agrees in
     never-now r.world gone.after cell moment (enters r.world gone.after cell moment NotNow r.idle gone.stepped))
@@ -177,12 +177,12 @@ first-idle : (ports : ℕ) → is_beyond ports 16 ≡ false → slice_get (repli
 first-idle zero e = let no : true ≡ false = e in cc
 first-idle (suc more) e = refl
 
-pub opening-idle : (shape : Shape) → shape_fault shape ≡ None → IsIdle (opening_world shape)
+pub opening-idle : (shape : Shape) → shape_fault shape ≡ None → IsIdlePort (opening_world shape)
 opening-idle shape e =
     first-idle shape.ports (some-port (is_beyond shape.programs 1024) (is_beyond shape.lines 4096) (is_beyond shape.ports 16) (is_beyond shape.journal 65536) e)
 
 -- The empty log leads to the opening world.
-pub opening-reached : (shape : Shape) (core : CoreView) → shape_fault shape ≡ None → CoreAgrees core (opening_world shape) → IsReached core
+pub opening-reached : (shape : Shape) (core : CoreView) → shape_fault shape ≡ None → CoreAgrees core (opening_world shape) → IsReachedCore core
 opening-reached shape core fits agrees = ∣ record {
   shape = shape;
   log = [];

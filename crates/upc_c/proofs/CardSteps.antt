@@ -18,7 +18,7 @@ use Rattle.upc_c.specs.CardDesk.{IsDeskFault, reason_of, told_desk}
 use Rattle.upc_c.specs.CardHandle.{card_in}
 use Rattle.upc_c.specs.declared.card.UpcCard.{UpcCard}
 use Rattle.upc_c.specs.declared.fault.UpcFault.{UpcFault}
-use Rattle.upc_c.specs.inner.ReachedCore.{IsReached}
+use Rattle.upc_c.specs.inner.ReachedCore.{IsReachedCore}
 
 -- A step of the desk succeeds, fails to allocate, or is refused with an error.
 pub cases : (P : Type 0) (wrap : DeskFault → Reply) (found : Option DeskFault) (before after : World) (step : Step) (reply : Reply)
@@ -68,8 +68,8 @@ ports-left before after (Cut vc) reply desk =
     (λ s. ap (λ (w : World). w.ports) s.world) (λ l. same-ports before after l.world) (λ fault r. same-ports before after r.world)
 
 -- The log with this step.
-pub reached-on : (old new : CoreView) (step : Step) (reply : Reply) → is_of_desk step ≡ true → IsReached old → Follows old step reply new
-    → IsReached new
+pub reached-on : (old new : CoreView) (step : Step) (reply : Reply) → is_of_desk step ≡ true → IsReachedCore old → Follows old step reply new
+    → IsReachedCore new
 reached-on old new step reply desk reached follows = ∥∥₁_map reached (λ r.
     let gone = follows r.shape r.log r.world r.leads r.agrees in
     record {
@@ -82,9 +82,9 @@ reached-on old new step reply desk reached follows = ∥∥₁_map reached (λ r
     })
 
 -- The same for the core that was taken out of a card.
-pub reached-by : (core old new : CoreView) (step : Step) (reply : Reply) → is_of_desk step ≡ true → old ≡ core → IsReached core
-    → Follows old step reply new → IsReached new
-reached-by core old new step reply desk same reached follows = reached-on old new step reply desk (subst IsReached (sym same) reached) follows
+pub reached-by : (core old new : CoreView) (step : Step) (reply : Reply) → is_of_desk step ≡ true → old ≡ core → IsReachedCore core
+    → Follows old step reply new → IsReachedCore new
+reached-by core old new step reply desk same reached follows = reached-on old new step reply desk (subst IsReachedCore (sym same) reached) follows
 
 -- If the core refuses the step, the card does.
 pub refuses-by : (before after : UpcCard) (core old new : CoreView) (step : Step) (reply : Reply) (reason : DeskFault) (fault : UpcFault)

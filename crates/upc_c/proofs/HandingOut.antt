@@ -23,8 +23,8 @@ use Rattle.upc_c.specs.declared.entry.UpcEntry.{UpcEntry}
 use Rattle.upc_c.specs.declared.fault.UpcFault.{UpcFault}
 use Rattle.upc_c.specs.declared.journal.HandOut.{HandOut}
 use Rattle.upc_c.specs.declared.journal.HandOut.TheVariants.{AtEnd, GoingOn}
-use Rattle.upc_c.specs.inner.HandOut.{IsLongerOn, IsShortIn, replied, reply_of, step_of}
-use Rattle.upc_c.specs.inner.ReachedCore.{IsReached}
+use Rattle.upc_c.specs.inner.HandOut.{IsLongerOn, IsShortIn, replied, handing_reply, step_of}
+use Rattle.upc_c.specs.inner.ReachedCore.{IsReachedCore}
 use Rattle.upc_c.proofs.CardSteps.{cases, is_of_desk}
 use Rattle.upc_c.proofs.SettingUp.{desk-fault-from}
 
@@ -44,7 +44,7 @@ fits-piece world vc connection handed piece most short found of same =
     subst (λ (n : ℕ). n ≤ most) (sym (ap (λ (p : PieceView). length p.entries) same ∙ ap length of.entries ∙ judged)) (short connection found)
 
 fits-stepped : (before after : World) (vc : Vc) (when : HandOut) (piece : PieceView) (most : ℕ) → IsShort before vc most
-    → WorldStep before (step_of when vc) (reply_of when piece) after → length piece.entries ≤ most
+    → WorldStep before (step_of when vc) (handing_reply when piece) after → length piece.entries ≤ most
 fits-stepped before after vc AtEnd piece most short =
     cases (length piece.entries ≤ most) (λ fault. Refused fault) (missing_fault before vc) before after (Release vc) (Released piece)
     (λ s. fits-piece before vc s.connection s.piece piece most short s.found s.last (ap (λ reply. handed-in reply piece) s.answer))
@@ -54,13 +54,13 @@ fits-stepped before after vc GoingOn piece most short =
     (λ s. fits-piece before vc s.connection s.piece piece most short s.found s.next (ap (λ reply. handed-in reply piece) s.answer))
     (λ l. let no : Refused NoMemory ≡ CutOff piece = let is = l.answer in cc in cc) (λ fault r. let no : CutOff piece ≡ Refused fault = r.answer in cc)
 
-handed-fits : (core new : CoreView) (vc : Vc) (when : HandOut) (piece : PieceView) (most : ℕ) → IsReached core
-    → Follows core (step_of when vc) (reply_of when piece) new → IsShortIn core vc most → length piece.entries ≤ most
+handed-fits : (core new : CoreView) (vc : Vc) (when : HandOut) (piece : PieceView) (most : ℕ) → IsReachedCore core
+    → Follows core (step_of when vc) (handing_reply when piece) new → IsShortIn core vc most → length piece.entries ≤ most
 handed-fits core new vc when piece most reached follows short = ∥∥₁_elim reached le_prop (λ r.
     let gone = follows r.shape r.log r.world r.leads r.agrees in
     fits-stepped r.world gone.after vc when piece most (short.few r.world r.agrees) gone.stepped)
 
-pub result-fits : (core new : CoreView) (vc : Vc) (when : HandOut) (result : Result PieceView DeskFault) (most : ℕ) → IsReached core
+pub result-fits : (core new : CoreView) (vc : Vc) (when : HandOut) (result : Result PieceView DeskFault) (most : ℕ) → IsReachedCore core
     → Follows core (step_of when vc) (replied when result) new → IsShortIn core vc most → IfOk result (λ piece. length piece.entries ≤ most)
 result-fits core new vc AtEnd (Ok piece) most reached follows short = handed-fits core new vc AtEnd piece most reached follows short
 result-fits core new vc GoingOn (Ok piece) most reached follows short = handed-fits core new vc GoingOn piece most reached follows short

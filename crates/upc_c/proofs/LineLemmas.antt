@@ -11,7 +11,7 @@ use Rattle.upc_cell.specs.declared.vc.Vc.{Vc}
 use Rattle.upc_c.specs.CardInspection.{HasConnection}
 use Rattle.upc_c.specs.declared.inspecting.ToldLine.{ToldLine}
 use Rattle.upc_c.specs.inner.HandOut.{IsLongerIn, IsShortIn}
-use Rattle.upc_c.specs.inner.ToldLine.{IsMissingIn, IsToldOf, Tells}
+use Rattle.upc_c.specs.inner.ToldLine.{IsMissingIn, IsToldOf, AgreesOnLine}
 
 abbrev line-or : Option LineView → LineView → LineView
 line-or None other = other
@@ -28,7 +28,7 @@ line-of core world vc found agrees is = ap (line_of_seating core.lines) (agrees.
 
 tells-by : (core : CoreView) (world : World) (vc : Vc) (line : LineView) (told : ToldLine) (found : Option Connection)
     → CoreAgrees core world → connection_in world.connections vc ≡ found → line_at core vc ≡ Some line
-    → told.cells ≡ length line.entries → told.counts ≡ line.state.counts → HasConnection world vc (Tells told world)
+    → told.cells ≡ length line.entries → told.counts ≡ line.state.counts → HasConnection world vc (AgreesOnLine told world)
 tells-by core world vc line told None agrees is at cells counts =
     let no : None ≡ Some line = sym (line-of core world vc None agrees is) ∙ at in cc
 tells-by core world vc line told (Some connection) agrees is at cells counts =

@@ -3,12 +3,12 @@ use Rattle.std.proofs.Common.{◌≡◌, inl, inr, sym, ◌∙◌}
 use Rattle.card_core.specs.declared.reply.Reply.{Reply}
 use Rattle.card_core.specs.declared.step.Step.{Step}
 use Rattle.upc_c.specs.CardDesk.{IsDeskFault}
-use Rattle.upc_c.specs.CardHandle.{Takes, card_in}
+use Rattle.upc_c.specs.CardHandle.{CardTakes, card_in}
 use Rattle.upc_c.specs.declared.card.UpcCard.{UpcCard}
 use Rattle.upc_c.specs.declared.fault.UpcFault.{UpcFault}
 
 pub takes-from : (first before after : UpcCard) (step : Step) (reply : Reply) → card_in before ≡ card_in first
-    → Takes before after step reply → Takes first after step reply
+    → CardTakes before after step reply → CardTakes first after step reply
 takes-from first before after step reply same taken = record {
   old = taken.old;
   new = taken.new;

@@ -1,7 +1,7 @@
 -- A cell that arrives at a card that C has.
 use Rattle.std.specs.Prelude.{◌≡◌, ◌⊎◌, ℕ, List, length, Option, Some, None}
 use Rattle.card_core.specs.Agreement.{CoreView}
-use Rattle.card_core.specs.Arrival.{Answers}
+use Rattle.card_core.specs.Arrival.{AnswersArrival}
 use Rattle.card_core.specs.declared.answer.Answer.{Answer}
 use Rattle.card_core.specs.declared.answer.Answer.TheVariants.{Judged, NoConnection, Released, Stale, MomentBack, MomentTooLate, JournalFull, NoMemory}
 use Rattle.leaky.specs.declared.verdict.Verdict.{Verdict}
@@ -9,25 +9,25 @@ use Rattle.upc_c.specs.CardDesk.{id_of}
 use Rattle.upc_c.specs.CardHandle.{card_in, card_missing}
 use Rattle.upc_c.specs.CellHeader.{IsCellFault}
 use Rattle.upc_c.specs.Faults.{plain_fault, out_of_memory}
-use Rattle.upc_c.specs.Judging.{number_of}
+use Rattle.upc_c.specs.Judging.{number_of_verdict}
 use Rattle.upc_c.specs.declared.arrival.UpcAnswer.{UpcAnswer}
 use Rattle.upc_c.specs.declared.card.UpcCard.{UpcCard}
 use Rattle.upc_c.specs.declared.fault.UpcFault.{UpcFault}
 
 -- The card took all steps of the cell at port 0, with this answer.
-pub record Arrives (before after : UpcCard) (cell : List ℕ) (moment : ℕ) (answer : Answer) : Type 0 where
+pub record ArrivesAtCard (before after : UpcCard) (cell : List ℕ) (moment : ℕ) (answer : Answer) : Type 0 where
   pub old : CoreView
   pub new : CoreView
   pub had : card_in before ≡ Some old
   pub has : card_in after ≡ Some new
-  pub answers : Answers old 0 cell moment answer new
+  pub answers : AnswersArrival old 0 cell moment answer new
 
 -- The cell was judged with this answer, and these are the octets of the leaving cell.
 pub record IsPoliced (before after : UpcCard) (cell : List ℕ) (moment : ℕ) (told : UpcAnswer) (leaving : List ℕ) : Type 0 where
   pub sized : length cell ≡ 52
   pub verdict : Verdict
-  pub number : told.verdict ≡ number_of verdict
-  pub arrives : Arrives before after cell moment
+  pub number : told.verdict ≡ number_of_verdict verdict
+  pub arrives : ArrivesAtCard before after cell moment
       (Judged told.line told.number told.moment told.value (id_of told.program) verdict leaving)
 
 -- The error for C if the cell wasn't judged, or None if it was.
@@ -48,4 +48,4 @@ IsArrivalFault before after cell moment fault =
     (IsCellFault cell fault × (card_in after ≡ card_in before))
     ⊎ ((length cell ≡ 52) × (card_in before ≡ None) × (card_in after ≡ None) × (fault ≡ card_missing))
     ⊎ ((length cell ≡ 52)
-    × ((answer : Answer) × Arrives before after cell moment answer × (reason_of_answer answer ≡ Some fault)))
+    × ((answer : Answer) × ArrivesAtCard before after cell moment answer × (reason_of_answer answer ≡ Some fault)))

@@ -16,9 +16,9 @@ use Rattle.leaky.specs.declared.contract.Contract.{Contract}
 use Rattle.line_record.specs.declared.owner.Owner.{Owner}
 use Rattle.upc_cell.specs.Side.{last_vpi}
 use Rattle.upc_cell.specs.declared.vc.Vc.{Vc}
-use Rattle.upc_c.specs.CardHandle.{IsShapeIn, Takes, card_in, card_missing}
+use Rattle.upc_c.specs.CardHandle.{IsShapeIn, CardTakes, card_in, card_missing}
 use Rattle.upc_c.specs.Faults.{plain_fault, out_of_memory}
-use Rattle.upc_c.specs.GivenContract.{IsContract, AreAContract, IsContractFault}
+use Rattle.upc_c.specs.GivenContract.{IsGivenContract, AreAContract, IsContractFault}
 use Rattle.upc_c.specs.Programs.{IsDecodeRefusal, IsCheckRefusal}
 use Rattle.upc_c.specs.declared.card.UpcCard.{UpcCard}
 use Rattle.upc_c.specs.declared.contract.UpcContract.{UpcContract}
@@ -55,9 +55,9 @@ reason_of (Refused fault) = Some fault
 reason_of _ = None
 
 -- The card took the step and refused it, and this is the error for C.
-pub record Refuses (before after : UpcCard) (step : Step) (fault : UpcFault) : Type 0 where
+pub record RefusesStep (before after : UpcCard) (step : Step) (fault : UpcFault) : Type 0 where
   pub reply : Reply
-  pub taken : Takes before after step reply
+  pub taken : CardTakes before after step reply
   pub reason : DeskFault
   pub refused : reason_of reply ≡ Some reason
   pub told : fault ≡ told_desk reason
@@ -65,12 +65,12 @@ pub record Refuses (before after : UpcCard) (step : Step) (fault : UpcFault) : T
 -- The error of a step of the desk: there is no card, or the card refuses the step.
 abbrev pub IsDeskFault : UpcCard → UpcCard → Step → UpcFault → Type 0
 IsDeskFault before after step fault =
-    ((card_in before ≡ None) × (fault ≡ card_missing)) ⊎ Refuses before after step fault
+    ((card_in before ≡ None) × (fault ≡ card_missing)) ⊎ RefusesStep before after step fault
 
 -- The program that the octets spell was loaded under this id.
 abbrev pub IsLoaded : UpcCard → UpcCard → List ℕ → UpcId → Type 0
 IsLoaded before after octets id = (code : List Instr) × SpellsCode octets code × IsAccepted code
-    × Takes before after (Load code) (Loaded (id_of id))
+    × CardTakes before after (Load code) (Loaded (id_of id))
 
 -- The error if no program was loaded: the octets don't spell a program, or the step has an error.
 abbrev pub IsLoadFault : UpcCard → UpcCard → List ℕ → UpcFault → Type 0
@@ -79,15 +79,15 @@ IsLoadFault before after octets fault =
     ⊎ ((code : List Instr) × SpellsCode octets code × IsAccepted code × IsDeskFault before after (Load code) fault)
 
 -- The contracts with these numbers, in order.
-abbrev pub AreContracts : List UpcContract → List Contract → Type 0
-AreContracts [] [] = ⊤
-AreContracts [] (contract ∷ later) = ⊥
-AreContracts (given ∷ others) [] = ⊥
-AreContracts (given ∷ others) (contract ∷ later) = IsContract given contract × AreContracts others later
+abbrev pub AreGivenContracts : List UpcContract → List Contract → Type 0
+AreGivenContracts [] [] = ⊤
+AreGivenContracts [] (contract ∷ later) = ⊥
+AreGivenContracts (given ∷ others) [] = ⊥
+AreGivenContracts (given ∷ others) (contract ∷ later) = IsGivenContract given contract × AreGivenContracts others later
 
 -- There are contracts with these numbers.
 abbrev pub AreAllContracts : List UpcContract → Type 0
-AreAllContracts given = (contracts : List Contract) × AreContracts given contracts
+AreAllContracts given = (contracts : List Contract) × AreGivenContracts given contracts
 
 -- The first of these that is no contract has this error.
 abbrev pub IsFirstContractFault : List UpcContract → UpcFault → Type 0
@@ -124,12 +124,12 @@ pub record IsVc (card : UpcCard) (vpi vci : ℕ) (vc : Vc) : Type 0 where
 pub record IsAsk (card : UpcCard) (path channel : ℕ) (named : UpcId) (given : List UpcContract) (ask : Ask) : Type 0 where
   pub vc : IsVc card path channel ask.vc
   pub program : ask.program ≡ id_of named
-  pub contracts : AreContracts given ask.contracts.items
+  pub contracts : AreGivenContracts given ask.contracts.items
 
 -- The connection was set up.
 abbrev pub IsSetUp : UpcCard → UpcCard → ℕ → ℕ → UpcId → List UpcContract → Type 0
 IsSetUp before after path channel program given = (ask : Ask) × IsAsk before path channel program given ask
-    × ((owner : Owner) × Takes before after (Setup ask) (SetUp owner))
+    × ((owner : Owner) × CardTakes before after (Setup ask) (SetUp owner))
 
 -- The error if no connection was set up: that of the contracts; then, there is no card; then, the card's side has no
 -- such path; then, the step has an error.
@@ -142,12 +142,12 @@ IsSetupFault before after path channel program given fault =
 
 -- The program was retired.
 abbrev pub IsRetired : UpcCard → UpcCard → UpcId → Type 0
-IsRetired before after id = (code : List Instr) × Takes before after (Retire (id_of id)) (Retired code)
+IsRetired before after id = (code : List Instr) × CardTakes before after (Retire (id_of id)) (Retired code)
 
 -- The connection got this program instead of the earlier one.
 abbrev pub IsReloaded : UpcCard → UpcCard → ℕ → ℕ → UpcId → UpcId → Type 0
 IsReloaded before after path channel program earlier = (vc : Vc) × IsVc before path channel vc
-    × Takes before after (Reload vc (id_of program)) (Reloaded (id_of earlier))
+    × CardTakes before after (Reload vc (id_of program)) (Reloaded (id_of earlier))
 
 -- The error of a step for the connection of this path and channel: there is no card; then, the card's side has no such
 -- path; then, the step has an error.

@@ -29,7 +29,7 @@ pub record IsShapeIn (card : UpcCard) (shape : Shape) : Type 0 where
 
 -- There is a card before and after, and it took the step with this reply. Its core is the one after the step, and after
 -- a refusal it is as `RefusalKeeps` states.
-pub record Takes (before after : UpcCard) (step : Step) (reply : Reply) : Type 0 where
+pub record CardTakes (before after : UpcCard) (step : Step) (reply : Reply) : Type 0 where
   pub old : CoreView
   pub new : CoreView
   pub had : card_in before ≡ Some old

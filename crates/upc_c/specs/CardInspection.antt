@@ -13,8 +13,8 @@ use Rattle.upc_c.specs.declared.counts.UpcCounts.{UpcCounts}
 use Rattle.upc_c.specs.declared.fault.UpcFault.{UpcFault}
 
 -- The counts of a line, as C gets them.
-abbrev pub counts_of : Tally → UpcCounts
-counts_of tally = record {
+abbrev pub counts_for_c : Tally → UpcCounts
+counts_for_c tally = record {
   passed = tally.passed;
   tagged = tally.tagged;
   discarded = tally.discarded;
@@ -43,7 +43,7 @@ HasInJournal card path channel cells =
 -- The connection's line has these counts: those of all verdicts ever given on it.
 abbrev pub HasCounted : UpcCard → ℕ → ℕ → UpcCounts → Type 0
 HasCounted card path channel counts =
-    OfConnection card path channel (λ world connection. counts ≡ counts_of (tally_of (world.judged connection.line)))
+    OfConnection card path channel (λ world connection. counts ≡ counts_for_c (tally_of (world.judged connection.line)))
 
 -- The card has no connection of this path and channel.
 pub record IsMissing (card : UpcCard) (path channel : ℕ) : Type 0 where

@@ -8,10 +8,10 @@ use Rattle.line_record.specs.Piece.{PieceView}
 use Rattle.line_record.specs.declared.entry.Entry.{Entry}
 use Rattle.upc_cell.specs.declared.vc.Vc.{Vc}
 use Rattle.upc_c.specs.CardDesk.{IsConnectionFault, IsVc, told_id}
-use Rattle.upc_c.specs.CardHandle.{Takes}
-use Rattle.upc_c.specs.CardInspection.{HasInJournal, counts_of}
+use Rattle.upc_c.specs.CardHandle.{CardTakes}
+use Rattle.upc_c.specs.CardInspection.{HasInJournal, counts_for_c}
 use Rattle.upc_c.specs.Faults.{no_room}
-use Rattle.upc_c.specs.Judging.{number_of}
+use Rattle.upc_c.specs.Judging.{number_of_verdict}
 use Rattle.upc_c.specs.declared.card.UpcCard.{UpcCard}
 use Rattle.upc_c.specs.declared.entry.UpcEntry.{UpcEntry}
 use Rattle.upc_c.specs.declared.fault.UpcFault.{UpcFault}
@@ -24,7 +24,7 @@ told_entry entry = record {
   program = told_id entry.program;
   value = entry.value;
   clp = if entry.clp then 1 else 0;
-  verdict = number_of entry.verdict;
+  verdict = number_of_verdict entry.verdict;
 }
 
 -- The entries fill the front of the buffer, in order, and the rest of the buffer is unchanged.
@@ -37,8 +37,8 @@ pub record AreWritten (entries : List Entry) (before after : List UpcEntry) : Ty
 abbrev pub told_journal : PieceView → UpcJournal
 told_journal piece = record {
   cells = length piece.entries;
-  before = counts_of piece.start.counts;
-  after = counts_of piece.end.counts;
+  before = counts_for_c piece.start.counts;
+  after = counts_for_c piece.end.counts;
 }
 
 -- The card took the step on the connection of this path and channel, and the step returned a journal. The buffer has
@@ -47,7 +47,7 @@ pub record IsHandedOut (before after : UpcCard) (path channel : ℕ) (step : Vc 
   pub vc : Vc
   pub numbers : IsVc before path channel vc
   pub piece : PieceView
-  pub taken : Takes before after (step vc) (reply piece)
+  pub taken : CardTakes before after (step vc) (reply piece)
   pub entries : AreWritten piece.entries room written
   pub tells : told ≡ told_journal piece
 

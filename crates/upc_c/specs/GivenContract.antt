@@ -8,23 +8,23 @@ use Rattle.upc_c.specs.declared.contract.UpcContract.{UpcContract}
 use Rattle.upc_c.specs.declared.fault.UpcFault.{UpcFault}
 
 -- The rate with this increment and limit.
-abbrev pub IsRate : ℕ → ℕ → Gcra → Type 0
-IsRate increment limit gcra = (gcra.increment ≡ increment) × (gcra.limit ≡ limit)
+abbrev pub IsGivenRate : ℕ → ℕ → Gcra → Type 0
+IsGivenRate increment limit gcra = (gcra.increment ≡ increment) × (gcra.limit ≡ limit)
 
 -- The rate of bucket 1, the peak cell rate.
 abbrev pub IsPeak : UpcContract → Gcra → Type 0
-IsPeak given gcra = IsRate given.peak_increment given.peak_limit gcra
+IsPeak given gcra = IsGivenRate given.peak_increment given.peak_limit gcra
 
 -- The rate of bucket 2, the sustainable cell rate.
 abbrev pub IsSustained : UpcContract → Gcra → Type 0
-IsSustained given gcra = IsRate given.sustained_increment given.sustained_limit gcra
+IsSustained given gcra = IsGivenRate given.sustained_increment given.sustained_limit gcra
 
 -- The contract with these numbers. CBR.1 has one rate and ignores the other two numbers.
-abbrev pub IsContract : UpcContract → Contract → Type 0
-IsContract given (Cbr1 peak) = (given.kind ≡ 1) × IsPeak given peak
-IsContract given (Vbr1 peak sustained) = (given.kind ≡ 2) × IsPeak given peak × IsSustained given sustained
-IsContract given (Vbr2 peak sustained) = (given.kind ≡ 3) × IsPeak given peak × IsSustained given sustained
-IsContract given (Vbr3 peak sustained) = (given.kind ≡ 4) × IsPeak given peak × IsSustained given sustained
+abbrev pub IsGivenContract : UpcContract → Contract → Type 0
+IsGivenContract given (Cbr1 peak) = (given.kind ≡ 1) × IsPeak given peak
+IsGivenContract given (Vbr1 peak sustained) = (given.kind ≡ 2) × IsPeak given peak × IsSustained given sustained
+IsGivenContract given (Vbr2 peak sustained) = (given.kind ≡ 3) × IsPeak given peak × IsSustained given sustained
+IsGivenContract given (Vbr3 peak sustained) = (given.kind ≡ 4) × IsPeak given peak × IsSustained given sustained
 
 -- The two numbers are a rate: the increment is 1 to 2^48 ticks, and the limit at most 2^48 ticks.
 pub record AreARate (increment limit : ℕ) : Type 0 where

@@ -12,11 +12,11 @@ use Rattle.upc_c.specs.declared.fault.UpcFault.{UpcFault}
 use Rattle.upc_c.specs.declared.meter.UpcLevels.{UpcLevels}
 
 -- The number of a verdict in C.
-abbrev pub number_of : Verdict → ℕ
-number_of Pass = 0
-number_of Tag = 1
-number_of Discard = 2
-number_of Refuse = 3
+abbrev pub number_of_verdict : Verdict → ℕ
+number_of_verdict Pass = 0
+number_of_verdict Tag = 1
+number_of_verdict Discard = 2
+number_of_verdict Refuse = 3
 
 -- Theoretical arrival times that can occur: each is at most 2^62 + 2^49.
 pub record AreLevels (levels : UpcLevels) : Type 0 where
@@ -32,7 +32,7 @@ pub record Shows (levels : UpcLevels) (buckets : Buckets) : Type 0 where
 -- new levels are those of the buckets after the cell. The new levels are within their limits.
 pub record IsJudged (contract : Contract) (levels : UpcLevels) (clp : Bool) (moment number : ℕ) (left : UpcLevels) : Type 0 where
   pub verdict : (buckets : Buckets) → Shows levels buckets → IsChargedBy buckets moment
-      → number ≡ number_of (verdict_of contract buckets clp moment)
+      → number ≡ number_of_verdict (verdict_of contract buckets clp moment)
   pub after : (buckets : Buckets) → Shows levels buckets → IsChargedBy buckets moment
       → Shows left (buckets_after contract buckets clp moment)
   pub kept : AreLevels left

@@ -5,7 +5,7 @@ use Rattle.bpf_asm.specs.Listing.{IsListFault, listing_of}
 use Rattle.bpf_asm.specs.Meaning.{IsMeaning}
 use Rattle.bpf_asm.specs.declared.fault.AsmFault.{AsmFault}
 use Rattle.bpf_asm.specs.declared.fault.ListFault.{ListFault}
-use Rattle.bpf_code.specs.Decoding.{IsFaultOf}
+use Rattle.bpf_code.specs.Decoding.{IsDecodeFault}
 use Rattle.bpf_code.specs.Encoding.{code_octets}
 use Rattle.bpf_code.specs.OctetSpelling.{SpellsCode}
 use Rattle.bpf_code.specs.declared.decoder.DecodeFault.{DecodeFault}
@@ -25,8 +25,8 @@ pub record IsWritten (text before after : List ℕ) (count : ℕ) : Type 0 where
   pub counted : count ≡ length text
 
 -- The text doesn't fit in the buffer. The place of the error is the number of octets that are needed.
-abbrev pub IsNoRoom : List ℕ → List ℕ → UpcFault → Type 0
-IsNoRoom text room fault = (length room < length text) × (fault ≡ no_room (length text))
+abbrev pub IsBufferFault : List ℕ → List ℕ → UpcFault → Type 0
+IsBufferFault text room fault = (length room < length text) × (fault ≡ no_room (length text))
 
 -- The octets spell a program.
 abbrev pub IsProgram : List ℕ → Type 0
@@ -34,7 +34,7 @@ IsProgram octets = (code : List Instr) × SpellsCode octets code × IsAccepted c
 
 -- The octets don't spell a code, or an allocation failed.
 abbrev pub IsDecodeRefusal : List ℕ → UpcFault → Type 0
-IsDecodeRefusal octets fault = (found : DecodeFault) × IsFaultOf octets found × (fault ≡ told_decode found)
+IsDecodeRefusal octets fault = (found : DecodeFault) × IsDecodeFault octets found × (fault ≡ told_decode found)
 
 -- The octets spell a code that the check refuses.
 abbrev pub IsCheckRefusal : List ℕ → UpcFault → Type 0

@@ -1,15 +1,15 @@
 //! Cells that arrive at a card that C has.
 
 ghost use Rattle.std.specs.Prelude.{◌≡◌, ◌≢◌, ◌⊎◌, ◌<◌, None, Some, Ok, IfOk, IfErr};
-ghost use Rattle.card_core.specs.Arrival.{Answers};
+ghost use Rattle.card_core.specs.Arrival.{AnswersArrival};
 ghost use Rattle.card_core.specs.Sections.{answer_to, unjudged_answer};
 ghost use Rattle.card_core.specs.Steps.{cell_after};
 ghost use Rattle.card_core.specs.declared.answer.Answer.{Answer as TheAnswer};
-ghost use Rattle.upc_c.specs.CardArrival.{Arrives, IsArrivalFault, IsPoliced, reason_of_answer};
+ghost use Rattle.upc_c.specs.CardArrival.{ArrivesAtCard, IsArrivalFault, IsPoliced, reason_of_answer};
 ghost use Rattle.upc_c.specs.CardHandle.{card_in, card_missing};
 ghost use Rattle.upc_c.specs.Faults.{no_fault};
-ghost use Rattle.upc_c.specs.Judging.{number_of};
-ghost use Rattle.upc_c.specs.inner.ReachedCore.{IsReached};
+ghost use Rattle.upc_c.specs.Judging.{number_of_verdict};
+ghost use Rattle.upc_c.specs.inner.ReachedCore.{IsReachedCore};
 
 use crate::card::UpcCard;
 use crate::cell::cell_of;
@@ -62,9 +62,9 @@ fn told_unjudged(reason: Unjudged) -> UpcFault
 
 /// Takes all steps of a cell at port 0 of a core.
 fn arrive_at(core: &mut Core, cell: &Cell, moment: u64) -> Result<Judgement, Unjudged>
-    requires { IsReached core.old }
-    ensures answers { Answers core.old 0 cell.now moment (answer_to cell.now result) core.new }
-    ensures reached { IsReached core.new }
+    requires { IsReachedCore core.old }
+    ensures answers { AnswersArrival core.old 0 cell.now moment (answer_to cell.now result) core.new }
+    ensures reached { IsReachedCore core.new }
 {
     match core.arrive(0, cell, moment) {
         Some(answered) => answered,
@@ -80,9 +80,9 @@ fn arrive_on(
     moment: u64,
 ) -> Result<Judgement, UpcFault>
     ensures judged { IfOk result (λ judgement.
-        Arrives card.old card.new cell.now moment (answer_to cell.now (Ok judgement))) }
+        ArrivesAtCard card.old card.new cell.now moment (answer_to cell.now (Ok judgement))) }
     ensures refused { IfErr result (λ fault. ((card_in card.old ≡ None) × (card_in card.new ≡ None) × (fault ≡ card_missing))
-        ⊎ ((answer : TheAnswer) × Arrives card.old card.new cell.now moment answer
+        ⊎ ((answer : TheAnswer) × ArrivesAtCard card.old card.new cell.now moment answer
         × (reason_of_answer answer ≡ Some fault))) }
     ensures numbered { IfErr result (λ fault. 0 < fault.number) }
 {

@@ -2,7 +2,7 @@
 
 ghost use Rattle.std.specs.Option.{ForSome};
 ghost use Rattle.std.specs.Prelude.{◌≡◌, ◌↔◌, None};
-ghost use Rattle.upc_c.specs.inner.ReachedCore.{IsReached};
+ghost use Rattle.upc_c.specs.inner.ReachedCore.{IsReachedCore};
 
 use crate::hidden::HiddenCard;
 
@@ -15,5 +15,5 @@ pub struct UpcCard {
     /// The address of the card.
     pub(crate) inner: HiddenCard,
     pub ghost marked: { (live ≡ 0) ↔ (inner.core ≡ None) },
-    pub ghost reached: { ForSome inner.core IsReached },
+    pub ghost reached: { ForSome inner.core IsReachedCore },
 }

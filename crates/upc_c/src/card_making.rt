@@ -5,7 +5,7 @@ ghost use Rattle.card_core.specs.Agreement.{CoreView};
 ghost use Rattle.upc_c.specs.CardHandle.{card_in, card_there};
 ghost use Rattle.upc_c.specs.CardMaking.{IsEmptyCard, IsNoCard, told_card};
 ghost use Rattle.upc_c.specs.Faults.{no_fault};
-ghost use Rattle.upc_c.specs.inner.ReachedCore.{IsReached};
+ghost use Rattle.upc_c.specs.inner.ReachedCore.{IsReachedCore};
 
 use crate::card::UpcCard;
 use crate::fault::{NO_FAULT, OF_A_SHAPE, OF_THE_CALL, UpcFault, fault_at, told};
@@ -32,7 +32,7 @@ fn told_card(found: CardFault) -> UpcFault
 /// Makes the core of an empty card with these numbers, in a box.
 fn empty_core(alloc: Global, given: &UpcShape) -> Result<Box<Core>, UpcFault>
     ensures empty { IfOk result (λ core. IsEmptyCard given.now core.value) }
-    ensures reached { IfOk result (λ core. IsReached core.value) }
+    ensures reached { IfOk result (λ core. IsReachedCore core.value) }
     ensures fault { IfErr result (IsNoCard given.now) }
     ensures numbered { IfErr result (λ fault. 0 < fault.number) }
 {

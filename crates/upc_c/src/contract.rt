@@ -1,7 +1,7 @@
 //! Contracts, as C has them.
 
 ghost use Rattle.std.specs.Prelude.{◌≡◌, ◌≢◌, ◌<◌, IfOk, IfErr};
-ghost use Rattle.upc_c.specs.GivenContract.{IsContract, IsContractFault, IsRate, IsRateFault, AreARate, AreAContract};
+ghost use Rattle.upc_c.specs.GivenContract.{IsGivenContract, IsContractFault, IsGivenRate, IsRateFault, AreARate, AreAContract};
 ghost use Rattle.upc_c.specs.Faults.{no_fault};
 
 use crate::fault::{NO_FAULT, OF_A_RATE, OF_THE_CALL, UpcFault, fault_at, told};
@@ -26,7 +26,7 @@ pub struct UpcContract {
 /// Returns the rate of a bucket, by its number from 1.
 #[inline]
 fn rate_of(bucket: usize, increment: u64, limit: u64) -> Result<Gcra, UpcFault>
-    ensures rate { IfOk result (IsRate increment limit) }
+    ensures rate { IfOk result (IsGivenRate increment limit) }
     ensures numbers { IfOk result (λ _. AreARate increment limit) }
     ensures fault { IfErr result (IsRateFault bucket increment limit) }
     ensures numbered { IfErr result (λ fault. 0 < fault.number) }
@@ -41,7 +41,7 @@ fn rate_of(bucket: usize, increment: u64, limit: u64) -> Result<Gcra, UpcFault>
 /// Returns the contract with these numbers.
 #[inline]
 pub(crate) fn contract_of(given: &UpcContract) -> Result<Contract, UpcFault>
-    ensures contract { IfOk result (IsContract given.now) }
+    ensures contract { IfOk result (IsGivenContract given.now) }
     ensures numbers { IfOk result (λ _. AreAContract given.now) }
     ensures fault { IfErr result (IsContractFault given.now) }
     ensures numbered { IfErr result (λ fault. 0 < fault.number) }

@@ -1,7 +1,7 @@
 //! The contracts of a connection, as C gives them.
 
 ghost use Rattle.std.specs.Prelude.{◌≡◌, ◌<◌, IfOk, IfErr};
-ghost use Rattle.upc_c.specs.CardDesk.{AreContracts, IsContractsFault};
+ghost use Rattle.upc_c.specs.CardDesk.{AreGivenContracts, IsContractsFault};
 
 use crate::contract::{UpcContract, contract_of};
 use crate::fault::{OF_THE_CALL, UpcFault, fault_at};
@@ -13,7 +13,7 @@ const MOST_CONTRACTS: usize = 4;
 
 /// Returns the contracts with these numbers, in order.
 pub(crate) fn contracts_of(given: &[UpcContract]) -> Result<ArrayVec<Contract, 4>, UpcFault>
-    ensures contracts { IfOk result (λ contracts. AreContracts given.now contracts.items) }
+    ensures contracts { IfOk result (λ contracts. AreGivenContracts given.now contracts.items) }
     ensures fault { IfErr result (IsContractsFault given.now) }
     ensures numbered { IfErr result (λ fault. 0 < fault.number) }
 {

@@ -1,7 +1,7 @@
 //! The counts of a line, as C gets them.
 
 ghost use Rattle.std.specs.Prelude.{◌≡◌};
-ghost use Rattle.upc_c.specs.CardInspection.{counts_of};
+ghost use Rattle.upc_c.specs.CardInspection.{counts_for_c};
 
 use line_record::Tally;
 
@@ -21,7 +21,7 @@ pub struct UpcCounts {
 
 /// Returns the counts as C has them.
 pub(crate) fn counts_of(tally: Tally) -> UpcCounts
-    ensures { result ≡ counts_of tally }
+    ensures { result ≡ counts_for_c tally }
 {
     UpcCounts {
         passed: tally.passed,

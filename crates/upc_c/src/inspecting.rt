@@ -4,7 +4,7 @@ ghost use Rattle.std.specs.Prelude.{◌≡◌, ◌≢◌, ◌<◌, IfNone, IfSom
 ghost use Rattle.upc_c.specs.CardHandle.{card_in};
 ghost use Rattle.upc_c.specs.CardInspection.{HasCounted, HasInJournal, IsLookUpFault};
 ghost use Rattle.upc_c.specs.Faults.{no_fault};
-ghost use Rattle.upc_c.specs.inner.ToldLine.{IsMissingIn, IsTold, IsToldOf};
+ghost use Rattle.upc_c.specs.inner.ToldLine.{IsMissingIn, IsToldLine, IsToldOf};
 
 use crate::card::UpcCard;
 use crate::counts::{UpcCounts, counts_of};
@@ -42,7 +42,7 @@ pub(crate) fn told_line(core: &Core, vc: Vc) -> Option<ToldLine>
 
 /// Returns the values of the line of this path and channel.
 fn line_on(alloc: Global, card: &mut UpcCard, path: u16, channel: u16) -> Result<ToldLine, UpcFault>
-    ensures told { IfOk result (IsTold card.old path channel) }
+    ensures told { IfOk result (IsToldLine card.old path channel) }
     ensures fault { IfErr result (IsLookUpFault card.old path channel) }
     ensures kept { card_in card.new ≡ card_in card.old }
     ensures numbered { IfErr result (λ fault. 0 < fault.number) }

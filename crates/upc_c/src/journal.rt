@@ -5,11 +5,11 @@ ghost use Rattle.card_core.specs.Agreement.{Follows};
 ghost use Rattle.card_core.specs.Kept.{RefusalKeeps};
 ghost use Rattle.card_core.specs.declared.step.Step.TheVariants.{Release, Cut};
 ghost use Rattle.upc_c.specs.CardDesk.{IsDeskFault};
-ghost use Rattle.upc_c.specs.CardHandle.{Takes, card_in};
+ghost use Rattle.upc_c.specs.CardHandle.{CardTakes, card_in};
 ghost use Rattle.upc_c.specs.CardJournal.{IsCut, IsHandedOut, IsJournalFault, IsReleased, told_journal};
 ghost use Rattle.upc_c.specs.Faults.{no_fault};
-ghost use Rattle.upc_c.specs.inner.HandOut.{IsLongerIn, IsLongerOn, IsShortIn, replied, reply_of, step_of};
-ghost use Rattle.upc_c.specs.inner.ReachedCore.{IsReached};
+ghost use Rattle.upc_c.specs.inner.HandOut.{IsLongerIn, IsLongerOn, IsShortIn, replied, handing_reply, step_of};
+ghost use Rattle.upc_c.specs.inner.ReachedCore.{IsReachedCore};
 
 use crate::card::UpcCard;
 use crate::counts::{UpcCounts, counts_of};
@@ -69,11 +69,11 @@ fn hand_out(core: &mut Core, vc: Vc, when: HandOut) -> Result<Piece, DeskFault>
 
 /// Takes the step if the journal has at most `most` cells.
 fn hand_out_short(core: &mut Core, vc: Vc, when: HandOut, most: usize) -> Result<Piece, DeskFault>
-    requires reached { IsReached core.old }
+    requires reached { IsReachedCore core.old }
     requires short { IsShortIn core.old vc most }
     ensures follows { Follows core.old (step_of when vc) (replied when result) core.new }
     ensures unchanged { RefusalKeeps (replied when result) (step_of when vc) core.old core.new }
-    ensures reached { IsReached core.new }
+    ensures reached { IsReachedCore core.new }
     ensures fits { IfOk result (λ piece. length piece.entries ≤ most) }
 {
     hand_out(core, vc, when)
@@ -101,7 +101,7 @@ fn hand_out_on(
     when: HandOut,
     most: usize,
 ) -> Result<Piece, UpcFault>
-    ensures handed { IfOk result (λ piece. Takes card.old card.new (step_of when vc) (reply_of when piece)) }
+    ensures handed { IfOk result (λ piece. CardTakes card.old card.new (step_of when vc) (handing_reply when piece)) }
     ensures fits { IfOk result (λ piece. length piece.entries ≤ most) }
     ensures refused { IfErr result (λ fault.
         IsDeskFault card.old card.new (step_of when vc) fault ⊎ IsLongerOn card.old vc most fault) }
@@ -134,7 +134,7 @@ fn hand_out_to(
     journal: &mut UpcJournal,
 ) -> Result<(), UpcFault>
     ensures handed { IfOk result (λ _. IsHandedOut card.old card.new path channel
-        (step_of when) (reply_of when) room.old room.new journal.new) }
+        (step_of when) (handing_reply when) room.old room.new journal.new) }
     ensures refused { IfErr result (IsJournalFault card.old card.new path channel (step_of when) room.old) }
     ensures left { OnErr result (card_in card.new ≡ card_in card.old) }
     ensures room_left { OnErr result (room.new ≡ room.old) }

@@ -4,7 +4,7 @@ ghost use Rattle.std.specs.Prelude.{◌≡◌, ◌≢◌, ◌<◌, ◌%◌, leng
 ghost use Rattle.card_core.specs.declared.reply.Reply.TheVariants.{Loaded};
 ghost use Rattle.card_core.specs.declared.step.Step.TheVariants.{Load};
 ghost use Rattle.upc_c.specs.CardDesk.{IsDeskFault, IsLoaded, IsLoadFault};
-ghost use Rattle.upc_c.specs.CardHandle.{Takes, card_in};
+ghost use Rattle.upc_c.specs.CardHandle.{CardTakes, card_in};
 ghost use Rattle.upc_c.specs.Faults.{no_fault, ragged};
 
 use crate::card::UpcCard;
@@ -19,7 +19,7 @@ use std::alloc::Global;
 
 /// Takes the step `Load`.
 fn load_on(alloc: Global, card: &mut UpcCard, program: Program) -> Result<Id, UpcFault>
-    ensures loaded { IfOk result (λ id. Takes card.old card.new (Load program) (Loaded id)) }
+    ensures loaded { IfOk result (λ id. CardTakes card.old card.new (Load program) (Loaded id)) }
     ensures refused { IfErr result (IsDeskFault card.old card.new (Load program)) }
     ensures left { OnErr result (card_in card.new ≡ card_in card.old) }
     ensures numbered { IfErr result (λ fault. 0 < fault.number) }

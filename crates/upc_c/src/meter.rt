@@ -2,9 +2,9 @@
 
 ghost use Rattle.std.specs.Prelude.{◌≡◌, ◌≢◌, ◌^◌, ◌<◌, ◌≤◌, ◌==◌, not, IfOk, IfErr};
 ghost use Rattle.leaky.specs.declared.contract.Contract.{Contract as TheContract};
-ghost use Rattle.upc_c.specs.GivenContract.{IsContract, AreAContract};
+ghost use Rattle.upc_c.specs.GivenContract.{IsGivenContract, AreAContract};
 ghost use Rattle.upc_c.specs.Faults.{no_fault};
-ghost use Rattle.upc_c.specs.Judging.{AreLevels, IsJudged, IsMeterFault, number_of};
+ghost use Rattle.upc_c.specs.Judging.{AreLevels, IsJudged, IsMeterFault, number_of_verdict};
 
 use crate::contract::{UpcContract, contract_of};
 use crate::fault::{NO_FAULT, OF_AN_ARRIVAL, OF_THE_CALL, UpcFault, fault_at, told};
@@ -27,7 +27,7 @@ pub struct UpcLevels {
 /// Returns the number of a verdict in C.
 #[inline]
 pub(crate) fn number_of(verdict: Verdict) -> u32
-    ensures { result ≡ number_of verdict }
+    ensures { result ≡ number_of_verdict verdict }
 {
     match verdict {
         Verdict::Pass => 0,
@@ -40,7 +40,7 @@ pub(crate) fn number_of(verdict: Verdict) -> u32
 /// Returns the contract by which a cell is judged, or the error.
 #[inline]
 fn judging(given: &UpcContract, levels: &UpcLevels, moment: u64) -> Result<Contract, UpcFault>
-    ensures contract { IfOk result (IsContract given.now) }
+    ensures contract { IfOk result (IsGivenContract given.now) }
     ensures levels { IfOk result (λ _. AreLevels levels.now) }
     ensures moment { IfOk result (λ _. moment ≤ 2 ^ 62) }
     ensures numbers { IfOk result (λ _. AreAContract given.now) }
@@ -88,7 +88,7 @@ pub extern "C" fn upc_judge(
     fault: &mut UpcFault,
 ) -> u32
     ensures number { result ≡ fault.new.number }
-    ensures judged { result ≡ 0 → (it : TheContract) × IsContract contract.now it
+    ensures judged { result ≡ 0 → (it : TheContract) × IsGivenContract contract.now it
         × AreLevels levels.old × (moment ≤ 2 ^ 62)
         × IsJudged it levels.old (not (clp == 0)) moment verdict.new levels.new }
     ensures fine { result ≡ 0 → fault.new ≡ no_fault }

@@ -4,7 +4,7 @@ ghost use Rattle.std.specs.Prelude.{◌≡◌, ◌≢◌, ◌⊎◌, ◌<◌, �
 ghost use Rattle.bpf_code.specs.OctetSpelling.{SpellsCode};
 ghost use Rattle.bpf_verify.specs.Accepted.{IsAccepted};
 ghost use Rattle.upc_c.specs.Faults.{no_fault, out_of_memory, ragged};
-ghost use Rattle.upc_c.specs.Programs.{IsAsmRefusal, IsAssembled, IsCheckRefusal, IsDecodeRefusal, IsListRefusal, IsListed, IsNoRoom, IsProgram, IsWritten};
+ghost use Rattle.upc_c.specs.Programs.{IsAsmRefusal, IsAssembled, IsCheckRefusal, IsDecodeRefusal, IsListRefusal, IsListed, IsBufferFault, IsProgram, IsWritten};
 
 use crate::fault::{NO_FAULT, UpcFault, told};
 use crate::room::write_to;
@@ -117,7 +117,7 @@ pub extern "C" fn upc_assemble(
         × IsWritten octets room.old room.new count.new }
     ensures fine { result ≡ 0 → fault.new ≡ no_fault }
     ensures refused { result ≢ 0 → IsAsmRefusal source.now fault.new ⊎ (fault.new ≡ out_of_memory)
-        ⊎ ((octets : List ℕ) × IsAssembled source.now octets × IsNoRoom octets room.old fault.new) }
+        ⊎ ((octets : List ℕ) × IsAssembled source.now octets × IsBufferFault octets room.old fault.new) }
     ensures left { result ≢ 0 → room.new ≡ room.old }
     ensures count_left { result ≢ 0 → count.new ≡ count.old }
 {
@@ -142,7 +142,7 @@ pub extern "C" fn upc_listing(
         × IsWritten text room.old room.new count.new }
     ensures fine { result ≡ 0 → fault.new ≡ no_fault }
     ensures refused { result ≢ 0 → IsDecodeRefusal program.now fault.new ⊎ IsListRefusal program.now fault.new
-        ⊎ ((text : List ℕ) × IsListed program.now text × IsNoRoom text room.old fault.new) }
+        ⊎ ((text : List ℕ) × IsListed program.now text × IsBufferFault text room.old fault.new) }
     ensures ragged { 0 < length program.now % 8 → fault.new ≡ ragged }
     ensures left { result ≢ 0 → room.new ≡ room.old }
     ensures count_left { result ≢ 0 → count.new ≡ count.old }

@@ -5,7 +5,7 @@ ghost use Rattle.bpf_code.specs.declared.instr.Instr.{Instr};
 ghost use Rattle.card_core.specs.declared.reply.Reply.TheVariants.{Reloaded, Retired};
 ghost use Rattle.card_core.specs.declared.step.Step.TheVariants.{Reload, Retire};
 ghost use Rattle.upc_c.specs.CardDesk.{IsConnectionFault, IsDeskFault, IsReloaded, IsRetired, id_of};
-ghost use Rattle.upc_c.specs.CardHandle.{Takes, card_in};
+ghost use Rattle.upc_c.specs.CardHandle.{CardTakes, card_in};
 ghost use Rattle.upc_c.specs.Faults.{no_fault};
 
 use crate::card::UpcCard;
@@ -21,7 +21,7 @@ use upc_cell::Vc;
 
 /// Takes the step `Retire`.
 fn retire_on(alloc: Global, card: &mut UpcCard, id: Id) -> Result<Program, UpcFault>
-    ensures retired { IfOk result (λ program. Takes card.old card.new (Retire id) (Retired program)) }
+    ensures retired { IfOk result (λ program. CardTakes card.old card.new (Retire id) (Retired program)) }
     ensures refused { IfErr result (IsDeskFault card.old card.new (Retire id)) }
     ensures left { OnErr result (card_in card.new ≡ card_in card.old) }
     ensures numbered { IfErr result (λ fault. 0 < fault.number) }
@@ -39,7 +39,7 @@ fn retire_on(alloc: Global, card: &mut UpcCard, id: Id) -> Result<Program, UpcFa
 
 /// Takes the step `Reload`.
 fn reload_on(alloc: Global, card: &mut UpcCard, vc: Vc, program: Id) -> Result<Id, UpcFault>
-    ensures reloaded { IfOk result (λ id. Takes card.old card.new (Reload vc program) (Reloaded id)) }
+    ensures reloaded { IfOk result (λ id. CardTakes card.old card.new (Reload vc program) (Reloaded id)) }
     ensures refused { IfErr result (IsDeskFault card.old card.new (Reload vc program)) }
     ensures left { OnErr result (card_in card.new ≡ card_in card.old) }
     ensures numbered { IfErr result (λ fault. 0 < fault.number) }

@@ -2,7 +2,7 @@
 
 ghost use Rattle.std.specs.Prelude.{◌≡◌, ◌≢◌, ◌<◌, ◌++◌, drop, length, IfOk, IfErr};
 ghost use Rattle.upc_c.specs.Faults.{no_fault};
-ghost use Rattle.upc_c.specs.Programs.{IsNoRoom, IsWritten};
+ghost use Rattle.upc_c.specs.Programs.{IsBufferFault, IsWritten};
 
 use crate::fault::{NO_FAULT, OF_THE_CALL, UpcFault, fault_at, told};
 
@@ -11,7 +11,7 @@ pub(crate) fn write_to(room: &mut [u8], count: &mut usize, text: &[u8], fault: &
     ensures number { result ≡ fault.new.number }
     ensures written { result ≡ 0 → IsWritten text.now room.old room.new count.new }
     ensures fine { result ≡ 0 → fault.new ≡ no_fault }
-    ensures refused { result ≢ 0 → IsNoRoom text.now room.old fault.new }
+    ensures refused { result ≢ 0 → IsBufferFault text.now room.old fault.new }
     ensures left { result ≢ 0 → room.new ≡ room.old }
     ensures count_left { result ≢ 0 → count.new ≡ count.old }
 {

@@ -4,7 +4,7 @@ ghost use Rattle.std.specs.Prelude.{◌≡◌, ◌≢◌, ◌⊎◌, ◌<◌, No
 ghost use Rattle.card_core.specs.declared.reply.Reply.TheVariants.{SetUp};
 ghost use Rattle.card_core.specs.declared.step.Step.TheVariants.{Setup};
 ghost use Rattle.upc_c.specs.CardDesk.{HasNoPath, IsDeskFault, IsSetUp, IsSetupFault, IsVc, path_too_large};
-ghost use Rattle.upc_c.specs.CardHandle.{Takes, card_in, card_missing};
+ghost use Rattle.upc_c.specs.CardHandle.{CardTakes, card_in, card_missing};
 ghost use Rattle.upc_c.specs.Faults.{no_fault, out_of_memory};
 
 use crate::card::UpcCard;
@@ -43,7 +43,7 @@ pub(crate) fn vc_on(
 
 /// Takes the step `Setup`.
 fn setup_on(alloc: Global, card: &mut UpcCard, ask: Ask) -> Result<Owner, UpcFault>
-    ensures set { IfOk result (λ owner. Takes card.old card.new (Setup ask) (SetUp owner)) }
+    ensures set { IfOk result (λ owner. CardTakes card.old card.new (Setup ask) (SetUp owner)) }
     ensures refused { IfErr result (IsDeskFault card.old card.new (Setup ask)) }
     ensures left { IfErr result (λ fault. fault ≢ out_of_memory → card_in card.new ≡ card_in card.old) }
     ensures numbered { IfErr result (λ fault. 0 < fault.number) }

@@ -2,7 +2,7 @@
 
 ghost use Rattle.std.specs.Prelude.{◌≡◌, None, Some, IfNone, IfSome};
 ghost use Rattle.upc_c.specs.CardHandle.{IsShapeIn, card_in};
-ghost use Rattle.upc_c.specs.inner.ReachedCore.{IsReached};
+ghost use Rattle.upc_c.specs.inner.ReachedCore.{IsReachedCore};
 
 use crate::card::UpcCard;
 use crate::hidden::HiddenCard;
@@ -13,7 +13,7 @@ use std::mem::replace;
 /// Takes the core out, if there is a card. The card then has none.
 pub(crate) fn take_core(alloc: Global, card: &mut UpcCard) -> Option<Box<Core>>
     ensures core { IfSome result (λ core. card_in card.old ≡ Some core.value) }
-    ensures reached { IfSome result (λ core. IsReached core.value) }
+    ensures reached { IfSome result (λ core. IsReachedCore core.value) }
     ensures gone { IfSome result (λ _. card_in card.new ≡ None) }
     ensures none { IfNone result (card_in card.old ≡ None) }
     ensures left { IfNone result (card.new ≡ card.old) }
@@ -34,7 +34,7 @@ pub(crate) fn take_core(alloc: Global, card: &mut UpcCard) -> Option<Box<Core>>
 
 /// Puts the core back.
 pub(crate) fn put_core(card: &mut UpcCard, core: Box<Core>)
-    requires { IsReached core.value }
+    requires { IsReachedCore core.value }
     ensures { card_in card.new ≡ Some core.value }
 {
     *card = UpcCard {

@@ -14,14 +14,14 @@ use Rattle.card_core.specs.declared.answer.Unjudged.TheVariants as unjudged
 use Rattle.card_core.specs.Sections.{unjudged_answer}
 use Rattle.upc_run.specs.Replies.{number_of_judging}
 use Rattle.upc_ports.specs.declared.told.ToldCell.{ToldCell}
-use Rattle.upc_ports.specs.inner.InOrder.{Tells, AllTell}
+use Rattle.upc_ports.specs.inner.InOrder.{IsTextOfAnswerer, AllTell}
 
 pub get_mapped : {A : Type 0} → {B : Type 0} (v : A → B) (xs : List A) (k : ℕ) → slice_get (map v xs) k ≡ option_map v (slice_get xs k)
 get_mapped = slice_get-map
 
 -- The text of one more answerer follows those of the others.
 pub one_more : (side : Side) (names : List Id) (arrivals : List (List ToldCell)) (told : List (List ℕ)) (order : List Answerer) (answerer : Answerer)
-    (text here : List ℕ) → AllTell side names arrivals told order text → Tells side names arrivals told answerer here
+    (text here : List ℕ) → AllTell side names arrivals told order text → IsTextOfAnswerer side names arrivals told answerer here
     → AllTell side names arrivals told (order ++ answerer ∷ []) (text ++ here)
 one_more side names arrivals told [] answerer text here all one =
     (here, [], ap (λ xs. xs ++ here) all ∙ sym (append-nil here), one, refl)
@@ -33,7 +33,7 @@ one_more side names arrivals told (first ∷ order) answerer text here all one =
 -- appended.
 pub next_told : (side : Side) (names : List Id) (arrivals : List (List ToldCell)) (told : List (List ℕ)) (order : List Answerer) (k : ℕ) (d : Answerer)
     (before so_far after : List ℕ) → k < length order → Adds (AllTell side names arrivals told (take k order)) before so_far
-    → Adds (Tells side names arrivals told (get_or order k d)) so_far after
+    → Adds (IsTextOfAnswerer side names arrivals told (get_or order k d)) so_far after
     → Adds (AllTell side names arrivals told (take (k + 1) order)) before after
 next_told side names arrivals told order k d before so_far after within all one =
     let P : List Answerer → Type 0 = λ xs. AllTell side names arrivals told xs (all.0 ++ one.0) in

@@ -10,28 +10,28 @@ use Rattle.text_io.specs.declared.ending.Done.TheVariants.{Whole, Ended}
 use Rattle.card_core.specs.Shapes.{shape_fault}
 use Rattle.card_core.specs.declared.fault.CardFault.{CardFault}
 use Rattle.card_core.specs.declared.shape.Shape.{Shape}
-use Rattle.upc_run.specs.CardLine.{card_of}
+use Rattle.upc_run.specs.CardLine.{card_line_shape}
 use Rattle.upc_run.specs.CardFaults.{no_card, shape_fault_line}
-use Rattle.upc_ports.specs.PortsText.{Reading, unread, OpensOrEnds, ReadsWords, ReadSteps, ReadCloses, reading_rules, IsReadingText}
+use Rattle.upc_ports.specs.PortsText.{ScriptReading, unread, OpensOrEnds, ReadsWords, ReadSteps, ReadCloses, reading_rules, IsReadingText}
 
 -- A line that doesn't end the reading prints nothing.
-shaped-silent : (reading : Reading) (shape : Shape) (fault : Option CardFault) (text : List ℕ) (next : Option Reading) (world : Reading) → next ≡ Some world
+shaped-silent : (reading : ScriptReading) (shape : Shape) (fault : Option CardFault) (text : List ℕ) (next : Option ScriptReading) (world : ScriptReading) → next ≡ Some world
     → MatchOption fault ((text ≡ []) × (next ≡ Some (record reading { opened = true; shape = shape }))) (λ f. EndsBy (shape_fault_line f) text next)
     → text ≡ []
 shaped-silent reading shape None text next world on told = told.0
 shaped-silent reading shape (Some fault) text next world on told = let ends : next ≡ None = told.1 in cc
 
-opened-silent : (reading : Reading) (shape : Option Shape) (text : List ℕ) (next : Option Reading) (world : Reading) → next ≡ Some world
+opened-silent : (reading : ScriptReading) (shape : Option Shape) (text : List ℕ) (next : Option ScriptReading) (world : ScriptReading) → next ≡ Some world
     → MatchOption shape (EndsBy no_card text next) (λ s. OpensOrEnds reading s text next) → text ≡ []
 opened-silent reading None text next world on told = let ends : next ≡ None = told.1 in cc
 opened-silent reading (Some shape) text next world on told = shaped-silent reading shape (shape_fault shape) text next world on told
 
-words-silent : (opened : Bool) (reading : Reading) (line : List ℕ) (text : List ℕ) (next : Option Reading) (world : Reading) → next ≡ Some world
+words-silent : (opened : Bool) (reading : ScriptReading) (line : List ℕ) (text : List ℕ) (next : Option ScriptReading) (world : ScriptReading) → next ≡ Some world
     → ReadsWords opened reading line text next → text ≡ []
-words-silent false reading line text next world on told = opened-silent reading (card_of (words_of line)) text next world on told
+words-silent false reading line text next world on told = opened-silent reading (card_line_shape (words_of line)) text next world on told
 words-silent true reading line text next world on told = told.0
 
-steps-silent_by : (silent : Bool) (reading : Reading) (line : List ℕ) (text : List ℕ) (next : Option Reading) (world : Reading) → next ≡ Some world
+steps-silent_by : (silent : Bool) (reading : ScriptReading) (line : List ℕ) (text : List ℕ) (next : Option ScriptReading) (world : ScriptReading) → next ≡ Some world
     → MatchBool silent ((text ≡ []) × (next ≡ Some reading)) (ReadsWords reading.opened reading line text next) → text ≡ []
 steps-silent_by true reading line text next world on told = told.0
 steps-silent_by false reading line text next world on told = words-silent reading.opened reading line text next world on told
@@ -41,8 +41,8 @@ closes-silent false text told = let ends : Whole ≡ Ended = told.1 in cc
 closes-silent true text told = told.0
 
 -- A line of a script that is read as a whole prints nothing, if the rest prints nothing.
-goes-silent : (next : Option Reading) (lines : List Line) (line : Line) (met : ℕ) (opened : Reading) (text here more : List ℕ)
-    → ((world : Reading) (left : List ℕ) → Prints reading_rules (met + 1) world lines left Whole → left ≡ [])
+goes-silent : (next : Option ScriptReading) (lines : List Line) (line : Line) (met : ℕ) (opened : ScriptReading) (text here more : List ℕ)
+    → ((world : ScriptReading) (left : List ℕ) → Prints reading_rules (met + 1) world lines left Whole → left ≡ [])
     → text ≡ here ++ more → ReadSteps opened (said line) here next
     → MatchOption next ((more ≡ []) × (Whole ≡ Ended)) (λ world. Prints reading_rules (met + 1) world lines more Whole)
     → text ≡ []
@@ -51,10 +51,10 @@ goes-silent (Some world) lines line met opened text here more later cut step res
     let first : here ≡ [] = steps-silent_by (is_silent (words_of (said line))) opened (said line) here (Some world) world refl step in
     cut ∙ ap (λ (t : List ℕ). t ++ more) first ∙ later world more rest
 
-line-silent : (over : Bool) (lines : List Line) (line : Line) (met : ℕ) (opened : Reading) (text : List ℕ)
-    → ((world : Reading) (left : List ℕ) → Prints reading_rules (met + 1) world lines left Whole → left ≡ [])
+line-silent : (over : Bool) (lines : List Line) (line : Line) (met : ℕ) (opened : ScriptReading) (text : List ℕ)
+    → ((world : ScriptReading) (left : List ℕ) → Prints reading_rules (met + 1) world lines left Whole → left ≡ [])
     → MatchBool over ((text ≡ reading_rules.too_long) × (Whole ≡ Ended))
-    ((here : List ℕ) × (more : List ℕ) × (next : Option Reading) × (text ≡ here ++ more) × ReadSteps opened (said line) here next
+    ((here : List ℕ) × (more : List ℕ) × (next : Option ScriptReading) × (text ≡ here ++ more) × ReadSteps opened (said line) here next
     × MatchOption next ((more ≡ []) × (Whole ≡ Ended)) (λ world. Prints reading_rules (met + 1) world lines more Whole))
     → text ≡ []
 line-silent true lines line met opened text later told = let ends : Whole ≡ Ended = told.1 in cc
@@ -62,7 +62,7 @@ line-silent false lines line met opened text later (here, more, next, cut, step,
     goes-silent next lines line met opened text here more later cut step rest
 
 -- The reading of a whole script prints nothing.
-whole-silent : (lines : List Line) (met : ℕ) (opened : Reading) (text : List ℕ)
+whole-silent : (lines : List Line) (met : ℕ) (opened : ScriptReading) (text : List ℕ)
     → Prints reading_rules met opened lines text Whole → text ≡ []
 whole-silent [] met opened text told = closes-silent opened.opened text told
 whole-silent (line ∷ lines) met opened text told =
@@ -72,25 +72,25 @@ pub reading-silent : (octets text : List ℕ) → IsReadingText octets text Whol
 reading-silent octets text told = whole-silent (lines_of octets) 0 unread text told
 
 -- The line that opens a card leads to a reading with its shape and the same stored lines.
-opens-words : (reading next : Reading) (line text : List ℕ) (shape : Shape) → text ≡ [] → next ≡ record reading { opened = true; shape = shape }
-    → card_of (words_of line) ≡ Some shape → shape_fault shape ≡ None → ReadsWords false reading line text (Some next)
+opens-words : (reading next : ScriptReading) (line text : List ℕ) (shape : Shape) → text ≡ [] → next ≡ record reading { opened = true; shape = shape }
+    → card_line_shape (words_of line) ≡ Some shape → shape_fault shape ≡ None → ReadsWords false reading line text (Some next)
 opens-words reading next line text shape silent goes card fits =
     let P : Option CardFault → Type 0 = λ fault. MatchOption fault
     ((text ≡ []) × (Some next ≡ Some (record reading { opened = true; shape = shape }))) (λ f. EndsBy (shape_fault_line f) text (Some next)) in
-    let here : OpensOrEnds reading shape text (Some next) = subst P (sym fits) (silent, ap (λ (w : Reading). Some w) goes) in
+    let here : OpensOrEnds reading shape text (Some next) = subst P (sym fits) (silent, ap (λ (w : ScriptReading). Some w) goes) in
     let Q : Option Shape → Type 0 = λ found. MatchOption found (EndsBy no_card text (Some next)) (λ s. OpensOrEnds reading s text (Some next)) in
     subst Q (sym card) here
 
 pub opens : (opened : Bool) (was shape : Shape) (kept line : List ℕ) → is_silent (words_of line) ≡ false → opened ≡ false
-    → card_of (words_of line) ≡ Some shape → shape_fault shape ≡ None → (world : Reading) → world ≡ record { opened = opened; shape = was; kept = kept }
+    → card_line_shape (words_of line) ≡ Some shape → shape_fault shape ≡ None → (world : ScriptReading) → world ≡ record { opened = opened; shape = was; kept = kept }
     → ReadSteps world line [] (Some (record { opened = true; shape = shape; kept = kept }))
 opens opened was shape kept line speaks closed card fits world shown =
-    let next : Reading = record { opened = true; shape = shape; kept = kept } in
+    let next : ScriptReading = record { opened = true; shape = shape; kept = kept } in
     let text : List ℕ = [] in
     let P : Bool → Type 0 = λ o. ReadsWords o (record { opened = o; shape = was; kept = kept }) line text (Some next) in
     let there : ReadsWords opened (record { opened = opened; shape = was; kept = kept }) line text (Some next) =
     subst P (sym closed) (opens-words (record { opened = false; shape = was; kept = kept }) next line text shape refl refl card fits) in
     let Q : Bool → Type 0 = λ silent. MatchBool silent ((text ≡ []) × (Some next ≡ Some (record { opened = opened; shape = was; kept = kept })))
     (ReadsWords opened (record { opened = opened; shape = was; kept = kept }) line text (Some next)) in
-    let R : Reading → Type 0 = λ w. ReadSteps w line text (Some next) in
+    let R : ScriptReading → Type 0 = λ w. ReadSteps w line text (Some next) in
     subst R (sym shown) (subst Q (sym speaks) there)

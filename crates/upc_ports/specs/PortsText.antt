@@ -13,34 +13,34 @@ use Rattle.text_io.specs.declared.ending.Done.{Done}
 use Rattle.text_io.specs.declared.ending.Done.TheVariants.{Whole, Ended}
 use Rattle.upc_words.specs.FaultLines.{too_long}
 use Rattle.upc_run.specs.CardFaults.{no_card, shape_fault_line}
-use Rattle.upc_run.specs.CardLine.{card_of}
+use Rattle.upc_run.specs.CardLine.{card_line_shape}
 use Rattle.upc_ports.specs.ClosingText.{closing_text, done_of}
 
 -- The state of the reading of a script.
-pub record Reading : Type 0 where
+pub record ScriptReading : Type 0 where
   pub opened : Bool  -- whether a line has opened a card
   pub shape : Shape  -- the shape of that card; until then that of the smallest card
   pub kept : List ℕ  -- the later lines with words, each ended by a line feed
 
 -- The state before the first line.
-abbrev pub unread : Reading
+abbrev pub unread : ScriptReading
 unread = record { opened = false; shape = record { programs = 1; lines = 1; ports = 1; journal = 1; side = Uni }; kept = [] }
 
 -- The line opens a card of this shape, or the reading ends since the shape is out of its limits.
-abbrev pub OpensOrEnds : Reading → Shape → List ℕ → Option Reading → Type 0
+abbrev pub OpensOrEnds : ScriptReading → Shape → List ℕ → Option ScriptReading → Type 0
 OpensOrEnds reading shape text next =
     MatchOption (shape_fault shape) ((text ≡ []) × (next ≡ Some (record reading { opened = true; shape = shape })))
     (λ fault. EndsBy (shape_fault_line fault) text next)
 
 -- A line with words: the first opens the card, and each later one is stored with a line feed.
-abbrev pub ReadsWords : Bool → Reading → List ℕ → List ℕ → Option Reading → Type 0
+abbrev pub ReadsWords : Bool → ScriptReading → List ℕ → List ℕ → Option ScriptReading → Type 0
 ReadsWords false reading said text next =
-    MatchOption (card_of (words_of said)) (EndsBy no_card text next) (λ shape. OpensOrEnds reading shape text next)
+    MatchOption (card_line_shape (words_of said)) (EndsBy no_card text next) (λ shape. OpensOrEnds reading shape text next)
 ReadsWords true reading said text next = (text ≡ []) × (next ≡ Some (record reading { kept = reading.kept ++ said ++ 10 ∷ [] }))
 
 -- The line leads to the next state, or to none if it ends the reading. A line without words and a comment line change
 -- nothing.
-abbrev pub ReadSteps : Reading → List ℕ → List ℕ → Option Reading → Type 0
+abbrev pub ReadSteps : ScriptReading → List ℕ → List ℕ → Option ScriptReading → Type 0
 ReadSteps reading said text next =
     MatchBool (is_silent (words_of said)) ((text ≡ []) × (next ≡ Some reading)) (ReadsWords reading.opened reading said text next)
 
@@ -50,11 +50,11 @@ ReadCloses false text done = (text ≡ no_card) × (done ≡ Ended)
 ReadCloses true text done = (text ≡ []) × (done ≡ Whole)
 
 -- Every state may be reached.
-abbrev pub IsSoundReading : Reading → Type 0
+abbrev pub IsSoundReading : ScriptReading → Type 0
 IsSoundReading reading = Unit {0}
 
 -- The rules of the reading.
-abbrev pub reading_rules : Rules Reading
+abbrev pub reading_rules : Rules ScriptReading
 reading_rules = record { steps = ReadSteps; closes = λ reading. ReadCloses reading.opened; too_long = too_long; is_sound = IsSoundReading }
 
 -- The text of the reading of a whole script, and how it ends.

@@ -3,7 +3,7 @@
 ghost use Rattle.std.specs.Prelude.{◌≡◌, OnOk, map, slice_get};
 ghost use Rattle.std.specs.Option.{option_copied};
 ghost use Rattle.text_io.specs.Devices.{Adds};
-ghost use Rattle.upc_ports.specs.inner.InOrder.{AllTell, Tells, cell_at, given_text};
+ghost use Rattle.upc_ports.specs.inner.InOrder.{AllTell, IsTextOfAnswerer, cell_at, given_text};
 ghost use Rattle.upc_run.specs.AddsSome.{AddsSome};
 ghost use Rattle.upc_run.specs.Replies.{answer_text};
 ghost use Rattle.upc_cell.specs.Connection.{vc_of};
@@ -71,7 +71,7 @@ fn add_from<S: Ledgers>(
     answers: &mut Vec<u8>,
 ) -> Result<(), AllocError>
     ensures { OnOk result (Adds
-        (Tells side names.now (map (λ port. port.arrivals.items) ports.now) (map (λ text. text.items) told.now) answerer)
+        (IsTextOfAnswerer side names.now (map (λ port. port.arrivals.items) ports.now) (map (λ text. text.items) told.now) answerer)
         answers.old.items answers.new.items) }
 {
     match answerer {

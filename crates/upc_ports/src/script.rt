@@ -54,10 +54,10 @@ impl Script {
 
 impl Machine for Script {
     ghost use Rattle.std.specs.Prelude.{◌≡◌};
-    ghost use Rattle.upc_ports.specs.PortsText.{Reading, reading_rules};
+    ghost use Rattle.upc_ports.specs.PortsText.{ScriptReading, reading_rules};
     ghost use Rattle.upc_ports.specs.inner.ReadingLaws.{reading-total};
 
-    ghost World = { Reading };
+    ghost World = { ScriptReading };
 
     ghost shows = { λ script world.
         world ≡ record { opened = script.is_open; shape = script.shape; kept = script.lines.items } };

@@ -1,7 +1,7 @@
 //! The stored part of an answered cell: what the line of the answer shows.
 
 ghost use Rattle.std.specs.Prelude.{◌≡◌};
-ghost use Rattle.upc_ports.specs.inner.Told.{judgement_of, ruled, shown_cell, told_cell};
+ghost use Rattle.upc_ports.specs.inner.Told.{judgement_by, ruled, shown_cell, answered_cell};
 
 use card_core::{Answer, Judgement, Unjudged};
 use gen_arena::Id;
@@ -56,7 +56,7 @@ fn ruled(answer: &Answer) -> Result<Ruling, Unjudged>
 
 /// Returns the stored part of this cell and its answer.
 pub fn told_cell(cell: &Cell, answer: &Answer) -> ToldCell
-    ensures { result ≡ told_cell cell.now answer.now }
+    ensures { result ≡ answered_cell cell.now answer.now }
 {
     let octets = cell.bytes();
     ToldCell {
@@ -79,7 +79,7 @@ pub fn shown_cell(header: &[u8; 4]) -> Cell
 
 /// Returns the judgement with this ruling. Its other numbers are 0.
 pub fn judgement_of(ruling: &Ruling) -> Judgement
-    ensures { result ≡ judgement_of ruling.now }
+    ensures { result ≡ judgement_by ruling.now }
 {
     Judgement {
         number: 0,

@@ -2,8 +2,8 @@
 use Rattle.std.proofs.Common.{◌≡◌, ℕ, ◌+◌, ◌≤◌, inl, inr, List, [], ◌++◌, Option, Some, None, length, refl, ap, sym, ◌∙◌, subst, arith, append-nil, nat_lt, if◌then◌else◌}
 use Rattle.bpf_asm.proofs.Public.{meaning-or_fault, never_both, fault_once, meaning_once}
 use Rattle.bpf_code.specs.declared.instr.Instr.{Instr}
-use Rattle.upc_programs.specs.Check.{IsCheckText, Tells, TellsCode, TellsReading, TellsSource, accepted_text, most_source_octets}
-use Rattle.upc_words.specs.Program.{Reading, is_program, is_refused}
+use Rattle.upc_programs.specs.Check.{IsCheckText, AnswersSource, TellsCode, IsCheckAnswer, TellsSource, accepted_text, most_source_octets}
+use Rattle.upc_words.specs.Program.{ProgramReading, is_program, is_refused}
 use Rattle.upc_words.proofs.Public.{checks-as, checks-once}
 use Rattle.upc_words.specs.FaultLines.{asm_fault, too_long}
 use Rattle.text_io.specs.Devices.{TakesEnough}
@@ -13,7 +13,7 @@ use Rattle.text_io.specs.declared.ending.Done.{Done}
 use Rattle.text_io.specs.declared.ending.Done.TheVariants.{Whole, Ended}
 
 -- Every code has an answer.
-told-some : (reading : Reading) → (text : List ℕ) × (done : Done) × TellsReading reading text done
+told-some : (reading : ProgramReading) → (text : List ℕ) × (done : Done) × IsCheckAnswer reading text done
 told-some (is_program code) = (accepted_text code, Whole, (refl, refl))
 told-some (is_refused fault) = (fault, Ended, (refl, refl))
 
@@ -31,7 +31,7 @@ source-told source =
       | inr faulty ↦ (asm_fault faulty.0, Ended, inr (faulty.0, faulty.1, refl, refl))
     ]
 
-found-told : (found : Option (List ℕ)) → (text : List ℕ) × (done : Done) × Tells found text done
+found-told : (found : Option (List ℕ)) → (text : List ℕ) × (done : Done) × AnswersSource found text done
 found-told None = (too_long, Ended, (refl, refl))
 found-told (Some source) = source-told source
 
@@ -43,13 +43,13 @@ some-check_text octets = found-told (gathered most_source_octets octets)
 abbrev Same : List ℕ → List ℕ → Done → Done → Type 0
 Same one other ends ends' = (one ≡ other) × (ends ≡ ends')
 
-told-once : (reading : Reading) (text text' : List ℕ) (done done' : Done) → TellsReading reading text done → TellsReading reading text' done' → Same text text' done done'
+told-once : (reading : ProgramReading) (text text' : List ℕ) (done done' : Done) → IsCheckAnswer reading text done → IsCheckAnswer reading text' done' → Same text text' done done'
 told-once (is_program code) text text' done done' p q = (p.0 ∙ sym q.0, p.1 ∙ sym q.1)
 told-once (is_refused fault) text text' done done' p q = (p.0 ∙ sym q.0, p.1 ∙ sym q.1)
 
 code-same : (code : List Instr) (text text' : List ℕ) (done done' : Done) → TellsCode code text done → TellsCode code text' done' → Same text text' done done'
 code-same code text text' done done' p q =
-    let P : Reading → Type 0 = λ reading. TellsReading reading text' done' in
+    let P : ProgramReading → Type 0 = λ reading. IsCheckAnswer reading text' done' in
     told-once p.0 text text' done done' p.2 (subst P (checks-once code q.0 p.0 q.1 p.1) q.2)
 
 source-same : (source text text' : List ℕ) (done done' : Done) → TellsSource source text done → TellsSource source text' done' → Same text text' done done'
@@ -61,7 +61,7 @@ source-same source text text' done done' (inr p) (inl q) = absurd (never_both so
 source-same source text text' done done' (inr p) (inr q) =
     (p.2 ∙ ap asm_fault (fault_once source p.0 q.0 p.1 q.1) ∙ sym q.2, p.3 ∙ sym q.3)
 
-found-same : (found : Option (List ℕ)) (text text' : List ℕ) (done done' : Done) → Tells found text done → Tells found text' done' → Same text text' done done'
+found-same : (found : Option (List ℕ)) (text text' : List ℕ) (done done' : Done) → AnswersSource found text done → AnswersSource found text' done' → Same text text' done done'
 found-same None text text' done done' p q = (p.0 ∙ sym q.0, p.1 ∙ sym q.1)
 found-same (Some source) text text' done done' p q = source-same source text text' done done' p q
 
@@ -75,13 +75,13 @@ gathered-none octets sized =
 
 -- The octets read are enough for the answer.
 pub enough : (octets left : List ℕ) (found : Option (List ℕ)) (text : List ℕ) (done : Done) → found ≡ gathered most_source_octets octets
-    → LeavesBehind most_source_octets found octets left → Tells found text done
+    → LeavesBehind most_source_octets found octets left → AnswersSource found text done
     → TakesEnough (λ needed. (told : List ℕ) × IsCheckText needed told done) most_ahead octets left
 enough octets left None text done is behind tells =
-    let P : Option (List ℕ) → Type 0 = λ found. Tells found text done in
+    let P : Option (List ℕ) → Type 0 = λ found. AnswersSource found text done in
     let none : length {A = ℕ} [] ≤ most_ahead = omega arith in
     (behind.0, [], behind.1, none, (text, subst P (sym (gathered-none behind.0 behind.2)) tells))
 enough octets left (Some source) text done is behind tells =
-    let P : Option (List ℕ) → Type 0 = λ found. Tells found text done in
+    let P : Option (List ℕ) → Type 0 = λ found. AnswersSource found text done in
     let none : length {A = ℕ} [] ≤ most_ahead = omega arith in
     (octets, [], sym (append-nil octets) ∙ ap (λ xs. octets ++ xs) (sym behind), none, (text, subst P is tells))

@@ -8,40 +8,40 @@ use Rattle.text_io.specs.Answering.{EndsBy}
 use Rattle.text_io.specs.Lines.{lines_of}
 use Rattle.text_io.specs.Printing.{IsFunctional}
 use Rattle.text_io.proofs.Public.{one-text, some-text}
-use Rattle.upc_programs.specs.Eval.{World, TellsReading, ReadsProgram, ProgramLine, TellsValue, RunsOn, CellLine, Asks, EvalSteps, EvalCloses, IsEvalText, eval_rules}
-use Rattle.upc_words.specs.Program.{Reading, is_program, is_refused, ChecksAs, ReadsAs}
+use Rattle.upc_programs.specs.Eval.{EvalWorld, IsProgramAnswer, ReadsProgram, ProgramLine, TellsValue, RunsOn, CellLine, ReadsOrRuns, EvalSteps, EvalCloses, IsEvalText, eval_rules}
+use Rattle.upc_words.specs.Program.{ProgramReading, is_program, is_refused, ChecksAs, ReadsAs}
 use Rattle.upc_words.proofs.Public.{reads-once}
 use Rattle.upc_programs.specs.inner.EvalLaws.{eval-total}
 use Rattle.upc_words.specs.FaultLines.{line, bad_line, bad_hex, verify_fault, decode_fault, wrong_length}
-use Rattle.upc_words.specs.Hexadecimal.{octets_of, cell_of}
+use Rattle.upc_words.specs.Hexadecimal.{octets_of_digits, cell_of_octets}
 use Rattle.text_io.specs.Words.{words_of, is_silent}
 use Rattle.text_io.specs.declared.ending.Done.{Done}
 
 -- Equal texts and equal worlds.
-abbrev Same : List ℕ → List ℕ → Option World → Option World → Type 0
+abbrev Same : List ℕ → List ℕ → Option EvalWorld → Option EvalWorld → Type 0
 Same one other next next' = (one ≡ other) × (next ≡ next')
 
-ends-same : (fault text text' : List ℕ) (next next' : Option World) → EndsBy fault text next → EndsBy fault text' next' → Same text text' next next'
+ends-same : (fault text text' : List ℕ) (next next' : Option EvalWorld) → EndsBy fault text next → EndsBy fault text' next' → Same text text' next next'
 ends-same fault text text' next next' p q = (p.0 ∙ sym q.0, p.1 ∙ sym q.1)
 
-told-once : (reading : Reading) (text text' : List ℕ) (next next' : Option World) → TellsReading reading text next → TellsReading reading text' next' → Same text text' next next'
+told-once : (reading : ProgramReading) (text text' : List ℕ) (next next' : Option EvalWorld) → IsProgramAnswer reading text next → IsProgramAnswer reading text' next' → Same text text' next next'
 told-once (is_program code) text text' next next' p q = (p.0 ∙ sym q.0, p.1 ∙ sym q.1)
 told-once (is_refused fault) text text' next next' p q = ends-same fault text text' next next' p q
 
-reads-same : (octets text text' : List ℕ) (next next' : Option World) → ReadsProgram octets text next → ReadsProgram octets text' next' → Same text text' next next'
+reads-same : (octets text text' : List ℕ) (next next' : Option EvalWorld) → ReadsProgram octets text next → ReadsProgram octets text' next' → Same text text' next next'
 reads-same octets text text' next next' p q =
-    let P : Reading → Type 0 = λ reading. TellsReading reading text' next' in
+    let P : ProgramReading → Type 0 = λ reading. IsProgramAnswer reading text' next' in
     told-once p.0 text text' next next' p.2 (subst P (reads-once octets q.0 p.0 q.1 p.1) q.2)
 
-word-same : (octets : Option (List ℕ)) (text text' : List ℕ) (next next' : Option World)
+word-same : (octets : Option (List ℕ)) (text text' : List ℕ) (next next' : Option EvalWorld)
     → MatchOption octets (EndsBy bad_hex text next) (λ found. ReadsProgram found text next)
     → MatchOption octets (EndsBy bad_hex text' next') (λ found. ReadsProgram found text' next') → Same text text' next next'
 word-same None text text' next next' p q = ends-same bad_hex text text' next next' p q
 word-same (Some octets) text text' next next' p q = reads-same octets text text' next next' p q
 
-line-same : (words : List (List ℕ)) (text text' : List ℕ) (next next' : Option World) → ProgramLine words text next → ProgramLine words text' next' → Same text text' next next'
+line-same : (words : List (List ℕ)) (text text' : List ℕ) (next next' : Option EvalWorld) → ProgramLine words text next → ProgramLine words text' next' → Same text text' next next'
 line-same [] text text' next next' p q = ends-same bad_line text text' next next' p q
-line-same (word ∷ []) text text' next next' p q = word-same (octets_of word) text text' next next' p q
+line-same (word ∷ []) text text' next next' p q = word-same (octets_of_digits word) text text' next next' p q
 line-same (word ∷ other ∷ words) text text' next next' p q = ends-same bad_line text text' next next' p q
 
 value-same : (code : List Instr) (octets text text' : List ℕ) → TellsValue code octets text → TellsValue code octets text' → text ≡ text'
@@ -55,30 +55,30 @@ runs-same : (code : List Instr) (octets text text' : List ℕ) (b : Bool) → Ma
 runs-same code octets text text' true p q = value-same code octets text text' p q
 runs-same code octets text text' false p q = p ∙ sym q
 
-told-same : (code : List Instr) (octets : Option (List ℕ)) (text text' : List ℕ) → MatchOption octets (text ≡ bad_hex) (λ found. RunsOn code (cell_of found) text)
-    → MatchOption octets (text' ≡ bad_hex) (λ found. RunsOn code (cell_of found) text') → text ≡ text'
+told-same : (code : List Instr) (octets : Option (List ℕ)) (text text' : List ℕ) → MatchOption octets (text ≡ bad_hex) (λ found. RunsOn code (cell_of_octets found) text)
+    → MatchOption octets (text' ≡ bad_hex) (λ found. RunsOn code (cell_of_octets found) text') → text ≡ text'
 told-same code None text text' p q = p ∙ sym q
-told-same code (Some octets) text text' p q = runs-same code (cell_of octets) text text' (length (cell_of octets) == 52) p q
+told-same code (Some octets) text text' p q = runs-same code (cell_of_octets octets) text text' (length (cell_of_octets octets) == 52) p q
 
 cell-same : (code : List Instr) (words : List (List ℕ)) (text text' : List ℕ) → CellLine code words text → CellLine code words text' → text ≡ text'
 cell-same code [] text text' p q = p ∙ sym q
-cell-same code (word ∷ []) text text' p q = told-same code (octets_of word) text text' p q
+cell-same code (word ∷ []) text text' p q = told-same code (octets_of_digits word) text text' p q
 cell-same code (word ∷ other ∷ words) text text' p q = p ∙ sym q
 
-asks-same : (world : World) (words : List (List ℕ)) (text text' : List ℕ) (next next' : Option World) → Asks world words text next → Asks world words text' next' → Same text text' next next'
+asks-same : (world : EvalWorld) (words : List (List ℕ)) (text text' : List ℕ) (next next' : Option EvalWorld) → ReadsOrRuns world words text next → ReadsOrRuns world words text' next' → Same text text' next next'
 asks-same None words text text' next next' p q = line-same words text text' next next' p q
 asks-same (Some code) words text text' next next' p q = (cell-same code words text text' p.0 q.0, p.1 ∙ sym q.1)
 
-silent-same : (world : World) (words : List (List ℕ)) (text text' : List ℕ) (next next' : Option World) (b : Bool)
-    → MatchBool b ((text ≡ []) × (next ≡ Some world)) (Asks world words text next)
-    → MatchBool b ((text' ≡ []) × (next' ≡ Some world)) (Asks world words text' next') → Same text text' next next'
+silent-same : (world : EvalWorld) (words : List (List ℕ)) (text text' : List ℕ) (next next' : Option EvalWorld) (b : Bool)
+    → MatchBool b ((text ≡ []) × (next ≡ Some world)) (ReadsOrRuns world words text next)
+    → MatchBool b ((text' ≡ []) × (next' ≡ Some world)) (ReadsOrRuns world words text' next') → Same text text' next next'
 silent-same world words text text' next next' true p q = (p.0 ∙ sym q.0, p.1 ∙ sym q.1)
 silent-same world words text text' next next' false p q = asks-same world words text text' next next' p q
 
-steps-same : (world : World) (line : List ℕ) (text text' : List ℕ) (next next' : Option World) → EvalSteps world line text next → EvalSteps world line text' next' → Same text text' next next'
+steps-same : (world : EvalWorld) (line : List ℕ) (text text' : List ℕ) (next next' : Option EvalWorld) → EvalSteps world line text next → EvalSteps world line text' next' → Same text text' next next'
 steps-same world line text text' next next' p q = silent-same world (words_of line) text text' next next' (is_silent (words_of line)) p q
 
-closes-same : (world : World) (text text' : List ℕ) (done done' : Done) → EvalCloses world text done → EvalCloses world text' done' → (text ≡ text') × (done ≡ done')
+closes-same : (world : EvalWorld) (text text' : List ℕ) (done done' : Done) → EvalCloses world text done → EvalCloses world text' done' → (text ≡ text') × (done ≡ done')
 closes-same None text text' done done' p q = (p.0 ∙ sym q.0, p.1 ∙ sym q.1)
 closes-same (Some code) text text' done done' p q = (p.0 ∙ sym q.0, p.1 ∙ sym q.1)
 

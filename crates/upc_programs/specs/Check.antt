@@ -8,7 +8,7 @@ use Rattle.bpf_code.specs.Encoding.{code_octets}
 use Rattle.bpf_code.specs.declared.instr.Instr.{Instr}
 use Rattle.hex.specs.Hex.{encode_lower}
 use Rattle.upc_words.specs.FaultLines.{line, asm_fault, too_long}
-use Rattle.upc_words.specs.Program.{Reading, is_program, is_refused, ChecksAs}
+use Rattle.upc_words.specs.Program.{ProgramReading, is_program, is_refused, ChecksAs}
 use Rattle.text_io.specs.Gathered.{gathered}
 use Rattle.text_io.specs.declared.ending.Done.{Done}
 use Rattle.text_io.specs.declared.ending.Done.TheVariants.{Whole, Ended}
@@ -23,13 +23,13 @@ accepted_text code = line (codes "accepted " ++ decimal (length code)) ++ line (
 
 -- The answer to a program is its octets and the run is Whole; the answer to a refusal is its line and the run is
 -- Ended.
-abbrev pub TellsReading : Reading → List ℕ → Done → Type 0
-TellsReading (is_program code) text done = (text ≡ accepted_text code) × (done ≡ Whole)
-TellsReading (is_refused fault) text done = (text ≡ fault) × (done ≡ Ended)
+abbrev pub IsCheckAnswer : ProgramReading → List ℕ → Done → Type 0
+IsCheckAnswer (is_program code) text done = (text ≡ accepted_text code) × (done ≡ Whole)
+IsCheckAnswer (is_refused fault) text done = (text ≡ fault) × (done ≡ Ended)
 
 -- The answer to a code, which is a program or is refused.
 abbrev pub TellsCode : List Instr → List ℕ → Done → Type 0
-TellsCode code text done = (reading : Reading) × ChecksAs code reading × TellsReading reading text done
+TellsCode code text done = (reading : ProgramReading) × ChecksAs code reading × IsCheckAnswer reading text done
 
 -- The answer to a source: that of the code that it means, or the line of its error.
 abbrev pub TellsSource : List ℕ → List ℕ → Done → Type 0
@@ -38,9 +38,9 @@ TellsSource source text done =
     ⊎ ((fault : AsmFault) × IsFault source fault × (text ≡ asm_fault fault) × (done ≡ Ended))
 
 -- The answer to the source, or `too_long` if the input is over the limit.
-abbrev pub Tells : Option (List ℕ) → List ℕ → Done → Type 0
-Tells found text done = MatchOption found ((text ≡ too_long) × (done ≡ Ended)) (λ source. TellsSource source text done)
+abbrev pub AnswersSource : Option (List ℕ) → List ℕ → Done → Type 0
+AnswersSource found text done = MatchOption found ((text ≡ too_long) × (done ≡ Ended)) (λ source. TellsSource source text done)
 
 -- The output for a whole input, and how the run ends.
 abbrev pub IsCheckText : List ℕ → List ℕ → Done → Type 0
-IsCheckText octets text done = Tells (gathered most_source_octets octets) text done
+IsCheckText octets text done = AnswersSource (gathered most_source_octets octets) text done

@@ -6,32 +6,32 @@ use Rattle.bpf_verify.specs.Accepted.{IsAccepted}
 use Rattle.bpf_interp.specs.Value.{Value}
 use Rattle.text_io.specs.Answering.{EndsBy}
 use Rattle.text_io.specs.Words.{words_of, is_silent}
-use Rattle.upc_words.specs.Hexadecimal.{octets_of, cell_of}
+use Rattle.upc_words.specs.Hexadecimal.{octets_of_digits, cell_of_octets}
 use Rattle.upc_words.specs.FaultLines.{line, bad_line, bad_hex, no_program, too_long, wrong_length}
-use Rattle.upc_words.specs.Program.{Reading, is_program, is_refused, ReadsAs}
+use Rattle.upc_words.specs.Program.{ProgramReading, is_program, is_refused, ReadsAs}
 use Rattle.text_io.specs.Lines.{lines_of}
 use Rattle.text_io.specs.Printing.{Rules, Prints}
 use Rattle.text_io.specs.declared.ending.Done.{Done}
 use Rattle.text_io.specs.declared.ending.Done.TheVariants.{Whole, Ended}
 
 -- None before the program line, then the code of the program.
-abbrev pub World : Type 0
-World = Option (List Instr)
+abbrev pub EvalWorld : Type 0
+EvalWorld = Option (List Instr)
 
 -- The answer to a program is the number of its instructions, and the program is the next world. A refusal ends the
 -- run with its line.
-abbrev pub TellsReading : Reading → List ℕ → Option World → Type 0
-TellsReading (is_program code) text next = (text ≡ line (codes "accepted " ++ decimal (length code))) × (next ≡ Some (Some code))
-TellsReading (is_refused fault) text next = EndsBy fault text next
+abbrev pub IsProgramAnswer : ProgramReading → List ℕ → Option EvalWorld → Type 0
+IsProgramAnswer (is_program code) text next = (text ≡ line (codes "accepted " ++ decimal (length code))) × (next ≡ Some (Some code))
+IsProgramAnswer (is_refused fault) text next = EndsBy fault text next
 
 -- The answer to the octets of a program line.
-abbrev pub ReadsProgram : List ℕ → List ℕ → Option World → Type 0
-ReadsProgram octets text next = (reading : Reading) × ReadsAs octets reading × TellsReading reading text next
+abbrev pub ReadsProgram : List ℕ → List ℕ → Option EvalWorld → Type 0
+ReadsProgram octets text next = (reading : ProgramReading) × ReadsAs octets reading × IsProgramAnswer reading text next
 
 -- The answer to a program line, which has one hexadecimal word.
-abbrev pub ProgramLine : List (List ℕ) → List ℕ → Option World → Type 0
+abbrev pub ProgramLine : List (List ℕ) → List ℕ → Option EvalWorld → Type 0
 ProgramLine [] text next = EndsBy bad_line text next
-ProgramLine (word ∷ []) text next = MatchOption (octets_of word) (EndsBy bad_hex text next) (λ octets. ReadsProgram octets text next)
+ProgramLine (word ∷ []) text next = MatchOption (octets_of_digits word) (EndsBy bad_hex text next) (λ octets. ReadsProgram octets text next)
 ProgramLine (word ∷ other ∷ words) text next = EndsBy bad_line text next
 
 -- The answer to a cell: the program's value, and the number of instructions executed.
@@ -46,32 +46,32 @@ RunsOn code octets text = MatchBool (length octets == 52) (TellsValue code octet
 -- The answer to a cell line, which has one hexadecimal word.
 abbrev pub CellLine : List Instr → List (List ℕ) → List ℕ → Type 0
 CellLine code [] text = text ≡ bad_line
-CellLine code (word ∷ []) text = MatchOption (octets_of word) (text ≡ bad_hex) (λ octets. RunsOn code (cell_of octets) text)
+CellLine code (word ∷ []) text = MatchOption (octets_of_digits word) (text ≡ bad_hex) (λ octets. RunsOn code (cell_of_octets octets) text)
 CellLine code (word ∷ other ∷ words) text = text ≡ bad_line
 
 -- A line with words is the program line, or a cell line after it.
-abbrev pub Asks : World → List (List ℕ) → List ℕ → Option World → Type 0
-Asks None words text next = ProgramLine words text next
-Asks (Some code) words text next = CellLine code words text × (next ≡ Some (Some code))
+abbrev pub ReadsOrRuns : EvalWorld → List (List ℕ) → List ℕ → Option EvalWorld → Type 0
+ReadsOrRuns None words text next = ProgramLine words text next
+ReadsOrRuns (Some code) words text next = CellLine code words text × (next ≡ Some (Some code))
 
 -- The answer to a line, and the next world (none if the line ends the run). A line without words and a comment have
 -- an empty answer.
-abbrev pub EvalSteps : World → List ℕ → List ℕ → Option World → Type 0
+abbrev pub EvalSteps : EvalWorld → List ℕ → List ℕ → Option EvalWorld → Type 0
 EvalSteps world said text next =
-    MatchBool (is_silent (words_of said)) ((text ≡ []) × (next ≡ Some world)) (Asks world (words_of said) text next)
+    MatchBool (is_silent (words_of said)) ((text ≡ []) × (next ≡ Some world)) (ReadsOrRuns world (words_of said) text next)
 
 -- The end of the input. It is an error if there was no program line.
-abbrev pub EvalCloses : World → List ℕ → Done → Type 0
+abbrev pub EvalCloses : EvalWorld → List ℕ → Done → Type 0
 EvalCloses None text done = (text ≡ no_program) × (done ≡ Ended)
 EvalCloses (Some code) text done = (text ≡ []) × (done ≡ Whole)
 
 -- The code of a world is accepted.
-abbrev pub IsSoundWorld : World → Type 0
+abbrev pub IsSoundWorld : EvalWorld → Type 0
 IsSoundWorld None = Unit {0}
 IsSoundWorld (Some code) = IsAccepted code
 
 -- The rules of `eval`.
-abbrev pub eval_rules : Rules World
+abbrev pub eval_rules : Rules EvalWorld
 eval_rules = record { steps = EvalSteps; closes = EvalCloses; too_long = too_long; is_sound = IsSoundWorld }
 
 -- The output for a whole input, and how the run ends.

@@ -1,7 +1,7 @@
 //! `upc check`: assembles and checks a source.
 
 ghost use Rattle.std.specs.Prelude.{◌≡◌, ◌++◌, IfOk, OnOk, option_map};
-ghost use Rattle.upc_programs.specs.Check.{IsCheckText, Tells, TellsCode, TellsSource, accepted_text};
+ghost use Rattle.upc_programs.specs.Check.{IsCheckText, AnswersSource, TellsCode, TellsSource, accepted_text};
 ghost use Rattle.text_io.specs.Devices.{Adds};
 ghost use Rattle.text_io.specs.Serving.{IsServed};
 
@@ -66,7 +66,7 @@ fn answer_gathered(
     found: Option<Vec<u8>>,
     answers: &mut Vec<u8>,
 ) -> Result<Done, AllocError>
-    ensures { IfOk result (λ done. Adds (λ text. Tells (option_map (λ source. source.items) found) text done)
+    ensures { IfOk result (λ done. Adds (λ text. AnswersSource (option_map (λ source. source.items) found) text done)
         answers.old.items answers.new.items) }
 {
     match found {

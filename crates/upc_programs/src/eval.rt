@@ -131,7 +131,7 @@ impl Evaluation {
 }
 
 impl Machine for Evaluation {
-    ghost use Rattle.upc_programs.specs.Eval.{World as EvalWorld, eval_rules};
+    ghost use Rattle.upc_programs.specs.Eval.{EvalWorld, eval_rules};
     ghost use Rattle.upc_programs.specs.inner.EvalLaws.{eval-total};
 
     ghost World = { EvalWorld };

@@ -7,7 +7,7 @@ use Rattle.gen_arena.specs.declared.id.Id.{Id}
 use Rattle.upc_cell.specs.Connection.{vc_of}
 use Rattle.upc_cell.specs.declared.side.Side.{Side}
 use Rattle.card_core.specs.Agreement.{Follows}
-use Rattle.card_core.specs.Arrival.{Answers}
+use Rattle.card_core.specs.Arrival.{AnswersArrival}
 use Rattle.card_core.specs.Steps.{WorldStep}
 use Rattle.card_core.specs.World.{World}
 use Rattle.card_core.specs.Sections.{answer_to, unjudged_answer}
@@ -20,8 +20,8 @@ use Rattle.card_core.specs.declared.reply.Reply.TheVariants.{Answered, NotNow}
 use Rattle.card_core.specs.declared.step.Step.TheVariants.{Enter, Pick, Judge}
 use Rattle.upc_run.specs.Replies.{answer_text, number_of_judging, numbered_answer_text}
 use Rattle.upc_words.specs.FaultLines.{bad_hex, wrong_length}
-use Rattle.upc_words.specs.Hexadecimal.{cell_of, octets_of}
-use Rattle.upc_run.specs.RunText.{Obeys, Polices, PolicesOctets, Refuses}
+use Rattle.upc_words.specs.Hexadecimal.{cell_of_octets, octets_of_digits}
+use Rattle.upc_run.specs.RunText.{Obeys, PolicesCell, PolicesOctets, RefusesLine}
 use Rattle.upc_run.specs.ScriptCommands.{cell}
 use Rattle.upc_run.proofs.MovesLemmas.{moves-map}
 use Rattle.upc_run.specs.inner.Policing.{AnswersCell, Held, Moves}
@@ -29,7 +29,7 @@ use Rattle.upc_run.specs.inner.PortZero.{enter-goes}
 
 -- A cell that takes all its steps is answered by the pick or by the judgement.
 pub arrives-answered : (held held' : Held) (octets : List ℕ) (moment : ℕ) (given : Answer) → held'.names ≡ held.names
-    → Answers held.core 0 octets moment given held'.core → AnswersCell held octets moment (Some given) held'
+    → AnswersArrival held.core 0 octets moment given held'.core → AnswersCell held octets moment (Some given) held'
 arrives-answered held held' octets moment given names (inl way) = (
   names,
   λ before led shows.
@@ -62,7 +62,7 @@ arrives-not held held' octets moment names enters = (
 )
 
 pub arrives : (held held' : Held) (octets : List ℕ) (moment : ℕ) (told : Option (Result Judgement Unjudged)) → held'.names ≡ held.names
-    → IfSome told (λ t. Answers held.core 0 octets moment (answer_to octets t) held'.core)
+    → IfSome told (λ t. AnswersArrival held.core 0 octets moment (answer_to octets t) held'.core)
     → IfNone told (Follows held.core (Enter 0 octets moment) NotNow held'.core)
     → AnswersCell held octets moment (option_map (λ t. answer_to octets t) told) held'
 arrives held held' octets moment (Some t) names goes not = arrives-answered held held' octets moment (answer_to octets t) names goes
@@ -71,7 +71,7 @@ arrives held held' octets moment None names goes not = arrives-not held held' oc
 -- A cell is policed if its answer is appended.
 pub polices-told : (held held' : Held) (side : Side) (octets : List ℕ) (moment : ℕ) (given : Answer) (text old new : List ℕ) → held.core.shape.side ≡ side
     → AnswersCell held octets moment (Some given) held' → numbered_answer_text (number_of_judging held.names given) (vc_of side octets) given ≡ Some text
-    → new ≡ old ++ text → Moves (λ before. Polices before moment octets) held held' old new
+    → new ≡ old ++ text → Moves (λ before. PolicesCell before moment octets) held held' old new
 polices-told held held' side octets moment given text old new is answers told added = (
   text,
   added,
@@ -95,7 +95,7 @@ polices-told held held' side octets moment given text old new is answers told ad
 
 -- A cell without an answer: no represented card leaves it without one.
 pub polices-never : (held held' : Held) (octets : List ℕ) (moment : ℕ) (old : List ℕ) → AnswersCell held octets moment None held'
-    → Moves (λ before. Polices before moment octets) held held' old old
+    → Moves (λ before. PolicesCell before moment octets) held held' old old
 polices-never held held' octets moment old answers = (
   [],
   sym (append-nil old),
@@ -103,14 +103,14 @@ polices-never held held' octets moment old answers = (
 )
 
 -- A word that spells a cell.
-pub moves-cell : (moment : ℕ) (word octets here : List ℕ) (held held' : Held) (old new : List ℕ) → octets_of word ≡ Some octets → cell_of octets ≡ here
-    → length here ≡ 52 → Moves (λ before. Polices before moment here) held held' old new → Moves (λ before. Obeys before (cell moment word)) held held' old new
+pub moves-cell : (moment : ℕ) (word octets here : List ℕ) (held held' : Held) (old new : List ℕ) → octets_of_digits word ≡ Some octets → cell_of_octets octets ≡ here
+    → length here ≡ 52 → Moves (λ before. PolicesCell before moment here) held held' old new → Moves (λ before. Obeys before (cell moment word)) held held' old new
 moves-cell moment word octets here held held' old new spelled is long moves =
-    moves-map (λ before. Polices before moment here) (λ before. Obeys before (cell moment word)) held held' old new (λ before after text polices.
+    moves-map (λ before. PolicesCell before moment here) (λ before. Obeys before (cell moment word)) held held' old new (λ before after text polices.
     let test : (length here == 52) ≡ true = ap (λ n. n == 52) long in
     let sized : PolicesOctets before moment here text after =
-    subst (λ b. MatchBool b (Polices before moment here text after) (Refuses (wrong_length (length here)) before text after)) (sym test) polices in
-    subst (λ (found : Option (List ℕ)). MatchOption found (Refuses bad_hex before text after) (λ read. PolicesOctets before moment (cell_of read) text after)) (sym spelled)
+    subst (λ b. MatchBool b (PolicesCell before moment here text after) (RefusesLine (wrong_length (length here)) before text after)) (sym test) polices in
+    subst (λ (found : Option (List ℕ)). MatchOption found (RefusesLine bad_hex before text after) (λ read. PolicesOctets before moment (cell_of_octets read) text after)) (sym spelled)
     (subst (λ read. PolicesOctets before moment read text after) (sym is) sized)) moves
 
 -- A cell that isn't judged has no program that named a contract for it.

@@ -7,7 +7,7 @@ use Rattle.text_io.specs.Words.{is_blank}
 use Rattle.upc_words.specs.CellWord.{IsCellWord}
 use Rattle.upc_words.specs.declared.hexadecimal.CellWord.TheVariants.{OfCell}
 use Rattle.upc_words.proofs.Public.{cell-lengths, cell-visible}
-use Rattle.upc_run.specs.ScriptWords.{number_of}
+use Rattle.upc_run.specs.ScriptWords.{number_of_digits}
 use Rattle.upc_run.specs.CommonLine.{IsCommonLine}
 
 -- Two cuts of a text with equally many octets after them are the same.
@@ -47,7 +47,7 @@ behind line rest moment cell here is = append_cancel_left (codes "cell ") rest (
 
 -- If there is a space before the last eight octets, they are the word.
 pub common-header : (line rest before last : List ℕ) (moment : ℕ) (cell : List ℕ) → line ≡ codes "cell " ++ rest → rest ≡ before ++ 32 ∷ last
-    → length last ≡ 8 → IsCommonLine line moment cell → (number_of before ≡ Some moment) × IsCellWord last (OfCell cell)
+    → length last ≡ 8 → IsCommonLine line moment cell → (number_of_digits before ≡ Some moment) × IsCellWord last (OfCell cell)
 common-header line rest before last moment cell here cut long is =
     let number : List ℕ = is.0 in
     let word : List ℕ = is.1 in
@@ -63,7 +63,7 @@ common-header line rest before last moment cell here cut long is =
 -- If there is none, but one before the last 104 octets, these are the word.
 pub common-whole : (line rest before last : List ℕ) (moment : ℕ) (cell : List ℕ) → line ≡ codes "cell " ++ rest
     → ((front word : List ℕ) → rest ≡ front ++ 32 ∷ word → length word ≡ 8 → ⊥) → rest ≡ before ++ 32 ∷ last
-    → length last ≡ 104 → IsCommonLine line moment cell → (number_of before ≡ Some moment) × IsCellWord last (OfCell cell)
+    → length last ≡ 104 → IsCommonLine line moment cell → (number_of_digits before ≡ Some moment) × IsCellWord last (OfCell cell)
 common-whole line rest before last moment cell here no_header cut long is =
     let number : List ℕ = is.0 in
     let word : List ℕ = is.1 in

@@ -17,11 +17,11 @@ use Rattle.card_core.specs.declared.step.Step.{Step}
 use Rattle.upc_cell.specs.declared.side.Side.{Side}
 use Rattle.upc_words.specs.FaultLines.{bad_hex, bad_line}
 use Rattle.upc_run.specs.CardFaults.{gcra_fault, no_such_program}
-use Rattle.upc_words.specs.Hexadecimal.{octets_of}
+use Rattle.upc_words.specs.Hexadecimal.{octets_of_digits}
 use Rattle.upc_words.specs.Program.{is_program, ReadsAs}
 use Rattle.upc_run.specs.Rates.{AreContracts, first_wanted_fault}
 use Rattle.upc_run.specs.Replies.{program_named, reply_text}
-use Rattle.upc_run.specs.RunText.{Asks, Card, CommandLine, LoadsOctets, Obeys, Refuses, Takes, TakesNamed, id_loaded}
+use Rattle.upc_run.specs.RunText.{AsksConnection, Card, CommandLine, LoadsOctets, Obeys, RefusesLine, TakesCommand, TakesNamed, id_loaded}
 use Rattle.upc_run.specs.ScriptCommands.{Command, command_of, load, setup}
 use Rattle.upc_run.specs.declared.script_words.Wanted.{Wanted}
 use Rattle.upc_run.specs.inner.Policing.{Held, Moves, MovesBy, ObeysSeen, ShowsCard}
@@ -35,7 +35,7 @@ moves-refused Goes held fault old new added goes = (fault, added, λ before led 
 taken : (held held' : Held) (command : Command) (step : Step) (reply : Reply) (text : List ℕ) → Follows held.core step reply held'.core
     → held'.names ≡ held.names ++ id_loaded reply
     → ((before after : World) → WorldStep before step reply after → reply_text command (length held.names) reply ≡ Some text)
-    → MovesBy (λ before. Takes before command step) held text held'
+    → MovesBy (λ before. TakesCommand before command step) held text held'
 taken held held' command step reply text follows named told before led shows =
     let on = follows led.shape led.log before.world led.leads shows.agrees in
     let names : held'.names ≡ before.names ++ id_loaded reply = named ∙ ap (λ (ids : List Id). ids ++ id_loaded reply) shows.names in
@@ -54,7 +54,7 @@ taken held held' command step reply text follows named told before led shows =
 pub moves-taken : (held held' : Held) (command : Command) (step : Step) (reply : Reply) (text old new : List ℕ)
     → Follows held.core step reply held'.core → held'.names ≡ held.names ++ id_loaded reply → new ≡ old ++ text
     → ((before after : World) → WorldStep before step reply after → reply_text command (length held.names) reply ≡ Some text)
-    → Moves (λ before. Takes before command step) held held' old new
+    → Moves (λ before. TakesCommand before command step) held held' old new
 moves-taken held held' command step reply text old new follows named added told =
     (text, added, taken held held' command step reply text follows named told)
 
@@ -68,7 +68,7 @@ moves-named TakesWith command number id held held' old new is moves = (
   λ before led shows.
       let on = moves.2 before led shows in
       let found : program_named before.names number ≡ Some id = ap (λ (ids : List Id). program_named ids number) (sym shows.names) ∙ is in
-      (on.0, on.1, subst (λ (named : Option Id). MatchOption named (Refuses no_such_program before moves.0 on.0) (λ here. TakesWith before here moves.0 on.0)) (sym found) on.2),
+      (on.0, on.1, subst (λ (named : Option Id). MatchOption named (RefusesLine no_such_program before moves.0 on.0) (λ here. TakesWith before here moves.0 on.0)) (sym found) on.2),
 )
 
 pub moves-unnamed : (TakesWith : Card → Id → List ℕ → Card → Type 0) (command : Command) (number : ℕ) (held : Held) (old new : List ℕ)
@@ -77,7 +77,7 @@ pub moves-unnamed : (TakesWith : Card → Id → List ℕ → Card → Type 0) (
 moves-unnamed TakesWith command number held old new none added =
     moves-refused (λ before. TakesNamed before command number (TakesWith before)) held no_such_program old new added (λ before shows.
     let missed : program_named before.names number ≡ None = ap (λ (ids : List Id). program_named ids number) (sym shows.names) ∙ none in
-    subst (λ (named : Option Id). MatchOption named (Refuses no_such_program before no_such_program before) (λ here. TakesWith before here no_such_program before))
+    subst (λ (named : Option Id). MatchOption named (RefusesLine no_such_program before no_such_program before) (λ here. TakesWith before here no_such_program before))
     (sym missed) (refl, refl))
 
 pub on-ok : {E P Q : Type 0} → (result : Result (Unit {0}) E) → OnOk result P → (P → Q) → OnOk result Q
@@ -104,28 +104,28 @@ moves-map Goes Says held held' old new says moves = (
 )
 
 -- The octets of a program that is loaded.
-pub moves-load : (digits octets : List ℕ) (code : List Instr) (held held' : Held) (old new : List ℕ) → octets_of digits ≡ Some octets
-    → ReadsAs octets (is_program code) → Moves (λ before. Takes before (load digits) (Load code)) held held' old new
+pub moves-load : (digits octets : List ℕ) (code : List Instr) (held held' : Held) (old new : List ℕ) → octets_of_digits digits ≡ Some octets
+    → ReadsAs octets (is_program code) → Moves (λ before. TakesCommand before (load digits) (Load code)) held held' old new
     → Moves (λ before. Obeys before (load digits)) held held' old new
 moves-load digits octets code held held' old new spelled reads moves =
-    moves-map (λ before. Takes before (load digits) (Load code)) (λ before. Obeys before (load digits)) held held' old new (λ before after text takes.
-    subst (λ (found : Option (List ℕ)). MatchOption found (Refuses bad_hex before text after) (λ here. LoadsOctets before digits here text after)) (sym spelled)
+    moves-map (λ before. TakesCommand before (load digits) (Load code)) (λ before. Obeys before (load digits)) held held' old new (λ before after text takes.
+    subst (λ (found : Option (List ℕ)). MatchOption found (RefusesLine bad_hex before text after) (λ here. LoadsOctets before digits here text after)) (sym spelled)
     (is_program code, reads, takes)) moves
 
 -- A connection that is set up with contracts whose rates have no error.
 pub moves-setup : (vc : Vc) (number : ℕ) (wanted : List Wanted) (contracts : List Contract) (id : Id) (held held' : Held) (old new : List ℕ)
     → first_wanted_fault wanted ≡ None → AreContracts wanted contracts → program_named held.names number ≡ Some id
-    → Moves (λ before. Takes before (setup vc number wanted) (Setup (record { vc = vc; program = id; contracts = record { items = contracts } }))) held held' old new
+    → Moves (λ before. TakesCommand before (setup vc number wanted) (Setup (record { vc = vc; program = id; contracts = record { items = contracts } }))) held held' old new
     → Moves (λ before. Obeys before (setup vc number wanted)) held held' old new
 moves-setup vc number wanted contracts id held held' old new sound are named moves =
     let ask : Ask = record { vc = vc; program = id; contracts = record { items = contracts } } in
-    let asked = moves-map (λ before. Takes before (setup vc number wanted) (Setup ask)) (λ before. Asks before vc number wanted id) held held' old new
+    let asked = moves-map (λ before. TakesCommand before (setup vc number wanted) (Setup ask)) (λ before. AsksConnection before vc number wanted id) held held' old new
     (λ before after text takes. record { ask = ask; connection = refl; program = refl; contracts = are; taken = takes }) moves in
-    moves-map (λ before. TakesNamed before (setup vc number wanted) number (Asks before vc number wanted)) (λ before. Obeys before (setup vc number wanted)) held held' old new
+    moves-map (λ before. TakesNamed before (setup vc number wanted) number (AsksConnection before vc number wanted)) (λ before. Obeys before (setup vc number wanted)) held held' old new
     (λ before after text goes.
-    subst (λ (found : Option GcraFault). MatchOption found (TakesNamed before (setup vc number wanted) number (Asks before vc number wanted) text after)
-    (λ fault. Refuses (gcra_fault fault) before text after)) (sym sound) goes)
-    (moves-named (λ before. Asks before vc number wanted) (setup vc number wanted) number id held held' old new named asked)
+    subst (λ (found : Option GcraFault). MatchOption found (TakesNamed before (setup vc number wanted) number (AsksConnection before vc number wanted) text after)
+    (λ fault. RefusesLine (gcra_fault fault) before text after)) (sym sound) goes)
+    (moves-named (λ before. AsksConnection before vc number wanted) (setup vc number wanted) number id held held' old new named asked)
 
 -- A fact about the result and the answers of one branch holds for those after the branches join.
 pub on-tie : {E : Type 0} → (Goes : Card → List ℕ → Card → Type 0) (held held' : Held) (old here joined : List ℕ) (given result : Result (Unit {0}) E)
@@ -145,7 +145,7 @@ moves-line side words command held held' old new is spelled moves = (
       let on = moves.2 before led shows in
       let here : command_of before.world.shape.side words ≡ Some command =
       ap (λ s. command_of s words) (sym (sym is ∙ ap (λ s. s.side) shows.agrees.shape)) ∙ spelled in
-      (on.0, on.1, subst (λ (found : Option Command). MatchOption found (Refuses bad_line before moves.0 on.0) (λ read. Obeys before read moves.0 on.0)) (sym here) on.2),
+      (on.0, on.1, subst (λ (found : Option Command). MatchOption found (RefusesLine bad_line before moves.0 on.0) (λ read. Obeys before read moves.0 on.0)) (sym here) on.2),
 )
 
 -- The same for a command whose contracts are still words.
@@ -159,5 +159,5 @@ moves-seen side words seen held held' old new is spelled moves = (
       let on = moves.2 before led shows in
       let here : seen ≡ command_of before.world.shape.side words =
       spelled ∙ ap (λ s. command_of s words) (sym is ∙ ap (λ s. s.side) shows.agrees.shape) in
-      (on.0, on.1, subst (λ (found : Option Command). MatchOption found (Refuses bad_line before moves.0 on.0) (λ read. Obeys before read moves.0 on.0)) here on.2),
+      (on.0, on.1, subst (λ (found : Option Command). MatchOption found (RefusesLine bad_line before moves.0 on.0) (λ read. Obeys before read moves.0 on.0)) here on.2),
 )

@@ -5,7 +5,7 @@ use Rattle.std.specs.Prelude.{nat_le}
 use Rattle.std.specs.Option.{option_and_then}
 use Rattle.std.proofs.lemmas.Bool.Decides.{nat_tests}
 use Rattle.std.proofs.lemmas.List.{take_rest}
-use Rattle.upc_run.specs.ScriptWords.{most_number, number_of, spelled_behind, up_to}
+use Rattle.upc_run.specs.ScriptWords.{most_number, number_of_digits, spelled_behind, up_to}
 use Rattle.text_io.specs.Words.{is_digit}
 use Rattle.upc_run.specs.inner.Digits.{with_digit}
 
@@ -62,7 +62,7 @@ number_ends value [] none within =
 number_ends value (octet ∷ rest) none within = absurd (omega arith)
 
 -- Before the first digit.
-pub number_begins : (word : List ℕ) → 0 < length word → number_behind 0 word ≡ number_of word
+pub number_begins : (word : List ℕ) → 0 < length word → number_behind 0 word ≡ number_of_digits word
 number_begins [] some = absurd (omega arith)
 number_begins (octet ∷ rest) some = refl
 

@@ -7,7 +7,7 @@ use Rattle.text_io.specs.Words.{is_silent, words_of}
 use Rattle.text_io.specs.declared.machine.Turn.TheVariants.{GoesOn}
 use Rattle.text_io.specs.declared.words.LineWords.{LineWords}
 use Rattle.text_io.specs.declared.words.LineWords.TheVariants.{Silent, One, Several}
-use Rattle.upc_run.specs.RunText.{IsSoundRun, RunSteps, RunWorld, Tells, run_rules}
+use Rattle.upc_run.specs.RunText.{IsSoundRun, RunSteps, RunWorld, OpensOrObeys, run_rules}
 use Rattle.upc_run.specs.inner.Policing.{Held, Moves, OpensAs, SaysLine, ShowsRun}
 
 -- A line with one word or more isn't silent.
@@ -18,10 +18,10 @@ line-asks words Silent is (inr several) = let no = several in cc
 line-asks words (One word) is which = is.0
 line-asks words Several is which = is.0
 
-steps : (world : RunWorld) (line text : List ℕ) (next : Option RunWorld) → is_silent (words_of line) ≡ false → Tells world (words_of line) text next
+steps : (world : RunWorld) (line text : List ℕ) (next : Option RunWorld) → is_silent (words_of line) ≡ false → OpensOrObeys world (words_of line) text next
     → RunSteps world line text next
 steps world line text next asks told =
-    subst (λ (b : Bool). MatchBool b ((text ≡ []) × (next ≡ Some world)) (Tells world (words_of line) text next)) (sym asks) told
+    subst (λ (b : Bool). MatchBool b ((text ≡ []) × (next ≡ Some world)) (OpensOrObeys world (words_of line) text next)) (sym asks) told
 
 -- A line that changes the card.
 pub turn-moved : (line old new : List ℕ) (held held' : Held) → Moves (SaysLine line) held held' old new

@@ -8,9 +8,9 @@ use Rattle.text_io.proofs.Public.{first-word, one-word}
 use Rattle.upc_words.specs.CellWord.{IsCellWord}
 use Rattle.upc_words.specs.declared.hexadecimal.CellWord.TheVariants.{OfCell}
 use Rattle.upc_words.proofs.Public.{cell-visible}
-use Rattle.upc_run.specs.RunText.{Card, CommandLine, Polices, Tells}
+use Rattle.upc_run.specs.RunText.{Card, CommandLine, PolicesCell, OpensOrObeys}
 use Rattle.upc_run.specs.ScriptCommands.{cell, command_of}
-use Rattle.upc_run.specs.ScriptWords.{most_number, number_of, spelled_behind, up_to}
+use Rattle.upc_run.specs.ScriptWords.{most_number, number_of_digits, spelled_behind, up_to}
 use Rattle.upc_run.specs.inner.SpelledCell.{SpellsCell}
 use Rattle.upc_run.specs.inner.Policing.{Held, Moves, SaysLine}
 use Rattle.upc_run.proofs.ArrivalLemmas.{moves-cell}
@@ -42,7 +42,7 @@ value-spelled : (found : Option ℕ) (value : ℕ) → option_and_then (up_to mo
 value-spelled None value e = absurd (cc)
 value-spelled (Some spelled) value e = (spelled, refl)
 
-number-visible : (word : List ℕ) (value : ℕ) → number_of word ≡ Some value
+number-visible : (word : List ℕ) (value : ℕ) → number_of_digits word ≡ Some value
     → (0 < length word) × ((k : ℕ) → k < length word → is_blank (get_or word k 0) ≡ false)
 number-visible [] value e = absurd (cc)
 number-visible (octet ∷ octets) value e =
@@ -63,7 +63,7 @@ command-asks line rest is =
 
 -- One space between the words.
 pub cell-line : (line number word : List ℕ) (moment : ℕ) (here : List ℕ) → line ≡ codes "cell " ++ (number ++ 32 ∷ word)
-    → number_of number ≡ Some moment → IsCellWord word (OfCell here) → SpellsCell line moment here
+    → number_of_digits number ≡ Some moment → IsCellWord word (OfCell here) → SpellsCell line moment here
 cell-line line number word moment here is reads spells =
     let last = cell-visible word here spells in
     let middle = number-visible number moment reads in
@@ -77,7 +77,7 @@ cell-line line number word moment here is reads spells =
 steps : (before after : Card) (line text : List ℕ) → is_silent (words_of line) ≡ false → CommandLine before (words_of line) text after
     → SaysLine line before text after
 steps before after line text asks told =
-    subst (λ (b : Bool). MatchBool b ((text ≡ []) × (Some (Some after) ≡ Some (Some before))) (Tells (Some before) (words_of line) text (Some (Some after)))) (sym asks)
+    subst (λ (b : Bool). MatchBool b ((text ≡ []) × (Some (Some after) ≡ Some (Some before))) (OpensOrObeys (Some before) (words_of line) text (Some (Some after)))) (sym asks)
     (after, told, refl)
 
 pub moves-asked : (line old new : List ℕ) (held held' : Held) → is_silent (words_of line) ≡ false
@@ -88,7 +88,7 @@ moves-asked line old new held held' asks moves =
 -- A silent line.
 silent-said : (before : Card) (line text : List ℕ) → text ≡ [] → is_silent (words_of line) ≡ true → SaysLine line before text before
 silent-said before line text none silent =
-    subst (λ (b : Bool). MatchBool b ((text ≡ []) × (Some (Some before) ≡ Some (Some before))) (Tells (Some before) (words_of line) text (Some (Some before)))) (sym silent)
+    subst (λ (b : Bool). MatchBool b ((text ≡ []) × (Some (Some before) ≡ Some (Some before))) (OpensOrObeys (Some before) (words_of line) text (Some (Some before)))) (sym silent)
     (none, refl)
 
 pub moves-silent : (line old : List ℕ) (held : Held) → is_silent (words_of line) ≡ true → Moves (SaysLine line) held held old old
@@ -96,7 +96,7 @@ moves-silent line old held silent = ([], sym (append-nil old), λ before led sho
 
 -- The line of a cell that is policed.
 pub moves-cell_line : (line : List ℕ) (moment : ℕ) (here old new : List ℕ) (held held' : Held) → SpellsCell line moment here
-    → Moves (λ before. Polices before moment here) held held' old new → Moves (SaysLine line) held held' old new
+    → Moves (λ before. PolicesCell before moment here) held held' old new → Moves (SaysLine line) held held' old new
 moves-cell_line line moment here old new held held' is moves =
     let number : List ℕ = is.0 in
     let word : List ℕ = is.1 in

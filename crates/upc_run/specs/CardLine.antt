@@ -5,7 +5,7 @@ use Rattle.std.specs.Str.{bytes_eq}
 use Rattle.upc_cell.specs.declared.side.Side.{Side}
 use Rattle.upc_cell.specs.declared.side.Side.TheVariants.{Uni, Nni}
 use Rattle.card_core.specs.declared.shape.Shape.{Shape}
-use Rattle.upc_run.specs.ScriptWords.{with_both, number_of}
+use Rattle.upc_run.specs.ScriptWords.{with_both, number_of_digits}
 
 -- The interface that a word names.
 abbrev pub side_of : List ℕ → Option Side
@@ -16,7 +16,7 @@ side_of word =
 
 -- Two numbers, from one word each.
 abbrev pub two_numbers : List ℕ → List ℕ → Option (ℕ × ℕ)
-two_numbers word other = with_both (λ one another. (one, another)) (number_of word) (number_of other)
+two_numbers word other = with_both (λ one another. (one, another)) (number_of_digits word) (number_of_digits other)
 
 -- The shape with these numbers and this side.
 abbrev pub shape_with : Side → ℕ × ℕ → ℕ × ℕ → Shape
@@ -41,6 +41,6 @@ shape_of (programs ∷ lines ∷ ports ∷ journal ∷ side ∷ []) =
 shape_of _ = None
 
 -- `card PROGRAMS LINES PORTS JOURNAL`, optionally followed by a side.
-abbrev pub card_of : List (List ℕ) → Option Shape
-card_of [] = None
-card_of (name ∷ words) = if bytes_eq name (codes "card") then shape_of words else None
+abbrev pub card_line_shape : List (List ℕ) → Option Shape
+card_line_shape [] = None
+card_line_shape (name ∷ words) = if bytes_eq name (codes "card") then shape_of words else None

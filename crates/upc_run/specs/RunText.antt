@@ -21,13 +21,13 @@ use Rattle.text_io.specs.Words.{words_of, is_silent}
 use Rattle.text_io.specs.declared.ending.Done.{Done}
 use Rattle.text_io.specs.declared.ending.Done.TheVariants.{Whole, Ended}
 use Rattle.card_core.specs.Shapes.{shape_fault}
-use Rattle.upc_run.specs.CardLine.{card_of}
+use Rattle.upc_run.specs.CardLine.{card_line_shape}
 use Rattle.upc_run.specs.ScriptCommands.{Command, load, retire, setup, reload, release, cut, cell, command_of}
 use Rattle.upc_run.specs.Rates.{AreContracts, first_wanted_fault}
 use Rattle.upc_words.specs.FaultLines.{bad_hex, bad_line, too_long, wrong_length}
 use Rattle.upc_run.specs.CardFaults.{gcra_fault, no_card, no_such_program, shape_fault_line}
-use Rattle.upc_words.specs.Hexadecimal.{octets_of, cell_of}
-use Rattle.upc_words.specs.Program.{Reading, is_program, is_refused, ReadsAs}
+use Rattle.upc_words.specs.Hexadecimal.{octets_of_digits, cell_of_octets}
+use Rattle.upc_words.specs.Program.{ProgramReading, is_program, is_refused, ReadsAs}
 use Rattle.upc_run.specs.Replies.{answer_text, program_named, reply_text}
 use Rattle.upc_run.specs.declared.script_words.Wanted.{Wanted}
 
@@ -54,46 +54,46 @@ abbrev pub ids_loaded : List Event → List Id
 ids_loaded log = flat_map (λ event. id_loaded event.reply) log
 
 -- The answer is this fault, and nothing changes.
-abbrev pub Refuses : List ℕ → Card → List ℕ → Card → Type 0
-Refuses fault before text after = (text ≡ fault) × (after ≡ before)
+abbrev pub RefusesLine : List ℕ → Card → List ℕ → Card → Type 0
+RefusesLine fault before text after = (text ≡ fault) × (after ≡ before)
 
 -- The card takes the command as this step, and the text is the line of its reply. An allocation failure has no line, so
 -- it is no answer.
-pub record Takes (before : Card) (command : Command) (step : Step) (text : List ℕ) (after : Card) : Type 0 where
+pub record TakesCommand (before : Card) (command : Command) (step : Step) (text : List ℕ) (after : Card) : Type 0 where
   pub reply : Reply
   pub stepped : WorldStep before.world step reply after.world
   pub named : after.names ≡ before.names ++ id_loaded reply
   pub told : reply_text command (length before.names) reply ≡ Some text
 
 -- The program is loaded, or the answer is the fault line of its octets.
-abbrev pub TakesReading : Card → List ℕ → Reading → List ℕ → Card → Type 0
-TakesReading before digits (is_program code) text after = Takes before (load digits) (Load code) text after
-TakesReading before digits (is_refused fault) text after = Refuses fault before text after
+abbrev pub TakesReading : Card → List ℕ → ProgramReading → List ℕ → Card → Type 0
+TakesReading before digits (is_program code) text after = TakesCommand before (load digits) (Load code) text after
+TakesReading before digits (is_refused fault) text after = RefusesLine fault before text after
 
 -- The octets are read as a program, which is loaded or refused.
 abbrev pub LoadsOctets : Card → List ℕ → List ℕ → List ℕ → Card → Type 0
 LoadsOctets before digits octets text after =
-    (reading : Reading) × ReadsAs octets reading × TakesReading before digits reading text after
+    (reading : ProgramReading) × ReadsAs octets reading × TakesReading before digits reading text after
 
 -- The step of a command, if the program with this number was given. Otherwise the answer is NoProgram.
 abbrev pub TakesNamed : Card → Command → ℕ → (Id → List ℕ → Card → Type 0) → List ℕ → Card → Type 0
 TakesNamed before command number TakesWith text after =
-    MatchOption (program_named before.names number) (Refuses no_such_program before text after) (λ id. TakesWith id text after)
+    MatchOption (program_named before.names number) (RefusesLine no_such_program before text after) (λ id. TakesWith id text after)
 
 -- The connection is requested with the contracts of the command.
-pub record Asks (before : Card) (vc : Vc) (number : ℕ) (wanted : List Wanted) (id : Id) (text : List ℕ) (after : Card) : Type 0 where
+pub record AsksConnection (before : Card) (vc : Vc) (number : ℕ) (wanted : List Wanted) (id : Id) (text : List ℕ) (after : Card) : Type 0 where
   pub ask : Ask
   pub connection : ask.vc ≡ vc
   pub program : ask.program ≡ id
   pub contracts : AreContracts wanted ask.contracts.items
-  pub taken : Takes before (setup vc number wanted) (Setup ask) text after
+  pub taken : TakesCommand before (setup vc number wanted) (Setup ask) text after
 
 -- If a rate has an error, it is the answer. Otherwise the step of the setup is taken.
-abbrev pub SetsUp : Card → Vc → ℕ → List Wanted → List ℕ → Card → Type 0
-SetsUp before vc number wanted text after =
+abbrev pub SetsUpWanted : Card → Vc → ℕ → List Wanted → List ℕ → Card → Type 0
+SetsUpWanted before vc number wanted text after =
     MatchOption (first_wanted_fault wanted)
-    (TakesNamed before (setup vc number wanted) number (Asks before vc number wanted) text after)
-    (λ fault. Refuses (gcra_fault fault) before text after)
+    (TakesNamed before (setup vc number wanted) number (AsksConnection before vc number wanted) text after)
+    (λ fault. RefusesLine (gcra_fault fault) before text after)
 
 -- The answer to a cell that has entered port 0: that of the pick if it fails, and otherwise that of the judgement.
 abbrev pub IsAnswered : World → Answer → World → Type 0
@@ -107,7 +107,7 @@ Arrives before octets moment answer after =
     (entered : World) × WorldStep before (Enter 0 octets moment) Entered entered × IsAnswered entered answer after
 
 -- A cell arrives, and the text is the line of its answer.
-pub record Polices (before : Card) (moment : ℕ) (octets : List ℕ) (text : List ℕ) (after : Card) : Type 0 where
+pub record PolicesCell (before : Card) (moment : ℕ) (octets : List ℕ) (text : List ℕ) (after : Card) : Type 0 where
   pub answer : Answer
   pub arrived : Arrives before.world octets moment answer after.world
   pub same : after.names ≡ before.names
@@ -116,51 +116,51 @@ pub record Polices (before : Card) (moment : ℕ) (octets : List ℕ) (text : Li
 -- The cell of 52 octets arrives. Any other number of octets is an error and changes nothing.
 abbrev pub PolicesOctets : Card → ℕ → List ℕ → List ℕ → Card → Type 0
 PolicesOctets before moment octets text after =
-    MatchBool (length octets == 52) (Polices before moment octets text after)
-    (Refuses (wrong_length (length octets)) before text after)
+    MatchBool (length octets == 52) (PolicesCell before moment octets text after)
+    (RefusesLine (wrong_length (length octets)) before text after)
 
 -- The command has this answer, and leads to the card after it.
 abbrev pub Obeys : Card → Command → List ℕ → Card → Type 0
 Obeys before (load digits) text after =
-    MatchOption (octets_of digits) (Refuses bad_hex before text after) (λ octets. LoadsOctets before digits octets text after)
+    MatchOption (octets_of_digits digits) (RefusesLine bad_hex before text after) (λ octets. LoadsOctets before digits octets text after)
 Obeys before (retire number) text after =
-    TakesNamed before (retire number) number (λ id. Takes before (retire number) (Retire id)) text after
-Obeys before (setup vc number wanted) text after = SetsUp before vc number wanted text after
+    TakesNamed before (retire number) number (λ id. TakesCommand before (retire number) (Retire id)) text after
+Obeys before (setup vc number wanted) text after = SetsUpWanted before vc number wanted text after
 Obeys before (reload vc number) text after =
-    TakesNamed before (reload vc number) number (λ id. Takes before (reload vc number) (Reload vc id)) text after
-Obeys before (release vc) text after = Takes before (release vc) (Release vc) text after
-Obeys before (cut vc) text after = Takes before (cut vc) (Cut vc) text after
+    TakesNamed before (reload vc number) number (λ id. TakesCommand before (reload vc number) (Reload vc id)) text after
+Obeys before (release vc) text after = TakesCommand before (release vc) (Release vc) text after
+Obeys before (cut vc) text after = TakesCommand before (cut vc) (Cut vc) text after
 Obeys before (cell moment digits) text after =
-    MatchOption (octets_of digits) (Refuses bad_hex before text after)
-    (λ octets. PolicesOctets before moment (cell_of octets) text after)
+    MatchOption (octets_of_digits digits) (RefusesLine bad_hex before text after)
+    (λ octets. PolicesOctets before moment (cell_of_octets octets) text after)
 
 -- The line of a command. If its words are no command, the answer is BadLine and nothing changes.
 abbrev pub CommandLine : Card → List (List ℕ) → List ℕ → Card → Type 0
 CommandLine before words text after =
-    MatchOption (command_of before.world.shape.side words) (Refuses bad_line before text after)
+    MatchOption (command_of before.world.shape.side words) (RefusesLine bad_line before text after)
     (λ command. Obeys before command text after)
 
 -- A card of this shape is opened, or the run ends since the shape is out of its limits.
-abbrev pub Opens : Shape → List ℕ → Option RunWorld → Type 0
-Opens shape text next =
+abbrev pub OpensCard : Shape → List ℕ → Option RunWorld → Type 0
+OpensCard shape text next =
     MatchOption (shape_fault shape) ((text ≡ codes "ready\n") × (next ≡ Some (Some (new_card shape))))
     (λ fault. EndsBy (shape_fault_line fault) text next)
 
 -- The first line with words opens a card, or the run ends.
 abbrev pub OpeningLine : List (List ℕ) → List ℕ → Option RunWorld → Type 0
-OpeningLine words text next = MatchOption (card_of words) (EndsBy no_card text next) (λ shape. Opens shape text next)
+OpeningLine words text next = MatchOption (card_line_shape words) (EndsBy no_card text next) (λ shape. OpensCard shape text next)
 
 -- A line with words opens the card or is a command.
-abbrev pub Tells : RunWorld → List (List ℕ) → List ℕ → Option RunWorld → Type 0
-Tells None words text next = OpeningLine words text next
-Tells (Some before) words text next =
+abbrev pub OpensOrObeys : RunWorld → List (List ℕ) → List ℕ → Option RunWorld → Type 0
+OpensOrObeys None words text next = OpeningLine words text next
+OpensOrObeys (Some before) words text next =
     (after : Card) × CommandLine before words text after × (next ≡ Some (Some after))
 
 -- The line has this answer and leads to the next state, or to none if it ends the run. A line without words and a
 -- comment line have no answer.
 abbrev pub RunSteps : RunWorld → List ℕ → List ℕ → Option RunWorld → Type 0
 RunSteps world said text next =
-    MatchBool (is_silent (words_of said)) ((text ≡ []) × (next ≡ Some world)) (Tells world (words_of said) text next)
+    MatchBool (is_silent (words_of said)) ((text ≡ []) × (next ≡ Some world)) (OpensOrObeys world (words_of said) text next)
 
 -- The end of the input. Without a card it is an error.
 abbrev pub RunCloses : RunWorld → List ℕ → Done → Type 0

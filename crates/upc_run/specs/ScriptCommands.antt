@@ -4,7 +4,7 @@ use Rattle.std.specs.Str.{bytes_eq}
 use Rattle.upc_cell.specs.declared.side.Side.{Side}
 use Rattle.upc_cell.specs.declared.vc.Vc.{Vc}
 use Rattle.upc_run.specs.declared.script_words.Wanted.{Wanted}
-use Rattle.upc_run.specs.ScriptWords.{with_both, number_of, program_of, vc_named, wanted_of_each}
+use Rattle.upc_run.specs.ScriptWords.{with_both, number_of_digits, program_of, vc_named, wanted_of_each}
 
 -- A command of a line. Programs are given by number. The octets of a program and of a cell are still a word of digits,
 -- since its errors come after those of all other words.
@@ -70,7 +70,7 @@ cut_of side words = option_map (λ vc. cut vc) (only_vc side words)
 
 -- `cell MOMENT HEX`
 abbrev pub cell_of_words : List (List ℕ) → Option Command
-cell_of_words (moment ∷ digits ∷ []) = option_map (λ ticks. cell ticks digits) (number_of moment)
+cell_of_words (moment ∷ digits ∷ []) = option_map (λ ticks. cell ticks digits) (number_of_digits moment)
 cell_of_words _ = None
 
 -- The command of a line's words on a card of this side. None if the words are no command.

@@ -31,18 +31,18 @@ abbrev pub most_number : ℕ
 most_number = 18446744073709551615
 
 -- The number that one or more digits spell, if it is at most 2^64 - 1. It may have leading zeros.
-abbrev pub number_of : List ℕ → Option ℕ
-number_of [] = None
-number_of (octet ∷ octets) = option_and_then (up_to most_number) (spelled_behind 0 (octet ∷ octets))
+abbrev pub number_of_digits : List ℕ → Option ℕ
+number_of_digits [] = None
+number_of_digits (octet ∷ octets) = option_and_then (up_to most_number) (spelled_behind 0 (octet ∷ octets))
 
 -- The number that a word spells, if it is at most this one.
 abbrev pub number_up_to : ℕ → List ℕ → Option ℕ
-number_up_to most word = option_and_then (up_to most) (number_of word)
+number_up_to most word = option_and_then (up_to most) (number_of_digits word)
 
 -- The number in the name of a program, which is the letter `p` (112) and a number.
 abbrev pub program_of : List ℕ → Option ℕ
 program_of [] = None
-program_of (letter ∷ digits) = if letter == 112 then number_of digits else None
+program_of (letter ∷ digits) = if letter == 112 then number_of_digits digits else None
 
 -- The virtual connection of this path and this channel. A path is at most 4095, so the remainder changes nothing; it is
 -- there because the definition takes any number.
@@ -75,7 +75,7 @@ IsBlankContract wanted = wanted ≡ Cbr1 (rate_with 0 0)
 -- A rate: an increment and a limit, with a slash (47) between them.
 abbrev pub rate_of : List ℕ → Option Rate
 rate_of word =
-    option_and_then (λ (cut : List ℕ × List ℕ). with_both rate_with (number_of cut.0) (number_of cut.1)) (cut_at 47 word)
+    option_and_then (λ (cut : List ℕ × List ℕ). with_both rate_with (number_of_digits cut.0) (number_of_digits cut.1)) (cut_at 47 word)
 
 -- Two rates, with a colon (58) between them.
 abbrev pub two_rates : (Rate → Rate → Wanted) → List ℕ → Option Wanted

@@ -2,7 +2,7 @@
 
 ghost use Rattle.std.specs.Prelude.{◌≡◌};
 ghost use Rattle.text_io.specs.Words.{words_of};
-ghost use Rattle.upc_run.specs.CardLine.{card_of, shape_of, side_of, sized_shape};
+ghost use Rattle.upc_run.specs.CardLine.{card_line_shape, shape_of, side_of, sized_shape};
 
 use crate::script_words::number;
 use card_core::Shape;
@@ -77,7 +77,7 @@ fn shape_behind(line: &[u8]) -> Option<Shape>
 
 /// Returns the shape that a line's words request. None if the line doesn't open a card.
 pub fn read_card(line: &[u8]) -> Option<Shape>
-    ensures { result ≡ card_of (words_of line.now) }
+    ensures { result ≡ card_line_shape (words_of line.now) }
 {
     let Some((name, rest)) = first_word(line) else {
         return None;

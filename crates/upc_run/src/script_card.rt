@@ -43,10 +43,10 @@ impl ScriptCard {
     ghost use Rattle.std.specs.Prelude.{◌≡◌, ◌⊎◌, ◌∷◌, [], IfOk, IfErr, OnOk, MatchResult, None, Some, option_map};
     ghost use Rattle.card_core.specs.Sections.{answer_to};
     ghost use Rattle.card_core.specs.Shapes.{shape_fault};
-    ghost use Rattle.upc_run.specs.CardLine.{card_of};
+    ghost use Rattle.upc_run.specs.CardLine.{card_line_shape};
     ghost use Rattle.upc_run.specs.ScriptCommands.{load, retire, setup, reload, release, cut, cell};
     ghost use Rattle.card_core.specs.declared.step.Step.TheVariants.{Load};
-    ghost use Rattle.upc_run.specs.RunText.{Asks, CommandLine, LoadsOctets, Obeys, Polices, Takes, TakesNamed, new_card};
+    ghost use Rattle.upc_run.specs.RunText.{AsksConnection, CommandLine, LoadsOctets, Obeys, PolicesCell, TakesCommand, TakesNamed, new_card};
     ghost use Rattle.upc_run.specs.CommandSeen.{command_seen, setup_seen};
     ghost use Rattle.upc_run.specs.inner.Policing.{AnswersCell, Moves, ObeysSeen, SaysLine, ShowsCard};
     ghost use Rattle.text_io.specs.Words.{words_of};
@@ -81,7 +81,7 @@ impl ScriptCard {
         program: Program,
         answers: &mut Vec<u8>,
     ) -> Result<(), AllocError>
-        ensures { OnOk result (Moves (λ before. Takes before (load digits.now) (Load program))
+        ensures { OnOk result (Moves (λ before. TakesCommand before (load digits.now) (Load program))
             self.old self.new answers.old.items answers.new.items) }
     {
         let id = match self.core.load(program) {
@@ -226,7 +226,7 @@ impl ScriptCard {
     /// Polices a cell.
     #[inline(always)]
     fn police(&mut self, moment: u64, cell: &Cell, answers: &mut Vec<u8>) -> Result<(), AllocError>
-        ensures { OnOk result (Moves (λ before. Polices before moment cell.now)
+        ensures { OnOk result (Moves (λ before. PolicesCell before moment cell.now)
             self.old self.new answers.old.items answers.new.items) }
     {
         let vc = cell.vc_at(self.core.shape().side);

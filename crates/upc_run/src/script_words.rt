@@ -3,7 +3,7 @@
 ghost use Rattle.std.specs.Prelude.{◌≡◌, ◌<◌, ◌≤◌, length, option_map};
 ghost use Rattle.upc_run.specs.declared.script_words.Rate.{Rate as TheRate};
 ghost use Rattle.upc_run.specs.declared.script_words.Wanted.{Wanted as TheWanted};
-ghost use Rattle.upc_run.specs.ScriptWords.{cut_at, number_of, number_up_to, program_of, rate_of, two_rates, vc_named, wanted_of};
+ghost use Rattle.upc_run.specs.ScriptWords.{cut_at, number_of_digits, number_up_to, program_of, rate_of, two_rates, vc_named, wanted_of};
 ghost use Rattle.upc_run.specs.inner.Digits.{with_digit};
 
 use memchr::memchr;
@@ -84,7 +84,7 @@ fn appended(value: u64, octet: u8) -> Option<u64>
 fn short_number(word: &[u8]) -> Option<u64>
     requires some { 0 < length word.now }
     requires few { length word.now ≤ FEW_DIGITS }
-    ensures { result ≡ number_of word.now }
+    ensures { result ≡ number_of_digits word.now }
 {
     let mut value = 0u64;
     let mut rest = word;
@@ -102,7 +102,7 @@ fn short_number(word: &[u8]) -> Option<u64>
 #[inline(never)]
 fn long_number(word: &[u8]) -> Option<u64>
     requires { 0 < length word.now }
-    ensures { result ≡ number_of word.now }
+    ensures { result ≡ number_of_digits word.now }
 {
     let mut value = 0u64;
     let mut rest = word;
@@ -119,7 +119,7 @@ fn long_number(word: &[u8]) -> Option<u64>
 /// Returns the number that a word spells, if it is at most 2^64 - 1.
 #[inline(always)]
 pub fn number(word: &[u8]) -> Option<u64>
-    ensures { result ≡ number_of word.now }
+    ensures { result ≡ number_of_digits word.now }
 {
     if word.is_empty() {
         None

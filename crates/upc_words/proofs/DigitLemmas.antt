@@ -6,7 +6,7 @@ use Rattle.std.proofs.lemmas.Nat.{le_or_l, le_or_r, or_lt}
 use lib.Ieee.Fits.{and_l, and_r}
 use Rattle.hex.specs.Hex.{hex_digit_value, is_hex_digit}
 use Rattle.text_io.specs.Words.{is_blank}
-use Rattle.upc_words.specs.Hexadecimal.{cell_of, octets_of}
+use Rattle.upc_words.specs.Hexadecimal.{cell_of_octets, octets_of_digits}
 use Rattle.upc_words.specs.CellWord.{IsCellWord}
 use Rattle.upc_words.specs.inner.DigitNumbers.{AreDigitsOf}
 use Rattle.upc_words.specs.declared.digits.TheConstants.{NUMBERS}
@@ -163,12 +163,12 @@ other-read c below figure letter digit =
 digit-visible : (c : ℕ) → is_hex_digit c ≡ true → (is_blank c ≡ false) × ((c == 35) ≡ false)
 digit-visible c digit = (grind arith, grind arith)
 
-pub digits-visible : (word octets : List ℕ) → octets_of word ≡ Some octets → (k : ℕ) → k < length word
+pub digits-visible : (word octets : List ℕ) → octets_of_digits word ≡ Some octets → (k : ℕ) → k < length word
     → (is_blank (get_or word k 0) ≡ false) × ((get_or word k 0 == 35) ≡ false)
 digits-visible word octets spelled k below =
     digit-visible (get_or word k 0) (All-get_or (λ c. is_hex_digit c ≡ true) word k 0 below (spelled-digits word octets spelled))
 
-pub filled : (octets cell : List ℕ) → cell_of octets ≡ cell → length cell ≡ 52 → 0 < length octets
+pub filled : (octets cell : List ℕ) → cell_of_octets octets ≡ cell → length cell ≡ 52 → 0 < length octets
 filled [] cell same sized = let none : 0 ≡ length cell = ap length same in absurd (omega arith)
 filled (octet ∷ octets) cell same sized = omega arith
 

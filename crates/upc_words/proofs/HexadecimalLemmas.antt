@@ -6,7 +6,7 @@ use Rattle.std.proofs.lemmas.Bool.{eq-eqb, ne_eqb}
 use Rattle.hex.specs.Hex.{decode_of, decode_pairs, hex_digit_value, is_hex_digit, pair_value, ◌>>=◌}
 use Rattle.hex.proofs.HexLemmas.{decode_of-even, decode_of-ok}
 use Rattle.hex.specs.declared.error.FromHexError.{FromHexError}
-use Rattle.upc_words.specs.Hexadecimal.{octets_of, cell_of}
+use Rattle.upc_words.specs.Hexadecimal.{octets_of_digits, cell_of_octets}
 use Rattle.upc_words.specs.inner.DigitNumbers.{AreDigitsOf, AreJoined, AreNumbers}
 
 -- A result that is Ok.
@@ -15,18 +15,18 @@ ok-part (Ok ys) xs e = let same : ys ≡ xs = cc in ap Ok same
 ok-part (Err e') xs e = cc
 
 -- Two digits an octet.
-pub spelled-length : (word octets : List ℕ) → octets_of word ≡ Some octets → length word ≡ 2 * length octets
+pub spelled-length : (word octets : List ℕ) → octets_of_digits word ≡ Some octets → length word ≡ 2 * length octets
 spelled-length word octets e = (decode_of-ok word octets (ok-part (decode_of word) octets e)).2
 
 -- Each character is a digit.
-pub spelled-digits : (word octets : List ℕ) → octets_of word ≡ Some octets → AllPass is_hex_digit word
+pub spelled-digits : (word octets : List ℕ) → octets_of_digits word ≡ Some octets → AllPass is_hex_digit word
 spelled-digits word octets e = (decode_of-ok word octets (ok-part (decode_of word) octets e)).1
 
 -- A header is a cell with a payload of zeros.
-pub cell-of_header : (octets : List ℕ) → length octets ≡ 4 → cell_of octets ≡ octets ++ replicate 48 0
+pub cell-of_header : (octets : List ℕ) → length octets ≡ 4 → cell_of_octets octets ≡ octets ++ replicate 48 0
 cell-of_header octets sized = ap (λ b. if b then octets ++ replicate 48 0 else octets) (eq-eqb (length octets) 4 sized)
 
-pub cell-of_other : (octets : List ℕ) → length octets ≢ 4 → cell_of octets ≡ octets
+pub cell-of_other : (octets : List ℕ) → length octets ≢ 4 → cell_of_octets octets ≡ octets
 cell-of_other octets sized = ap (λ b. if b then octets ++ replicate 48 0 else octets) (ne_eqb (length octets) 4 sized)
 
 -- Two digits before a word that decodes.
@@ -70,7 +70,7 @@ pairs-joined i (a ∷ b ∷ rest) number (octet ∷ octets) sized reads joined =
 pub four-spelled : (word : List ℕ) (a b c d : ℕ) → length word ≡ 8
     → AreDigitsOf (get_or word 0 0) (get_or word 1 0) a → AreDigitsOf (get_or word 2 0) (get_or word 3 0) b
     → AreDigitsOf (get_or word 4 0) (get_or word 5 0) c → AreDigitsOf (get_or word 6 0) (get_or word 7 0) d
-    → octets_of word ≡ Some (a ∷ b ∷ c ∷ d ∷ [])
+    → octets_of_digits word ≡ Some (a ∷ b ∷ c ∷ d ∷ [])
 four-spelled (o ∷ p ∷ q ∷ r ∷ s ∷ t ∷ u ∷ v ∷ []) a b c d sized first second third fourth =
     ap result_ok (decode_of-even (o ∷ p ∷ q ∷ r ∷ s ∷ t ∷ u ∷ v ∷ []) refl
     ∙ decode-more 0 o p a (q ∷ r ∷ s ∷ t ∷ u ∷ v ∷ []) (b ∷ c ∷ d ∷ []) first
@@ -79,7 +79,7 @@ four-spelled (o ∷ p ∷ q ∷ r ∷ s ∷ t ∷ u ∷ v ∷ []) a b c d sized 
 four-spelled _ a b c d sized first second third fourth = absurd (omega arith)
 
 pub joined-spelled : (word numbers octets : List ℕ) → length word ≡ 2 * length octets → AreNumbers word numbers → AreJoined numbers octets
-    → octets_of word ≡ Some octets
+    → octets_of_digits word ≡ Some octets
 joined-spelled word numbers octets sized reads joined =
     ap result_ok (decode_of-even word (omega arith)
     ∙ pairs-joined 0 word (λ k. get_or numbers k 0) octets sized (λ k below. (reads k below).0) joined)

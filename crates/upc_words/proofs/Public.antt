@@ -3,8 +3,8 @@ use Rattle.std.proofs.Common.{◌≡◌, ℕ, ◌*◌, ◌<◌, ◌==◌, ◌⊎
 use Rattle.bpf_code.specs.declared.instr.Instr.{Instr}
 use Rattle.text_io.specs.Words.{is_blank}
 use Rattle.upc_words.specs.CellWord.{IsCellWord}
-use Rattle.upc_words.specs.Hexadecimal.{cell_of, octets_of}
-use Rattle.upc_words.specs.Program.{Reading, ChecksAs, ReadsAs}
+use Rattle.upc_words.specs.Hexadecimal.{cell_of_octets, octets_of_digits}
+use Rattle.upc_words.specs.Program.{ProgramReading, ChecksAs, ReadsAs}
 use Rattle.upc_words.specs.declared.hexadecimal.CellWord.TheVariants.{OfCell}
 use Rattle.upc_words.proofs.CellWordLemmas as words
 use Rattle.upc_words.proofs.DigitLemmas as digits
@@ -21,29 +21,29 @@ pub cell-lengths : (word cell : List ℕ) → IsCellWord word (OfCell cell) → 
 cell-lengths = words.cell-lengths
 
 -- Any octets are a program or refused.
-pub reads-as : (octets : List ℕ) → (reading : Reading) × ReadsAs octets reading
+pub reads-as : (octets : List ℕ) → (reading : ProgramReading) × ReadsAs octets reading
 reads-as = reading.reads-as
 
 -- They are so in one way only.
-pub reads-once : (octets : List ℕ) (one other : Reading) → ReadsAs octets one → ReadsAs octets other → one ≡ other
+pub reads-once : (octets : List ℕ) (one other : ProgramReading) → ReadsAs octets one → ReadsAs octets other → one ≡ other
 reads-once = reading.reads-once
 
 -- The same for a code.
-pub checks-as : (code : List Instr) → (reading : Reading) × ChecksAs code reading
+pub checks-as : (code : List Instr) → (reading : ProgramReading) × ChecksAs code reading
 checks-as = reading.checks-as
 
-pub checks-once : (code : List Instr) (one other : Reading) → ChecksAs code one → ChecksAs code other → one ≡ other
+pub checks-once : (code : List Instr) (one other : ProgramReading) → ChecksAs code one → ChecksAs code other → one ≡ other
 checks-once = reading.checks-once
 
 -- No octet of a hexadecimal word is a blank or `#`.
-pub digits-visible : (word octets : List ℕ) → octets_of word ≡ Some octets → (k : ℕ) → k < length word
+pub digits-visible : (word octets : List ℕ) → octets_of_digits word ≡ Some octets → (k : ℕ) → k < length word
     → (is_blank (get_or word k 0) ≡ false) × ((get_or word k 0 == 35) ≡ false)
 digits-visible = digits.digits-visible
 
 -- Two digits an octet.
-pub spelled-length : (word octets : List ℕ) → octets_of word ≡ Some octets → length word ≡ 2 * length octets
+pub spelled-length : (word octets : List ℕ) → octets_of_digits word ≡ Some octets → length word ≡ 2 * length octets
 spelled-length = hexadecimal.spelled-length
 
 -- The octets of a cell aren't empty.
-pub filled : (octets cell : List ℕ) → cell_of octets ≡ cell → length cell ≡ 52 → 0 < length octets
+pub filled : (octets cell : List ℕ) → cell_of_octets octets ≡ cell → length cell ≡ 52 → 0 < length octets
 filled = digits.filled

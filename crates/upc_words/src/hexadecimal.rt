@@ -2,7 +2,7 @@
 
 ghost use Rattle.std.specs.Prelude.{◌≡◌, ◌⊎◌, length, IfOk};
 ghost use Rattle.std.specs.Option.{option_map};
-ghost use Rattle.upc_words.specs.Hexadecimal.{octets_of};
+ghost use Rattle.upc_words.specs.Hexadecimal.{octets_of_digits};
 ghost use Rattle.upc_words.specs.CellWord.{IsCellWord};
 
 use crate::digits::{CELL_DIGITS, HEADER_DIGITS, cell_of_digits};
@@ -22,7 +22,7 @@ pub enum CellWord {
 
 /// The octets of a hexadecimal word, or none if the word isn't hexadecimal.
 pub fn octets_of_word(alloc: Global, word: &[u8]) -> Result<Option<Vec<u8>>, AllocError>
-    ensures { IfOk result (λ found. octets_of word.now ≡ option_map (λ octets. octets.items) found) }
+    ensures { IfOk result (λ found. octets_of_digits word.now ≡ option_map (λ octets. octets.items) found) }
 {
     match hex::decode(alloc, word) {
         Ok(octets) => Ok(Some(octets)),

@@ -2,7 +2,7 @@
 use Rattle.std.proofs.Common.{◌≡◌, ◌≢◌, ℕ, ◌<◌, Bool, true, false, not, ◌&&◌, ◌==◌, List, [], ◌∷◌, Option, Some, None, length, get_or, drop, refl, sym, ap, ◌∙◌, subst, arith, eq-eqb}
 use Rattle.std.proofs.lemmas.Bool.{and_parts, ne_eqb, not-true}
 use Rattle.text_io.specs.Words.{is_blank, is_digit}
-use Rattle.bpf_asm.specs.Numbers.{number_of}
+use Rattle.bpf_asm.specs.Numbers.{number_of_word}
 use Rattle.bpf_asm.specs.SourceLines.{without_comment}
 use Rattle.bpf_asm.specs.Tokens.{Token, is_word, mark, name, number_token, signed_behind, tokens_in, word_token}
 use Rattle.bpf_asm.specs.inner.LineTokens.{line_tokens}
@@ -67,17 +67,17 @@ number_no_name : (found : Option ℕ) (tokens : List Token) → cut_name (signed
 number_no_name (Some value) tokens = refl
 number_no_name None tokens = refl
 
-in_digit : (word text rest : List ℕ) → 0 < length word → is_digit (get_or word 0 0) ≡ true → line_tokens text ≡ word_token word ∷ line_tokens rest → tokens_in text ≡ signed_behind (number_token (number_of word)) (tokens_in rest)
+in_digit : (word text rest : List ℕ) → 0 < length word → is_digit (get_or word 0 0) ≡ true → line_tokens text ≡ word_token word ∷ line_tokens rest → tokens_in text ≡ signed_behind (number_token (number_of_word word)) (tokens_in rest)
 in_digit word text rest h d e =
-    let token : word_token word ≡ number_token (number_of word) = rw (word_token_read word h, d) refl in
-    in_cons text rest (number_token (number_of word)) (e ∙ ap (λ (t : Token). t ∷ line_tokens rest) token)
+    let token : word_token word ≡ number_token (number_of_word word) = rw (word_token_read word h, d) refl in
+    in_cons text rest (number_token (number_of_word word)) (e ∙ ap (λ (t : Token). t ∷ line_tokens rest) token)
 
 in_name : (word text rest : List ℕ) → 0 < length word → is_digit (get_or word 0 0) ≡ false → line_tokens text ≡ word_token word ∷ line_tokens rest → tokens_in text ≡ signed_behind (name word) (tokens_in rest)
 in_name word text rest h d e = in_cons text rest (name word) (e ∙ ap (λ (t : Token). t ∷ line_tokens rest) (sym (name_word word h d)))
 
 -- A word that begins with a digit is not a name.
 pub digit_no_name : (word text rest : List ℕ) → 0 < length word → is_digit (get_or word 0 0) ≡ true → line_tokens text ≡ word_token word ∷ line_tokens rest → cut_name (tokens_in text) ≡ None
-digit_no_name word text rest h d e = rw (in_digit word text rest h d e) (number_no_name (number_of word) (tokens_in rest))
+digit_no_name word text rest h d e = rw (in_digit word text rest h d e) (number_no_name (number_of_word word) (tokens_in rest))
 
 -- Any other word is a name.
 pub name_cut : (word text rest : List ℕ) → 0 < length word → is_digit (get_or word 0 0) ≡ false → line_tokens text ≡ word_token word ∷ line_tokens rest → cut_name (tokens_in text) ≡ Some (word, tokens_in rest)
@@ -88,9 +88,9 @@ pub name_no_number : (word text rest : List ℕ) → 0 < length word → is_digi
 name_no_number word text rest h d e = ap cut_number (in_name word text rest h d e)
 
 -- A word that begins with a digit is the number that it spells.
-pub number_cut : (word text rest : List ℕ) (value : ℕ) → 0 < length word → is_digit (get_or word 0 0) ≡ true → number_of word ≡ Some value → line_tokens text ≡ word_token word ∷ line_tokens rest → cut_number (tokens_in text) ≡ Some (value, tokens_in rest)
+pub number_cut : (word text rest : List ℕ) (value : ℕ) → 0 < length word → is_digit (get_or word 0 0) ≡ true → number_of_word word ≡ Some value → line_tokens text ≡ word_token word ∷ line_tokens rest → cut_number (tokens_in text) ≡ Some (value, tokens_in rest)
 number_cut word text rest value h d n e = rw (in_digit word text rest h d e, n) refl
 
 -- If it spells no number, there is no number.
-pub faulty_no_number : (word text rest : List ℕ) → 0 < length word → is_digit (get_or word 0 0) ≡ true → number_of word ≡ None → line_tokens text ≡ word_token word ∷ line_tokens rest → cut_number (tokens_in text) ≡ None
+pub faulty_no_number : (word text rest : List ℕ) → 0 < length word → is_digit (get_or word 0 0) ≡ true → number_of_word word ≡ None → line_tokens text ≡ word_token word ∷ line_tokens rest → cut_number (tokens_in text) ≡ None
 faulty_no_number word text rest h d n e = rw (in_digit word text rest h d e, n) refl

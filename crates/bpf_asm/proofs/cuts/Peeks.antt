@@ -3,7 +3,7 @@ use Rattle.std.proofs.Common.{◌≡◌, ℕ, ◌<◌, Bool, true, false, ◌&&�
 use Rattle.std.specs.List.{cons_option, filter_map}
 use Rattle.text_io.specs.Words.{is_blank, is_digit}
 use Rattle.bpf_asm.specs.inner.Reading.{cut_mark, is_ended}
-use Rattle.bpf_asm.specs.Numbers.{number_of}
+use Rattle.bpf_asm.specs.Numbers.{number_of_word}
 use Rattle.bpf_asm.specs.SourceLines.{without_comment}
 use Rattle.bpf_asm.specs.Tokens.{Token, name, mark, is_run, is_word, joined, number_token, pieces_of, signed, signed_behind, token_of, tokens_in, tokens_of, tokens_read, word_token}
 use Rattle.bpf_asm.specs.inner.LineTokens.{line_tokens}
@@ -49,8 +49,8 @@ number-no_mark octet None tokens = refl
 word-no_mark : (octet first : ℕ) (word : List ℕ) (tokens : List Token) → cut_mark octet (signed_behind (word_token (first ∷ word)) tokens) ≡ None
 unfolding word_token
 word-no_mark octet first word tokens =
-    elim (is_digit first) as (λ d. cut_mark octet (signed_behind (if d then number_token (number_of (first ∷ word)) else name (first ∷ word)) tokens) ≡ None) [
-      | true ↦ number-no_mark octet (number_of (first ∷ word)) tokens
+    elim (is_digit first) as (λ d. cut_mark octet (signed_behind (if d then number_token (number_of_word (first ∷ word)) else name (first ∷ word)) tokens) ≡ None) [
+      | true ↦ number-no_mark octet (number_of_word (first ∷ word)) tokens
       | false ↦ refl
     ]
 

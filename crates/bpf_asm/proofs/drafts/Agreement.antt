@@ -4,14 +4,14 @@ use Rattle.std.specs.Str.{bytes_eq}
 use Rattle.std.specs.Option.{is_none}
 use Rattle.std.proofs.lemmas.List.Elements.{filter_map-append}
 use Rattle.std.proofs.lemmas.Slice.Eq.{bytes_eq-Decides}
-use Rattle.bpf_asm.specs.Grammar.{AreLines, IsLine, Line}
-use Rattle.bpf_asm.specs.Labels.{EachLabelOnce, HasLabel, StandsFor, statements_of}
+use Rattle.bpf_asm.specs.Grammar.{AreLines, IsSourceLine, SourceLine}
+use Rattle.bpf_asm.specs.Labels.{EachLabelOnce, HasLabel, NamesPlace, statements_of}
 use Rattle.bpf_asm.specs.inner.Counts.{statement_count}
 use Rattle.bpf_asm.specs.StatementSpelling.{Statement}
 use Rattle.bpf_asm.specs.inner.Drafts.{AgreesWith, IsReadTo, IsTwice}
 
 -- Equal optional lines are equal lines.
-pub some_line : (one other : Line) → Some one ≡ Some other → one ≡ other
+pub some_line : (one other : SourceLine) → Some one ≡ Some other → one ≡ other
 some_line one other e = cc
 
 -- Equal optional names are equal names.
@@ -29,69 +29,69 @@ pub no_name : (name : List ℕ) → Some name ≡ None → ⊥
 no_name name e = cc
 
 -- The statements of lines and more lines.
-pub statements_of-append : (lines more : List Line) → statements_of (lines ++ more) ≡ statements_of lines ++ statements_of more
+pub statements_of-append : (lines more : List SourceLine) → statements_of (lines ++ more) ≡ statements_of lines ++ statements_of more
 unfolding statements_of
-statements_of-append lines more = filter_map-append (λ (line : Line). line.statement) lines more
+statements_of-append lines more = filter_map-append (λ (line : SourceLine). line.statement) lines more
 
 -- A line of a prefix is a line of the whole.
-pub label_kept : (lines more : List Line) (at : ℕ) (name : List ℕ) → HasLabel lines at name → HasLabel (lines ++ more) at name
+pub label_kept : (lines more : List SourceLine) (at : ℕ) (name : List ℕ) → HasLabel lines at name → HasLabel (lines ++ more) at name
 label_kept [] more at name h = cc
 label_kept (line ∷ lines) more zero name h = h
 label_kept (line ∷ lines) more (suc at) name h = label_kept lines more at name h
 
 -- A line of the whole is the last or one before it.
-pub label_split : (lines : List Line) (line : Line) (at : ℕ) (name : List ℕ) → HasLabel (lines ++ line ∷ []) at name → HasLabel lines at name ⊎ ((at ≡ length lines) × (line.label ≡ Some name))
-label_split [] line zero name h = let same : line ≡ h.0 = some_line _ _ h.1 in inr (refl, ap (λ (l : Line). l.label) same ∙ h.2)
+pub label_split : (lines : List SourceLine) (line : SourceLine) (at : ℕ) (name : List ℕ) → HasLabel (lines ++ line ∷ []) at name → HasLabel lines at name ⊎ ((at ≡ length lines) × (line.label ≡ Some name))
+label_split [] line zero name h = let same : line ≡ h.0 = some_line _ _ h.1 in inr (refl, ap (λ (l : SourceLine). l.label) same ∙ h.2)
 label_split [] line (suc at) name h = cc
 label_split (first ∷ lines) line zero name h = inl h
 label_split (first ∷ lines) line (suc at) name h =
     elim (label_split lines line at name h) [ inl f ↦ inl f | inr l ↦ inr (ap suc l.0, l.1) ]
 
 -- A label of a prefix names the same place in the whole.
-pub stands_kept : (lines more : List Line) (name : List ℕ) (place : ℕ) → StandsFor lines name place → StandsFor (lines ++ more) name place
+pub stands_kept : (lines more : List SourceLine) (name : List ℕ) (place : ℕ) → NamesPlace lines name place → NamesPlace (lines ++ more) name place
 stands_kept lines more name place s = record {
   before = s.before;
   here = s.here;
   behind = s.behind ++ more;
-  split = ap (λ (ls : List Line). ls ++ more) s.split ∙ append_assoc s.before (s.here ∷ s.behind) more;
+  split = ap (λ (ls : List SourceLine). ls ++ more) s.split ∙ append_assoc s.before (s.here ∷ s.behind) more;
   named = s.named;
   counted = s.counted;
 }
 
 -- The last line's label names the place after the statements before it.
-stands_last : (lines : List Line) (line : Line) (name : List ℕ) → line.label ≡ Some name → StandsFor (lines ++ line ∷ []) name (length (statements_of lines))
+stands_last : (lines : List SourceLine) (line : SourceLine) (name : List ℕ) → line.label ≡ Some name → NamesPlace (lines ++ line ∷ []) name (length (statements_of lines))
 stands_last lines line name e = record { before = lines; here = line; behind = []; split = refl; named = e; counted = refl }
 
 -- The number of statements of one line.
-pub statements_one : (line : Line) (s : Option Statement) → line.statement ≡ s → length (statements_of (line ∷ [])) ≡ statement_count s
+pub statements_one : (line : SourceLine) (s : Option Statement) → line.statement ≡ s → length (statements_of (line ∷ [])) ≡ statement_count s
 unfolding statements_of
 statements_one line None e = rw e refl
 statements_one line (Some s) e = rw e refl
 
 -- One more line.
-pub count_more : (lines : List Line) (line : Line) → length (statements_of (lines ++ line ∷ [])) ≡ length (statements_of lines) + statement_count line.statement
+pub count_more : (lines : List SourceLine) (line : SourceLine) → length (statements_of (lines ++ line ∷ [])) ≡ length (statements_of lines) + statement_count line.statement
 count_more lines line =
     ap length (statements_of-append lines (line ∷ [])) ∙ length-append (statements_of lines) (statements_of (line ∷ [])) ∙ ap (λ (n : ℕ). length (statements_of lines) + n) (statements_one line line.statement refl)
 
 -- If the last line has no label, each label is one of an earlier line.
-pub no_last : (lines : List Line) (line : Line) (at : ℕ) (name : List ℕ) → line.label ≡ None → HasLabel (lines ++ line ∷ []) at name → HasLabel lines at name
+pub no_last : (lines : List SourceLine) (line : SourceLine) (at : ℕ) (name : List ℕ) → line.label ≡ None → HasLabel (lines ++ line ∷ []) at name → HasLabel lines at name
 no_last lines line at name n h = elim (label_split lines line at name h) [ inl f ↦ f | inr l ↦ absurd (no_name name (sym l.1 ∙ n)) ]
 
 -- If the last line's label is new, no label occurs twice.
-pub both_once : (lines : List Line) (line : Line) (label : List ℕ) (one other : ℕ) (name : List ℕ) → line.label ≡ Some label → ((at : ℕ) → ¬ HasLabel lines at label) → EachLabelOnce lines → HasLabel lines one name ⊎ ((one ≡ length lines) × (line.label ≡ Some name)) → HasLabel lines other name ⊎ ((other ≡ length lines) × (line.label ≡ Some name)) → one ≡ other
+pub both_once : (lines : List SourceLine) (line : SourceLine) (label : List ℕ) (one other : ℕ) (name : List ℕ) → line.label ≡ Some label → ((at : ℕ) → ¬ HasLabel lines at label) → EachLabelOnce lines → HasLabel lines one name ⊎ ((one ≡ length lines) × (line.label ≡ Some name)) → HasLabel lines other name ⊎ ((other ≡ length lines) × (line.label ≡ Some name)) → one ≡ other
 both_once lines line label one other name is new once (inl f) (inl g) = once one other name f g
 both_once lines line label one other name is new once (inl f) (inr g) = let same : name ≡ label = some_name _ _ (sym g.1 ∙ is) in absurd (new one (rw same at f))
 both_once lines line label one other name is new once (inr f) (inl g) = let same : name ≡ label = some_name _ _ (sym f.1 ∙ is) in absurd (new other (rw same at g))
 both_once lines line label one other name is new once (inr f) (inr g) = f.0 ∙ sym g.0
 
-put_stands : (lines : List Line) (line : Line) (label name : List ℕ) (places place : ℕ) → line.label ≡ Some label → places ≡ length (statements_of lines) → (old : Option ℕ) → (old ≡ Some place → StandsFor lines name place) → (t : Bool) → bytes_eq label name ≡ t → (if t then Some places else old) ≡ Some place → StandsFor (lines ++ line ∷ []) name place
+put_stands : (lines : List SourceLine) (line : SourceLine) (label name : List ℕ) (places place : ℕ) → line.label ≡ Some label → places ≡ length (statements_of lines) → (old : Option ℕ) → (old ≡ Some place → NamesPlace lines name place) → (t : Bool) → bytes_eq label name ≡ t → (if t then Some places else old) ≡ Some place → NamesPlace (lines ++ line ∷ []) name place
 put_stands lines line label name places place is counted old stands true b e =
     let same : label ≡ name = (bytes_eq-Decides label name).0 b in
     let at : place ≡ length (statements_of lines) = sym (some_place places place e) ∙ counted in
     rw at (stands_last lines line name (is ∙ ap (λ (n : List ℕ). Some n) same))
 put_stands lines line label name places place is counted old stands false b e = stands_kept lines (line ∷ []) name place (stands e)
 
-put_unknown : (lines : List Line) (line : Line) (label name : List ℕ) (places at : ℕ) → line.label ≡ Some label → (old : Option ℕ) → (old ≡ None → ¬ HasLabel lines at name) → (t : Bool) → bytes_eq label name ≡ t → (if t then Some places else old) ≡ None → HasLabel lines at name ⊎ ((at ≡ length lines) × (line.label ≡ Some name)) → ⊥
+put_unknown : (lines : List SourceLine) (line : SourceLine) (label name : List ℕ) (places at : ℕ) → line.label ≡ Some label → (old : Option ℕ) → (old ≡ None → ¬ HasLabel lines at name) → (t : Bool) → bytes_eq label name ≡ t → (if t then Some places else old) ≡ None → HasLabel lines at name ⊎ ((at ≡ length lines) × (line.label ≡ Some name)) → ⊥
 put_unknown lines line label name places at is old unknown true b e h = some_none places e
 put_unknown lines line label name places at is old unknown false b e (inl f) = unknown e f
 put_unknown lines line label name places at is old unknown false b e (inr l) =
@@ -100,19 +100,19 @@ put_unknown lines line label name places at is old unknown false b e (inr l) =
     cc
 
 -- The line at which a list is split has its label.
-pub stands_label : (before : List Line) (here : Line) (behind : List Line) (name : List ℕ) → here.label ≡ Some name → HasLabel (before ++ here ∷ behind) (length before) name
+pub stands_label : (before : List SourceLine) (here : SourceLine) (behind : List SourceLine) (name : List ℕ) → here.label ≡ Some name → HasLabel (before ++ here ∷ behind) (length before) name
 stands_label [] here behind name e = (here, refl, e)
 stands_label (first ∷ before) here behind name e = stands_label before here behind name e
 
 -- A label that names a place is the label of some line.
-pub stands_has : (lines : List Line) (name : List ℕ) (place : ℕ) → StandsFor lines name place → (at : ℕ) × HasLabel lines at name
-stands_has lines name place s = (length s.before, subst (λ (ls : List Line). HasLabel ls (length s.before) name) (sym s.split) (stands_label s.before s.here s.behind name s.named))
+pub stands_has : (lines : List SourceLine) (name : List ℕ) (place : ℕ) → NamesPlace lines name place → (at : ℕ) × HasLabel lines at name
+stands_has lines name place s = (length s.before, subst (λ (ls : List SourceLine). HasLabel ls (length s.before) name) (sym s.split) (stands_label s.before s.here s.behind name s.named))
 
-twice_by : (lines : List Line) (line : Line) (label : List ℕ) (old : Option ℕ) → line.label ≡ Some label → is_none old ≡ false → ((place : ℕ) → old ≡ Some place → StandsFor lines label place) → IsTwice lines line
+twice_by : (lines : List SourceLine) (line : SourceLine) (label : List ℕ) (old : Option ℕ) → line.label ≡ Some label → is_none old ≡ false → ((place : ℕ) → old ≡ Some place → NamesPlace lines label place) → IsTwice lines line
 twice_by lines line label None is o stands = cc
 twice_by lines line label (Some place) is o stands = let h = stands_has lines label place (stands place refl) in (label, is, h.0, h.1)
 
-are_more : (done : List (List ℕ)) (lines : List Line) (octets : List ℕ) (line : Line) → IsLine octets line → AreLines done lines → AreLines (done ++ octets ∷ []) (lines ++ line ∷ [])
+are_more : (done : List (List ℕ)) (lines : List SourceLine) (octets : List ℕ) (line : SourceLine) → IsSourceLine octets line → AreLines done lines → AreLines (done ++ octets ∷ []) (lines ++ line ∷ [])
 are_more [] [] octets line is a = (is, refl)
 are_more [] (first ∷ lines) octets line is a = cc
 are_more (one ∷ done) [] octets line is a = absurd a
@@ -129,7 +129,7 @@ agrees_none find none = record {
 }
 
 -- A line without a label.
-pub agrees_plain : (lines : List Line) (line : Line) (find : List ℕ → Option ℕ) (places : ℕ) → line.label ≡ None → AgreesWith lines find places → AgreesWith (lines ++ line ∷ []) find (places + statement_count line.statement)
+pub agrees_plain : (lines : List SourceLine) (line : SourceLine) (find : List ℕ → Option ℕ) (places : ℕ) → line.label ≡ None → AgreesWith lines find places → AgreesWith (lines ++ line ∷ []) find (places + statement_count line.statement)
 agrees_plain lines line find places n a = record {
   counted = ap (λ (m : ℕ). m + statement_count line.statement) a.counted ∙ sym (count_more lines line);
   once = λ one other label f g. a.once one other label (no_last lines line one label n f) (no_last lines line other label n g);
@@ -138,7 +138,7 @@ agrees_plain lines line find places n a = record {
 }
 
 -- A line with a new label.
-pub agrees_label : (lines : List Line) (line : Line) (label : List ℕ) (find found : List ℕ → Option ℕ) (places : ℕ) → line.label ≡ Some label → find label ≡ None → ((name : List ℕ) → found name ≡ (if bytes_eq label name then Some places else find name)) → AgreesWith lines find places → AgreesWith (lines ++ line ∷ []) found (places + statement_count line.statement)
+pub agrees_label : (lines : List SourceLine) (line : SourceLine) (label : List ℕ) (find found : List ℕ → Option ℕ) (places : ℕ) → line.label ≡ Some label → find label ≡ None → ((name : List ℕ) → found name ≡ (if bytes_eq label name then Some places else find name)) → AgreesWith lines find places → AgreesWith (lines ++ line ∷ []) found (places + statement_count line.statement)
 agrees_label lines line label find found places is new put a = record {
   counted = ap (λ (m : ℕ). m + statement_count line.statement) a.counted ∙ sym (count_more lines line);
   once = λ one other name f g. both_once lines line label one other name is (a.unknown label new) a.once (label_split lines line one name f) (label_split lines line other name g);
@@ -147,7 +147,7 @@ agrees_label lines line label find found places is new put a = record {
 }
 
 -- A line with an old label.
-pub twice_is : (lines : List Line) (line : Line) (label : List ℕ) (find : List ℕ → Option ℕ) (places : ℕ) → line.label ≡ Some label → is_none (find label) ≡ false → AgreesWith lines find places → IsTwice lines line
+pub twice_is : (lines : List SourceLine) (line : SourceLine) (label : List ℕ) (find : List ℕ → Option ℕ) (places : ℕ) → line.label ≡ Some label → is_none (find label) ≡ false → AgreesWith lines find places → IsTwice lines line
 twice_is lines line label find places is old a = twice_by lines line label (find label) is old (a.stands label)
 
 -- No line is read.
@@ -155,7 +155,7 @@ pub read_none : (source : List (List ℕ)) → IsReadTo source source [] 0
 read_none source = record { done = []; split = refl; said = refl; counted = refl }
 
 -- One more line is read.
-pub read_more : (source left : List (List ℕ)) (octets : List ℕ) (lines : List Line) (line : Line) (count : ℕ) → IsLine octets line → IsReadTo source (octets ∷ left) lines count → IsReadTo source left (lines ++ line ∷ []) (count + 1)
+pub read_more : (source left : List (List ℕ)) (octets : List ℕ) (lines : List SourceLine) (line : SourceLine) (count : ℕ) → IsSourceLine octets line → IsReadTo source (octets ∷ left) lines count → IsReadTo source left (lines ++ line ∷ []) (count + 1)
 read_more source left octets lines line count is r = record {
   done = r.done ++ octets ∷ [];
   split = r.split ∙ sym (append_assoc r.done (octets ∷ []) left);

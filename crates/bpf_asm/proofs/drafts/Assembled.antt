@@ -1,7 +1,7 @@
 -- The meaning or the fault of a source, from its lines.
 use Rattle.std.proofs.Common.{◌≡◌, ◌⊎◌, ℕ, ◌+◌, List, Some, None, Result, Ok, Err, IfErr, inl, inr}
 use Rattle.bpf_asm.specs.Faults.{IsFault, IsFirstOperandFault, IsOutOfMemory}
-use Rattle.bpf_asm.specs.Grammar.{AreLines, Line}
+use Rattle.bpf_asm.specs.Grammar.{AreLines, SourceLine}
 use Rattle.bpf_asm.specs.Labels.{EachLabelOnce, statements_of}
 use Rattle.bpf_asm.specs.SourceLines.{source_lines}
 use Rattle.bpf_asm.specs.Meaning.{IsMeaning, MeanFrom}
@@ -16,11 +16,11 @@ if_err (Ok v) P Q f h = tt
 if_err (Err e) P Q f h = f e h
 
 -- The meaning.
-pub means_source : (source : List ℕ) (lines : List Line) (code : List Instr) → AreLines (source_lines source) lines → EachLabelOnce lines → IsPending lines None → MeanFrom lines 0 (statements_of lines) code → IsMeaning source code
+pub means_source : (source : List ℕ) (lines : List SourceLine) (code : List Instr) → AreLines (source_lines source) lines → EachLabelOnce lines → IsPending lines None → MeanFrom lines 0 (statements_of lines) code → IsMeaning source code
 means_source source lines code said once none meant = record { lines = lines; said = said; mean = record { once = once; followed = none; meant = meant } }
 
 -- The first label that no instruction follows.
-pub dangling_source : (source : List ℕ) (lines : List Line) (at : ℕ) (fault : AsmFault) → AreLines (source_lines source) lines → EachLabelOnce lines → IsPending lines (Some at) → (fault.line ≡ at + 1) × (fault.kind ≡ DanglingLabel) → IsFault source fault
+pub dangling_source : (source : List ℕ) (lines : List SourceLine) (at : ℕ) (fault : AsmFault) → AreLines (source_lines source) lines → EachLabelOnce lines → IsPending lines (Some at) → (fault.line ≡ at + 1) × (fault.kind ≡ DanglingLabel) → IsFault source fault
 dangling_source source lines at fault said once p n = inr (record {
   lines = lines;
   said = said;
@@ -29,6 +29,6 @@ dangling_source source lines at fault said once p n = inr (record {
 })
 
 -- The first label operand that has no offset.
-pub operand_source : (source : List ℕ) (lines : List Line) (fault : AsmFault) → AreLines (source_lines source) lines → EachLabelOnce lines → IsPending lines None → IsFirstOperandFault lines fault ⊎ IsOutOfMemory fault → IsFault source fault ⊎ IsOutOfMemory fault
+pub operand_source : (source : List ℕ) (lines : List SourceLine) (fault : AsmFault) → AreLines (source_lines source) lines → EachLabelOnce lines → IsPending lines None → IsFirstOperandFault lines fault ⊎ IsOutOfMemory fault → IsFault source fault ⊎ IsOutOfMemory fault
 operand_source source lines fault said once none f =
     elim f [ inl g ↦ inl (inr (record { lines = lines; said = said; once = once; faulty = inr (none, g) })) | inr m ↦ inr m ]

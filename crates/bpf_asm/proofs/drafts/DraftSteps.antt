@@ -3,7 +3,7 @@ use Rattle.std.proofs.Common.{◌≡◌, ◌⊎◌, ℕ, ◌+◌, Bool, true, fa
 use Rattle.std.proofs.lemmas.List.{length-map, map-append}
 use Rattle.std.proofs.lemmas.List.Elements.{filter-append}
 use Rattle.std.specs.Option.{option_to_list}
-use Rattle.bpf_asm.specs.Grammar.{Line}
+use Rattle.bpf_asm.specs.Grammar.{SourceLine}
 use Rattle.bpf_asm.specs.Labels.{statements_of}
 use Rattle.bpf_asm.specs.inner.Seen.{statement_seen}
 use Rattle.bpf_asm.specs.StatementSpelling.{Statement}
@@ -30,22 +30,22 @@ split_last (a ∷ all) (z ∷ front) x y back e =
       | inr s ↦ inr (ap (λ v. v ∷ front) (sym head) ∙ ap (λ vs. a ∷ vs) s.0, s.1)
     ]
 
-stands_more : (lines : List Line) (line : Line) (front : List Unresolved) (u : Unresolved) → StandsBehind lines front u → StandsBehind (lines ++ line ∷ []) front u
+stands_more : (lines : List SourceLine) (line : SourceLine) (front : List Unresolved) (u : Unresolved) → StandsBehind lines front u → StandsBehind (lines ++ line ∷ []) front u
 stands_more lines line front u s = record {
   before = s.before;
   here = s.here;
   behind = s.behind ++ line ∷ [];
-  split = ap (λ (ls : List Line). ls ++ line ∷ []) s.split ∙ append_assoc s.before (s.here ∷ s.behind) (line ∷ []);
+  split = ap (λ (ls : List SourceLine). ls ++ line ∷ []) s.split ∙ append_assoc s.before (s.here ∷ s.behind) (line ∷ []);
   number = s.number;
   stands = s.stands;
   earlier = s.earlier;
   place = s.place;
 }
 
-stands_last : (lines : List Line) (line : Line) (all : List Unresolved) (u : Unresolved) → line.statement ≡ Some (statement_seen u.statement) → u.line ≡ length lines + 1 → u.place ≡ length all → statements_of lines ≡ statements_seen all → StandsBehind (lines ++ line ∷ []) all u
+stands_last : (lines : List SourceLine) (line : SourceLine) (all : List Unresolved) (u : Unresolved) → line.statement ≡ Some (statement_seen u.statement) → u.line ≡ length lines + 1 → u.place ≡ length all → statements_of lines ≡ statements_seen all → StandsBehind (lines ++ line ∷ []) all u
 stands_last lines line all u s n p e = record { before = lines; here = line; behind = []; split = refl; number = n; stands = s; earlier = e; place = p }
 
-each_add : (lines : List Line) (line : Line) (all : List Unresolved) (u : Unresolved) → StandsBehind (lines ++ line ∷ []) all u → EachStands lines all → EachStands (lines ++ line ∷ []) (all ++ u ∷ [])
+each_add : (lines : List SourceLine) (line : SourceLine) (all : List Unresolved) (u : Unresolved) → StandsBehind (lines ++ line ∷ []) all u → EachStands lines all → EachStands (lines ++ line ∷ []) (all ++ u ∷ [])
 each_add lines line all u last each = λ front v back e.
     elim (split_last all front u v back e) [
       | inl s ↦ stands_more lines line front v (each front v s.0 s.1)
@@ -58,7 +58,7 @@ unfolding statements_of
 draft_empty = record { all = []; statements = refl; each = λ front u back e. absurd (none_apart front u back e); forms = refl; labelled = refl }
 
 -- A line without an instruction.
-pub draft_skip : (lines : List Line) (line : Line) (code : List Instr) (unresolved : List Unresolved) → line.statement ≡ None → IsDraft lines code unresolved → IsDraft (lines ++ line ∷ []) code unresolved
+pub draft_skip : (lines : List SourceLine) (line : SourceLine) (code : List Instr) (unresolved : List Unresolved) → line.statement ≡ None → IsDraft lines code unresolved → IsDraft (lines ++ line ∷ []) code unresolved
 draft_skip lines line code unresolved e d = record {
   all = d.all;
   statements = statements_more lines line ∙ ap (λ (s : Option Statement). statements_of lines ++ option_to_list s) e ∙ append-nil (statements_of lines) ∙ d.statements;
@@ -71,7 +71,7 @@ kept_is : (b : Bool) (u : Unresolved) → is_unresolved u ≡ b → kept_of b u 
 kept_is true u e = rw e refl
 kept_is false u e = rw e refl
 
-draft_by : (lines : List Line) (line : Line) (code more : List Instr) (unresolved left : List Unresolved) (u : Unresolved) → line.statement ≡ Some (statement_seen u.statement) → u.line ≡ length lines + 1 → u.place ≡ length code → more ≡ code ++ drafted u.statement ∷ [] → left ≡ unresolved ++ kept_of (has_labels u.statement) u → IsDraft lines code unresolved → IsDraft (lines ++ line ∷ []) more left
+draft_by : (lines : List SourceLine) (line : SourceLine) (code more : List Instr) (unresolved left : List Unresolved) (u : Unresolved) → line.statement ≡ Some (statement_seen u.statement) → u.line ≡ length lines + 1 → u.place ≡ length code → more ≡ code ++ drafted u.statement ∷ [] → left ≡ unresolved ++ kept_of (has_labels u.statement) u → IsDraft lines code unresolved → IsDraft (lines ++ line ∷ []) more left
 draft_by lines line code more unresolved left u s n p m l d =
     let place : u.place ≡ length d.all = p ∙ ap length d.forms ∙ length-map d.all (λ (v : Unresolved). drafted v.statement) in
     record {
@@ -83,6 +83,6 @@ draft_by lines line code more unresolved left u s n p m l d =
     }
 
 -- A line with an instruction.
-pub draft_add : (lines : List Line) (line : Line) (code more : List Instr) (unresolved left : List Unresolved) (number : ℕ) (statement : LentStatement) → line.statement ≡ Some (statement_seen statement) → number ≡ length lines + 1 → more ≡ code ++ drafted statement ∷ [] → left ≡ unresolved ++ unresolved_of number (length code) statement → IsDraft lines code unresolved → IsDraft (lines ++ line ∷ []) more left
+pub draft_add : (lines : List SourceLine) (line : SourceLine) (code more : List Instr) (unresolved left : List Unresolved) (number : ℕ) (statement : LentStatement) → line.statement ≡ Some (statement_seen statement) → number ≡ length lines + 1 → more ≡ code ++ drafted statement ∷ [] → left ≡ unresolved ++ unresolved_of number (length code) statement → IsDraft lines code unresolved → IsDraft (lines ++ line ∷ []) more left
 draft_add lines line code more unresolved left number statement s n m l d =
     draft_by lines line code more unresolved left (record { line = number; place = length code; statement = statement }) s n refl m l d

@@ -2,7 +2,7 @@
 use Rattle.std.proofs.Common.{◌≡◌, ℕ, ◌+◌, ◌<◌, Bool, true, false, List, [], ◌∷◌, ◌++◌, length, set, drop, get_or, filter, cond, refl, sym, ap, ◌∙◌, subst, arith, append_assoc, length-append}
 use Rattle.std.proofs.lemmas.List.{drop_more, length-map, map-append, set_at}
 use Rattle.bpf_asm.specs.Faults.{IsFirstOperandFault, IsStatementFault}
-use Rattle.bpf_asm.specs.Grammar.{Line}
+use Rattle.bpf_asm.specs.Grammar.{SourceLine}
 use Rattle.bpf_asm.specs.Labels.{statements_of}
 use Rattle.bpf_asm.specs.Meaning.{MeanFrom, Means}
 use Rattle.bpf_asm.specs.inner.Seen.{statement_seen}
@@ -37,7 +37,7 @@ first_kept : (back : List Unresolved) (u : Unresolved) (more : List Unresolved) 
 first_kept [] u more e = cc
 first_kept (v ∷ back) u more e = first_by v back u more (is_unresolved v) refl e (first_kept back u more)
 
-plain_means : (lines : List Line) (place : ℕ) (statement : LentStatement) → has_labels statement ≡ false → Means lines place (statement_seen statement) (drafted statement)
+plain_means : (lines : List SourceLine) (place : ℕ) (statement : LentStatement) → has_labels statement ≡ false → Means lines place (statement_seen statement) (drafted statement)
 plain_means lines place (Plain i) e = refl
 plain_means lines place (LabelJump target) e = cc
 plain_means lines place (LabelBranch test by met unmet) e = cc
@@ -47,13 +47,13 @@ plain_parts true v vs b e = cc
 plain_parts false v vs b e = (b, e)
 
 -- Instructions without labels mean themselves.
-plains_mean : (lines : List Line) (place : ℕ) (plains : List Unresolved) → filter is_unresolved plains ≡ [] → MeanFrom lines place (statements_seen plains) (first_forms plains)
+plains_mean : (lines : List SourceLine) (place : ℕ) (plains : List Unresolved) → filter is_unresolved plains ≡ [] → MeanFrom lines place (statements_seen plains) (first_forms plains)
 plains_mean lines place [] e = refl
 plains_mean lines place (v ∷ plains) e =
     let parts = plain_parts (is_unresolved v) v plains refl e in
     (plain_means lines place v.statement parts.0, plains_mean lines (place + 1) plains parts.1)
 
-mean_append : (lines : List Line) (place : ℕ) (ss more : List Statement) (code behind : List Instr) → MeanFrom lines place ss code → MeanFrom lines (place + length ss) more behind → MeanFrom lines place (ss ++ more) (code ++ behind)
+mean_append : (lines : List SourceLine) (place : ℕ) (ss more : List Statement) (code behind : List Instr) → MeanFrom lines place ss code → MeanFrom lines (place + length ss) more behind → MeanFrom lines place (ss ++ more) (code ++ behind)
 mean_append lines place [] more [] behind m n = let z : place + 0 ≡ place = omega arith in subst (λ (p : ℕ). MeanFrom lines p more behind) z n
 mean_append lines place [] more (i ∷ code) behind m n = cc
 mean_append lines place (s ∷ ss) more [] behind m n = absurd m
@@ -62,13 +62,13 @@ mean_append lines place (s ∷ ss) more (i ∷ code) behind m n =
     (m.0, mean_append lines (place + 1) ss more code behind m.1 (subst (λ (p : ℕ). MeanFrom lines p more behind) moved n))
 
 -- Instructions without labels after others.
-plains_behind : (lines : List Line) (front plains : List Unresolved) (done : List Instr) → filter is_unresolved plains ≡ [] → MeanFrom lines 0 (statements_seen front) done → MeanFrom lines 0 (statements_seen (front ++ plains)) (done ++ first_forms plains)
+plains_behind : (lines : List SourceLine) (front plains : List Unresolved) (done : List Instr) → filter is_unresolved plains ≡ [] → MeanFrom lines 0 (statements_seen front) done → MeanFrom lines 0 (statements_seen (front ++ plains)) (done ++ first_forms plains)
 plains_behind lines front plains done none m =
     rw (map-append (λ (v : Unresolved). statement_seen v.statement) front plains)
     (mean_append lines 0 (statements_seen front) (statements_seen plains) done (first_forms plains) m (plains_mean lines (0 + length (statements_seen front)) plains none))
 
 -- The next instruction with labels of a draft that is resolved up to it.
-pub record IsNext (lines : List Line) (code : List Instr) (u : Unresolved) (more : List Unresolved) : Type 0 where
+pub record IsNext (lines : List SourceLine) (code : List Instr) (u : Unresolved) (more : List Unresolved) : Type 0 where
   pub front : List Unresolved
   pub rest : List Unresolved
   pub statements : statements_of lines ≡ statements_seen (front ++ u ∷ rest)
@@ -79,7 +79,7 @@ pub record IsNext (lines : List Line) (code : List Instr) (u : Unresolved) (more
   pub labelled : more ≡ filter is_unresolved rest
   pub counted : u.place ≡ length done
 
-next_by : (lines : List Line) (code : List Instr) (u : Unresolved) (more : List Unresolved) (r : IsResolvedTo lines code (u ∷ more)) → FirstKept r.back u more → IsNext lines code u more
+next_by : (lines : List SourceLine) (code : List Instr) (u : Unresolved) (more : List Unresolved) (r : IsResolvedTo lines code (u ∷ more)) → FirstKept r.back u more → IsNext lines code u more
 next_by lines code u more r f =
     let all : r.front ++ r.back ≡ (r.front ++ f.plains) ++ u ∷ f.rest = ap (λ us. r.front ++ us) f.split ∙ sym (append_assoc r.front f.plains (u ∷ f.rest)) in
     let each : EachStands lines ((r.front ++ f.plains) ++ u ∷ f.rest) = subst (λ (us : List Unresolved). EachStands lines us) all r.each in
@@ -100,26 +100,26 @@ next_by lines code u more r f =
     }
 
 -- The next instruction with labels.
-pub next_is : (lines : List Line) (code : List Instr) (u : Unresolved) (more : List Unresolved) → IsResolvedTo lines code (u ∷ more) → IsNext lines code u more
+pub next_is : (lines : List SourceLine) (code : List Instr) (u : Unresolved) (more : List Unresolved) → IsResolvedTo lines code (u ∷ more) → IsNext lines code u more
 next_is lines code u more r = next_by lines code u more r (first_kept r.back u more r.labelled)
 
 -- The first of the unresolved instructions that are left.
-pub next_at : (lines : List Line) (code : List Instr) (items : List Unresolved) (at : ℕ) (d : Unresolved) → at < length items → IsResolvedTo lines code (drop at items) → IsNext lines code (get_or items at d) (drop (at + 1) items)
+pub next_at : (lines : List SourceLine) (code : List Instr) (items : List Unresolved) (at : ℕ) (d : Unresolved) → at < length items → IsResolvedTo lines code (drop at items) → IsNext lines code (get_or items at d) (drop (at + 1) items)
 next_at lines code items at d h r = next_is lines code (get_or items at d) (drop (at + 1) items) (subst (λ (us : List Unresolved). IsResolvedTo lines code us) (drop_more items at d h) r)
 
 -- The next one is within the code.
-pub next_within : (lines : List Line) (code : List Instr) (u : Unresolved) (more : List Unresolved) → IsNext lines code u more → u.place < length code
+pub next_within : (lines : List SourceLine) (code : List Instr) (u : Unresolved) (more : List Unresolved) → IsNext lines code u more → u.place < length code
 next_within lines code u more n =
     let count = ap length n.forms ∙ length-append n.done (drafted u.statement ∷ first_forms n.rest) in
     let place = n.counted in
     omega arith
 
 -- The first of those that are left is within the code.
-pub next_at_within : (lines : List Line) (code : List Instr) (items : List Unresolved) (at : ℕ) (d : Unresolved) (count : ℕ) → at < length items → count ≡ length code → IsResolvedTo lines code (drop at items) → (get_or items at d).place < count
+pub next_at_within : (lines : List SourceLine) (code : List Instr) (items : List Unresolved) (at : ℕ) (d : Unresolved) (count : ℕ) → at < length items → count ≡ length code → IsResolvedTo lines code (drop at items) → (get_or items at d).place < count
 next_at_within lines code items at d count h e r = let within = next_within lines code (get_or items at d) (drop (at + 1) items) (next_at lines code items at d h r) in omega arith
 
 -- The next one is resolved.
-pub next_resolved : (lines : List Line) (code : List Instr) (u : Unresolved) (more : List Unresolved) (i : Instr) → Means lines u.place (statement_seen u.statement) i → IsNext lines code u more → IsResolvedTo lines (set code u.place i) more
+pub next_resolved : (lines : List SourceLine) (code : List Instr) (u : Unresolved) (more : List Unresolved) (i : Instr) → Means lines u.place (statement_seen u.statement) i → IsNext lines code u more → IsResolvedTo lines (set code u.place i) more
 next_resolved lines code u more i here n =
     let all : (n.front ++ u ∷ []) ++ n.rest ≡ n.front ++ u ∷ n.rest = append_assoc n.front (u ∷ []) n.rest in
     let seen = λ (v : Unresolved). statement_seen v.statement in
@@ -137,7 +137,7 @@ next_resolved lines code u more i here n =
     }
 
 -- The next one can't be resolved.
-pub next_fault : (lines : List Line) (code : List Instr) (u : Unresolved) (more : List Unresolved) (kind : AsmKind) (fault : AsmFault) → fault.line ≡ u.line → fault.kind ≡ kind → IsStatementFault lines u.place (statement_seen u.statement) kind → IsNext lines code u more → IsFirstOperandFault lines fault
+pub next_fault : (lines : List SourceLine) (code : List Instr) (u : Unresolved) (more : List Unresolved) (kind : AsmKind) (fault : AsmFault) → fault.line ≡ u.line → fault.kind ≡ kind → IsStatementFault lines u.place (statement_seen u.statement) kind → IsNext lines code u more → IsFirstOperandFault lines fault
 next_fault lines code u more kind fault l k f n =
     let s = n.each n.front u n.rest refl in
     let place : u.place ≡ length (statements_of s.before) = s.place ∙ sym (ap length s.earlier ∙ length-map n.front (λ (v : Unresolved). statement_seen v.statement)) in
@@ -154,7 +154,7 @@ next_fault lines code u more kind fault l k f n =
     }
 
 -- All are resolved.
-pub resolved_all : (lines : List Line) (code : List Instr) (unresolved : List Unresolved) → unresolved ≡ [] → IsResolvedTo lines code unresolved → MeanFrom lines 0 (statements_of lines) code
+pub resolved_all : (lines : List SourceLine) (code : List Instr) (unresolved : List Unresolved) → unresolved ≡ [] → IsResolvedTo lines code unresolved → MeanFrom lines 0 (statements_of lines) code
 resolved_all lines code unresolved none r =
     let plains : filter is_unresolved r.back ≡ [] = sym r.labelled ∙ none in
     rw (r.statements, r.forms) (plains_behind lines r.front r.back r.done plains r.means)

@@ -2,8 +2,8 @@
 use Rattle.std.proofs.Common.{◌≡◌, ℕ, zero, suc, ◌+◌, ◌<◌, ◌≤◌, ◌^◌, true, ◌&&◌, List, [], ◌∷◌, ◌++◌, length, drop, Some, slice_get, codes, decimal, refl, sym, ap, ◌∙◌, subst, inl, inr, arith, append_assoc}
 use Rattle.std.proofs.lemmas.Bool.{and_parts}
 use Rattle.std.proofs.lemmas.Fmt.{decimal_injective}
-use Rattle.bpf_asm.specs.Grammar.{Line, AreLines, IsLine, IsOneOf}
-use Rattle.bpf_asm.specs.Labels.{EachLabelOnce, StandsFor, statements_of}
+use Rattle.bpf_asm.specs.Grammar.{SourceLine, AreLines, IsSourceLine, IsOneOf}
+use Rattle.bpf_asm.specs.Labels.{EachLabelOnce, NamesPlace, statements_of}
 use Rattle.bpf_asm.specs.SourceLines.{source_lines, without_comment}
 use Rattle.bpf_asm.specs.Listing.{StaysWithin, first_spelling, instruction_text, label_at, line_text, listing_from, listing_of, statement_at}
 use Rattle.bpf_asm.specs.Meaning.{IsMeaning, MeanFrom, Means}
@@ -18,11 +18,11 @@ use Rattle.bpf_code.specs.declared.instr.Instr.{Instr}
 use Rattle.bpf_code.specs.declared.instr.Instr.TheVariants.{LoadAbs, LoadInd, LoadImm, LoadMem, LoadLen, LdxImm, LdxMem, LdxLen, LdxMsh, Store, StoreX, Alu, Neg, Jump, Branch, RetK, RetA, Tax, Txa}
 
 -- The line of a listing.
-abbrev line_at : ℕ → Instr → Line
+abbrev line_at : ℕ → Instr → SourceLine
 line_at place i = record { label = Some (label_at place); statement = Some (statement_at place i) }
 
 -- The lines of a listing, from this place on.
-lines_in : ℕ → List Instr → List Line
+lines_in : ℕ → List Instr → List SourceLine
 lines_in place [] = []
 lines_in place (i ∷ code) = line_at place i ∷ lines_in (place + 1) code
 
@@ -58,8 +58,8 @@ unfolding tokens_of pieces_of
 colon_token = refl
 
 -- One line parses as the line of the listing.
-line_said : (place : ℕ) (i : Instr) → FitsFields i → StaysWithin (2 ^ 64) place i → place < 2 ^ 64 → (all_inline (spelling_octets (line_parts place i)) ≡ true) × IsLine (spelling_octets (line_parts place i)) (line_at place i)
-unfolding IsLine tokens_in tokens_read
+line_said : (place : ℕ) (i : Instr) → FitsFields i → StaysWithin (2 ^ 64) place i → place < 2 ^ 64 → (all_inline (spelling_octets (line_parts place i)) ≡ true) × IsSourceLine (spelling_octets (line_parts place i)) (line_at place i)
+unfolding IsSourceLine tokens_in tokens_read
 line_said place i w s h =
     let parts = line_parts place i in
     let row = first_spelling (spellings (statement_at place i)) in
@@ -88,13 +88,13 @@ lines_said place (i ∷ code) l h =
     subst (λ (ls : List (List ℕ)). AreLines ls (line_at place i ∷ lines_in (place + 1) code)) (sym split) (here.1, later)
 
 -- Each line has its place's label.
-line_label : (place : ℕ) (code : List Instr) (at : ℕ) (line : Line) → slice_get (lines_in place code) at ≡ Some line → (at < length code) × (line.label ≡ Some (label_at (place + at)))
+line_label : (place : ℕ) (code : List Instr) (at : ℕ) (line : SourceLine) → slice_get (lines_in place code) at ≡ Some line → (at < length code) × (line.label ≡ Some (label_at (place + at)))
 unfolding lines_in
 line_label place [] at line e = cc
 line_label place (i ∷ code) zero line e =
     let same : line ≡ line_at place i = cc in
     let here : place + 0 ≡ place = omega arith in
-    (omega arith, ap (λ (l : Line). l.label) same ∙ ap (λ (p : ℕ). Some (label_at p)) (sym here))
+    (omega arith, ap (λ (l : SourceLine). l.label) same ∙ ap (λ (p : ℕ). Some (label_at p)) (sym here))
 line_label place (i ∷ code) (suc at) line e =
     let later = line_label (place + 1) code at line e in
     let moved : place + 1 + at ≡ place + suc at = omega arith in
@@ -121,7 +121,7 @@ some_statement place (i ∷ code) zero h e = cc
 some_statement place (i ∷ code) (suc at) h e = some_statement (place + 1) code at (omega arith) e
 
 -- Each label names its place.
-label_stands : (place : ℕ) (code : List Instr) (at : ℕ) → at < length code → StandsFor (lines_in place code) (label_at (place + at)) at
+label_stands : (place : ℕ) (code : List Instr) (at : ℕ) → at < length code → NamesPlace (lines_in place code) (label_at (place + at)) at
 unfolding lines_in statements_of
 label_stands place [] at h = absurd (omega arith)
 label_stands place (i ∷ code) zero h =
@@ -134,13 +134,13 @@ label_stands place (i ∷ code) (suc at) h =
       before = line_at place i ∷ later.before;
       here = later.here;
       behind = later.behind;
-      split = ap (λ (ls : List Line). line_at place i ∷ ls) later.split;
+      split = ap (λ (ls : List SourceLine). line_at place i ∷ ls) later.split;
       named = later.named ∙ ap (λ (p : ℕ). Some (label_at p)) moved;
       counted = ap suc later.counted;
     }
 
-stands_at : (whole : List Instr) (target : ℕ) → target < length whole → StandsFor (lines_in 0 whole) (label_at target) target
-stands_at whole target h = let z : 0 + target ≡ target = omega arith in subst (λ (p : ℕ). StandsFor (lines_in 0 whole) (label_at p) target) z (label_stands 0 whole target h)
+stands_at : (whole : List Instr) (target : ℕ) → target < length whole → NamesPlace (lines_in 0 whole) (label_at target) target
+stands_at whole target h = let z : 0 + target ≡ target = omega arith in subst (λ (p : ℕ). NamesPlace (lines_in 0 whole) (label_at p) target) z (label_stands 0 whole target h)
 
 -- Each statement means the instruction.
 means_here : (whole : List Instr) (place : ℕ) (i : Instr) → FitsFields i × StaysWithin (length whole) place i → Means (lines_in 0 whole) place (statement_at place i) i

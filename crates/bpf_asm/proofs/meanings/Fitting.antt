@@ -2,11 +2,11 @@
 use Rattle.std.proofs.Common.{◌≡◌, ℕ, zero, suc, ◌+◌, ◌-◌, ◌%◌, ◌<◌, ◌^◌, Bool, true, false, ◌&&◌, ◌==◌, nat_lt, if◌then◌else◌, List, [], ◌∷◌, ◌++◌, codes, Option, Some, None, refl, sym, ap, ◌∙◌, subst, arith, inl, inr}
 use Rattle.std.specs.List.{cons_option, filter_map}
 use Rattle.std.proofs.lemmas.Bool.{and_from, and_parts, ltb-true, lt-ltb}
-use Rattle.bpf_asm.specs.Grammar.{AreLines, IsLine, IsOneOf, IsStatement, Line, label_tokens}
+use Rattle.bpf_asm.specs.Grammar.{AreLines, IsSourceLine, IsOneOf, IsStatement, SourceLine, label_tokens}
 use Rattle.bpf_asm.specs.Labels.{statements_of}
 use Rattle.bpf_asm.specs.SourceLines.{source_lines, without_comment}
 use Rattle.bpf_asm.specs.Meaning.{IsMeaning, IsSide, MeanFrom, Means}
-use Rattle.bpf_asm.specs.Numbers.{number_of, value_of, within_word}
+use Rattle.bpf_asm.specs.Numbers.{number_of_word, value_of, within_word}
 use Rattle.bpf_asm.specs.StatementSpelling.{Part, Statement, inverse_names, label, load_name, num, one_sided, op_name, operand, plain, jump, branch, spelling_tokens, spellings, text, test_name}
 use Rattle.bpf_asm.specs.Tokens.{Token, faulty, is_word, mark, name, number, number_token, pieces_of, signed, signed_behind, token_of, tokens_in, tokens_of, tokens_read, word_token}
 use Rattle.bpf_code.specs.Encoding.{code_octets}
@@ -45,10 +45,10 @@ within_small (Some value) =
     [ true ↦ λ e. e | false ↦ λ e. refl ] refl
 
 word_small : (word : List ℕ) → is_small (word_token word) ≡ true
-unfolding word_token number_of
+unfolding word_token number_of_word
 word_small [] = refl
 word_small (octet ∷ rest) =
-    elim (is_digit octet) as (λ t. is_small (if t then number_token (number_of (octet ∷ rest)) else name (octet ∷ rest)) ≡ true)
+    elim (is_digit octet) as (λ t. is_small (if t then number_token (number_of_word (octet ∷ rest)) else name (octet ∷ rest)) ≡ true)
     [ true ↦ within_small (value_of (octet ∷ rest)) | false ↦ refl ]
 
 -- Whether the token of a piece, if it has one, is small.
@@ -191,30 +191,30 @@ said_fits : (s : Option Statement) (tokens : List Token) (ss : List Statement) �
 said_fits None tokens ss h is more = more
 said_fits (Some s) tokens ss h is more = (row_fits s tokens h is, more)
 
-line_fits : (octets : List ℕ) (line : Line) (ss : List Statement) → IsLine octets line → StatementsFit ss → StatementsFit (cons_option line.statement ss)
-unfolding IsLine
+line_fits : (octets : List ℕ) (line : SourceLine) (ss : List Statement) → IsSourceLine octets line → StatementsFit ss → StatementsFit (cons_option line.statement ss)
+unfolding IsSourceLine
 line_fits octets line ss is more =
     let small = small_parts (label_tokens line.label) is.0 (ap all_small (sym is.1) ∙ line_small octets) in
     said_fits line.statement is.0 ss small.1 is.2 more
 
-lines_fit : (source : List (List ℕ)) (lines : List Line) → AreLines source lines → StatementsFit (statements_of lines)
+lines_fit : (source : List (List ℕ)) (lines : List SourceLine) → AreLines source lines → StatementsFit (statements_of lines)
 unfolding statements_of
 lines_fit [] [] a = tt
 lines_fit [] (line ∷ lines) a = cc
 lines_fit (octets ∷ source) [] a = absurd a
 lines_fit (octets ∷ source) (line ∷ lines) a = line_fits octets line (statements_of lines) a.0 (lines_fit source lines a.1)
 
-side_fits : (lines : List Line) (place : ℕ) (target : Option (List ℕ)) (offset : ℕ) → IsSide lines place target offset → offset < 2 ^ 8
+side_fits : (lines : List SourceLine) (place : ℕ) (target : Option (List ℕ)) (offset : ℕ) → IsSide lines place target offset → offset < 2 ^ 8
 side_fits lines place None offset m = omega arith
 side_fits lines place (Some target) offset m = let fits = m.fits in omega arith
 
 -- An instruction that a statement means fits its fields.
-means_fits : (lines : List Line) (place : ℕ) (s : Statement) (i : Instr) → StatementFits s → Means lines place s i → FitsFields i
+means_fits : (lines : List SourceLine) (place : ℕ) (s : Statement) (i : Instr) → StatementFits s → Means lines place s i → FitsFields i
 means_fits lines place (plain j) i f m = rw m f
 means_fits lines place (jump target) i f m = let fits = m.2.fits in rw m.1 (record { k = omega arith; jt = tt; jf = tt })
 means_fits lines place (branch test by met unmet) i f m = rw m.2 (record { k = f; jt = side_fits lines place met m.0 m.3; jf = side_fits lines place unmet m.1 m.4 })
 
-mean_fit : (lines : List Line) (from : ℕ) (ss : List Statement) (code : List Instr) → StatementsFit ss → MeanFrom lines from ss code → (place : ℕ) (i : Instr) → StandsAt code place i → FitsFields i
+mean_fit : (lines : List SourceLine) (from : ℕ) (ss : List Statement) (code : List Instr) → StatementsFit ss → MeanFrom lines from ss code → (place : ℕ) (i : Instr) → StandsAt code place i → FitsFields i
 mean_fit lines from [] [] f m place i e = cc
 mean_fit lines from [] (j ∷ code) f m place i e = cc
 mean_fit lines from (s ∷ ss) [] f m place i e = absurd m

@@ -1,7 +1,7 @@
 -- A source that means a code has no fault.
 use Rattle.std.proofs.Common.{◌≡◌, ℕ, ◌+◌, ◌-◌, ◌%◌, ◌^◌, Bool, true, false, ◌&&◌, ◌||◌, ◌==◌, if◌then◌else◌, List, [], ◌∷◌, ◌++◌, length, Option, Some, None, refl, sym, ap, ◌∙◌, subst, inl, inr, arith}
 use Rattle.bpf_asm.specs.Faults.{HasOffset, HasOffsets, IsFault, IsFirstOperandFault, IsLabelFault, IsLineFault, IsOperandFault}
-use Rattle.bpf_asm.specs.Grammar.{AreLines, IsLine, IsLineOf, IsOneOf, Line}
+use Rattle.bpf_asm.specs.Grammar.{AreLines, IsSourceLine, AreLineTokens, IsOneOf, SourceLine}
 use Rattle.bpf_asm.specs.Labels.{EachLabelOnce, HasLabel, IsDangling, Operand, statements_of}
 use Rattle.bpf_asm.specs.SourceLines.{source_lines, without_comment}
 use Rattle.bpf_asm.specs.Meaning.{IsMeaning, MeanFrom, Means}
@@ -44,57 +44,57 @@ body_faulty : (ts : List Token) (s : Option Statement) → Rattle.bpf_asm.specs.
 body_faulty ts None h = ap has_faulty h
 body_faulty ts (Some s) h = no_faulty ts s h
 
-line_faulty : (ts : List Token) (label : Option (List ℕ)) (s : Option Statement) → IsLineOf ts (record { label = label; statement = s }) → has_faulty ts ≡ false
+line_faulty : (ts : List Token) (label : Option (List ℕ)) (s : Option Statement) → AreLineTokens ts (record { label = label; statement = s }) → has_faulty ts ≡ false
 line_faulty ts None s h = ap has_faulty h.1 ∙ body_faulty h.0 s h.2
 line_faulty ts (Some l) s h = ap has_faulty h.1 ∙ body_faulty h.0 s h.2
 
 -- A line of the grammar has no bad number.
-pub line_numbers : (octets : List ℕ) (line : Line) → IsLine octets line → HasBadNumber octets → ⊥
-unfolding IsLine tokens_in tokens_read HasBadNumber
+pub line_numbers : (octets : List ℕ) (line : SourceLine) → IsSourceLine octets line → HasBadNumber octets → ⊥
+unfolding IsSourceLine tokens_in tokens_read HasBadNumber
 line_numbers octets line is bad =
     let fine = line_faulty (signed (tokens_of (without_comment octets))) line.label line.statement is in
     let both : true ≡ false = sym bad ∙ sym (signed_faulty (tokens_of (without_comment octets))) ∙ fine in
     cc
 
 -- Lines split as their octets do.
-pub record Parts (before : List (List ℕ)) (here : List ℕ) (lines : List Line) : Type 0 where
-  pub front : List Line
-  pub line : Line
-  pub back : List Line
+pub record Parts (before : List (List ℕ)) (here : List ℕ) (lines : List SourceLine) : Type 0 where
+  pub front : List SourceLine
+  pub line : SourceLine
+  pub back : List SourceLine
   pub split : lines ≡ front ++ line ∷ back
   pub said : AreLines before front
-  pub is : IsLine here line
+  pub is : IsSourceLine here line
 
-pub parts_of : (before : List (List ℕ)) (here : List ℕ) (behind : List (List ℕ)) (lines : List Line) → AreLines (before ++ here ∷ behind) lines → Parts before here lines
+pub parts_of : (before : List (List ℕ)) (here : List ℕ) (behind : List (List ℕ)) (lines : List SourceLine) → AreLines (before ++ here ∷ behind) lines → Parts before here lines
 parts_of [] here behind [] a = absurd a
 parts_of [] here behind (line ∷ lines) a = record { front = []; line = line; back = lines; split = refl; said = refl; is = a.0 }
 parts_of (first ∷ before) here behind [] a = absurd a
 parts_of (first ∷ before) here behind (line ∷ lines) a =
     let later = parts_of before here behind lines a.1 in
-    record { front = line ∷ later.front; line = later.line; back = later.back; split = ap (λ (ls : List Line). line ∷ ls) later.split; said = (a.0, later.said); is = later.is }
+    record { front = line ∷ later.front; line = later.line; back = later.back; split = ap (λ (ls : List SourceLine). line ∷ ls) later.split; said = (a.0, later.said); is = later.is }
 
-twice_never : (lines front : List Line) (line : Line) (back : List Line) (label : List ℕ) (earlier : ℕ) → lines ≡ front ++ line ∷ back → EachLabelOnce lines → line.label ≡ Some label → HasLabel front earlier label → ⊥
+twice_never : (lines front : List SourceLine) (line : SourceLine) (back : List SourceLine) (label : List ℕ) (earlier : ℕ) → lines ≡ front ++ line ∷ back → EachLabelOnce lines → line.label ≡ Some label → HasLabel front earlier label → ⊥
 twice_never lines front line back label earlier e once l h =
-    let one : HasLabel lines earlier label = subst (λ (ls : List Line). HasLabel ls earlier label) (sym e) (label_kept front (line ∷ back) earlier label h) in
-    let other : HasLabel lines (length front) label = subst (λ (ls : List Line). HasLabel ls (length front) label) (sym e) (stands_label front line back label l) in
+    let one : HasLabel lines earlier label = subst (λ (ls : List SourceLine). HasLabel ls earlier label) (sym e) (label_kept front (line ∷ back) earlier label h) in
+    let other : HasLabel lines (length front) label = subst (λ (ls : List SourceLine). HasLabel ls (length front) label) (sym e) (stands_label front line back label l) in
     let same = once earlier (length front) label one other in
     let within = label_within front earlier label h in
     omega arith
 
-pub line_never : (before : List (List ℕ)) (here : List ℕ) (lines known : List Line) (kind : AsmKind) → Parts before here lines → EachLabelOnce lines → AreLines before known → IsLineFault known here kind → ⊥
+pub line_never : (before : List (List ℕ)) (here : List ℕ) (lines known : List SourceLine) (kind : AsmKind) → Parts before here lines → EachLabelOnce lines → AreLines before known → IsLineFault known here kind → ⊥
 line_never before here lines known BadNumber p once said f = line_numbers here p.line p.is f
 line_never before here lines known BadLine p once said f = f.1 p.line p.is
 line_never before here lines known LabelTwice p once said f =
     let same : known ≡ p.front = lines_once before known p.front said p.said in
     let line : f.0 ≡ p.line = line_once here f.0 p.line f.1 p.is in
-    twice_never lines p.front p.line p.back f.2 f.4 p.split once (sym (ap (λ (l : Line). l.label) line) ∙ f.3) (subst (λ (ls : List Line). HasLabel ls f.4 f.2) same f.5)
+    twice_never lines p.front p.line p.back f.2 f.4 p.split once (sym (ap (λ (l : SourceLine). l.label) line) ∙ f.3) (subst (λ (ls : List SourceLine). HasLabel ls f.4 f.2) same f.5)
 line_never before here lines known UnknownLabel p once said f = f
 line_never before here lines known Backward p once said f = f
 line_never before here lines known TooFar p once said f = f
 line_never before here lines known DanglingLabel p once said f = f
 line_never before here lines known NoMemory p once said f = f
 
-pub operand_never : (lines : List Line) (place : ℕ) (operand : Operand) (kind : AsmKind) → EachLabelOnce lines → HasOffset lines place operand → IsOperandFault lines place operand kind → ⊥
+pub operand_never : (lines : List SourceLine) (place : ℕ) (operand : Operand) (kind : AsmKind) → EachLabelOnce lines → HasOffset lines place operand → IsOperandFault lines place operand kind → ⊥
 operand_never lines place operand UnknownLabel once o f = let h = stands_has lines operand.label (place + 1 + o.0) o.1.stands in f h.0 h.1
 operand_never lines place operand Backward once o f =
     let same = stands_once lines operand.label (place + 1 + o.0) f.0 once o.1.stands f.1 in
@@ -108,11 +108,11 @@ operand_never lines place operand LabelTwice once o f = f
 operand_never lines place operand DanglingLabel once o f = f
 operand_never lines place operand NoMemory once o f = f
 
-pub offset_in : (lines : List Line) (place : ℕ) (left : List Operand) (operand : Operand) (right : List Operand) → HasOffsets lines place (left ++ operand ∷ right) → HasOffset lines place operand
+pub offset_in : (lines : List SourceLine) (place : ℕ) (left : List Operand) (operand : Operand) (right : List Operand) → HasOffsets lines place (left ++ operand ∷ right) → HasOffset lines place operand
 offset_in lines place [] operand right h = h.0
 offset_in lines place (first ∷ left) operand right h = offset_in lines place left operand right h.1
 
-mean_at : (lines : List Line) (place : ℕ) (ss : List Statement) (s : Statement) (more : List Statement) (code : List Instr) → MeanFrom lines place (ss ++ s ∷ more) code → (i : Instr) × Means lines (place + length ss) s i
+mean_at : (lines : List SourceLine) (place : ℕ) (ss : List Statement) (s : Statement) (more : List Statement) (code : List Instr) → MeanFrom lines place (ss ++ s ∷ more) code → (i : Instr) × Means lines (place + length ss) s i
 mean_at lines place [] s more [] m = absurd m
 mean_at lines place [] s more (i ∷ code) m = let z : place ≡ place + 0 = omega arith in (i, subst (λ (p : ℕ). Means lines p s i) z m.0)
 mean_at lines place (t ∷ ss) s more [] m = absurd m
@@ -121,11 +121,11 @@ mean_at lines place (t ∷ ss) s more (i ∷ code) m =
     let moved : place + 1 + length ss ≡ place + length (t ∷ ss) = omega arith in
     (later.0, subst (λ (p : ℕ). Means lines p s later.0) moved later.1)
 
-pub some_here : (line : Line) (behind : List Line) (s : Statement) → line.statement ≡ Some s → statements_of (line ∷ behind) ≡ s ∷ statements_of behind
+pub some_here : (line : SourceLine) (behind : List SourceLine) (s : Statement) → line.statement ≡ Some s → statements_of (line ∷ behind) ≡ s ∷ statements_of behind
 unfolding statements_of
 some_here line behind s e = rw e refl
 
-first_never : (lines : List Line) (fault : AsmFault) (code : List Instr) → EachLabelOnce lines → MeanFrom lines 0 (statements_of lines) code → IsFirstOperandFault lines fault → ⊥
+first_never : (lines : List SourceLine) (fault : AsmFault) (code : List Instr) → EachLabelOnce lines → MeanFrom lines 0 (statements_of lines) code → IsFirstOperandFault lines fault → ⊥
 first_never lines fault code once m f =
     let all : statements_of lines ≡ statements_of f.before ++ f.statement ∷ statements_of f.behind =
     ap statements_of f.split ∙ statements_of-append f.before (f.here ∷ f.behind) ∙ ap (λ (ss : List Statement). statements_of f.before ++ ss) (some_here f.here f.behind f.statement f.stands) in
@@ -139,8 +139,8 @@ first_never lines fault code once m f =
 label_never : (source : List ℕ) (fault : AsmFault) (code : List Instr) (a : IsMeaning source code) → IsLabelFault (source_lines source) fault → ⊥
 label_never source fault code a g =
     let same = lines_once (source_lines source) a.lines g.lines a.said g.said in
-    let meant = subst (λ (lines : List Line). MeanFrom lines 0 (statements_of lines) code) same a.mean.meant in
-    let followed = subst (λ (lines : List Line). (at : ℕ) → ¬ IsDangling lines at) same a.mean.followed in
+    let meant = subst (λ (lines : List SourceLine). MeanFrom lines 0 (statements_of lines) code) same a.mean.meant in
+    let followed = subst (λ (lines : List SourceLine). (at : ℕ) → ¬ IsDangling lines at) same a.mean.followed in
     elim g.faulty [ inl d ↦ followed d.at d.dangling | inr o ↦ first_never g.lines fault code g.once meant o.1 ]
 
 -- A source that means a code has no fault.

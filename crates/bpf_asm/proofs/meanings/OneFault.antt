@@ -1,7 +1,7 @@
 -- A source has at most one fault.
 use Rattle.std.proofs.Common.{◌≡◌, ◌⊎◌, ℕ, ◌+◌, ◌<◌, List, [], ◌∷◌, ◌++◌, length, Some, refl, sym, ap, ◌∙◌, subst, inl, inr, arith}
 use Rattle.bpf_asm.specs.Faults.{HasOffsets, HaveOffsets, IsFault, IsFirstDangling, IsFirstLineFault, IsFirstOperandFault, IsLabelFault, IsLineFault, IsOperandFault, IsStatementFault}
-use Rattle.bpf_asm.specs.Grammar.{Line}
+use Rattle.bpf_asm.specs.Grammar.{SourceLine}
 use Rattle.bpf_asm.specs.Labels.{EachLabelOnce, IsDangling, Operand, operands_of, statements_of}
 use Rattle.bpf_asm.specs.SourceLines.{source_lines}
 use Rattle.bpf_asm.specs.StatementSpelling.{Statement}
@@ -37,7 +37,7 @@ same_fault one other l k =
     let first : one ≡ record { line = other.line; kind = one.kind } = ap (λ (n : ℕ). record { line = n; kind = one.kind }) l in
     first ∙ ap (λ (j : AsmKind). record { line = other.line; kind = j }) k
 
-kind_once : (lines : List Line) (here : List ℕ) (one other : AsmKind) → IsLineFault lines here one → IsLineFault lines here other → one ≡ other
+kind_once : (lines : List SourceLine) (here : List ℕ) (one other : AsmKind) → IsLineFault lines here one → IsLineFault lines here other → one ≡ other
 kind_once lines here BadLine BadLine f g = refl
 kind_once lines here BadLine BadNumber f g = absurd (f.0 g)
 kind_once lines here BadLine LabelTwice f g = absurd (f.1 g.0 g.1)
@@ -78,7 +78,7 @@ line_fault_once source one other f g =
     elim (two_places f.before f.here f.behind g.before g.here g.behind (sym f.split ∙ g.split)) [
       | inl s ↦
           let lines = lines_once f.before f.lines g.lines f.said (rw (sym s.0) at g.said) in
-          let there : IsLineFault f.lines f.here other.kind = subst (λ (ls : List Line). IsLineFault ls f.here other.kind) (sym lines) (subst (λ (h : List ℕ). IsLineFault g.lines h other.kind) (sym s.1) g.faulty) in
+          let there : IsLineFault f.lines f.here other.kind = subst (λ (ls : List SourceLine). IsLineFault ls f.here other.kind) (sym lines) (subst (λ (h : List ℕ). IsLineFault g.lines h other.kind) (sym s.1) g.faulty) in
           same_fault one other (f.number ∙ ap (λ (b : List (List ℕ)). length b + 1) s.0 ∙ sym g.number) (kind_once f.lines f.here one.kind other.kind f.faulty there)
       | inr h ↦ elim h [ inl a ↦ absurd (line_front source one other f g a) | inr a ↦ absurd (line_front source other one g f a) ]
     ]
@@ -87,14 +87,14 @@ line_or_label : (source : List (List ℕ)) (one other : AsmFault) → IsFirstLin
 line_or_label source one other f g =
     line_never f.before f.here g.lines f.lines one.kind (parts_of f.before f.here f.behind g.lines (rw f.split at g.said)) g.once f.said f.faulty
 
-dangling_once : (lines : List Line) (one other : AsmFault) → IsFirstDangling lines one → IsFirstDangling lines other → one ≡ other
+dangling_once : (lines : List SourceLine) (one other : AsmFault) → IsFirstDangling lines one → IsFirstDangling lines other → one ≡ other
 dangling_once lines one other f g =
     let not_below : f.at < g.at → ⊥ = λ h. g.followed f.at h f.dangling in
     let not_above : g.at < f.at → ⊥ = λ h. f.followed g.at h g.dangling in
     let at : f.at ≡ g.at = omega arith in
     same_fault one other (f.number ∙ ap (λ (n : ℕ). n + 1) at ∙ sym g.number) (f.kind ∙ sym g.kind)
 
-operand_once : (lines : List Line) (place : ℕ) (operand : Operand) (one other : AsmKind) → EachLabelOnce lines → IsOperandFault lines place operand one → IsOperandFault lines place operand other → one ≡ other
+operand_once : (lines : List SourceLine) (place : ℕ) (operand : Operand) (one other : AsmKind) → EachLabelOnce lines → IsOperandFault lines place operand one → IsOperandFault lines place operand other → one ≡ other
 operand_once lines place operand BadLine other once f g = absurd f
 operand_once lines place operand BadNumber other once f g = absurd f
 operand_once lines place operand LabelTwice other once f g = absurd f
@@ -125,25 +125,25 @@ operand_once lines place operand TooFar NoMemory once f g = absurd g
 operand_once lines place operand DanglingLabel other once f g = absurd f
 operand_once lines place operand NoMemory other once f g = absurd f
 
-operand_front : (lines : List Line) (place : ℕ) (s : Statement) (one other : AsmKind) → EachLabelOnce lines → (f : IsStatementFault lines place s one) (g : IsStatementFault lines place s other) → InFront f.left f.operand g.left → ⊥
+operand_front : (lines : List SourceLine) (place : ℕ) (s : Statement) (one other : AsmKind) → EachLabelOnce lines → (f : IsStatementFault lines place s one) (g : IsStatementFault lines place s other) → InFront f.left f.operand g.left → ⊥
 unfolding InFront
 operand_front lines place s one other once f g front =
     operand_never lines place f.operand one once (offset_in lines place f.left f.operand front.0 (rw front.1 at g.well)) f.faulty
 
-statement_once : (lines : List Line) (place : ℕ) (s : Statement) (one other : AsmKind) → EachLabelOnce lines → IsStatementFault lines place s one → IsStatementFault lines place s other → one ≡ other
+statement_once : (lines : List SourceLine) (place : ℕ) (s : Statement) (one other : AsmKind) → EachLabelOnce lines → IsStatementFault lines place s one → IsStatementFault lines place s other → one ≡ other
 statement_once lines place s one other once f g =
     elim (two_places f.left f.operand f.right g.left g.operand g.right (sym f.order ∙ g.order)) [
       | inl e ↦ operand_once lines place f.operand one other once f.faulty (subst (λ (o : Operand). IsOperandFault lines place o other) (sym e.1) g.faulty)
       | inr h ↦ elim h [ inl a ↦ absurd (operand_front lines place s one other once f g a) | inr a ↦ absurd (operand_front lines place s other one once g f a) ]
     ]
 
-have_at : (lines : List Line) (place : ℕ) (ss : List Statement) (s : Statement) (more : List Statement) → HaveOffsets lines place (ss ++ s ∷ more) → HasOffsets lines (place + length ss) (operands_of s)
+have_at : (lines : List SourceLine) (place : ℕ) (ss : List Statement) (s : Statement) (more : List Statement) → HaveOffsets lines place (ss ++ s ∷ more) → HasOffsets lines (place + length ss) (operands_of s)
 have_at lines place [] s more h = let z : place ≡ place + 0 = omega arith in subst (λ (p : ℕ). HasOffsets lines p (operands_of s)) z h.0
 have_at lines place (t ∷ ss) s more h =
     let moved : place + 1 + length ss ≡ place + length (t ∷ ss) = omega arith in
     subst (λ (p : ℕ). HasOffsets lines p (operands_of s)) moved (have_at lines (place + 1) ss s more h.1)
 
-first_front : (lines : List Line) (one other : AsmFault) → EachLabelOnce lines → (f : IsFirstOperandFault lines one) (g : IsFirstOperandFault lines other) → InFront f.before f.here g.before → ⊥
+first_front : (lines : List SourceLine) (one other : AsmFault) → EachLabelOnce lines → (f : IsFirstOperandFault lines one) (g : IsFirstOperandFault lines other) → InFront f.before f.here g.before → ⊥
 unfolding InFront
 first_front lines one other once f g front =
     let all : statements_of g.before ≡ statements_of f.before ++ f.statement ∷ statements_of front.0 =
@@ -157,22 +157,22 @@ first_front lines one other once f g front =
 some_statement : (one other : Statement) → Some one ≡ Some other → one ≡ other
 some_statement one other e = cc
 
-first_once : (lines : List Line) (one other : AsmFault) → EachLabelOnce lines → IsFirstOperandFault lines one → IsFirstOperandFault lines other → one ≡ other
+first_once : (lines : List SourceLine) (one other : AsmFault) → EachLabelOnce lines → IsFirstOperandFault lines one → IsFirstOperandFault lines other → one ≡ other
 first_once lines one other once f g =
     elim (two_places f.before f.here f.behind g.before g.here g.behind (sym f.split ∙ g.split)) [
       | inl e ↦
-          let s : f.statement ≡ g.statement = some_statement _ _ (sym f.stands ∙ ap (λ (l : Line). l.statement) e.1 ∙ g.stands) in
+          let s : f.statement ≡ g.statement = some_statement _ _ (sym f.stands ∙ ap (λ (l : SourceLine). l.statement) e.1 ∙ g.stands) in
           let there : IsStatementFault lines (length (statements_of f.before)) f.statement other.kind =
-          subst (λ (b : List Line). IsStatementFault lines (length (statements_of b)) f.statement other.kind) (sym e.0)
+          subst (λ (b : List SourceLine). IsStatementFault lines (length (statements_of b)) f.statement other.kind) (sym e.0)
           (subst (λ (t : Statement). IsStatementFault lines (length (statements_of g.before)) t other.kind) (sym s) g.faulty) in
-          same_fault one other (f.number ∙ ap (λ (b : List Line). length b + 1) e.0 ∙ sym g.number) (statement_once lines (length (statements_of f.before)) f.statement one.kind other.kind once f.faulty there)
+          same_fault one other (f.number ∙ ap (λ (b : List SourceLine). length b + 1) e.0 ∙ sym g.number) (statement_once lines (length (statements_of f.before)) f.statement one.kind other.kind once f.faulty there)
       | inr h ↦ elim h [ inl a ↦ absurd (first_front lines one other once f g a) | inr a ↦ absurd (first_front lines other one once g f a) ]
     ]
 
 label_once : (source : List (List ℕ)) (one other : AsmFault) → IsLabelFault source one → IsLabelFault source other → one ≡ other
 label_once source one other f g =
     let same = lines_once source g.lines f.lines g.said f.said in
-    let P : List Line → Type 0 = λ lines. IsFirstDangling lines other ⊎ (((at : ℕ) → ¬ IsDangling lines at) × IsFirstOperandFault lines other) in
+    let P : List SourceLine → Type 0 = λ lines. IsFirstDangling lines other ⊎ (((at : ℕ) → ¬ IsDangling lines at) × IsFirstOperandFault lines other) in
     let there = subst P same g.faulty in
     elim f.faulty [
       | inl d ↦ elim there [ inl e ↦ dangling_once f.lines one other d e | inr o ↦ absurd (o.0 d.at d.dangling) ]

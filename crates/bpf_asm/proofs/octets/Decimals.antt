@@ -2,7 +2,7 @@
 use Rattle.std.proofs.Common.{◌≡◌, ℕ, ◌+◌, ◌*◌, ◌/◌, ◌%◌, ◌^◌, ◌<◌, ◌≤◌, Bool, true, false, ◌&&◌, ◌||◌, ◌==◌, nat_lt, if◌then◌else◌, List, [], ◌∷◌, ◌++◌, Some, None, decimal, refl, ap, ◌∙◌, arith}
 use Rattle.std.proofs.lemmas.Bool.{and_from, and_parts, and_right, lt-ltb}
 use Rattle.std.proofs.lemmas.Fmt.{decimal_by_steps}
-use Rattle.bpf_asm.specs.Numbers.{digit_of, number_of, value_behind, value_of, within_word}
+use Rattle.bpf_asm.specs.Numbers.{digit_of, number_of_word, value_behind, value_of, within_word}
 use Rattle.bpf_asm.specs.Tokens.{name, number, tokens_of, word_token}
 use Rattle.text_io.specs.Words.{is_digit}
 use Rattle.bpf_asm.specs.inner.WordRuns.{all_word}
@@ -73,13 +73,13 @@ value_of-digits value (octet ∷ next ∷ rest) d =
     rw no d.0
 
 number_token-digits : (value : ℕ) (digits : List ℕ) → value < 2 ^ 32 → IsDecimal value digits → tokens_of digits ≡ number value ∷ []
-unfolding number_of word_token
+unfolding number_of_word word_token
 number_token-digits value [] h d = absurd d
 number_token-digits value (octet ∷ rest) h d =
     let both = and_parts (is_digit octet) (all_digit rest) d.1 in
     let l : nat_lt value (2 ^ 32) ≡ true = lt-ltb value (2 ^ 32) h in
     let v = value_of-digits value (octet ∷ rest) d in
-    let n : number_of (octet ∷ rest) ≡ Some value = ap within_word v ∙ rw l refl in
+    let n : number_of_word (octet ∷ rest) ≡ Some value = ap within_word v ∙ rw l refl in
     tokens_of-word octet rest (digits_word (octet ∷ rest) d.1) ∙ rw (both.0, n) refl
 
 -- A number of 32 bits in decimal is its token.

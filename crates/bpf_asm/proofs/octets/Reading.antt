@@ -2,7 +2,7 @@
 use Rattle.std.proofs.Common.{◌≡◌, ℕ, ◌+◌, ◌*◌, ◌<◌, ◌≤◌, ◌^◌, true, false, ◌&&◌, nat_lt, if◌then◌else◌, List, [], ◌∷◌, ◌++◌, length, get_or, take, drop, Option, Some, None, refl, sym, ap, ◌∙◌, arith, zero, suc, ◌==◌, ◌||◌, length-take, take-append-drop}
 use Rattle.std.proofs.lemmas.Bool.{and_from, and_parts, le-ltb, lt-ltb}
 use Rattle.std.proofs.lemmas.List.{at_drop_all, at_drop_more, drop_more, take_more}
-use Rattle.bpf_asm.specs.Numbers.{digit_of, is_hexadecimal, number_of, value_behind, value_in, within_word}
+use Rattle.bpf_asm.specs.Numbers.{digit_of, is_hexadecimal, number_of_word, value_behind, value_in, within_word}
 use Rattle.bpf_asm.specs.Tokens.{is_run, is_word, mark, name, number, faulty, number_token, pieces_of, tokens_of, word_token}
 use Rattle.bpf_asm.specs.inner.WordRuns.{all_word}
 use Rattle.text_io.specs.Words.{is_blank, is_digit}
@@ -66,17 +66,17 @@ hexadecimal_short (octet ∷ []) h = refl
 hexadecimal_short (octet ∷ sign ∷ rest) h = absurd (omega arith)
 
 -- The token of a word, from its first octet.
-pub word_token_read : (word : List ℕ) → 0 < length word → word_token word ≡ (if is_digit (get_or word 0 0) then number_token (number_of word) else name word)
+pub word_token_read : (word : List ℕ) → 0 < length word → word_token word ≡ (if is_digit (get_or word 0 0) then number_token (number_of_word word) else name word)
 unfolding word_token
 word_token_read [] h = absurd (omega arith)
 word_token_read (octet ∷ rest) h = refl
 
 -- A word that is a number.
-pub number_word : (word : List ℕ) (value : ℕ) → 0 < length word → is_digit (get_or word 0 0) ≡ true → number_of word ≡ Some value → number value ≡ word_token word
+pub number_word : (word : List ℕ) (value : ℕ) → 0 < length word → is_digit (get_or word 0 0) ≡ true → number_of_word word ≡ Some value → number value ≡ word_token word
 number_word word value h d n = rw (word_token_read word h, d, n) refl
 
 -- A word that is no number and begins with a digit.
-pub faulty_word : (word : List ℕ) → 0 < length word → is_digit (get_or word 0 0) ≡ true → number_of word ≡ None → faulty ≡ word_token word
+pub faulty_word : (word : List ℕ) → 0 < length word → is_digit (get_or word 0 0) ≡ true → number_of_word word ≡ None → faulty ≡ word_token word
 faulty_word word h d n = rw (word_token_read word h, d, n) refl
 
 -- A word that is a name.

@@ -1,7 +1,7 @@
 -- A line, octet by octet or token by token.
 use Rattle.std.proofs.Common.{◌≡◌, ℕ, Bool, true, false, List, [], ◌∷◌, Some, None, refl, sym, ap, ◌∙◌}
 use Rattle.bpf_asm.specs.Faults.{IsLineFault}
-use Rattle.bpf_asm.specs.Grammar.{IsLine, Line}
+use Rattle.bpf_asm.specs.Grammar.{IsSourceLine, SourceLine}
 use Rattle.bpf_asm.specs.inner.LineTokens.{line_tokens}
 use Rattle.bpf_asm.specs.inner.Reading.{line_in}
 use Rattle.bpf_asm.specs.inner.Seen.{token_seen}
@@ -28,18 +28,18 @@ pub faulty_none : (text : List ℕ) (whole : Bool) → line_tokens text ≡ [] �
 faulty_none text whole e h = sym (ap has_faulty e) ∙ h
 
 -- A line with a bad number.
-pub bad_number_is : (line : List ℕ) (before : List Line) → has_faulty (line_tokens line) ≡ true → IsLineFault before line BadNumber
+pub bad_number_is : (line : List ℕ) (before : List SourceLine) → has_faulty (line_tokens line) ≡ true → IsLineFault before line BadNumber
 unfolding HasBadNumber
 bad_number_is line before h = h
 
 -- The line that was read is the line of the grammar.
-pub said_line : (line : List ℕ) (said : Line) → line_in (tokens_in line) ≡ Some said → IsLine line said
-unfolding IsLine
+pub said_line : (line : List ℕ) (said : SourceLine) → line_in (tokens_in line) ≡ Some said → IsSourceLine line said
+unfolding IsSourceLine
 said_line line said read = line_true (tokens_in line) said read
 
 -- A line that couldn't be read isn't in the grammar.
-pub bad_line_is : (line : List ℕ) (before : List Line) → has_faulty (line_tokens line) ≡ false → line_in (tokens_in line) ≡ None → IsLineFault before line BadLine
-unfolding IsLine HasBadNumber
+pub bad_line_is : (line : List ℕ) (before : List SourceLine) → has_faulty (line_tokens line) ≡ false → line_in (tokens_in line) ≡ None → IsLineFault before line BadLine
+unfolding IsSourceLine HasBadNumber
 bad_line_is line before h none = (
   λ bad. let both : true ≡ false = sym bad ∙ h in cc,
   λ l is. let read = line_back (tokens_in line) l.label l.statement is in cc,

@@ -1,7 +1,7 @@
 -- Tokens that are read as a statement are one of its spellings.
 use Rattle.std.proofs.Common.{◌≡◌, ℕ, List, ◌∷◌, Some, refl, inl, inr}
 use Rattle.bpf_asm.specs.Grammar.{IsOneOf}
-use Rattle.bpf_asm.specs.inner.Reading.{arithmetic_in, branch_in, branch_or, cut_name, form_of, inverse_in, inverse_of, inverse_or, moved_in, named_in, op_of, other_in, statement_in, test_of}
+use Rattle.bpf_asm.specs.inner.Reading.{arithmetic_in, branch_in, branch_or, cut_name, form_of, inverse_in, inverse_of, inverse_or, moved_in, named_in, op_of, other_in, statement_in, branch_named}
 use Rattle.bpf_asm.specs.StatementSpelling.{Statement, spellings}
 use Rattle.bpf_asm.specs.Tokens.{Token, name}
 use Rattle.bpf_asm.proofs.cuts.TokenCuts.{next_some, else_some, map_some, name_is}
@@ -13,7 +13,7 @@ unfolding named_in
 named_sound octets ts s e =
     elim (map_some (op_of octets) (λ op. arithmetic_in op ts) (branch_or octets ts) s e) [
       | inl a ↦ op_sound octets ts s a.0 a.1 a.2
-      | inr f ↦ elim (map_some (test_of octets) (λ test. branch_in test ts) (inverse_or octets ts) s f) [
+      | inr f ↦ elim (map_some (branch_named octets) (λ test. branch_in test ts) (inverse_or octets ts) s f) [
         | inl a ↦ test_sound octets ts s a.0 a.1 a.2
         | inr g ↦ elim (map_some (inverse_of octets) (λ test. inverse_in test ts) (form_of octets ts) s g) [
           | inl a ↦ inverse_named octets ts s a.0 a.1 a.2

@@ -2,7 +2,7 @@
 use Rattle.std.proofs.Common.{◌≡◌, ◌⊎◌, ℕ, ◌+◌, List, [], ◌∷◌, ◌++◌, length, Option, Some, None, refl, sym, ap, ◌∙◌, subst, inl, inr, arith, append_assoc, append-nil}
 use Rattle.std.specs.Option.{option_to_list}
 use Rattle.bpf_asm.specs.Faults.{IsFault, IsFirstOperandFault}
-use Rattle.bpf_asm.specs.Grammar.{AreLines, Line}
+use Rattle.bpf_asm.specs.Grammar.{AreLines, SourceLine}
 use Rattle.bpf_asm.specs.Labels.{EachLabelOnce, statements_of}
 use Rattle.bpf_asm.specs.SourceLines.{source_lines}
 use Rattle.bpf_asm.specs.Meaning.{IsMeaning, MeanFrom, Means}
@@ -18,15 +18,15 @@ use Rattle.bpf_asm.proofs.drafts.Resolving.{mean_have, mean_more, statements_mor
 use Rattle.bpf_code.specs.declared.instr.Instr.{Instr}
 
 -- All statements mean instructions, or some operand is the first without an offset.
-abbrev pub MeanOrFaulty : List Line → Type 0
+abbrev pub MeanOrFaulty : List SourceLine → Type 0
 MeanOrFaulty lines = ((code : List Instr) × MeanFrom lines 0 (statements_of lines) code) ⊎ ((fault : AsmFault) × IsFirstOperandFault lines fault)
 
 -- The statements of one more line.
-next_line : (before : List Line) (line : Line) (s : Option Statement) → line.statement ≡ s → statements_of (before ++ line ∷ []) ≡ statements_of before ++ option_to_list s
+next_line : (before : List SourceLine) (line : SourceLine) (s : Option Statement) → line.statement ≡ s → statements_of (before ++ line ∷ []) ≡ statements_of before ++ option_to_list s
 next_line before line s e = statements_more before line ∙ ap (λ (o : Option Statement). statements_of before ++ option_to_list o) e
 
 -- The same with one more line.
-mean_line : (lines before : List Line) (line : Line) (behind : List Line) (code : List Instr) (s : Option Statement) → line.statement ≡ s → lines ≡ before ++ line ∷ behind → MeanFrom lines 0 (statements_of before) code → ((more : List Instr) × MeanFrom lines 0 (statements_of (before ++ line ∷ [])) more) ⊎ ((fault : AsmFault) × IsFirstOperandFault lines fault)
+mean_line : (lines before : List SourceLine) (line : SourceLine) (behind : List SourceLine) (code : List Instr) (s : Option Statement) → line.statement ≡ s → lines ≡ before ++ line ∷ behind → MeanFrom lines 0 (statements_of before) code → ((more : List Instr) × MeanFrom lines 0 (statements_of (before ++ line ∷ [])) more) ⊎ ((fault : AsmFault) × IsFirstOperandFault lines fault)
 mean_line lines before line behind code None none split m =
     let same : statements_of (before ++ line ∷ []) ≡ statements_of before = next_line before line None none ∙ append-nil (statements_of before) in
     inl (code, subst (λ (ss : List Statement). MeanFrom lines 0 ss code) (sym same) m)
@@ -56,10 +56,10 @@ mean_line lines before line behind code (Some s) stands split m =
     ]
 
 -- The same for the lines that are left.
-mean_behind : (lines before behind : List Line) (code : List Instr) → lines ≡ before ++ behind → MeanFrom lines 0 (statements_of before) code → MeanOrFaulty lines
+mean_behind : (lines before behind : List SourceLine) (code : List Instr) → lines ≡ before ++ behind → MeanFrom lines 0 (statements_of before) code → MeanOrFaulty lines
 mean_behind lines before [] code split m =
     let all : before ≡ lines = sym (append-nil before) ∙ sym split in
-    inl (code, subst (λ (ls : List Line). MeanFrom lines 0 (statements_of ls) code) all m)
+    inl (code, subst (λ (ls : List SourceLine). MeanFrom lines 0 (statements_of ls) code) all m)
 mean_behind lines before (line ∷ behind) code split m =
     elim (mean_line lines before line behind code line.statement refl split m) [
       | inl more ↦ mean_behind lines (before ++ line ∷ []) behind more.0 (split ∙ sym (append_assoc before (line ∷ []) behind)) more.1
@@ -67,16 +67,16 @@ mean_behind lines before (line ∷ behind) code split m =
     ]
 
 -- No statements mean the empty code.
-mean_none : (lines : List Line) → MeanFrom lines 0 (statements_of []) []
+mean_none : (lines : List SourceLine) → MeanFrom lines 0 (statements_of []) []
 unfolding statements_of
 mean_none lines = refl
 
 -- The same for the statements of all lines.
-mean-or_fault : (lines : List Line) → MeanOrFaulty lines
+mean-or_fault : (lines : List SourceLine) → MeanOrFaulty lines
 mean-or_fault lines = mean_behind lines [] lines [] refl (mean_none lines)
 
 -- Lines of the grammar with each label once mean a code or have a fault of labels.
-said-or_fault : (source : List ℕ) (lines : List Line) (pending : Option ℕ) → AreLines (source_lines source) lines → EachLabelOnce lines → IsPending lines pending → ((code : List Instr) × IsMeaning source code) ⊎ ((fault : AsmFault) × IsFault source fault)
+said-or_fault : (source : List ℕ) (lines : List SourceLine) (pending : Option ℕ) → AreLines (source_lines source) lines → EachLabelOnce lines → IsPending lines pending → ((code : List Instr) × IsMeaning source code) ⊎ ((fault : AsmFault) × IsFault source fault)
 said-or_fault source lines (Some at) said once pending =
     let fault : AsmFault = record { line = at + 1; kind = DanglingLabel } in
     inr (fault, dangling_source source lines at fault said once pending (refl, refl))

@@ -1,6 +1,6 @@
 -- Some label is the first that no instruction follows, or there is none.
 use Rattle.std.proofs.Common.{◌≡◌, ◌⊎◌, ℕ, zero, suc, ◌<◌, List, [], ◌∷◌, Option, Some, None, refl, sym, ap, ◌∙◌, inl, inr, arith}
-use Rattle.bpf_asm.specs.Grammar.{Line}
+use Rattle.bpf_asm.specs.Grammar.{SourceLine}
 use Rattle.bpf_asm.specs.Labels.{IsDangling, statements_of}
 use Rattle.bpf_asm.specs.inner.Pending.{IsPending}
 use Rattle.bpf_asm.specs.StatementSpelling.{Statement}
@@ -12,8 +12,8 @@ none-or_some [] = inl refl
 none-or_some (s ∷ ss) = inr (λ e. cc)
 
 -- An instruction follows the first line's label, or none does.
-first_dangles : (line : Line) (lines : List Line) (label : Option (List ℕ)) → line.label ≡ label → IsDangling (line ∷ lines) 0 ⊎ ¬ IsDangling (line ∷ lines) 0
-first_dangles line lines None none = inr (λ d. no_name d.0 (sym d.1.2 ∙ sym (ap (λ (l : Line). l.label) (some_line line d.1.0 d.1.1)) ∙ none))
+first_dangles : (line : SourceLine) (lines : List SourceLine) (label : Option (List ℕ)) → line.label ≡ label → IsDangling (line ∷ lines) 0 ⊎ ¬ IsDangling (line ∷ lines) 0
+first_dangles line lines None none = inr (λ d. no_name d.0 (sym d.1.2 ∙ sym (ap (λ (l : SourceLine). l.label) (some_line line d.1.0 d.1.1)) ∙ none))
 first_dangles line lines (Some label) named =
     elim (none-or_some (statements_of (line ∷ lines))) [
       | inl none ↦ inl (label, (line, refl, named), none)
@@ -21,7 +21,7 @@ first_dangles line lines (Some label) named =
     ]
 
 -- The first label that no instruction follows, or none.
-pub dangling-or_none : (lines : List Line) → (pending : Option ℕ) × IsPending lines pending
+pub dangling-or_none : (lines : List SourceLine) → (pending : Option ℕ) × IsPending lines pending
 dangling-or_none [] = (None, λ at d. cc)
 dangling-or_none (line ∷ lines) =
     elim (first_dangles line lines line.label refl) [

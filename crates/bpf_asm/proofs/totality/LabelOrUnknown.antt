@@ -2,8 +2,8 @@
 use Rattle.std.proofs.Common.{◌≡◌, ◌⊎◌, ℕ, zero, suc, Bool, true, false, List, [], ◌∷◌, length, Option, Some, None, refl, sym, ap, ◌∙◌, inl, inr}
 use Rattle.std.specs.Str.{bytes_eq}
 use Rattle.std.proofs.lemmas.Slice.Eq.{bytes_eq-Decides}
-use Rattle.bpf_asm.specs.Grammar.{Line}
-use Rattle.bpf_asm.specs.Labels.{HasLabel, StandsFor, statements_of}
+use Rattle.bpf_asm.specs.Grammar.{SourceLine}
+use Rattle.bpf_asm.specs.Labels.{HasLabel, NamesPlace, statements_of}
 use Rattle.bpf_asm.proofs.drafts.Agreement.{some_line, some_name}
 
 -- The label is this name, or it isn't.
@@ -19,8 +19,8 @@ named_by (Some label) name = by_test (bytes_eq label name) refl
         cc)
 
 -- If neither the first nor another line has the name, no line has it.
-no_label : (line : Line) (lines : List Line) (name : List ℕ) → ¬ (line.label ≡ Some name) → ((at : ℕ) → ¬ HasLabel lines at name) → (at : ℕ) → ¬ HasLabel (line ∷ lines) at name
-no_label line lines name not none zero h = not (ap (λ (l : Line). l.label) (some_line line h.0 h.1) ∙ h.2)
+no_label : (line : SourceLine) (lines : List SourceLine) (name : List ℕ) → ¬ (line.label ≡ Some name) → ((at : ℕ) → ¬ HasLabel lines at name) → (at : ℕ) → ¬ HasLabel (line ∷ lines) at name
+no_label line lines name not none zero h = not (ap (λ (l : SourceLine). l.label) (some_line line h.0 h.1) ∙ h.2)
 no_label line lines name not none (suc at) h = none at h
 
 -- There is no statement before the first line.
@@ -29,7 +29,7 @@ unfolding statements_of
 none_before = refl
 
 -- A label names a place, or no line has it.
-pub stands-or_unknown : (lines : List Line) (name : List ℕ) → ((place : ℕ) × StandsFor lines name place) ⊎ ((at : ℕ) → ¬ HasLabel lines at name)
+pub stands-or_unknown : (lines : List SourceLine) (name : List ℕ) → ((place : ℕ) × NamesPlace lines name place) ⊎ ((at : ℕ) → ¬ HasLabel lines at name)
 stands-or_unknown [] name = inr (λ at h. cc)
 stands-or_unknown (line ∷ lines) name =
     elim (named_by line.label name) [
@@ -44,7 +44,7 @@ stands-or_unknown (line ∷ lines) name =
                 before = line ∷ s.before;
                 here = s.here;
                 behind = s.behind;
-                split = ap (λ (ls : List Line). line ∷ ls) s.split;
+                split = ap (λ (ls : List SourceLine). line ∷ ls) s.split;
                 named = s.named;
                 counted = refl;
               },

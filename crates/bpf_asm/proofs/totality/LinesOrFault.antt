@@ -1,7 +1,7 @@
 -- Either the lines of a source are in the grammar and no label occurs twice, or a line has a fault.
 use Rattle.std.proofs.Common.{◌≡◌, ◌⊎◌, ℕ, ◌+◌, List, [], ◌∷◌, ◌++◌, Option, Some, None, refl, inl, inr}
 use Rattle.bpf_asm.specs.Faults.{IsFirstLineFault, IsLineFault}
-use Rattle.bpf_asm.specs.Grammar.{AreLines, IsLine, Line}
+use Rattle.bpf_asm.specs.Grammar.{AreLines, IsSourceLine, SourceLine}
 use Rattle.bpf_asm.specs.Labels.{EachLabelOnce}
 use Rattle.bpf_asm.specs.inner.Drafts.{IsReadTo}
 use Rattle.bpf_asm.specs.declared.fault.AsmFault.{AsmFault}
@@ -13,11 +13,11 @@ use Rattle.bpf_asm.proofs.totality.LineOrFault.{line-or_fault}
 use Rattle.bpf_asm.proofs.drafts.Sources.{all_read, first_by}
 
 -- A line after these parses and has none of their labels, or has a fault.
-abbrev pub AddsOrFaulty : List Line → List ℕ → Type 0
-AddsOrFaulty lines octets = ((line : Line) × IsLine octets line × EachLabelOnce (lines ++ line ∷ [])) ⊎ ((kind : AsmKind) × IsLineFault lines octets kind)
+abbrev pub AddsOrFaulty : List SourceLine → List ℕ → Type 0
+AddsOrFaulty lines octets = ((line : SourceLine) × IsSourceLine octets line × EachLabelOnce (lines ++ line ∷ [])) ⊎ ((kind : AsmKind) × IsLineFault lines octets kind)
 
 -- A line that parses has a new label or none, or the label of an earlier line.
-said-or_twice : (lines : List Line) (octets : List ℕ) (line : Line) (label : Option (List ℕ)) → EachLabelOnce lines → IsLine octets line → line.label ≡ label → AddsOrFaulty lines octets
+said-or_twice : (lines : List SourceLine) (octets : List ℕ) (line : SourceLine) (label : Option (List ℕ)) → EachLabelOnce lines → IsSourceLine octets line → line.label ≡ label → AddsOrFaulty lines octets
 said-or_twice lines octets line None once is none =
     inl (line, is, λ one other name f g. once one other name (no_last lines line one name none f) (no_last lines line other name none g))
 said-or_twice lines octets line (Some label) once is named =
@@ -27,7 +27,7 @@ said-or_twice lines octets line (Some label) once is named =
     ]
 
 -- Each line is added or has a fault.
-line_behind : (lines : List Line) (octets : List ℕ) → EachLabelOnce lines → AddsOrFaulty lines octets
+line_behind : (lines : List SourceLine) (octets : List ℕ) → EachLabelOnce lines → AddsOrFaulty lines octets
 line_behind lines octets once =
     elim (line-or_fault octets) [
       | inl said ↦ said-or_twice lines octets said.0 said.0.label once said.1 refl
@@ -36,10 +36,10 @@ line_behind lines octets once =
 
 -- All lines are read, or one has the first fault.
 abbrev pub LinesOrFaulty : List (List ℕ) → Type 0
-LinesOrFaulty source = ((lines : List Line) × AreLines source lines × EachLabelOnce lines) ⊎ ((fault : AsmFault) × IsFirstLineFault source fault)
+LinesOrFaulty source = ((lines : List SourceLine) × AreLines source lines × EachLabelOnce lines) ⊎ ((fault : AsmFault) × IsFirstLineFault source fault)
 
 -- The same for the lines that are left.
-lines_behind : (source left : List (List ℕ)) (lines : List Line) (count : ℕ) → IsReadTo source left lines count → EachLabelOnce lines → LinesOrFaulty source
+lines_behind : (source left : List (List ℕ)) (lines : List SourceLine) (count : ℕ) → IsReadTo source left lines count → EachLabelOnce lines → LinesOrFaulty source
 lines_behind source [] lines count read once = inl (lines, all_read source [] lines count refl read, once)
 lines_behind source (octets ∷ left) lines count read once =
     elim (line_behind lines octets once) [

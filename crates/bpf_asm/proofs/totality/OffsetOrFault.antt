@@ -2,8 +2,8 @@
 use Rattle.std.proofs.Common.{◌≡◌, ◌⊎◌, ℕ, ◌+◌, ◌-◌, List, Option, Some, None, refl, subst, inl, inr, arith}
 use Rattle.std.proofs.lemmas.Bool.{cases_lt}
 use Rattle.bpf_asm.specs.Faults.{HasOffset, IsOperandFault, IsStatementFault}
-use Rattle.bpf_asm.specs.Grammar.{Line}
-use Rattle.bpf_asm.specs.Labels.{Operand, StandsFor}
+use Rattle.bpf_asm.specs.Grammar.{SourceLine}
+use Rattle.bpf_asm.specs.Labels.{Operand, NamesPlace}
 use Rattle.bpf_asm.specs.Meaning.{IsSide, Means}
 use Rattle.bpf_asm.specs.StatementSpelling.{Statement, plain, jump, branch}
 use Rattle.bpf_asm.specs.inner.Drafts.{IsSideFault}
@@ -15,7 +15,7 @@ use Rattle.bpf_code.specs.declared.instr.Instr.{Instr}
 use Rattle.bpf_code.specs.declared.instr.Instr.TheVariants.{Jump, Branch}
 
 -- A label that names a place.
-reached : (lines : List Line) (place : ℕ) (operand : Operand) (target : ℕ) → StandsFor lines operand.label target → HasOffset lines place operand ⊎ ((kind : AsmKind) × IsOperandFault lines place operand kind)
+reached : (lines : List SourceLine) (place : ℕ) (operand : Operand) (target : ℕ) → NamesPlace lines operand.label target → HasOffset lines place operand ⊎ ((kind : AsmKind) × IsOperandFault lines place operand kind)
 reached lines place operand target stands =
     elim (cases_lt place target) [
       | inr back ↦ inr (Backward, (target, stands, back))
@@ -23,12 +23,12 @@ reached lines place operand target stands =
         | inl far ↦ inr (TooFar, (target, stands, far))
         | inr near ↦
             let there : target ≡ place + 1 + (target - (place + 1)) = omega arith in
-            inl (target - (place + 1), record { stands = subst (λ (t : ℕ). StandsFor lines operand.label t) there stands; fits = omega arith })
+            inl (target - (place + 1), record { stands = subst (λ (t : ℕ). NamesPlace lines operand.label t) there stands; fits = omega arith })
       ]
     ]
 
 -- A label operand has an offset or a fault.
-offset-or_fault : (lines : List Line) (place : ℕ) (operand : Operand) → HasOffset lines place operand ⊎ ((kind : AsmKind) × IsOperandFault lines place operand kind)
+offset-or_fault : (lines : List SourceLine) (place : ℕ) (operand : Operand) → HasOffset lines place operand ⊎ ((kind : AsmKind) × IsOperandFault lines place operand kind)
 offset-or_fault lines place operand =
     elim (stands-or_unknown lines operand.label) [
       | inl found ↦ reached lines place operand found.0 found.1
@@ -36,12 +36,12 @@ offset-or_fault lines place operand =
     ]
 
 -- A side of a branch has an offset or a fault.
-side-or_fault : (lines : List Line) (place : ℕ) (label : Option (List ℕ)) → ((offset : ℕ) × IsSide lines place label offset) ⊎ ((kind : AsmKind) × IsSideFault lines place label kind)
+side-or_fault : (lines : List SourceLine) (place : ℕ) (label : Option (List ℕ)) → ((offset : ℕ) × IsSide lines place label offset) ⊎ ((kind : AsmKind) × IsSideFault lines place label kind)
 side-or_fault lines place None = inl (0, refl)
 side-or_fault lines place (Some target) = offset-or_fault lines place (record { label = target; most = 255 })
 
 -- A statement means an instruction or has a fault.
-pub means-or_fault : (lines : List Line) (place : ℕ) (s : Statement) → ((i : Instr) × Means lines place s i) ⊎ ((kind : AsmKind) × IsStatementFault lines place s kind)
+pub means-or_fault : (lines : List SourceLine) (place : ℕ) (s : Statement) → ((i : Instr) × Means lines place s i) ⊎ ((kind : AsmKind) × IsStatementFault lines place s kind)
 means-or_fault lines place (plain i) = inl (i, refl)
 means-or_fault lines place (jump target) =
     elim (offset-or_fault lines place (record { label = target; most = 4294967295 })) [

@@ -1,12 +1,12 @@
 -- The draft of a code: the assembler's state after the lines that it has read.
 use Rattle.std.specs.Prelude.{◌≡◌, ◌+◌, ◌++◌, ℕ, Bool, true, false, List, [], ◌∷◌, length, map, filter, Option, Some, None}
-use Rattle.bpf_asm.specs.Grammar.{AreLines, IsLine, Line}
-use Rattle.bpf_asm.specs.Labels.{EachLabelOnce, HasLabel, StandsFor, most_branch, statements_of}
+use Rattle.bpf_asm.specs.Grammar.{AreLines, IsSourceLine, SourceLine}
+use Rattle.bpf_asm.specs.Labels.{EachLabelOnce, HasLabel, NamesPlace, most_branch, statements_of}
 use Rattle.bpf_asm.specs.SourceLines.{source_lines}
 use Rattle.bpf_asm.specs.Faults.{IsLineFault, IsOperandFault, IsOutOfMemory}
 use Rattle.bpf_asm.specs.Meaning.{MeanFrom}
 use Rattle.bpf_asm.specs.inner.Pending.{IsPending}
-use Rattle.bpf_asm.specs.inner.LabelPlaces.{place_of}
+use Rattle.bpf_asm.specs.inner.LabelPlaces.{label_place}
 use Rattle.bpf_asm.specs.inner.Seen.{statement_seen}
 use Rattle.bpf_asm.specs.StatementSpelling.{Statement}
 use Rattle.bpf_asm.specs.declared.unresolved.Draft.{Draft}
@@ -21,10 +21,10 @@ use Rattle.bpf_code.specs.declared.instr.Instr.TheVariants.{Jump, Branch}
 
 -- The places of names are those of the labels in the lines, and the next place is the number of statements. No label
 -- occurs twice.
-pub record AgreesWith (lines : List Line) (find : List ℕ → Option ℕ) (places : ℕ) : Type 0 where
+pub record AgreesWith (lines : List SourceLine) (find : List ℕ → Option ℕ) (places : ℕ) : Type 0 where
   pub counted : places ≡ length (statements_of lines)
   pub once : EachLabelOnce lines
-  pub stands : (name : List ℕ) (place : ℕ) → find name ≡ Some place → StandsFor lines name place
+  pub stands : (name : List ℕ) (place : ℕ) → find name ≡ Some place → NamesPlace lines name place
   pub unknown : (name : List ℕ) → find name ≡ None → (at : ℕ) → ¬ HasLabel lines at name
 
 -- The instruction of a statement, with offsets of 0 if it has labels.
@@ -52,10 +52,10 @@ abbrev pub first_forms : List Unresolved → List Instr
 first_forms all = map (λ (u : Unresolved). drafted u.statement) all
 
 -- The instruction is in the lines, after these others, at its line and its place.
-pub record StandsBehind (lines : List Line) (front : List Unresolved) (u : Unresolved) : Type 0 where
-  pub before : List Line
-  pub here : Line
-  pub behind : List Line
+pub record StandsBehind (lines : List SourceLine) (front : List Unresolved) (u : Unresolved) : Type 0 where
+  pub before : List SourceLine
+  pub here : SourceLine
+  pub behind : List SourceLine
   pub split : lines ≡ before ++ here ∷ behind
   pub number : u.line ≡ length before + 1
   pub stands : here.statement ≡ Some (statement_seen u.statement)
@@ -63,11 +63,11 @@ pub record StandsBehind (lines : List Line) (front : List Unresolved) (u : Unres
   pub place : u.place ≡ length front
 
 -- Each of these instructions is in the lines, after those before it.
-abbrev pub EachStands : List Line → List Unresolved → Type 0
+abbrev pub EachStands : List SourceLine → List Unresolved → Type 0
 EachStands lines all = (front : List Unresolved) (u : Unresolved) (back : List Unresolved) → all ≡ front ++ u ∷ back → StandsBehind lines front u
 
 -- The code and the instructions with labels are the draft of these lines.
-pub record IsDraft (lines : List Line) (code : List Instr) (unresolved : List Unresolved) : Type 0 where
+pub record IsDraft (lines : List SourceLine) (code : List Instr) (unresolved : List Unresolved) : Type 0 where
   pub all : List Unresolved
   pub statements : statements_of lines ≡ statements_seen all
   pub each : EachStands lines all
@@ -76,7 +76,7 @@ pub record IsDraft (lines : List Line) (code : List Instr) (unresolved : List Un
 
 -- In a draft of these lines the labels of some first instructions are resolved. The others are still drafted, and these
 -- are those of them that have labels.
-pub record IsResolvedTo (lines : List Line) (code : List Instr) (unresolved : List Unresolved) : Type 0 where
+pub record IsResolvedTo (lines : List SourceLine) (code : List Instr) (unresolved : List Unresolved) : Type 0 where
   pub front : List Unresolved
   pub back : List Unresolved
   pub statements : statements_of lines ≡ statements_seen (front ++ back)
@@ -87,8 +87,8 @@ pub record IsResolvedTo (lines : List Line) (code : List Instr) (unresolved : Li
   pub labelled : unresolved ≡ filter is_unresolved back
 
 -- The assembler's draft is that of these lines.
-pub record Drafts (lines : List Line) (draft : Draft) : Type 0 where
-  pub agree : AgreesWith lines (place_of draft.labels) (length draft.code.items)
+pub record Drafts (lines : List SourceLine) (draft : Draft) : Type 0 where
+  pub agree : AgreesWith lines (label_place draft.labels) (length draft.code.items)
   pub pending : IsPending lines draft.dangling
   pub code : IsDraft lines draft.code.items draft.unresolved.items
 
@@ -102,18 +102,18 @@ abbrev pub unresolved_of : ℕ → ℕ → LentStatement → List Unresolved
 unresolved_of line place statement = kept_of (has_labels statement) (record { line = line; place = place; statement = statement })
 
 -- An earlier line has the label of this line.
-abbrev pub IsTwice : List Line → Line → Type 0
+abbrev pub IsTwice : List SourceLine → SourceLine → Type 0
 IsTwice lines line = (label : List ℕ) × (line.label ≡ Some label) × (earlier : ℕ) × HasLabel lines earlier label
 
 -- A line may fail with this error when it is added to these: LabelTwice if an earlier line has its label. NoMemory is
 -- allowed for any line.
-abbrev pub IsAddFault : List Line → Line → AsmKind → Type 0
+abbrev pub IsAddFault : List SourceLine → SourceLine → AsmKind → Type 0
 IsAddFault lines line LabelTwice = IsTwice lines line
 IsAddFault lines line NoMemory = Unit {0}
 IsAddFault lines line _ = ⊥
 
 -- A line may fail with this error when it is read after these: a fault of the line. NoMemory is allowed for any line.
-abbrev pub IsTakeFault : List Line → List ℕ → AsmKind → Type 0
+abbrev pub IsTakeFault : List SourceLine → List ℕ → AsmKind → Type 0
 IsTakeFault lines octets NoMemory = Unit {0}
 IsTakeFault lines octets kind = IsLineFault lines octets kind
 
@@ -123,13 +123,13 @@ IsFaultAt line NoMemory fault = IsOutOfMemory fault
 IsFaultAt line kind fault = (fault.line ≡ line) × (fault.kind ≡ kind)
 
 -- The line is in the grammar, and it was added to the lines.
-pub record Takes (lines : List Line) (draft : Draft) (octets : List ℕ) : Type 0 where
-  pub line : Line
-  pub said : IsLine octets line
+pub record AddsLine (lines : List SourceLine) (draft : Draft) (octets : List ℕ) : Type 0 where
+  pub line : SourceLine
+  pub said : IsSourceLine octets line
   pub drafts : Drafts (lines ++ line ∷ []) draft
 
 -- This many lines of the source were read, parsed as these, and these are left.
-pub record IsReadTo (source left : List (List ℕ)) (lines : List Line) (count : ℕ) : Type 0 where
+pub record IsReadTo (source left : List (List ℕ)) (lines : List SourceLine) (count : ℕ) : Type 0 where
   pub done : List (List ℕ)
   pub split : source ≡ done ++ left
   pub said : AreLines done lines
@@ -137,18 +137,18 @@ pub record IsReadTo (source left : List (List ℕ)) (lines : List Line) (count :
 
 -- The draft is that of this many lines of the source, and these are left.
 pub record IsDraftTo (source left : List (List ℕ)) (draft : Draft) (count : ℕ) : Type 0 where
-  pub lines : List Line
+  pub lines : List SourceLine
   pub read : IsReadTo source left lines count
   pub counted : length lines ≡ count
   pub drafts : Drafts lines draft
 
 -- The draft is that of the whole source.
 pub record IsDraftOf (source : List ℕ) (draft : Draft) : Type 0 where
-  pub lines : List Line
+  pub lines : List SourceLine
   pub said : AreLines (source_lines source) lines
   pub drafts : Drafts lines draft
 
 -- The fault of one side of a branch: that of its label, if it has one.
-abbrev pub IsSideFault : List Line → ℕ → Option (List ℕ) → AsmKind → Type 0
+abbrev pub IsSideFault : List SourceLine → ℕ → Option (List ℕ) → AsmKind → Type 0
 IsSideFault lines place None kind = ⊥
 IsSideFault lines place (Some target) kind = IsOperandFault lines place (record { label = target; most = most_branch }) kind

@@ -20,5 +20,5 @@ abbrev pub compared : ℕ → List ℕ → ℕ → List ℕ → Ordering
 compared number name key_number key = ordering_then (nat_cmp number key_number) (slice_cmp nat_cmp name key)
 
 -- The place of a name, if it has one.
-abbrev pub place_of : Labels → List ℕ → Option ℕ
-place_of labels name = get_by (λ key. compared (tail_number name) name key.0 key.1.now) labels.places
+abbrev pub label_place : Labels → List ℕ → Option ℕ
+label_place labels name = get_by (λ key. compared (tail_number name) name key.0 key.1.now) labels.places

@@ -3,7 +3,7 @@
 use Rattle.std.specs.Prelude.{◌≡◌, ℕ, Bool, true, false, ◌==◌, if◌then◌else◌, List, [], ◌∷◌, Option, Some, None, codes}
 use Rattle.std.specs.Option.{option_and_then, option_map_or}
 use Rattle.std.specs.Str.{bytes_eq}
-use Rattle.bpf_asm.specs.Grammar.{Line}
+use Rattle.bpf_asm.specs.Grammar.{SourceLine}
 use Rattle.bpf_asm.specs.StatementSpelling.{Statement, plain, jump, branch}
 use Rattle.bpf_asm.specs.Tokens.{Token, name, number, mark}
 use Rattle.bpf_code.specs.declared.instr.By.{By}
@@ -166,9 +166,9 @@ inverse_in test ts =
     >>= (λ (q : List ℕ × List Token). ended (branch test p.0 None (Some q.0)) q.1))
 
 -- The entry of a table for a name.
-abbrev pub entry_of : {A : Type 0} → List ℕ → List (List ℕ × A) → Option A
-entry_of octets [] = None
-entry_of octets (row ∷ rows) = if bytes_eq octets row.0 then Some row.1 else entry_of octets rows
+abbrev pub table_entry : {A : Type 0} → List ℕ → List (List ℕ × A) → Option A
+table_entry octets [] = None
+table_entry octets (row ∷ rows) = if bytes_eq octets row.0 then Some row.1 else table_entry octets rows
 
 -- The mnemonics of arithmetic.
 abbrev pub op_rows : List (List ℕ × Op)
@@ -176,15 +176,15 @@ op_rows = (codes "add", Add) ∷ (codes "sub", Sub) ∷ (codes "mul", Mul) ∷ (
 
 -- The arithmetic of a mnemonic.
 unfoldable pub op_of : List ℕ → Option Op
-op_of octets = entry_of octets op_rows
+op_of octets = table_entry octets op_rows
 
 -- The mnemonics of branches.
 abbrev pub test_rows : List (List ℕ × Test)
 test_rows = (codes "jeq", Eq) ∷ (codes "jgt", Gt) ∷ (codes "jge", Ge) ∷ (codes "jset", Set) ∷ []
 
 -- The branch of a mnemonic.
-unfoldable pub test_of : List ℕ → Option Test
-test_of octets = entry_of octets test_rows
+unfoldable pub branch_named : List ℕ → Option Test
+branch_named octets = table_entry octets test_rows
 
 -- The mnemonics of branches that jump if the test is false.
 abbrev pub inverse_rows : List (List ℕ × Test)
@@ -192,7 +192,7 @@ inverse_rows = (codes "jne", Eq) ∷ (codes "jneq", Eq) ∷ (codes "jlt", Ge) �
 
 -- The test whose opposite the mnemonic names.
 unfoldable pub inverse_of : List ℕ → Option Test
-inverse_of octets = entry_of octets inverse_rows
+inverse_of octets = table_entry octets inverse_rows
 
 -- The form of a mnemonic with M[k].
 abbrev pub scratch_form : (ℕ → Statement) → List Token → Option Statement
@@ -221,7 +221,7 @@ other_forms =
 
 -- The statement that a table's form reads after a mnemonic.
 abbrev pub form_in : List (List ℕ × (List Token → Option Statement)) → List ℕ → List Token → Option Statement
-form_in forms octets ts = entry_of octets forms >>= (λ form. form ts)
+form_in forms octets ts = table_entry octets forms >>= (λ form. form ts)
 
 -- The loads and stores.
 unfoldable pub moved_in : List ℕ → List Token → Option Statement
@@ -241,7 +241,7 @@ inverse_or octets ts = option_map_or (λ test. inverse_in test ts) (inverse_of o
 
 -- All but arithmetic.
 abbrev pub branch_or : List ℕ → List Token → Option Statement
-branch_or octets ts = option_map_or (λ test. branch_in test ts) (test_of octets) (inverse_or octets ts)
+branch_or octets ts = option_map_or (λ test. branch_in test ts) (branch_named octets) (inverse_or octets ts)
 
 -- The statement of a mnemonic and the tokens after it.
 unfoldable pub named_in : List ℕ → List Token → Option Statement
@@ -256,11 +256,11 @@ abbrev pub cut_label : List Token → Option (List ℕ × List Token)
 cut_label tokens = cut_name tokens >>= (λ (p : List ℕ × List Token). cut_mark 58 p.1 >>= (λ rest. Some (p.0, rest)))
 
 -- The line with this label and the statement of the other tokens, if there are any.
-abbrev pub body_in : Option (List ℕ) → List Token → Option Line
+abbrev pub body_in : Option (List ℕ) → List Token → Option SourceLine
 body_in label tokens =
     if is_ended tokens then Some (record { label = label; statement = None }) else (
     statement_in tokens >>= (λ s. Some (record { label = label; statement = Some s })))
 
 -- The line of these tokens.
-unfoldable pub line_in : List Token → Option Line
+unfoldable pub line_in : List Token → Option SourceLine
 line_in tokens = option_map_or (λ (p : List ℕ × List Token). body_in (Some p.0) p.1) (cut_label tokens) (body_in None tokens)

@@ -2,7 +2,7 @@
 use Rattle.std.specs.Prelude.{option_copied, option_map}
 use Rattle.bpf_asm.specs.Tokens.{Token, name, number, faulty, mark}
 use Rattle.bpf_asm.specs.StatementSpelling.{Statement, plain, jump, branch}
-use Rattle.bpf_asm.specs.Grammar.{Line}
+use Rattle.bpf_asm.specs.Grammar.{SourceLine}
 use Rattle.bpf_asm.specs.declared.line.LentLine.{LentLine}
 use Rattle.bpf_asm.specs.declared.statement.LentStatement.{LentStatement}
 use Rattle.bpf_asm.specs.declared.statement.LentStatement.TheVariants.{Plain, Jump, Branch}
@@ -23,5 +23,5 @@ statement_seen (Jump target) = jump target.now
 statement_seen (Branch test by met unmet) = branch test by (option_copied met) (option_copied unmet)
 
 -- A line whose label and statement borrow from the source.
-abbrev pub line_seen : LentLine → Line
+abbrev pub line_seen : LentLine → SourceLine
 line_seen said = record { label = option_copied said.label; statement = option_map statement_seen said.statement }

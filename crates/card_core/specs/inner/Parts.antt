@@ -11,7 +11,7 @@ use Rattle.gen_arena.specs.Live.{live_value}
 use Rattle.line_record.specs.declared.directory.Seating.{Seating}
 use Rattle.line_record.specs.declared.owner.Owner.{Owner}
 use Rattle.line_record.specs.Directory.{DirectoryView, seating_at, Sits}
-use Rattle.line_record.specs.Line.{LineView, Opens, free_line}
+use Rattle.line_record.specs.Line.{LineView, OpensLine, free_line}
 use Rattle.line_record.specs.Piece.{PieceView, IsJournalOf}
 use Rattle.line_record.specs.StateAfter.{IsStateAfter}
 use Rattle.card_core.specs.declared.answer.Answer.{Answer}
@@ -49,15 +49,15 @@ JudgesOrRefuses found answer old new = MatchOption (judging_refusal old found.vc
     (λ refused. (answer ≡ refused) × (new ≡ old))
 
 -- A connection was set up on a line.
-pub record IsSetUp (old new : DirectoryView) (number : ℕ) (ask : Ask) (owner : Owner) (line next : LineView) : Type 0 where
+pub record TakesLine (old new : DirectoryView) (number : ℕ) (ask : Ask) (owner : Owner) (line next : LineView) : Type 0 where
   pub given : owner ≡ record { vc = ask.vc; incarnation = old.used + 1 }
   pub seating : Sits old ask.vc (Some (record { line = number; incarnation = old.used + 1; program = ask.program })) new
   pub used : new.used ≡ old.used + 1
-  pub opened : Opens line owner ask.contracts.items next
+  pub opened : OpensLine line owner ask.contracts.items next
   pub history : IsStateAfter ask.contracts.items [] next.state
 
 -- A connection was released from its line.
-pub record IsReleased (old new : DirectoryView) (vc : Vc) (piece : PieceView) (line next : LineView) : Type 0 where
+pub record LeavesLine (old new : DirectoryView) (vc : Vc) (piece : PieceView) (line next : LineView) : Type 0 where
   pub journal : IsJournalOf line piece
   pub gone : Sits old vc None new
   pub used : new.used ≡ old.used
@@ -66,14 +66,14 @@ pub record IsReleased (old new : DirectoryView) (vc : Vc) (piece : PieceView) (l
 -- The requested connection is set up on the line, or it is refused for a reason.
 abbrev pub SetsUpOrRefuses : DirectoryView → DirectoryView → ℕ → Ask → Result Owner (DeskFault × Ask) → LineView → LineView → Type 0
 SetsUpOrRefuses old new number ask result line next = MatchResult result
-    (λ owner. IsSetUp old new number ask owner line next)
+    (λ owner. TakesLine old new number ask owner line next)
     (λ refused. IsUnready line refused.0 × (refused.1 ≡ ask) × (new ≡ old)
     × (refused.0 ≡ DeskStale → next ≡ line) × MayBecomeReady line next)
 
 -- The connection is released from the line, or the line doesn't serve it and nothing changes.
 abbrev pub ReleasesOrRefuses : DirectoryView → DirectoryView → Vc → Seating → Result PieceView DeskFault → LineView → LineView → Type 0
 ReleasesOrRefuses old new vc seating result line next = MatchResult result
-    (λ piece. IsReleased old new vc piece line next)
+    (λ piece. LeavesLine old new vc piece line next)
     (λ fault. (fault ≡ DeskStale) × (line.owner ≢ Some (holder vc seating)) × (new ≡ old) × (next ≡ line))
 
 -- The line's journal is returned, or the cut is refused for a reason and the line is unchanged.

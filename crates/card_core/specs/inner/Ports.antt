@@ -9,8 +9,8 @@ use Rattle.line_record.specs.Directory.{DirectoryView}
 use Rattle.line_record.specs.Line.{LineView}
 
 -- A picked cell as the world has it.
-abbrev pub picking_of : Found → Picking
-picking_of found = record {
+abbrev pub found_picking : Found → Picking
+found_picking found = record {
   cell = found.named.cell;
   moment = found.moment;
   vc = found.vc;
@@ -21,14 +21,14 @@ picking_of found = record {
 }
 
 -- The state of a port in the world.
-abbrev pub state_of : Port → PortState
-state_of Outside = outside
-state_of (Entered came) = entered came.cell came.moment
-state_of (Picked found) = picked (picking_of found)
+abbrev pub port_state_of : Port → PortState
+port_state_of Outside = outside
+port_state_of (Entered came) = entered came.cell came.moment
+port_state_of (Picked found) = picked (found_picking found)
 
 -- The states of all ports.
 abbrev pub states_of : List Port → List PortState
-states_of ports = map state_of ports
+states_of ports = map port_state_of ports
 
 -- Whether the port has no cell.
 abbrev pub is_free_port : Port → Bool

@@ -63,7 +63,7 @@ pub record SoundPicking (world : World) (picking : Picking) : Type 0 where
       → connection.incarnation ≡ picking.incarnation → connection.line ≡ picking.line
 
 -- The invariant of every world that a log leads to.
-pub record IsSound (world : World) : Type 0 where
+pub record WorldInvariant (world : World) : Type 0 where
   pub programs : SoundPrograms world
   pub connections : SoundConnections world
   pub ports : (port : ℕ) (picking : Picking) → slice_get world.ports port ≡ Some (picked picking)
@@ -73,4 +73,4 @@ pub record IsSound (world : World) : Type 0 where
 
 -- The invariant holds for every world that a log leads to.
 abbrev pub ReachedWorldsAreSound : Type 0
-ReachedWorldsAreSound = (shape : Shape) (log : List Event) (world : World) → Leads shape log world → IsSound world
+ReachedWorldsAreSound = (shape : Shape) (log : List Event) (world : World) → Leads shape log world → WorldInvariant world

@@ -24,7 +24,7 @@ abbrev pub CardsRoom : ℕ → List Card → Type 0
 CardsRoom most cards = (number : ℕ) (card : Card) → slice_get cards number ≡ Some card → most ≤ vec_capacity card.told
 
 -- The lists of a batch have room for this number of arrivals on a shelf of this number of cards.
-pub record HasRoom (cards most : ℕ) (batch : Batch) : Type 0 where
+pub record BatchHasRoom (cards most : ℕ) (batch : Batch) : Type 0 where
   pub sized : length batch.dealt.items ≡ cards
   pub dealt : HaveRoom most batch.dealt.items
   pub numbers : most ≤ vec_capacity batch.numbers
@@ -33,4 +33,4 @@ pub record HasRoom (cards most : ℕ) (batch : Batch) : Type 0 where
 -- A room for batches of this number of arrivals has its lists for each of its cards.
 pub record IsRoom (most : ℕ) (tolds : List (Vec (Result Judgement Unjudged))) (batch : Batch) : Type 0 where
   pub tells : TellRoom 0 most tolds
-  pub lists : HasRoom (length tolds) most batch
+  pub lists : BatchHasRoom (length tolds) most batch

@@ -12,14 +12,14 @@ module _ {T : Type 0} where
 
   -- Starting at place k, `count` free places are linked, and the last one's link is the number of places. That number
   -- is no place, so no place occurs twice: otherwise two chains of different length would start at it.
-  abbrev pub IsChain : List (Place T) → ℕ → ℕ → Type 0
-  IsChain places k zero = k ≡ length places
-  IsChain places k (suc count) =
-      (k < length places) × (is_free (slot_of (place_at places k)) ≡ true) × IsChain places (place_at places k).next count
+  abbrev pub IsFreeChain : List (Place T) → ℕ → ℕ → Type 0
+  IsFreeChain places k zero = k ≡ length places
+  IsFreeChain places k (suc count) =
+      (k < length places) × (is_free (slot_of (place_at places k)) ≡ true) × IsFreeChain places (place_at places k).next count
 
   -- The slots satisfy the arena's invariant, and the chain from the first place has all free ones.
-  pub record IsSound (places : List (Place T)) (first free : ℕ) : Type 0 where
+  pub record IsSoundArena (places : List (Place T)) (first free : ℕ) : Type 0 where
     pub lawful : IsArena (map slot_of places)
-    pub chained : IsChain places first free
+    pub chained : IsFreeChain places first free
     pub count : free ≡ free_slots (map slot_of places)
     pub few : length places ≤ 65535

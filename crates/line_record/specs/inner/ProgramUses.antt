@@ -7,16 +7,16 @@ use Rattle.line_record.specs.declared.directory.Seating.{Seating}
 use Rattle.line_record.specs.Directory.{DirectoryView, seating_at, IsTakenLine}
 
 -- The place in the table that counts the uses of the program.
-abbrev pub place_of : List ℕ → Id → ℕ
-place_of counts program = program.slot % length counts
+abbrev pub use_place : List ℕ → Id → ℕ
+use_place counts program = program.slot % length counts
 
 -- The count at the program's place.
 abbrev pub uses_of : List ℕ → Id → ℕ
-uses_of counts program = slice_index counts (place_of counts program)
+uses_of counts program = slice_index counts (use_place counts program)
 
 -- The table with this count at the program's place.
 abbrev pub with_uses : List ℕ → Id → ℕ → List ℕ
-with_uses counts program uses = slice_set counts (place_of counts program) uses
+with_uses counts program uses = slice_set counts (use_place counts program) uses
 
 -- There is a program, and it is counted at this place of a table of this many places.
 abbrev pub is_counted_at : ℕ → ℕ → Option Id → Bool

@@ -22,7 +22,7 @@ abbrev pub both_marks : MarksView → MarksView → MarksView
 both_marks one other = record { parts = one.parts + other.parts; tally = plus one.tally other.tally }
 
 -- Each count is at most 2^62.
-pub record IsBounded (tally : Tally) : Type 0 where
+pub record IsBoundedCount (tally : Tally) : Type 0 where
   pub passed : tally.passed ≤ 2 ^ 62
   pub tagged : tally.tagged ≤ 2 ^ 62
   pub discarded : tally.discarded ≤ 2 ^ 62

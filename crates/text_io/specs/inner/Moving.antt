@@ -2,5 +2,5 @@
 use Rattle.std.specs.Prelude.{◌≡◌, ℕ, List, ◌++◌}
 
 -- A prefix of the waiting octets was written, and these are left.
-abbrev pub Moves : List ℕ → List ℕ → List ℕ → List ℕ → Type 0
-Moves before after waiting left = (given : List ℕ) × (waiting ≡ given ++ left) × (after ≡ before ++ given)
+abbrev pub WritesPrefix : List ℕ → List ℕ → List ℕ → List ℕ → Type 0
+WritesPrefix before after waiting left = (given : List ℕ) × (waiting ≡ given ++ left) × (after ≡ before ++ given)

@@ -10,8 +10,8 @@ use Rattle.text_io.specs.declared.machine.Turn.TheVariants.{GoesOn, Ends}
 
 -- Loop invariant: the output so far, followed by any valid answer to the rest from the present world, is a valid
 -- answer to the whole input.
-abbrev pub Leads : {World : Type 0} → Rules World → World → List ℕ → List ℕ → ℕ → World → Type 0
-Leads rules start answered said met present =
+abbrev pub IsProgress : {World : Type 0} → Rules World → World → List ℕ → List ℕ → ℕ → World → Type 0
+IsProgress rules start answered said met present =
     (behind more : List ℕ) (done : Done) → Prints rules met present (lines_of behind) more done
     → Prints rules 0 start (lines_of (answered ++ behind)) (said ++ more) done
 
@@ -20,7 +20,7 @@ pub record Reaches {World : Type 0} (rules : Rules World) (start : World) (answe
   pub present : World
   pub sound : rules.is_sound present
   pub is_shown : shown present
-  pub leads : Leads rules start answered said met present
+  pub leads : IsProgress rules start answered said met present
 
 -- The state of a run. `left` is what remains to be answered of the whole input, and `waiting` what remains to be
 -- written of the output so far. The output held `before` at the start and holds `now`.

@@ -24,9 +24,9 @@ step_of AtEnd vc = Release vc
 step_of GoingOn vc = Cut vc
 
 -- The reply that returns the journal.
-abbrev pub reply_of : HandOut → PieceView → Reply
-reply_of AtEnd piece = Released piece
-reply_of GoingOn piece = CutOff piece
+abbrev pub handing_reply : HandOut → PieceView → Reply
+handing_reply AtEnd piece = Released piece
+handing_reply GoingOn piece = CutOff piece
 
 -- The reply, from the result of the call.
 abbrev pub replied : HandOut → Result PieceView DeskFault → Reply

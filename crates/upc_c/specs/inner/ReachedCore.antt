@@ -6,8 +6,8 @@ use Rattle.card_core.specs.Log.{Event, Leads}
 use Rattle.card_core.specs.World.{World, outside}
 
 -- Port 0 has no cell.
-abbrev pub IsIdle : World → Type 0
-IsIdle world = slice_get world.ports 0 ≡ Some outside
+abbrev pub IsIdlePort : World → Type 0
+IsIdlePort world = slice_get world.ports 0 ≡ Some outside
 
 -- The core agrees with a world that some log leads to, and whose port 0 has no cell.
 pub record Reaching (core : CoreView) : Type 0 where
@@ -16,8 +16,8 @@ pub record Reaching (core : CoreView) : Type 0 where
   pub world : World
   pub leads : Leads shape log world
   pub agrees : CoreAgrees core world
-  pub idle : IsIdle world
+  pub idle : IsIdlePort world
 
 -- There is such a log.
-abbrev pub IsReached : CoreView → Type 0
-IsReached core = ∥ Reaching core ∥₁
+abbrev pub IsReachedCore : CoreView → Type 0
+IsReachedCore core = ∥ Reaching core ∥₁

@@ -9,18 +9,18 @@ use Rattle.upc_c.specs.declared.card.UpcCard.{UpcCard}
 use Rattle.upc_c.specs.declared.inspecting.ToldLine.{ToldLine}
 
 -- The line's journal has the cells since the last cut, and its counts are those of all verdicts given on it.
-pub record Tells (line : ToldLine) (world : World) (connection : Connection) : Type 0 where
+pub record AgreesOnLine (line : ToldLine) (world : World) (connection : Connection) : Type 0 where
   pub cells : length (kept_cells connection) ≡ line.cells
   pub counts : line.counts ≡ tally_of (world.judged connection.line)
 
 -- In each world that the core agrees with, this is the line of the connection.
 abbrev pub IsToldOf : CoreView → Vc → ToldLine → Type 0
-IsToldOf core vc line = (world : World) → CoreAgrees core world → HasConnection world vc (Tells line world)
+IsToldOf core vc line = (world : World) → CoreAgrees core world → HasConnection world vc (AgreesOnLine line world)
 
 -- No world that the core agrees with has such a connection.
 abbrev pub IsMissingIn : CoreView → Vc → Type 0
 IsMissingIn core vc = (world : World) → CoreAgrees core world → connection_in world.connections vc ≡ None
 
 -- This is the line of this path and channel on the card.
-abbrev pub IsTold : UpcCard → ℕ → ℕ → ToldLine → Type 0
-IsTold card path channel line = OfConnection card path channel (Tells line)
+abbrev pub IsToldLine : UpcCard → ℕ → ℕ → ToldLine → Type 0
+IsToldLine card path channel line = OfConnection card path channel (AgreesOnLine line)

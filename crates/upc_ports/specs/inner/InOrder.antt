@@ -35,13 +35,13 @@ given_text None = []
 given_text (Some text) = text
 
 -- The text of one answerer, from the answered cells of the ports and the texts of the desk.
-abbrev pub Tells : Side → List Id → List (List ToldCell) → List (List ℕ) → Answerer → List ℕ → Type 0
-Tells side names arrivals told (Port number place) text = TellsCell side names (cell_at (slice_get arrivals number) place) text
-Tells side names arrivals told (Desk number) text = text ≡ given_text (slice_get told number)
-Tells side names arrivals told (Fault fault) text = text ≡ fault_text fault
+abbrev pub IsTextOfAnswerer : Side → List Id → List (List ToldCell) → List (List ℕ) → Answerer → List ℕ → Type 0
+IsTextOfAnswerer side names arrivals told (Port number place) text = TellsCell side names (cell_at (slice_get arrivals number) place) text
+IsTextOfAnswerer side names arrivals told (Desk number) text = text ≡ given_text (slice_get told number)
+IsTextOfAnswerer side names arrivals told (Fault fault) text = text ≡ fault_text fault
 
 -- The texts of all answerers, one after another, and nothing else.
 abbrev pub AllTell : Side → List Id → List (List ToldCell) → List (List ℕ) → List Answerer → List ℕ → Type 0
 AllTell side names arrivals told [] text = text ≡ []
 AllTell side names arrivals told (answerer ∷ order) text = (here : List ℕ) × (more : List ℕ) × (text ≡ here ++ more)
-    × Tells side names arrivals told answerer here × AllTell side names arrivals told order more
+    × IsTextOfAnswerer side names arrivals told answerer here × AllTell side names arrivals told order more

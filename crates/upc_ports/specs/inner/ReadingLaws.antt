@@ -11,22 +11,22 @@ use Rattle.text_io.specs.Printing.{IsTotal}
 use Rattle.text_io.specs.Words.{words_of, is_silent}
 use Rattle.text_io.specs.declared.ending.Done.{Done}
 use Rattle.text_io.specs.declared.ending.Done.TheVariants.{Whole, Ended}
-use Rattle.upc_run.specs.CardLine.{card_of}
+use Rattle.upc_run.specs.CardLine.{card_line_shape}
 use Rattle.upc_run.specs.CardFaults.{no_card, shape_fault_line}
-use Rattle.upc_ports.specs.PortsText.{Reading, OpensOrEnds, ReadsWords, ReadCloses, reading_rules}
+use Rattle.upc_ports.specs.PortsText.{ScriptReading, OpensOrEnds, ReadsWords, ReadCloses, reading_rules}
 
-shaped : (reading : Reading) (shape : Shape) (fault : Option CardFault) → (text : List ℕ) × (next : Option Reading)
+shaped : (reading : ScriptReading) (shape : Shape) (fault : Option CardFault) → (text : List ℕ) × (next : Option ScriptReading)
     × MatchOption fault ((text ≡ []) × (next ≡ Some (record reading { opened = true; shape = shape }))) (λ f. EndsBy (shape_fault_line f) text next)
 shaped reading shape None = ([], Some (record reading { opened = true; shape = shape }), (refl, refl))
 shaped reading shape (Some fault) = (shape_fault_line fault, None, (refl, refl))
 
-opened_by : (reading : Reading) (shape : Option Shape) → (text : List ℕ) × (next : Option Reading)
+opened_by : (reading : ScriptReading) (shape : Option Shape) → (text : List ℕ) × (next : Option ScriptReading)
     × MatchOption shape (EndsBy no_card text next) (λ s. OpensOrEnds reading s text next)
 opened_by reading None = (no_card, None, (refl, refl))
 opened_by reading (Some shape) = shaped reading shape (shape_fault shape)
 
-reads-words : (opened : Bool) (reading : Reading) (said : List ℕ) → (text : List ℕ) × (next : Option Reading) × ReadsWords opened reading said text next
-reads-words false reading said = opened_by reading (card_of (words_of said))
+reads-words : (opened : Bool) (reading : ScriptReading) (said : List ℕ) → (text : List ℕ) × (next : Option ScriptReading) × ReadsWords opened reading said text next
+reads-words false reading said = opened_by reading (card_line_shape (words_of said))
 reads-words true reading said = ([], Some (record reading { kept = reading.kept ++ said ++ 10 ∷ [] }), (refl, refl))
 
 closes : (opened : Bool) → (text : List ℕ) × (done : Done) × ReadCloses opened text done

@@ -26,16 +26,16 @@ abbrev pub header_of : List ℕ → List ℕ
 header_of cell = slice_index cell 0 ∷ slice_index cell 1 ∷ slice_index cell 2 ∷ slice_index cell 3 ∷ []
 
 -- The stored part of a cell and its answer.
-abbrev pub told_cell : List ℕ → Answer → ToldCell
-told_cell cell answer = record { header = header_of cell; told = ruled answer }
+abbrev pub answered_cell : List ℕ → Answer → ToldCell
+answered_cell cell answer = record { header = header_of cell; told = ruled answer }
 
 -- A cell with this header and a payload of zeros. No answer shows a payload.
 abbrev pub shown_cell : List ℕ → List ℕ
 shown_cell header = slice_index header 0 ∷ slice_index header 1 ∷ slice_index header 2 ∷ slice_index header 3 ∷ replicate 48 0
 
 -- The judgement with this ruling. Its other numbers are 0.
-abbrev pub judgement_of : Ruling → Judgement
-judgement_of ruling = record {
+abbrev pub judgement_by : Ruling → Judgement
+judgement_by ruling = record {
   number = 0;
   moment = 0;
   program = ruling.program;
@@ -46,5 +46,5 @@ judgement_of ruling = record {
 
 -- The answer from the stored part of a cell's answer, for a cell with its header.
 abbrev pub answer_kept : List ℕ → Result Ruling Unjudged → Answer
-answer_kept cell (Ok ruling) = answer_to cell (Ok (judgement_of ruling))
+answer_kept cell (Ok ruling) = answer_to cell (Ok (judgement_by ruling))
 answer_kept cell (Err reason) = answer_to cell (Err reason)

@@ -6,11 +6,11 @@ use Rattle.std.specs.Option.{MatchOption}
 use Rattle.bpf_code.specs.declared.instr.Instr.{Instr}
 use Rattle.bpf_verify.specs.Accepted.{IsAccepted}
 use Rattle.bpf_interp.proofs.Public.{Value-some}
-use Rattle.upc_programs.specs.Eval.{World, TellsReading, ReadsProgram, ProgramLine, TellsValue, RunsOn, CellLine, Asks, EvalSteps, EvalCloses, IsSoundWorld, eval_rules}
-use Rattle.upc_words.specs.Program.{Reading, is_program, is_refused, ChecksAs}
+use Rattle.upc_programs.specs.Eval.{EvalWorld, IsProgramAnswer, ReadsProgram, ProgramLine, TellsValue, RunsOn, CellLine, ReadsOrRuns, EvalSteps, EvalCloses, IsSoundWorld, eval_rules}
+use Rattle.upc_words.specs.Program.{ProgramReading, is_program, is_refused, ChecksAs}
 use Rattle.upc_words.proofs.Public.{reads-as}
 use Rattle.upc_words.specs.FaultLines.{line, bad_line, bad_hex, no_program, wrong_length}
-use Rattle.upc_words.specs.Hexadecimal.{octets_of, cell_of}
+use Rattle.upc_words.specs.Hexadecimal.{octets_of_digits, cell_of_octets}
 use Rattle.text_io.proofs.Public.{silent-or, silent-sound}
 use Rattle.text_io.specs.Answering.{EndsBy}
 use Rattle.text_io.specs.Printing.{IsTotal}
@@ -18,23 +18,23 @@ use Rattle.text_io.specs.Words.{words_of, is_silent}
 use Rattle.text_io.specs.declared.ending.Done.{Done}
 use Rattle.text_io.specs.declared.ending.Done.TheVariants.{Whole, Ended}
 
-tells-reading : (reading : Reading) → (text : List ℕ) × (next : Option World) × TellsReading reading text next
+tells-reading : (reading : ProgramReading) → (text : List ℕ) × (next : Option EvalWorld) × IsProgramAnswer reading text next
 tells-reading (is_program code) = (line (codes "accepted " ++ decimal (length code)), Some (Some code), (refl, refl))
 tells-reading (is_refused fault) = (fault, None, (refl, refl))
 
-reads-program : (octets : List ℕ) → (text : List ℕ) × (next : Option World) × ReadsProgram octets text next
+reads-program : (octets : List ℕ) → (text : List ℕ) × (next : Option EvalWorld) × ReadsProgram octets text next
 reads-program octets =
     let read = reads-as octets in
     let told = tells-reading read.0 in
     (told.0, told.1, (read.0, read.1, told.2))
 
-reads-word : (octets : Option (List ℕ)) → (text : List ℕ) × (next : Option World) × MatchOption octets (EndsBy bad_hex text next) (λ found. ReadsProgram found text next)
+reads-word : (octets : Option (List ℕ)) → (text : List ℕ) × (next : Option EvalWorld) × MatchOption octets (EndsBy bad_hex text next) (λ found. ReadsProgram found text next)
 reads-word None = (bad_hex, None, (refl, refl))
 reads-word (Some octets) = reads-program octets
 
-program-line : (words : List (List ℕ)) → (text : List ℕ) × (next : Option World) × ProgramLine words text next
+program-line : (words : List (List ℕ)) → (text : List ℕ) × (next : Option EvalWorld) × ProgramLine words text next
 program-line [] = (bad_line, None, (refl, refl))
-program-line (word ∷ []) = reads-word (octets_of word)
+program-line (word ∷ []) = reads-word (octets_of_digits word)
 program-line (word ∷ other ∷ words) = (bad_line, None, (refl, refl))
 
 tells-value : (code : List Instr) → IsAccepted code → (octets : List ℕ) → (text : List ℕ) × TellsValue code octets text
@@ -46,58 +46,58 @@ runs-on : (code : List Instr) → IsAccepted code → (octets : List ℕ) → (b
 runs-on code accepted octets true = tells-value code accepted octets
 runs-on code accepted octets false = (wrong_length (length octets), refl)
 
-runs-word : (code : List Instr) → IsAccepted code → (octets : Option (List ℕ)) → (text : List ℕ) × MatchOption octets (text ≡ bad_hex) (λ found. RunsOn code (cell_of found) text)
+runs-word : (code : List Instr) → IsAccepted code → (octets : Option (List ℕ)) → (text : List ℕ) × MatchOption octets (text ≡ bad_hex) (λ found. RunsOn code (cell_of_octets found) text)
 runs-word code accepted None = (bad_hex, refl)
-runs-word code accepted (Some octets) = runs-on code accepted (cell_of octets) (length (cell_of octets) == 52)
+runs-word code accepted (Some octets) = runs-on code accepted (cell_of_octets octets) (length (cell_of_octets octets) == 52)
 
 cell-line : (code : List Instr) → IsAccepted code → (words : List (List ℕ)) → (text : List ℕ) × CellLine code words text
 cell-line code accepted [] = (bad_line, refl)
-cell-line code accepted (word ∷ []) = runs-word code accepted (octets_of word)
+cell-line code accepted (word ∷ []) = runs-word code accepted (octets_of_digits word)
 cell-line code accepted (word ∷ other ∷ words) = (bad_line, refl)
 
-asks : (world : World) → IsSoundWorld world → (words : List (List ℕ)) → (text : List ℕ) × (next : Option World) × Asks world words text next
+asks : (world : EvalWorld) → IsSoundWorld world → (words : List (List ℕ)) → (text : List ℕ) × (next : Option EvalWorld) × ReadsOrRuns world words text next
 asks None sound words = program-line words
 asks (Some code) sound words = let told = cell-line code sound words in (told.0, Some (Some code), (told.1, refl))
 
-eval-can_step : (world : World) (said : List ℕ) → IsSoundWorld world → (text : List ℕ) × (next : Option World) × EvalSteps world said text next
-eval-can_step world said sound = silent-or (Asks world (words_of said)) world (is_silent (words_of said)) (asks world sound (words_of said))
+eval-can_step : (world : EvalWorld) (said : List ℕ) → IsSoundWorld world → (text : List ℕ) × (next : Option EvalWorld) × EvalSteps world said text next
+eval-can_step world said sound = silent-or (ReadsOrRuns world (words_of said)) world (is_silent (words_of said)) (asks world sound (words_of said))
 
-eval-can_close : (world : World) → IsSoundWorld world → (text : List ℕ) × (done : Done) × EvalCloses world text done
+eval-can_close : (world : EvalWorld) → IsSoundWorld world → (text : List ℕ) × (done : Done) × EvalCloses world text done
 eval-can_close None sound = (no_program, Ended, (refl, refl))
 eval-can_close (Some code) sound = ([], Whole, (refl, refl))
 
 -- A program line leads to a sound world.
-checked-sound : (code : List Instr) (reading : Reading) (text : List ℕ) (after : World) → ChecksAs code reading → TellsReading reading text (Some after) → IsSoundWorld after
+checked-sound : (code : List Instr) (reading : ProgramReading) (text : List ℕ) (after : EvalWorld) → ChecksAs code reading → IsProgramAnswer reading text (Some after) → IsSoundWorld after
 checked-sound code (is_program accepted) text after checks told =
     let same : Some code ≡ after = let e = told.1 in let f = checks.1 in cc in subst IsSoundWorld same checks.0
 checked-sound code (is_refused fault) text after checks told = let no : Some after ≡ None = told.1 in cc
 
-read-sound : (octets text : List ℕ) (after : World) → ReadsProgram octets text (Some after) → IsSoundWorld after
+read-sound : (octets text : List ℕ) (after : EvalWorld) → ReadsProgram octets text (Some after) → IsSoundWorld after
 read-sound octets text after reads =
     elim reads.1 [
       | inl spelled ↦ checked-sound spelled.0 reads.0 text after spelled.2 reads.2
       | inr faulty ↦
-          let P : Reading → Type 0 = λ reading. TellsReading reading text (Some after) in
+          let P : ProgramReading → Type 0 = λ reading. IsProgramAnswer reading text (Some after) in
           let ends = subst P faulty.3 reads.2 in
           let no : Some after ≡ None = ends.1 in cc
     ]
 
-word-sound : (octets : Option (List ℕ)) (text : List ℕ) (after : World) → MatchOption octets (EndsBy bad_hex text (Some after)) (λ found. ReadsProgram found text (Some after)) → IsSoundWorld after
+word-sound : (octets : Option (List ℕ)) (text : List ℕ) (after : EvalWorld) → MatchOption octets (EndsBy bad_hex text (Some after)) (λ found. ReadsProgram found text (Some after)) → IsSoundWorld after
 word-sound None text after ends = let no : Some after ≡ None = ends.1 in cc
 word-sound (Some octets) text after reads = read-sound octets text after reads
 
-line-sound : (words : List (List ℕ)) (text : List ℕ) (after : World) → ProgramLine words text (Some after) → IsSoundWorld after
+line-sound : (words : List (List ℕ)) (text : List ℕ) (after : EvalWorld) → ProgramLine words text (Some after) → IsSoundWorld after
 line-sound [] text after ends = let no : Some after ≡ None = ends.1 in cc
-line-sound (word ∷ []) text after reads = word-sound (octets_of word) text after reads
+line-sound (word ∷ []) text after reads = word-sound (octets_of_digits word) text after reads
 line-sound (word ∷ other ∷ words) text after ends = let no : Some after ≡ None = ends.1 in cc
 
-asks-sound : (world after : World) (words : List (List ℕ)) (text : List ℕ) → IsSoundWorld world → Asks world words text (Some after) → IsSoundWorld after
+asks-sound : (world after : EvalWorld) (words : List (List ℕ)) (text : List ℕ) → IsSoundWorld world → ReadsOrRuns world words text (Some after) → IsSoundWorld after
 asks-sound None after words text sound reads = line-sound words text after reads
 asks-sound (Some code) after words text sound told = let same : Some code ≡ after = let e = told.1 in cc in subst IsSoundWorld same sound
 
-eval-keeps_sound : (world : World) (said text : List ℕ) (after : World) → IsSoundWorld world → EvalSteps world said text (Some after) → IsSoundWorld after
+eval-keeps_sound : (world : EvalWorld) (said text : List ℕ) (after : EvalWorld) → IsSoundWorld world → EvalSteps world said text (Some after) → IsSoundWorld after
 eval-keeps_sound world said text after sound steps =
-    silent-sound IsSoundWorld (Asks world (words_of said) text (Some after)) world after text (is_silent (words_of said)) sound
+    silent-sound IsSoundWorld (ReadsOrRuns world (words_of said) text (Some after)) world after text (is_silent (words_of said)) sound
     (asks-sound world after (words_of said) text sound) steps
 
 -- The rules of `eval` are total.

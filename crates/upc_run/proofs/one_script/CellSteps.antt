@@ -12,7 +12,7 @@ use Rattle.line_record.specs.History.{NamedCell, empty_buckets, last_moment, ver
 use Rattle.card_core.specs.Refusals.{cell_refusal}
 use Rattle.card_core.specs.Steps.{Gives, WorldStep, cell_after, judged_world, judgement_of, named_cell, picking_of, verdict_on, with_cell}
 use Rattle.card_core.specs.World.{Connection, PortState, World, code_in, connection_in, entered, kept_cells, outside, picked, with_port, with_verdict}
-use Rattle.card_core.specs.inner.Sound.{IsSound}
+use Rattle.card_core.specs.inner.Sound.{WorldInvariant}
 use Rattle.card_core.specs.declared.answer.Answer.{Answer}
 use Rattle.card_core.specs.declared.answer.Answer.TheVariants as answer
 use Rattle.card_core.specs.declared.reply.Reply.TheVariants.{Answered, Picked}
@@ -132,7 +132,7 @@ counted-more judged line verdict other met counted =
     choice (other == line)
 
 -- The code of a connection's program.
-code-there : (before : World) → IsSound before → (met : ℕ) → Stands met before → (vc : Vc) (connection : Connection)
+code-there : (before : World) → WorldInvariant before → (met : ℕ) → Stands met before → (vc : Vc) (connection : Connection)
     → connection_in before.connections vc ≡ Some connection → (code : List Instr) → code_in before.given connection.program ≡ Some code
     → code_of (seen before).live (number_in before.given connection.program) ≡ Some code
 code-there before sound met stand vc connection found code named =
@@ -212,7 +212,7 @@ judged-stands met before vc connection octets moment value stand found =
 
 -- A cell whose connection is found.
 found-comes : (met : ℕ) (before after : World) (names : List Id) (moment : ℕ) (octets : List ℕ) (given : Answer) (text : List ℕ)
-    → Stands met before → IsSound before → met < most_input_lines → names ≡ names_of before.given → PortIs before outside
+    → Stands met before → WorldInvariant before → met < most_input_lines → names ≡ names_of before.given → PortIs before outside
     → (connection : Connection) → connection_in before.connections (vc_of before.shape.side octets) ≡ Some connection
     → (code : List Instr) → code_in before.given connection.program ≡ Some code → (value : ℕ) → Gives code octets value
     → JudgeCase (picked_world before octets moment (vc_of before.shape.side octets) connection value)
@@ -260,7 +260,7 @@ found-comes met before after names moment octets given text stand sound few know
 
 -- The answer to a cell that has entered.
 answered-comes : (met : ℕ) (before after : World) (names : List Id) (moment : ℕ) (octets : List ℕ) (given : Answer) (text : List ℕ)
-    → Stands met before → IsSound before → met < most_input_lines → names ≡ names_of before.given → PortIs before outside
+    → Stands met before → WorldInvariant before → met < most_input_lines → names ≡ names_of before.given → PortIs before outside
     → IsAnswered (with_port before 0 (entered octets moment)) given after
     → answer_text names (vc_of before.shape.side octets) given ≡ Some text → CellComes met before after moment octets text
 answered-comes met before after names moment octets given text stand sound few known free (inl picks) told =
@@ -286,7 +286,7 @@ answered-comes met before after names moment octets given text stand sound few k
 
 -- A cell arrives.
 pub cell-comes : (met : ℕ) (before after : World) (names : List Id) (moment : ℕ) (octets : List ℕ) (given : Answer) (text : List ℕ)
-    → Stands met before → IsSound before → met < most_input_lines → names ≡ names_of before.given → PortIs before outside
+    → Stands met before → WorldInvariant before → met < most_input_lines → names ≡ names_of before.given → PortIs before outside
     → Arrives before octets moment given after
     → answer_text names (vc_of before.shape.side octets) given ≡ Some text → CellComes met before after moment octets text
 cell-comes met before after names moment octets given text stand sound few known free arrives told =

@@ -16,8 +16,8 @@ use Rattle.card_core.specs.Steps.{Gives}
 use Rattle.card_core.specs.declared.answer.Answer.{Answer}
 use Rattle.upc_words.specs.FaultLines.{bad_hex, bad_line, wrong_length}
 use Rattle.upc_run.specs.CardFaults.{arrive_fault, gcra_fault, no_such_program}
-use Rattle.upc_words.specs.Hexadecimal.{cell_of, octets_of}
-use Rattle.upc_words.specs.Program.{Reading, is_program, is_refused}
+use Rattle.upc_words.specs.Hexadecimal.{cell_of_octets, octets_of_digits}
+use Rattle.upc_words.specs.Program.{ProgramReading, is_program, is_refused}
 use Rattle.upc_run.specs.Rates.{AreContracts, IsContract, IsRate, first_wanted_fault}
 use Rattle.upc_run.specs.Replies.{answer_text}
 use Rattle.upc_run.specs.ScriptCommands.{Command, cell, command_of, cut, load, release, reload, retire, setup}
@@ -83,7 +83,7 @@ takes-once found next one other to to' p q = (same_Some one other (sym p.0 ∙ q
 stays-once : (s : Seen) (fault one other : List ℕ) (to to' : Seen) → StaysSeen s fault one to → StaysSeen s fault other to' → Same one other to to'
 stays-once s fault one other to to' p q = (p.0 ∙ sym q.0, p.1 ∙ sym q.1)
 
-reading-once : (s : Seen) (reading : Reading) (one other : List ℕ) (to to' : Seen)
+reading-once : (s : Seen) (reading : ProgramReading) (one other : List ℕ) (to to' : Seen)
     → ReadingSeen s reading one to → ReadingSeen s reading other to' → Same one other to to'
 reading-once s (is_program code) one other to to' p q = takes-once _ _ one other to to' p q
 reading-once s (is_refused fault) one other to to' p q = stays-once s fault one other to to' p q
@@ -93,7 +93,7 @@ load-once : (s : Seen) (octets : Option (List ℕ)) (one other : List ℕ) (to t
     → MatchOption octets (StaysSeen s bad_hex other to') (λ found. LoadsSeen s found other to') → Same one other to to'
 load-once s None one other to to' p q = stays-once s bad_hex one other to to' p q
 load-once s (Some octets) one other to to' p q =
-    let P : Reading → Type 0 = λ reading. ReadingSeen s reading other to' in
+    let P : ProgramReading → Type 0 = λ reading. ReadingSeen s reading other to' in
     reading-once s p.0 one other to to' p.2 (subst P (reads-once octets q.0 p.0 q.1 p.1) q.2)
 
 named-once : (s : Seen) (AnswersSeen : List ℕ → Seen → Type 0) (one other : List ℕ) (to to' : Seen)
@@ -151,15 +151,15 @@ sized-once s moment octets true one other to to' p q =
 sized-once s moment octets false one other to to' p q = stays-once s (wrong_length (length octets)) one other to to' p q
 
 cell-once : (s : Seen) (moment : ℕ) (octets : Option (List ℕ)) (one other : List ℕ) (to to' : Seen)
-    → MatchOption octets (StaysSeen s bad_hex one to) (λ found. SizedSeen s moment (cell_of found) one to)
-    → MatchOption octets (StaysSeen s bad_hex other to') (λ found. SizedSeen s moment (cell_of found) other to')
+    → MatchOption octets (StaysSeen s bad_hex one to) (λ found. SizedSeen s moment (cell_of_octets found) one to)
+    → MatchOption octets (StaysSeen s bad_hex other to') (λ found. SizedSeen s moment (cell_of_octets found) other to')
     → Same one other to to'
 cell-once s moment None one other to to' p q = stays-once s bad_hex one other to to' p q
-cell-once s moment (Some octets) one other to to' p q = sized-once s moment (cell_of octets) (length (cell_of octets) == 52) one other to to' p q
+cell-once s moment (Some octets) one other to to' p q = sized-once s moment (cell_of_octets octets) (length (cell_of_octets octets) == 52) one other to to' p q
 
 obeys-once : (s : Seen) (command : Command) (one other : List ℕ) (to to' : Seen)
     → ObeysSeen s command one to → ObeysSeen s command other to' → Same one other to to'
-obeys-once s (load digits) one other to to' p q = load-once s (octets_of digits) one other to to' p q
+obeys-once s (load digits) one other to to' p q = load-once s (octets_of_digits digits) one other to to' p q
 obeys-once s (retire number) one other to to' p q =
     named-once s (RetiresSeen s number) one other to to' (λ a b. takes-once _ _ one other to to' a b) (is_number s.programs number) p q
 obeys-once s (setup vc number asks) one other to to' p q = setup-once s vc number asks (first_wanted_fault asks) one other to to' p q
@@ -167,7 +167,7 @@ obeys-once s (reload vc number) one other to to' p q =
     named-once s (ReloadsSeen s vc number) one other to to' (λ a b. takes-once _ _ one other to to' a b) (is_number s.programs number) p q
 obeys-once s (release vc) one other to to' p q = takes-once _ _ one other to to' p q
 obeys-once s (cut vc) one other to to' p q = takes-once _ _ one other to to' p q
-obeys-once s (cell moment digits) one other to to' p q = cell-once s moment (octets_of digits) one other to to' p q
+obeys-once s (cell moment digits) one other to to' p q = cell-once s moment (octets_of_digits digits) one other to to' p q
 
 words-once : (s : Seen) (found : Option Command) (one other : List ℕ) (to to' : Seen)
     → MatchOption found (StaysSeen s bad_line one to) (λ command. ObeysSeen s command one to)

@@ -13,9 +13,9 @@ use Rattle.text_io.specs.Lines.{lines_of}
 use Rattle.text_io.specs.Words.{is_silent, words_of}
 use Rattle.text_io.specs.declared.ending.Done.{Done}
 use Rattle.text_io.specs.inner.Alike.{KeepsAlike, LeadAlike}
-use Rattle.upc_run.specs.CardLine.{card_of}
+use Rattle.upc_run.specs.CardLine.{card_line_shape}
 use Rattle.upc_run.specs.CardFaults.{no_card, shape_fault_line}
-use Rattle.upc_run.specs.RunText.{Card, CommandLine, IsLed, IsRunText, Opens, RunCloses, RunSteps, RunWorld, Tells, new_card, run_rules}
+use Rattle.upc_run.specs.RunText.{Card, CommandLine, IsLed, IsRunText, OpensCard, RunCloses, RunSteps, RunWorld, OpensOrObeys, new_card, run_rules}
 use Rattle.upc_run.specs.inner.RunLaws.{run-total}
 use Rattle.upc_run.proofs.one_script.OneAnswer.{line-once}
 use Rattle.upc_run.proofs.one_script.Seen.{Seen, seen}
@@ -65,8 +65,8 @@ opens-alike met shape (Some fault) one other next next' led p q = ends-alike met
 
 opening-alike : (met : ℕ) (found : Option Shape) (one other : List ℕ) (next next' : Option RunWorld)
     → ((card : Card) → next ≡ Some (Some card) → IsLed card)
-    → MatchOption found (EndsBy no_card one next) (λ shape. Opens shape one next)
-    → MatchOption found (EndsBy no_card other next') (λ shape. Opens shape other next')
+    → MatchOption found (EndsBy no_card one next) (λ shape. OpensCard shape one next)
+    → MatchOption found (EndsBy no_card other next') (λ shape. OpensCard shape other next')
     → AnswerAlike met one other next next'
 opening-alike met None one other next next' led p q = ends-alike met no_card one other next next' p q
 opening-alike met (Some shape) one other next next' led p q = opens-alike met shape (shape_fault shape) one other next next' led p q
@@ -98,17 +98,17 @@ keeps-led world line text next card sound steps e =
 -- A line of a run without a card, silent or not.
 none-alike : (met : ℕ) (line one other : List ℕ) (next next' : Option RunWorld) (b : Bool)
     → ((card : Card) → next ≡ Some (Some card) → IsLed card)
-    → MatchBool b ((one ≡ []) × (next ≡ Some None)) (Tells None (words_of line) one next)
-    → MatchBool b ((other ≡ []) × (next' ≡ Some None)) (Tells None (words_of line) other next')
+    → MatchBool b ((one ≡ []) × (next ≡ Some None)) (OpensOrObeys None (words_of line) one next)
+    → MatchBool b ((other ≡ []) × (next' ≡ Some None)) (OpensOrObeys None (words_of line) other next')
     → AnswerAlike met one other next next'
 none-alike met line one other next next' true led p q = (p.0 ∙ sym q.0, lead met next next' (Some None) (Some None) p.1 q.1 tt)
-none-alike met line one other next next' false led p q = opening-alike met (card_of (words_of line)) one other next next' led p q
+none-alike met line one other next next' false led p q = opening-alike met (card_line_shape (words_of line)) one other next next' led p q
 
 some-alike : (met : ℕ) (before before' : Card) (line one other : List ℕ) (next next' : Option RunWorld) (b : Bool)
     → met < most_input_lines → AreCardsAlike met before before'
     → ((card : Card) → next ≡ Some (Some card) → IsLed card) → ((card : Card) → next' ≡ Some (Some card) → IsLed card)
-    → MatchBool b ((one ≡ []) × (next ≡ Some (Some before))) (Tells (Some before) (words_of line) one next)
-    → MatchBool b ((other ≡ []) × (next' ≡ Some (Some before'))) (Tells (Some before') (words_of line) other next')
+    → MatchBool b ((one ≡ []) × (next ≡ Some (Some before))) (OpensOrObeys (Some before) (words_of line) one next)
+    → MatchBool b ((other ≡ []) × (next' ≡ Some (Some before'))) (OpensOrObeys (Some before') (words_of line) other next')
     → AnswerAlike (met + 1) one other next next'
 some-alike met before before' line one other next next' true few alike led led' p q = (
   p.0 ∙ sym q.0,

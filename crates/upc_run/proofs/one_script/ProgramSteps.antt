@@ -10,7 +10,7 @@ use Rattle.gen_arena.specs.declared.id.Id.{Id}
 use Rattle.card_core.specs.Refusals.{load_fault, retire_fault}
 use Rattle.card_core.specs.Steps.{Loads, Retires, WorldStep}
 use Rattle.card_core.specs.World.{Loading, World, any_below, code_in, is_busy, is_open_slot, is_outside, times_given, without_code}
-use Rattle.card_core.specs.inner.Sound.{IsSound}
+use Rattle.card_core.specs.inner.Sound.{WorldInvariant}
 use Rattle.card_core.specs.declared.fault.DeskFault.{DeskFault}
 use Rattle.card_core.specs.declared.fault.DeskFault.TheVariants.{Busy, InUse, NoProgram, ProgramsFull}
 use Rattle.card_core.specs.declared.reply.Reply.{Reply}
@@ -64,7 +64,7 @@ abbrev pub with_program : Seen → List Instr → Seen
 with_program s code = record s { programs = suc s.programs; live = record { number = suc s.programs; code = code } ∷ s.live }
 
 -- The id of a program that is loaded is new.
-new-id : (world : World) → IsSound world → (id : Id) → id.generation ≡ times_given world.given id.slot + 1 → number_in world.given id ≡ 0
+new-id : (world : World) → WorldInvariant world → (id : Id) → id.generation ≡ times_given world.given id.slot + 1 → number_in world.given id ≡ 0
 new-id world sound id next =
     let choice : (found : Option (List Instr)) → code_in world.given id ≡ found → number_in world.given id ≡ 0 = elim [
       | None ↦ λ e. number-none world.given id e
@@ -117,7 +117,7 @@ abbrev pub loaded_text : Seen → Option (List ℕ)
 loaded_text s = Some (line (codes "loaded " ++ program_name (suc s.programs)))
 
 loads-comes : (met : ℕ) (before after : World) (code : List Instr) (digits : List ℕ) (reply : Reply) (text : List ℕ) → Stands met before
-    → IsSound before → reply_text (load digits) (length before.given) reply ≡ Some text → Loads before code reply after
+    → WorldInvariant before → reply_text (load digits) (length before.given) reply ≡ Some text → Loads before code reply after
     → Comes met before after reply (loaded_text (seen before)) text (with_program (seen before) code)
 loads-comes met before after code digits reply text stand sound told goes =
     let loading : Loading = record { id = goes.id; code = code } in
@@ -138,7 +138,7 @@ loads-comes met before after code digits reply text stand sound told goes =
 
 -- A program is loaded.
 pub load-comes : (met : ℕ) (before after : World) (code : List Instr) (digits : List ℕ) (reply : Reply) (text : List ℕ) → Stands met before
-    → IsSound before → met < most_input_lines → reply_text (load digits) (length before.given) reply ≡ Some text
+    → WorldInvariant before → met < most_input_lines → reply_text (load digits) (length before.given) reply ≡ Some text
     → WorldStep before (Load code) reply after
     → Comes met before after reply (answered (seen_load_fault (seen before)) (loaded_text (seen before))) text
     (left (seen_load_fault (seen before)) (seen before) (with_program (seen before) code))

@@ -4,7 +4,7 @@ use Rattle.std.specs.List.{filter}
 use Rattle.leaky.specs.Contract.{Buckets}
 use Rattle.leaky.specs.declared.contract.Contract.{Contract}
 use Rattle.leaky.specs.declared.verdict.Verdict.{Verdict}
-use Rattle.line_record.specs.History.{NamedCell, arrival_of, arrivals_at, buckets_after, buckets_under, judged, last_moment, numbered, verdict_after, verdict_under}
+use Rattle.line_record.specs.History.{NamedCell, arrival_of, arrivals_at, buckets_after_cells, buckets_under, judged, last_moment, numbered, verdict_after, named_verdict}
 use Rattle.line_record.specs.declared.entry.Entry.{Entry}
 use Rattle.upc_run.proofs.one_script.Seen.{nameless}
 
@@ -20,7 +20,7 @@ arrivals-nameless number (cell ∷ later) =
     choice (cell.value == number)
 
 under-nameless : (contract : Option Contract) (buckets : Buckets) (cell : NamedCell)
-    → verdict_under contract buckets (nameless cell) ≡ verdict_under contract buckets cell
+    → named_verdict contract buckets (nameless cell) ≡ named_verdict contract buckets cell
 under-nameless None buckets cell = refl
 under-nameless (Some contract) buckets cell = refl
 
@@ -29,8 +29,8 @@ pub verdict-nameless : (contracts : List Contract) (opening : ℕ → Buckets) (
     → verdict_after contracts opening (map nameless history) (nameless cell) ≡ verdict_after contracts opening history cell
 verdict-nameless contracts opening history cell =
     let contract = numbered contracts cell.value in
-    ap (λ arrivals. verdict_under contract (buckets_under contract (opening cell.value) arrivals) (nameless cell)) (arrivals-nameless cell.value history)
-    ∙ under-nameless contract (buckets_after contracts opening history cell.value) cell
+    ap (λ arrivals. named_verdict contract (buckets_under contract (opening cell.value) arrivals) (nameless cell)) (arrivals-nameless cell.value history)
+    ∙ under-nameless contract (buckets_after_cells contracts opening history cell.value) cell
 
 pub map-push : (history : List NamedCell) (cell : NamedCell) → map nameless (history ++ cell ∷ []) ≡ map nameless history ++ nameless cell ∷ []
 map-push [] cell = refl

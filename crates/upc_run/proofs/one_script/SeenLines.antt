@@ -8,18 +8,18 @@ use Rattle.leaky.specs.declared.contract.Contract.{Contract}
 use Rattle.leaky.specs.declared.gcra.GcraFault.{GcraFault}
 use Rattle.card_core.proofs.Public.{worlds-sound}
 use Rattle.card_core.specs.Steps.{WorldStep}
-use Rattle.card_core.specs.inner.Sound.{IsSound}
+use Rattle.card_core.specs.inner.Sound.{WorldInvariant}
 use Rattle.card_core.specs.declared.reply.Reply.{Reply}
 use Rattle.card_core.specs.declared.step.Step.{Step}
 use Rattle.card_core.specs.declared.step.Step.TheVariants.{Cut, Load, Release, Reload, Retire, Setup}
 use Rattle.text_io.specs.Limits.{most_input_lines}
 use Rattle.upc_words.specs.FaultLines.{bad_hex, bad_line, wrong_length}
 use Rattle.upc_run.specs.CardFaults.{gcra_fault, no_such_program}
-use Rattle.upc_words.specs.Hexadecimal.{cell_of, octets_of}
-use Rattle.upc_words.specs.Program.{ReadsAs, Reading, is_program, is_refused}
+use Rattle.upc_words.specs.Hexadecimal.{cell_of_octets, octets_of_digits}
+use Rattle.upc_words.specs.Program.{ReadsAs, ProgramReading, is_program, is_refused}
 use Rattle.upc_run.specs.Rates.{AreContracts, first_wanted_fault}
 use Rattle.upc_run.specs.Replies.{program_named, reply_text}
-use Rattle.upc_run.specs.RunText.{Asks, Card, CommandLine, IsLed, LoadsOctets, Obeys, Polices, PolicesOctets, Refuses, Takes, TakesNamed, TakesReading, id_loaded}
+use Rattle.upc_run.specs.RunText.{AsksConnection, Card, CommandLine, IsLed, LoadsOctets, Obeys, PolicesCell, PolicesOctets, RefusesLine, TakesCommand, TakesNamed, TakesReading, id_loaded}
 use Rattle.upc_run.specs.ScriptCommands.{Command, cell, command_of, cut, load, release, reload, retire, setup}
 use Rattle.upc_run.specs.declared.script_words.Wanted.{Wanted}
 use Rattle.upc_run.proofs.one_script.CellSteps.{PolicesSeen, cell-comes}
@@ -38,13 +38,13 @@ TakesSeen found next text to = (found ≡ Some text) × (to ≡ next)
 abbrev pub StaysSeen : Seen → List ℕ → List ℕ → Seen → Type 0
 StaysSeen s fault text to = (text ≡ fault) × (to ≡ s)
 
-abbrev pub ReadingSeen : Seen → Reading → List ℕ → Seen → Type 0
+abbrev pub ReadingSeen : Seen → ProgramReading → List ℕ → Seen → Type 0
 ReadingSeen s (is_program code) text to =
     TakesSeen (answered (seen_load_fault s) (loaded_text s)) (left (seen_load_fault s) s (with_program s code)) text to
 ReadingSeen s (is_refused fault) text to = StaysSeen s fault text to
 
 abbrev pub LoadsSeen : Seen → List ℕ → List ℕ → Seen → Type 0
-LoadsSeen s octets text to = (reading : Reading) × ReadsAs octets reading × ReadingSeen s reading text to
+LoadsSeen s octets text to = (reading : ProgramReading) × ReadsAs octets reading × ReadingSeen s reading text to
 
 -- The command for the program with a number, if there is one.
 abbrev pub NamedSeen : Seen → ℕ → (List ℕ → Seen → Type 0) → List ℕ → Seen → Type 0
@@ -73,7 +73,7 @@ SizedSeen s moment octets text to =
 
 -- The answer to a command.
 abbrev pub ObeysSeen : Seen → Command → List ℕ → Seen → Type 0
-ObeysSeen s (load digits) text to = MatchOption (octets_of digits) (StaysSeen s bad_hex text to) (λ octets. LoadsSeen s octets text to)
+ObeysSeen s (load digits) text to = MatchOption (octets_of_digits digits) (StaysSeen s bad_hex text to) (λ octets. LoadsSeen s octets text to)
 ObeysSeen s (retire number) text to = NamedSeen s number (RetiresSeen s number) text to
 ObeysSeen s (setup vc number wanted) text to =
     MatchOption (first_wanted_fault wanted) (NamedSeen s number (AsksSeen s vc number wanted) text to) (λ fault. StaysSeen s (gcra_fault fault) text to)
@@ -83,7 +83,7 @@ ObeysSeen s (release vc) text to =
 ObeysSeen s (cut vc) text to =
     TakesSeen (answered (seen_missing_fault s vc) (cut_text s vc)) (left (seen_missing_fault s vc) s (changed_at s vc handed_out)) text to
 ObeysSeen s (cell moment digits) text to =
-    MatchOption (octets_of digits) (StaysSeen s bad_hex text to) (λ octets. SizedSeen s moment (cell_of octets) text to)
+    MatchOption (octets_of_digits digits) (StaysSeen s bad_hex text to) (λ octets. SizedSeen s moment (cell_of_octets octets) text to)
 
 -- The answer to a line.
 abbrev pub LineSeen : Seen → List (List ℕ) → List ℕ → Seen → Type 0
@@ -104,11 +104,11 @@ pub record LineComes (met : ℕ) (after : Card) (AnswersSeen : Seen → Type 0) 
   pub names : after.names ≡ names_of after.world.given
 
 module _ (met : ℕ) (few : met < most_input_lines) (before : Card) (behind : IsBehind met before) (after : Card) (text : List ℕ) where
-  sound : IsSound before.world
+  sound : WorldInvariant before.world
   sound = worlds-sound behind.led.shape behind.led.log before.world behind.led.leads
 
   -- A line that changes nothing.
-  refuses-comes : (fault : List ℕ) → Refuses fault before text after → LineComes met after (StaysSeen (seen before.world) fault text)
+  refuses-comes : (fault : List ℕ) → RefusesLine fault before text after → LineComes met after (StaysSeen (seen before.world) fault text)
   refuses-comes fault refuses = record {
     shown = (refuses.0, ap (λ (card : Card). seen card.world) refuses.1);
     stands = subst (λ (card : Card). Stands (met + 1) card.world) (sym refuses.1) (stands-later met before.world behind.stands);
@@ -119,7 +119,7 @@ module _ (met : ℕ) (few : met < most_input_lines) (before : Card) (behind : Is
   takes-come : (command : Command) (step : Step) (found : Option (List ℕ)) (next : Seen)
       → ((reply : Reply) → WorldStep before.world step reply after.world → reply_text command (length before.world.given) reply ≡ Some text
       → Comes met before.world after.world reply found text next)
-      → Takes before command step text after → LineComes met after (TakesSeen found next text)
+      → TakesCommand before command step text after → LineComes met after (TakesSeen found next text)
   takes-come command step found next comes takes =
       let many = ap length behind.names ∙ length-names before.world.given in
       let told = subst (λ n. reply_text command n takes.reply ≡ Some text) many takes.told in
@@ -134,7 +134,7 @@ module _ (met : ℕ) (few : met < most_input_lines) (before : Card) (behind : Is
   found-comes : (number : ℕ) (TakesWith : Id → List ℕ → Card → Type 0) (AnswersSeen : List ℕ → Seen → Type 0)
       → ((id : Id) → number_in before.world.given id ≡ number → 0 < number → TakesWith id text after → LineComes met after (AnswersSeen text))
       → (found : Option Id) → IsNamed before.world.given number found
-      → MatchOption found (Refuses no_such_program before text after) (λ id. TakesWith id text after)
+      → MatchOption found (RefusesLine no_such_program before text after) (λ id. TakesWith id text after)
       → LineComes met after (NamedSeen (seen before.world) number AnswersSeen text)
   found-comes number TakesWith AnswersSeen comes found (named id there is some) takes =
       let done = comes id is some takes in
@@ -160,10 +160,10 @@ module _ (met : ℕ) (few : met < most_input_lines) (before : Card) (behind : Is
   named-comes command number TakesWith AnswersSeen comes takes =
       found-comes number TakesWith AnswersSeen comes (program_named (names_of before.world.given) number)
       (named-number before.world.given behind.stands.programs.once number)
-      (subst (λ ids. MatchOption (program_named ids number) (Refuses no_such_program before text after) (λ id. TakesWith id text after)) behind.names takes)
+      (subst (λ ids. MatchOption (program_named ids number) (RefusesLine no_such_program before text after) (λ id. TakesWith id text after)) behind.names takes)
 
   -- A program is loaded.
-  reading-comes : (digits : List ℕ) (reading : Reading) → TakesReading before digits reading text after
+  reading-comes : (digits : List ℕ) (reading : ProgramReading) → TakesReading before digits reading text after
       → LineComes met after (ReadingSeen (seen before.world) reading text)
   reading-comes digits (is_program code) takes =
       takes-come (load digits) (Load code) (answered (seen_load_fault (seen before.world)) (loaded_text (seen before.world)))
@@ -177,7 +177,7 @@ module _ (met : ℕ) (few : met < most_input_lines) (before : Card) (behind : Is
       record { shown = (loads.0, loads.1, done.shown); stands = done.stands; names = done.names }
 
   load-line : (digits : List ℕ) (octets : Option (List ℕ))
-      → MatchOption octets (Refuses bad_hex before text after) (λ found. LoadsOctets before digits found text after)
+      → MatchOption octets (RefusesLine bad_hex before text after) (λ found. LoadsOctets before digits found text after)
       → LineComes met after (λ to. MatchOption octets (StaysSeen (seen before.world) bad_hex text to) (λ found. LoadsSeen (seen before.world) found text to))
   load-line digits None refuses = refuses-comes bad_hex refuses
   load-line digits (Some octets) loads = loads-come digits octets loads
@@ -185,7 +185,7 @@ module _ (met : ℕ) (few : met < most_input_lines) (before : Card) (behind : Is
   -- A program is retired.
   retire-line : (number : ℕ) → Obeys before (retire number) text after → LineComes met after (ObeysSeen (seen before.world) (retire number) text)
   retire-line number takes =
-      named-comes (retire number) number (λ id. Takes before (retire number) (Retire id)) (RetiresSeen (seen before.world) number)
+      named-comes (retire number) number (λ id. TakesCommand before (retire number) (Retire id)) (RetiresSeen (seen before.world) number)
       (λ id is some taken.
       takes-come (retire number) (Retire id) (answered (seen_retire_fault (seen before.world) number) (retired_text number))
       (left (seen_retire_fault (seen before.world) number) (seen before.world) (retired (seen before.world) number))
@@ -197,7 +197,7 @@ module _ (met : ℕ) (few : met < most_input_lines) (before : Card) (behind : Is
   -- A connection is given another program.
   reload-line : (vc : Vc) (number : ℕ) → Obeys before (reload vc number) text after → LineComes met after (ObeysSeen (seen before.world) (reload vc number) text)
   reload-line vc number takes =
-      named-comes (reload vc number) number (λ id. Takes before (reload vc number) (Reload vc id)) (ReloadsSeen (seen before.world) vc number)
+      named-comes (reload vc number) number (λ id. TakesCommand before (reload vc number) (Reload vc id)) (ReloadsSeen (seen before.world) vc number)
       (λ id is some taken.
       takes-come (reload vc number) (Reload vc id) (answered (seen_reload_fault (seen before.world) vc number) (reloaded_text vc number))
       (left (seen_reload_fault (seen before.world) vc number) (seen before.world) (changed_at (seen before.world) vc (reloaded number)))
@@ -208,7 +208,7 @@ module _ (met : ℕ) (few : met < most_input_lines) (before : Card) (behind : Is
 
   -- A connection is set up.
   asks-come : (vc : Vc) (number : ℕ) (wanted : List Wanted) (id : Id) → number_in before.world.given id ≡ number → 0 < number
-      → Asks before vc number wanted id text after → LineComes met after (AsksSeen (seen before.world) vc number wanted text)
+      → AsksConnection before vc number wanted id text after → LineComes met after (AsksSeen (seen before.world) vc number wanted text)
   asks-come vc number wanted id is some asks =
       let contracts = asks.ask.contracts.items in
       let own : number_in before.world.given asks.ask.program ≡ number = ap (number_in before.world.given) asks.program ∙ is in
@@ -227,17 +227,17 @@ module _ (met : ℕ) (few : met < most_input_lines) (before : Card) (behind : Is
       record { shown = (contracts, asks.contracts, done.shown); stands = done.stands; names = done.names }
 
   setup-line : (vc : Vc) (number : ℕ) (wanted : List Wanted) (found : Option GcraFault)
-      → MatchOption found (TakesNamed before (setup vc number wanted) number (Asks before vc number wanted) text after)
-      (λ fault. Refuses (gcra_fault fault) before text after)
+      → MatchOption found (TakesNamed before (setup vc number wanted) number (AsksConnection before vc number wanted) text after)
+      (λ fault. RefusesLine (gcra_fault fault) before text after)
       → LineComes met after (λ to. MatchOption found (NamedSeen (seen before.world) number (AsksSeen (seen before.world) vc number wanted) text to)
       (λ fault. StaysSeen (seen before.world) (gcra_fault fault) text to))
   setup-line vc number wanted None takes =
-      named-comes (setup vc number wanted) number (Asks before vc number wanted) (AsksSeen (seen before.world) vc number wanted)
+      named-comes (setup vc number wanted) number (AsksConnection before vc number wanted) (AsksSeen (seen before.world) vc number wanted)
       (λ id is some asks. asks-come vc number wanted id is some asks) takes
   setup-line vc number wanted (Some fault) refuses = refuses-comes (gcra_fault fault) refuses
 
   -- A cell arrives.
-  polices-come : (moment : ℕ) (octets : List ℕ) → Polices before moment octets text after
+  polices-come : (moment : ℕ) (octets : List ℕ) → PolicesCell before moment octets text after
       → LineComes met after (PolicesSeen (seen before.world) moment octets text)
   polices-come moment octets polices =
       let done = cell-comes met before.world after.world before.names moment octets polices.answer text behind.stands sound few behind.names behind.led.free
@@ -245,20 +245,20 @@ module _ (met : ℕ) (few : met < most_input_lines) (before : Card) (behind : Is
       record { shown = done.shown; stands = done.stands; names = polices.same ∙ behind.names ∙ ap names_of (sym done.same) }
 
   sized-line : (moment : ℕ) (octets : List ℕ) (b : Bool)
-      → MatchBool b (Polices before moment octets text after) (Refuses (wrong_length (length octets)) before text after)
+      → MatchBool b (PolicesCell before moment octets text after) (RefusesLine (wrong_length (length octets)) before text after)
       → LineComes met after (λ to. MatchBool b (PolicesSeen (seen before.world) moment octets text to) (StaysSeen (seen before.world) (wrong_length (length octets)) text to))
   sized-line moment octets true polices = polices-come moment octets polices
   sized-line moment octets false refuses = refuses-comes (wrong_length (length octets)) refuses
 
   cell-line : (moment : ℕ) (octets : Option (List ℕ))
-      → MatchOption octets (Refuses bad_hex before text after) (λ found. PolicesOctets before moment (cell_of found) text after)
-      → LineComes met after (λ to. MatchOption octets (StaysSeen (seen before.world) bad_hex text to) (λ found. SizedSeen (seen before.world) moment (cell_of found) text to))
+      → MatchOption octets (RefusesLine bad_hex before text after) (λ found. PolicesOctets before moment (cell_of_octets found) text after)
+      → LineComes met after (λ to. MatchOption octets (StaysSeen (seen before.world) bad_hex text to) (λ found. SizedSeen (seen before.world) moment (cell_of_octets found) text to))
   cell-line moment None refuses = refuses-comes bad_hex refuses
-  cell-line moment (Some octets) polices = sized-line moment (cell_of octets) (length (cell_of octets) == 52) polices
+  cell-line moment (Some octets) polices = sized-line moment (cell_of_octets octets) (length (cell_of_octets octets) == 52) polices
 
   -- A command.
   obeys-come : (command : Command) → Obeys before command text after → LineComes met after (ObeysSeen (seen before.world) command text)
-  obeys-come (load digits) obeys = load-line digits (octets_of digits) obeys
+  obeys-come (load digits) obeys = load-line digits (octets_of_digits digits) obeys
   obeys-come (retire number) obeys = retire-line number obeys
   obeys-come (setup vc number wanted) obeys = setup-line vc number wanted (first_wanted_fault wanted) obeys
   obeys-come (reload vc number) obeys = reload-line vc number obeys
@@ -270,9 +270,9 @@ module _ (met : ℕ) (few : met < most_input_lines) (before : Card) (behind : Is
       takes-come (cut vc) (Cut vc) (answered (seen_missing_fault (seen before.world) vc) (cut_text (seen before.world) vc))
       (left (seen_missing_fault (seen before.world) vc) (seen before.world) (changed_at (seen before.world) vc handed_out))
       (λ reply step told. cut-comes met before.world after.world vc reply text behind.stands told step) obeys
-  obeys-come (cell moment digits) obeys = cell-line moment (octets_of digits) obeys
+  obeys-come (cell moment digits) obeys = cell-line moment (octets_of_digits digits) obeys
 
-  words-come : (found : Option Command) → MatchOption found (Refuses bad_line before text after) (λ command. Obeys before command text after)
+  words-come : (found : Option Command) → MatchOption found (RefusesLine bad_line before text after) (λ command. Obeys before command text after)
       → LineComes met after (λ to. MatchOption found (StaysSeen (seen before.world) bad_line text to) (λ command. ObeysSeen (seen before.world) command text to))
   words-come None refuses = refuses-comes bad_line refuses
   words-come (Some command) obeys = obeys-come command obeys

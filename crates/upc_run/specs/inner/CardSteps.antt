@@ -87,16 +87,16 @@ desk-cases P wrap None before after step reply succeeds lacks refused (inr none)
 desk-cases P wrap (Some fault) before after step reply succeeds lacks refused is = refused fault is
 
 -- If the reply to a command reports no allocation failure, it has a line.
-abbrev Tells : Command → ℕ → Reply → Type 0
-Tells command programs reply = Spares reply → Told (reply_text command programs reply)
+abbrev HasText : Command → ℕ → Reply → Type 0
+HasText command programs reply = Spares reply → Told (reply_text command programs reply)
 
-tells : (command : Command) (programs : ℕ) (reply known : Reply) → reply ≡ known → Tells command programs known → Tells command programs reply
-tells command programs reply known same told = subst (λ r. Tells command programs r) (sym same) told
+tells : (command : Command) (programs : ℕ) (reply known : Reply) → reply ≡ known → HasText command programs known → HasText command programs reply
+tells command programs reply known same told = subst (λ r. HasText command programs r) (sym same) told
 
 pub load-told : (before after : World) (code : List Instr) (digits : List ℕ) (programs : ℕ) (reply : Reply)
     → WorldStep before (Load code) reply after → Spares reply → Told (reply_text (load digits) programs reply)
 load-told before after code digits programs reply =
-    desk-cases (Tells (load digits) programs reply) (λ fault. NotLoaded fault code) (load_fault before) before after (Load code) reply
+    desk-cases (HasText (load digits) programs reply) (λ fault. NotLoaded fault code) (load_fault before) before after (Load code) reply
     (λ s. tells (load digits) programs reply _ s.answer (λ e. text-there _ refl))
     (λ l. let no = l.answer in cc)
     (λ fault r. tells (load digits) programs reply _ r.answer (λ e. desk-told fault (sym (not_loaded fault code) ∙ e)))
@@ -104,7 +104,7 @@ load-told before after code digits programs reply =
 pub retire-told : (before after : World) (id : Id) (number programs : ℕ) (reply : Reply)
     → WorldStep before (Retire id) reply after → Spares reply → Told (reply_text (retire number) programs reply)
 retire-told before after id number programs reply =
-    desk-cases (Tells (retire number) programs reply) (λ fault. Refused fault) (retire_fault before id) before after (Retire id) reply
+    desk-cases (HasText (retire number) programs reply) (λ fault. Refused fault) (retire_fault before id) before after (Retire id) reply
     (λ s. tells (retire number) programs reply _ s.answer (λ e. text-there _ refl))
     (λ l. let no = l.answer in cc)
     (λ fault r. tells (retire number) programs reply _ r.answer (desk-told fault))
@@ -112,7 +112,7 @@ retire-told before after id number programs reply =
 pub setup-told : (before after : World) (ask : Ask) (vc : Vc) (number : ℕ) (wanted : List Wanted) (programs : ℕ) (reply : Reply)
     → WorldStep before (Setup ask) reply after → Spares reply → Told (reply_text (setup vc number wanted) programs reply)
 setup-told before after ask vc number wanted programs reply =
-    desk-cases (Tells (setup vc number wanted) programs reply) (λ fault. NotSetUp fault ask) (setup_fault before ask) before after (Setup ask) reply
+    desk-cases (HasText (setup vc number wanted) programs reply) (λ fault. NotSetUp fault ask) (setup_fault before ask) before after (Setup ask) reply
     (λ s. tells (setup vc number wanted) programs reply _ s.answer (λ e. text-there _ refl))
     (λ l e. let same : NotSetUp desk.NoMemory ask ≡ reply = cc in let no : true ≡ false = ap is_of_memory same ∙ e in cc)
     (λ fault r. tells (setup vc number wanted) programs reply _ r.answer (λ e. desk-told fault (sym (not_set_up fault ask) ∙ e)))
@@ -120,7 +120,7 @@ setup-told before after ask vc number wanted programs reply =
 pub reload-told : (before after : World) (vc : Vc) (id : Id) (number programs : ℕ) (reply : Reply)
     → WorldStep before (Reload vc id) reply after → Spares reply → Told (reply_text (reload vc number) programs reply)
 reload-told before after vc id number programs reply =
-    desk-cases (Tells (reload vc number) programs reply) (λ fault. Refused fault) (reload_fault before vc id) before after (Reload vc id) reply
+    desk-cases (HasText (reload vc number) programs reply) (λ fault. Refused fault) (reload_fault before vc id) before after (Reload vc id) reply
     (λ s. tells (reload vc number) programs reply _ s.answer (λ e. text-there _ refl))
     (λ l. let no = l.answer in cc)
     (λ fault r. tells (reload vc number) programs reply _ r.answer (desk-told fault))
@@ -128,7 +128,7 @@ reload-told before after vc id number programs reply =
 pub release-told : (before after : World) (vc : Vc) (programs : ℕ) (reply : Reply)
     → WorldStep before (Release vc) reply after → Spares reply → Told (reply_text (release vc) programs reply)
 release-told before after vc programs reply =
-    desk-cases (Tells (release vc) programs reply) (λ fault. Refused fault) (missing_fault before vc) before after (Release vc) reply
+    desk-cases (HasText (release vc) programs reply) (λ fault. Refused fault) (missing_fault before vc) before after (Release vc) reply
     (λ s. tells (release vc) programs reply _ s.answer (λ e. text-there _ refl))
     (λ l. let no = l.answer in cc)
     (λ fault r. tells (release vc) programs reply _ r.answer (desk-told fault))
@@ -136,7 +136,7 @@ release-told before after vc programs reply =
 pub cut-told : (before after : World) (vc : Vc) (programs : ℕ) (reply : Reply)
     → WorldStep before (Cut vc) reply after → Spares reply → Told (reply_text (cut vc) programs reply)
 cut-told before after vc programs reply =
-    desk-cases (Tells (cut vc) programs reply) (λ fault. Refused fault) (missing_fault before vc) before after (Cut vc) reply
+    desk-cases (HasText (cut vc) programs reply) (λ fault. Refused fault) (missing_fault before vc) before after (Cut vc) reply
     (λ s. tells (cut vc) programs reply _ s.answer (λ e. text-there _ refl))
     (λ l e. let same : Refused desk.NoMemory ≡ reply = cc in let no : true ≡ false = ap is_of_memory same ∙ e in cc)
     (λ fault r. tells (cut vc) programs reply _ r.answer (desk-told fault))

@@ -5,7 +5,7 @@ use Rattle.card_core.specs.Agreement.{CoreAgrees, CoreView}
 use Rattle.card_core.specs.World.{World}
 use Rattle.card_core.specs.declared.answer.Answer.{Answer}
 use Rattle.upc_words.specs.FaultLines.{bad_line}
-use Rattle.upc_run.specs.RunText.{Arrives, Card, IsLed, Obeys, OpeningLine, Refuses, RunSteps, RunWorld}
+use Rattle.upc_run.specs.RunText.{Arrives, Card, IsLed, Obeys, OpeningLine, RefusesLine, RunSteps, RunWorld}
 use Rattle.upc_run.specs.ScriptCommands.{Command}
 
 -- The core, and the ids of the programs in the order of their names.
@@ -31,7 +31,7 @@ MovesBy Goes held text held' = (before : Card) → IsLed before → ShowsCard he
 
 -- The answer to a command, or BadLine if there is none.
 abbrev pub ObeysSeen : Card → Option Command → List ℕ → Card → Type 0
-ObeysSeen before seen text after = MatchOption seen (Refuses bad_line before text after) (λ command. Obeys before command text after)
+ObeysSeen before seen text after = MatchOption seen (RefusesLine bad_line before text after) (λ command. Obeys before command text after)
 
 -- The answers grew by such a text.
 abbrev pub Moves : (Card → List ℕ → Card → Type 0) → Held → Held → List ℕ → List ℕ → Type 0

@@ -37,15 +37,15 @@ use Rattle.text_io.specs.Words.{is_silent, words_of}
 use Rattle.text_io.specs.declared.ending.Done.{Done}
 use Rattle.text_io.specs.declared.ending.Done.TheVariants.{Whole, Ended}
 use Rattle.card_core.specs.Shapes.{shape_fault}
-use Rattle.upc_run.specs.CardLine.{card_of}
+use Rattle.upc_run.specs.CardLine.{card_line_shape}
 use Rattle.upc_run.specs.ScriptCommands.{Command, load, retire, setup, reload, release, cut, cell, command_of}
 use Rattle.upc_words.specs.FaultLines.{bad_hex, bad_line, wrong_length}
 use Rattle.upc_run.specs.CardFaults.{gcra_fault, no_card, no_such_program, shape_fault_line}
-use Rattle.upc_words.specs.Hexadecimal.{octets_of, cell_of}
-use Rattle.upc_words.specs.Program.{Reading, is_program, is_refused, ReadsAs}
+use Rattle.upc_words.specs.Hexadecimal.{octets_of_digits, cell_of_octets}
+use Rattle.upc_words.specs.Program.{ProgramReading, is_program, is_refused, ReadsAs}
 use Rattle.upc_run.specs.Rates.{AreContracts, IsContract, IsRate, first_of_two, first_wanted_fault, rate_fault, wanted_fault}
 use Rattle.upc_run.specs.Replies.{program_named, reply_text}
-use Rattle.upc_run.specs.RunText.{Asks, Card, IsAnswered, IsLed, IsSoundRun, LoadsOctets, Obeys, Opens, Polices, PolicesOctets, Refuses, RunCloses, RunWorld, Takes, TakesNamed, TakesReading, Tells, id_loaded, ids_loaded, new_card, run_rules}
+use Rattle.upc_run.specs.RunText.{AsksConnection, Card, IsAnswered, IsLed, IsSoundRun, LoadsOctets, Obeys, OpensCard, PolicesCell, PolicesOctets, RefusesLine, RunCloses, RunWorld, TakesCommand, TakesNamed, TakesReading, OpensOrObeys, id_loaded, ids_loaded, new_card, run_rules}
 use Rattle.upc_run.specs.declared.script_words.Rate.{Rate}
 use Rattle.upc_run.specs.declared.script_words.Wanted.{Wanted}
 use Rattle.upc_run.specs.declared.script_words.Wanted.TheVariants as wanted
@@ -90,19 +90,19 @@ led-of card shape log behind free = record { shape = shape; log = log; leads = b
 -- The card after a step of the desk.
 led-taken : (before after : Card) (command : Command) (step : Step) (text : List ℕ) → IsLed before
     → ((reply : Reply) → WorldStep before.world step reply after.world → after.world.ports ≡ before.world.ports)
-    → Takes before command step text after → IsLed after
+    → TakesCommand before command step text after → IsLed after
 led-taken before after command step text led leaves takes =
     let next = behind-next led.shape led.log before.world after.world before.names step takes.reply (behind-of before led) takes.stepped in
     led-of after led.shape _ (record { leads = next.leads; known = takes.named ∙ next.known })
     (subst (λ states. slice_get states 0 ≡ Some outside) (sym (leaves takes.reply takes.stepped)) led.free)
 
-led-refused : (before after : Card) (fault text : List ℕ) → IsLed before → Refuses fault before text after → IsLed after
+led-refused : (before after : Card) (fault text : List ℕ) → IsLed before → RefusesLine fault before text after → IsLed after
 led-refused before after fault text led refused = subst IsLed (sym refused.1) led
 
 -- A step of the desk is taken, and its reply has a line.
 takes : (before : Card) (command : Command) (step : Step) → IsLed before → LoadsAccepted step
     → ((after : World) (reply : Reply) → WorldStep before.world step reply after → Spares reply → Told (reply_text command (length before.names) reply))
-    → (text : List ℕ) × (after : Card) × Takes before command step text after
+    → (text : List ℕ) × (after : Card) × TakesCommand before command step text after
 takes before command step led accepted told =
     let replied = step-replied led.shape led.log before.world led.leads step accepted in
     let line = told replied.1 replied.0 replied.2 replied.3 in (
@@ -157,13 +157,13 @@ contracts-some (ask ∷ later) sound =
 -- The program with a number, or none.
 named-some : (found : Option Id) (before : Card) (TakesWith : Id → List ℕ → Card → Type 0)
     → ((id : Id) → (text : List ℕ) × (after : Card) × TakesWith id text after)
-    → (text : List ℕ) × (after : Card) × MatchOption found (Refuses no_such_program before text after) (λ id. TakesWith id text after)
+    → (text : List ℕ) × (after : Card) × MatchOption found (RefusesLine no_such_program before text after) (λ id. TakesWith id text after)
 named-some None before TakesWith some = (no_such_program, before, (refl, refl))
 named-some (Some id) before TakesWith some = some id
 
 named-led : (found : Option Id) (before after : Card) (text : List ℕ) (TakesWith : Id → List ℕ → Card → Type 0) → IsLed before
     → ((id : Id) → TakesWith id text after → IsLed after)
-    → MatchOption found (Refuses no_such_program before text after) (λ id. TakesWith id text after) → IsLed after
+    → MatchOption found (RefusesLine no_such_program before text after) (λ id. TakesWith id text after) → IsLed after
 named-led None before after text TakesWith led keeps refused = led-refused before after no_such_program text led refused
 named-led (Some id) before after text TakesWith led keeps takes = keeps id takes
 
@@ -172,7 +172,7 @@ accepted-of : (octets : List ℕ) (code : List Instr) → ReadsAs octets (is_pro
 accepted-of octets code (inl spelled) = subst IsAccepted (sym spelled.2.1) spelled.2.0
 accepted-of octets code (inr faulty) = let no = faulty.3 in cc
 
-reading-some : (before : Card) (digits octets : List ℕ) → IsLed before → (reading : Reading) → ReadsAs octets reading
+reading-some : (before : Card) (digits octets : List ℕ) → IsLed before → (reading : ProgramReading) → ReadsAs octets reading
     → (text : List ℕ) × (after : Card) × TakesReading before digits reading text after
 reading-some before digits octets led (is_program code) reads =
     takes before (load digits) (Load code) led (accepted-of octets code reads)
@@ -186,22 +186,22 @@ octets-some before digits octets led =
     (done.0, done.1, (read.0, read.1, done.2))
 
 load-some : (before : Card) (digits : List ℕ) → IsLed before → (found : Option (List ℕ))
-    → (text : List ℕ) × (after : Card) × MatchOption found (Refuses bad_hex before text after) (λ octets. LoadsOctets before digits octets text after)
+    → (text : List ℕ) × (after : Card) × MatchOption found (RefusesLine bad_hex before text after) (λ octets. LoadsOctets before digits octets text after)
 load-some before digits led None = (bad_hex, before, (refl, refl))
 load-some before digits led (Some octets) = octets-some before digits octets led
 
-reading-led : (before after : Card) (digits text : List ℕ) → IsLed before → (reading : Reading) → TakesReading before digits reading text after → IsLed after
+reading-led : (before after : Card) (digits text : List ℕ) → IsLed before → (reading : ProgramReading) → TakesReading before digits reading text after → IsLed after
 reading-led before after digits text led (is_program code) takes =
     led-taken before after (load digits) (Load code) text led (load-ports before.world after.world code) takes
 reading-led before after digits text led (is_refused fault) refused = led-refused before after fault text led refused
 
 load-led : (before after : Card) (digits text : List ℕ) → IsLed before → (found : Option (List ℕ))
-    → MatchOption found (Refuses bad_hex before text after) (λ octets. LoadsOctets before digits octets text after) → IsLed after
+    → MatchOption found (RefusesLine bad_hex before text after) (λ octets. LoadsOctets before digits octets text after) → IsLed after
 load-led before after digits text led None refused = led-refused before after bad_hex text led refused
 load-led before after digits text led (Some octets) loads = reading-led before after digits text led loads.0 loads.2
 
 -- The line of a cell has an answer.
-cell-some : (before : Card) (moment : ℕ) (octets : List ℕ) → IsLed before → (text : List ℕ) × (after : Card) × Polices before moment octets text after
+cell-some : (before : Card) (moment : ℕ) (octets : List ℕ) → IsLed before → (text : List ℕ) × (after : Card) × PolicesCell before moment octets text after
 cell-some before moment octets led =
     let one = step-replied led.shape led.log before.world led.leads (Enter 0 octets moment) tt in
     let entering = enter-goes before.world one.1 octets moment one.0 led.free one.2 in
@@ -249,7 +249,7 @@ answered-led before after shape log entering octets moment given came had same (
           led-of after shape _ (record { leads = third.leads; known = same ∙ third.known }) free.2
     ]
 
-cell-led : (before after : Card) (moment : ℕ) (octets text : List ℕ) → IsLed before → Polices before moment octets text after → IsLed after
+cell-led : (before after : Card) (moment : ℕ) (octets text : List ℕ) → IsLed before → PolicesCell before moment octets text after → IsLed after
 cell-led before after moment octets text led polices =
     let arrived = polices.arrived in
     let entering = enter-goes before.world arrived.0 octets moment Entered led.free arrived.1 in
@@ -258,31 +258,31 @@ cell-led before after moment octets text led polices =
 
 -- The line of a word of octets has an answer.
 sized-some : (before : Card) (moment : ℕ) (octets : List ℕ) → IsLed before → (b : Bool)
-    → (text : List ℕ) × (after : Card) × MatchBool b (Polices before moment octets text after) (Refuses (wrong_length (length octets)) before text after)
+    → (text : List ℕ) × (after : Card) × MatchBool b (PolicesCell before moment octets text after) (RefusesLine (wrong_length (length octets)) before text after)
 sized-some before moment octets led true = cell-some before moment octets led
 sized-some before moment octets led false = (wrong_length (length octets), before, (refl, refl))
 
 sized-led : (before after : Card) (moment : ℕ) (octets text : List ℕ) → IsLed before → (b : Bool)
-    → MatchBool b (Polices before moment octets text after) (Refuses (wrong_length (length octets)) before text after) → IsLed after
+    → MatchBool b (PolicesCell before moment octets text after) (RefusesLine (wrong_length (length octets)) before text after) → IsLed after
 sized-led before after moment octets text led true polices = cell-led before after moment octets text led polices
 sized-led before after moment octets text led false refused = led-refused before after _ text led refused
 
 digits-some : (before : Card) (moment : ℕ) → IsLed before → (found : Option (List ℕ))
-    → (text : List ℕ) × (after : Card) × MatchOption found (Refuses bad_hex before text after) (λ octets. PolicesOctets before moment (cell_of octets) text after)
+    → (text : List ℕ) × (after : Card) × MatchOption found (RefusesLine bad_hex before text after) (λ octets. PolicesOctets before moment (cell_of_octets octets) text after)
 digits-some before moment led None = (bad_hex, before, (refl, refl))
-digits-some before moment led (Some octets) = sized-some before moment (cell_of octets) led (length (cell_of octets) == 52)
+digits-some before moment led (Some octets) = sized-some before moment (cell_of_octets octets) led (length (cell_of_octets octets) == 52)
 
 digits-led : (before after : Card) (moment : ℕ) (text : List ℕ) → IsLed before → (found : Option (List ℕ))
-    → MatchOption found (Refuses bad_hex before text after) (λ octets. PolicesOctets before moment (cell_of octets) text after) → IsLed after
+    → MatchOption found (RefusesLine bad_hex before text after) (λ octets. PolicesOctets before moment (cell_of_octets octets) text after) → IsLed after
 digits-led before after moment text led None refused = led-refused before after bad_hex text led refused
-digits-led before after moment text led (Some octets) polices = sized-led before after moment (cell_of octets) text led (length (cell_of octets) == 52) polices
+digits-led before after moment text led (Some octets) polices = sized-led before after moment (cell_of_octets octets) text led (length (cell_of_octets octets) == 52) polices
 
 -- The line of a setup has an answer.
 wanted-some : (before : Card) (vc : Vc) (number : ℕ) (wanted : List Wanted) → IsLed before → (found : Option GcraFault) → first_wanted_fault wanted ≡ found
-    → (text : List ℕ) × (after : Card) × MatchOption found (TakesNamed before (setup vc number wanted) number (Asks before vc number wanted) text after)
-    (λ fault. Refuses (gcra_fault fault) before text after)
+    → (text : List ℕ) × (after : Card) × MatchOption found (TakesNamed before (setup vc number wanted) number (AsksConnection before vc number wanted) text after)
+    (λ fault. RefusesLine (gcra_fault fault) before text after)
 wanted-some before vc number wanted led None sound =
-    named-some (program_named before.names number) before (Asks before vc number wanted) (λ id.
+    named-some (program_named before.names number) before (AsksConnection before vc number wanted) (λ id.
     let contracts = contracts-some wanted sound in
     let ask : Ask = record { vc = vc; program = id; contracts = record { items = contracts.0 } } in
     let done = takes before (setup vc number wanted) (Setup ask) led tt
@@ -291,51 +291,51 @@ wanted-some before vc number wanted led None sound =
 wanted-some before vc number wanted led (Some fault) sound = (gcra_fault fault, before, (refl, refl))
 
 wanted-led : (before after : Card) (vc : Vc) (number : ℕ) (wanted : List Wanted) (text : List ℕ) → IsLed before → (found : Option GcraFault)
-    → MatchOption found (TakesNamed before (setup vc number wanted) number (Asks before vc number wanted) text after)
-    (λ fault. Refuses (gcra_fault fault) before text after) → IsLed after
+    → MatchOption found (TakesNamed before (setup vc number wanted) number (AsksConnection before vc number wanted) text after)
+    (λ fault. RefusesLine (gcra_fault fault) before text after) → IsLed after
 wanted-led before after vc number wanted text led None takes =
-    named-led (program_named before.names number) before after text (Asks before vc number wanted) led
+    named-led (program_named before.names number) before after text (AsksConnection before vc number wanted) led
     (λ id asks. led-taken before after (setup vc number wanted) (Setup asks.ask) text led (setup-ports before.world after.world asks.ask) asks.taken) takes
 wanted-led before after vc number wanted text led (Some fault) refused = led-refused before after _ text led refused
 
 -- Each command has an answer.
 command-some : (before : Card) → IsLed before → (command : Command) → (text : List ℕ) × (after : Card) × Obeys before command text after
-command-some before led (load digits) = load-some before digits led (octets_of digits)
+command-some before led (load digits) = load-some before digits led (octets_of_digits digits)
 command-some before led (retire number) =
-    named-some (program_named before.names number) before (λ id. Takes before (retire number) (Retire id))
+    named-some (program_named before.names number) before (λ id. TakesCommand before (retire number) (Retire id))
     (λ id. takes before (retire number) (Retire id) led tt (λ after reply. retire-told before.world after id number (length before.names) reply))
 command-some before led (setup vc number wanted) = wanted-some before vc number wanted led (first_wanted_fault wanted) refl
 command-some before led (reload vc number) =
-    named-some (program_named before.names number) before (λ id. Takes before (reload vc number) (Reload vc id))
+    named-some (program_named before.names number) before (λ id. TakesCommand before (reload vc number) (Reload vc id))
     (λ id. takes before (reload vc number) (Reload vc id) led tt (λ after reply. reload-told before.world after vc id number (length before.names) reply))
 command-some before led (release vc) =
     takes before (release vc) (Release vc) led tt (λ after reply. release-told before.world after vc (length before.names) reply)
 command-some before led (cut vc) =
     takes before (cut vc) (Cut vc) led tt (λ after reply. cut-told before.world after vc (length before.names) reply)
-command-some before led (cell moment digits) = digits-some before moment led (octets_of digits)
+command-some before led (cell moment digits) = digits-some before moment led (octets_of_digits digits)
 
 command-led : (before after : Card) (text : List ℕ) → IsLed before → (command : Command) → Obeys before command text after → IsLed after
-command-led before after text led (load digits) obeys = load-led before after digits text led (octets_of digits) obeys
+command-led before after text led (load digits) obeys = load-led before after digits text led (octets_of_digits digits) obeys
 command-led before after text led (retire number) obeys =
-    named-led (program_named before.names number) before after text (λ id. Takes before (retire number) (Retire id)) led
+    named-led (program_named before.names number) before after text (λ id. TakesCommand before (retire number) (Retire id)) led
     (λ id takes. led-taken before after (retire number) (Retire id) text led (retire-ports before.world after.world id) takes) obeys
 command-led before after text led (setup vc number wanted) obeys = wanted-led before after vc number wanted text led (first_wanted_fault wanted) obeys
 command-led before after text led (reload vc number) obeys =
-    named-led (program_named before.names number) before after text (λ id. Takes before (reload vc number) (Reload vc id)) led
+    named-led (program_named before.names number) before after text (λ id. TakesCommand before (reload vc number) (Reload vc id)) led
     (λ id takes. led-taken before after (reload vc number) (Reload vc id) text led (reload-ports before.world after.world vc id) takes) obeys
 command-led before after text led (release vc) obeys =
     led-taken before after (release vc) (Release vc) text led (release-ports before.world after.world vc) obeys
 command-led before after text led (cut vc) obeys =
     led-taken before after (cut vc) (Cut vc) text led (cut-ports before.world after.world vc) obeys
-command-led before after text led (cell moment digits) obeys = digits-led before after moment text led (octets_of digits) obeys
+command-led before after text led (cell moment digits) obeys = digits-led before after moment text led (octets_of_digits digits) obeys
 
 line-some : (before : Card) → IsLed before → (found : Option Command)
-    → (text : List ℕ) × (after : Card) × MatchOption found (Refuses bad_line before text after) (λ command. Obeys before command text after)
+    → (text : List ℕ) × (after : Card) × MatchOption found (RefusesLine bad_line before text after) (λ command. Obeys before command text after)
 line-some before led None = (bad_line, before, (refl, refl))
 line-some before led (Some command) = command-some before led command
 
 line-led : (before after : Card) (text : List ℕ) → IsLed before → (found : Option Command)
-    → MatchOption found (Refuses bad_line before text after) (λ command. Obeys before command text after) → IsLed after
+    → MatchOption found (RefusesLine bad_line before text after) (λ command. Obeys before command text after) → IsLed after
 line-led before after text led None refused = led-refused before after bad_line text led refused
 line-led before after text led (Some command) obeys = command-led before after text led command obeys
 
@@ -345,7 +345,7 @@ opens-some : (shape : Shape) → (found : Option CardFault) → (text : List ℕ
 opens-some shape None = (codes "ready\n", Some (Some (new_card shape)), (refl, refl))
 opens-some shape (Some fault) = (shape_fault_line fault, None, (refl, refl))
 
-opening-some : (found : Option Shape) → (text : List ℕ) × (next : Option RunWorld) × MatchOption found (EndsBy no_card text next) (λ shape. Opens shape text next)
+opening-some : (found : Option Shape) → (text : List ℕ) × (next : Option RunWorld) × MatchOption found (EndsBy no_card text next) (λ shape. OpensCard shape text next)
 opening-some None = (no_card, None, (refl, refl))
 opening-some (Some shape) = opens-some shape (shape_fault shape)
 
@@ -366,19 +366,19 @@ opens-led shape text card None sound opened =
 opens-led shape text card (Some fault) sound ends = let no = ends.1 in cc
 
 opening-led : (text : List ℕ) (card : Card) (found : Option Shape)
-    → MatchOption found (EndsBy no_card text (Some (Some card))) (λ shape. Opens shape text (Some (Some card))) → IsLed card
+    → MatchOption found (EndsBy no_card text (Some (Some card))) (λ shape. OpensCard shape text (Some (Some card))) → IsLed card
 opening-led text card None ends = let no = ends.1 in cc
 opening-led text card (Some shape) opens = opens-led shape text card (shape_fault shape) refl opens
 
-tells-some : (world : RunWorld) → IsSoundRun world → (words : List (List ℕ)) → (text : List ℕ) × (next : Option RunWorld) × Tells world words text next
-tells-some None sound words = opening-some (card_of words)
+tells-some : (world : RunWorld) → IsSoundRun world → (words : List (List ℕ)) → (text : List ℕ) × (next : Option RunWorld) × OpensOrObeys world words text next
+tells-some None sound words = opening-some (card_line_shape words)
 tells-some (Some card) led words =
     let told = line-some card led (command_of card.world.shape.side words) in
     (told.0, Some (Some told.1), (told.1, told.2, refl))
 
-tells-sound : (world after : RunWorld) (words : List (List ℕ)) (text : List ℕ) → IsSoundRun world → Tells world words text (Some after) → IsSoundRun after
+tells-sound : (world after : RunWorld) (words : List (List ℕ)) (text : List ℕ) → IsSoundRun world → OpensOrObeys world words text (Some after) → IsSoundRun after
 tells-sound None None words text sound told = tt
-tells-sound None (Some card) words text sound told = opening-led text card (card_of words) told
+tells-sound None (Some card) words text sound told = opening-led text card (card_line_shape words) told
 tells-sound (Some before) after words text led told =
     let same : after ≡ Some told.0 = let e = told.2 in cc in
     subst IsSoundRun (sym same) (line-led before told.0 text led (command_of before.world.shape.side words) told.1)
@@ -391,8 +391,8 @@ close-some (Some card) sound = ([], Whole, (refl, refl))
 pub run-total : IsTotal run_rules
 run-total = record {
   keeps = λ world said text after sound steps.
-      silent-sound IsSoundRun (Tells world (words_of said) text (Some after)) world after text (is_silent (words_of said)) sound
+      silent-sound IsSoundRun (OpensOrObeys world (words_of said) text (Some after)) world after text (is_silent (words_of said)) sound
       (tells-sound world after (words_of said) text sound) steps;
-  step = λ world said sound. silent-or (Tells world (words_of said)) world (is_silent (words_of said)) (tells-some world sound (words_of said));
+  step = λ world said sound. silent-or (OpensOrObeys world (words_of said)) world (is_silent (words_of said)) (tells-some world sound (words_of said));
   close = close-some;
 }

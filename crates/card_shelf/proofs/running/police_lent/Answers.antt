@@ -1,5 +1,5 @@
 use Rattle.std.proofs.Common.{ℕ, length, sym, ◌∙◌, subst, arith, true≢false}
-use Rattle.card_shelf.specs.inner.Rooms.{TellRoom, HasRoom}
+use Rattle.card_shelf.specs.inner.Rooms.{TellRoom, BatchHasRoom}
 use Rattle.card_shelf.proofs.RoomLemmas.{room-for-fewer}
 use Rattle.card_shelf.proofs.running.police_lent.Goals as goal
 
@@ -17,6 +17,6 @@ returns-clause-room g c most room = record {
       (c.police_batch-done.ensures.cards_room most (c.swap_tolds.ensures.lent most room.tells))
       (subst (λ (n : ℕ). TellRoom n most c.swap_tolds.new.tolds) (sym (c.police_batch-done.auto.cards ∙ c.swap_tolds.auto.cards))
       (c.swap_tolds.ensures.later most (λ number told from e. room.tells number told (omega arith) e)));
-  lists = subst (λ (n : ℕ). HasRoom n most c.police_batch-done.new.batch) (sym (c.swap_tolds-2.auto.tolds ∙ c.swap_tolds.auto.tolds))
+  lists = subst (λ (n : ℕ). BatchHasRoom n most c.police_batch-done.new.batch) (sym (c.swap_tolds-2.auto.tolds ∙ c.swap_tolds.auto.tolds))
       (c.police_batch-done.ensures.room (length c.args.tolds.now) most room.lists);
 }

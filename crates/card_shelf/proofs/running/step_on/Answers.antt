@@ -4,7 +4,7 @@ use Rattle.std.proofs.lemmas.List.{map-set}
 use Rattle.std.proofs.lemmas.Option.{slice_get_read}
 use Rattle.card_core.specs.Agreement.{CoreView}
 use Rattle.card_shelf.specs.declared.card.Card.{Card}
-use Rattle.card_shelf.specs.Shelf.{Takes}
+use Rattle.card_shelf.specs.Shelf.{TakesStep}
 use Rattle.card_shelf.specs.inner.Cards.{cores_of}
 use Rattle.card_shelf.specs.inner.Rest.{IsAtRest}
 use Rattle.gen_arena.proofs.Public.{slice_get-set}
@@ -19,9 +19,9 @@ there c =
     core-at c.args.cards.now c.args.number c.index-cards-number.result
     (slice_get_read c.args.cards.now (length c.args.cards.now) c.args.number c.index-cards-number.result refl within c.index-cards-number.is)
 
-takes : (c : After-step) → Takes c.args.step c.step.result c.index-cards-number.result.core c.step.new.self
+takes : (c : After-step) → TakesStep c.args.step c.step.result c.index-cards-number.result.core c.step.new.self
 takes c =
-    subst (λ (card : Card). Takes c.args.step c.step.result card.core c.step.new.self) (sym c.index-cards-number.is)
+    subst (λ (card : Card). TakesStep c.args.step c.step.result card.core c.step.new.self) (sym c.index-cards-number.is)
     (record { follows = c.step.ensures.follows; unchanged = c.step.ensures.unchanged; fresh = c.step.ensures.fresh })
 
 pub returns-clause-taken : goal.returns-clause-taken

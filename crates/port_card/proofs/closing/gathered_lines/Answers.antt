@@ -2,7 +2,7 @@ use Rattle.std.proofs.Common.{◌+◌, List, ◌∷◌, [], length, sym, ap, ◌
 use Rattle.line_record.specs.declared.tally.Tally.{Tally}
 use Rattle.line_record.specs.Line.{LineView}
 use Rattle.line_record.specs.Tally.{plus}
-use Rattle.port_card.specs.Closing.{counts_of, lines_total}
+use Rattle.port_card.specs.Closing.{line_counts, lines_total}
 use Rattle.port_card.specs.inner.Marks.{MarksView}
 use Rattle.port_card.proofs.Gathering.{total-push}
 use Rattle.port_card.proofs.closing.gathered_lines.Goals as goal
@@ -23,6 +23,6 @@ loop-counted_line-preserved g c =
       parts = ap (λ (m : MarksView). m.parts) both ∙ ap (λ n. n + counted_line.marks.parts) c.loop-counted_line.invariant.parts
           ∙ ap (λ n. length yielded + n) counted_line.one ∙ sym more;
       tally = ap (λ (m : MarksView). m.tally) both ∙ ap (λ (t : Tally). plus t counted_line.marks.tally) c.loop-counted_line.invariant.tally
-          ∙ ap (plus (lines_total lines)) counted_line.same ∙ sym (total-push counts_of lines counted_line.line)
+          ∙ ap (plus (lines_total lines)) counted_line.same ∙ sym (total-push line_counts lines counted_line.line)
           ∙ sym (ap (λ (ls : List LineView). lines_total ls) items);
     }

@@ -1,5 +1,5 @@
 use Rattle.std.proofs.Common.{ap, ◌∙◌}
-use Rattle.upc_c.specs.CardInspection.{counts_of}
+use Rattle.upc_c.specs.CardInspection.{counts_for_c}
 use Rattle.upc_c.proofs.inspecting.upc_card_counts.Goals as goal
 
 pub returns-in-Ok-clause-counts : goal.returns-in-Ok-clause-counts
@@ -8,5 +8,5 @@ returns-in-Ok-clause-counts c = λ _. let told = c.in-Ok.ensures.told in record 
   numbers = told.numbers;
   core = told.core;
   had = told.had;
-  so = λ world agrees. let it = told.so world agrees in (it.0, it.1, c.counts_of.ensures ∙ ap counts_of it.2.counts);
+  so = λ world agrees. let it = told.so world agrees in (it.0, it.1, c.counts_of.ensures ∙ ap counts_for_c it.2.counts);
 }

@@ -4,7 +4,7 @@ use Rattle.card_core.specs.declared.reply.Reply.TheVariants.{Reloaded}
 use Rattle.card_core.specs.declared.step.Step.TheVariants.{Reload}
 use Rattle.gen_arena.specs.declared.id.Id.{Id}
 use Rattle.upc_c.specs.CardDesk.{IsDeskFault, id_of}
-use Rattle.upc_c.specs.CardHandle.{Takes}
+use Rattle.upc_c.specs.CardHandle.{CardTakes}
 use Rattle.upc_c.proofs.SettingUp.{desk-fault-from, takes-from}
 use Rattle.upc_c.proofs.renaming.upc_card_reload.Goals as goal
 
@@ -12,8 +12,8 @@ pub returns-in-Ok-reload_on-clause-reloaded : goal.returns-in-Ok-reload_on-claus
 returns-in-Ok-reload_on-clause-reloaded c = λ _. (
   c.in-Ok.vc,
   c.in-Ok.ensures.vc,
-  subst (λ (program : Id). Takes c.args.card.now c.reload_on.new.card (Reload c.in-Ok.vc program) (Reloaded (id_of c.numbers_of.result))) c.id_of.ensures
-      (subst (λ (earlier : Id). Takes c.args.card.now c.reload_on.new.card (Reload c.in-Ok.vc c.id_of.result) (Reloaded earlier)) c.numbers_of.ensures.id
+  subst (λ (program : Id). CardTakes c.args.card.now c.reload_on.new.card (Reload c.in-Ok.vc program) (Reloaded (id_of c.numbers_of.result))) c.id_of.ensures
+      (subst (λ (earlier : Id). CardTakes c.args.card.now c.reload_on.new.card (Reload c.in-Ok.vc c.id_of.result) (Reloaded earlier)) c.numbers_of.ensures.id
       (takes-from c.args.card.now c.vc_on.new.card c.reload_on.new.card _ _ c.vc_on.ensures.kept c.in-Ok-reload_on.ensures.reloaded)),
 )
 

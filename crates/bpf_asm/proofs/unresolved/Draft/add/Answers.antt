@@ -2,7 +2,7 @@ use Rattle.std.proofs.Common.{◌≡◌, ℕ, ◌+◌, [], ◌∷◌, ◌++◌, 
 use Rattle.std.specs.Option.{option_map}
 use Rattle.bpf_asm.specs.inner.Counts.{statement_count}
 use Rattle.bpf_asm.specs.inner.Pending.{IsPending}
-use Rattle.bpf_asm.specs.inner.LabelPlaces.{place_of}
+use Rattle.bpf_asm.specs.inner.LabelPlaces.{label_place}
 use Rattle.bpf_asm.specs.inner.Seen.{line_seen, statement_seen}
 use Rattle.bpf_asm.specs.inner.Drafts.{AgreesWith, drafted}
 use Rattle.bpf_asm.proofs.drafts.DraftSteps.{draft_add, draft_skip}
@@ -26,7 +26,7 @@ returns-in-None-clause-drafts c = λ lines n drafts.
     let same : length c.define.new.self.code.items ≡ length self.code.items = ap (λ v. length v.items) c.define.ensures.code in
     let count : length self.code.items + statement_count line.statement ≡ length c.define.new.self.code.items = omega arith in
     record {
-      agree = subst (λ (m : ℕ). AgreesWith (lines ++ line ∷ []) (place_of c.define.new.self.labels) m) count (c.in-Ok-true.ensures.agree c.in-Ok-true.field-0-test lines drafts.agree);
+      agree = subst (λ (m : ℕ). AgreesWith (lines ++ line ∷ []) (label_place c.define.new.self.labels) m) count (c.in-Ok-true.ensures.agree c.in-Ok-true.field-0-test lines drafts.agree);
       pending = c.pending_after-self.ensures lines n (subst (λ (p : Option ℕ). IsPending lines p) (sym c.define.ensures.dangling) drafts.pending);
       code = draft_skip lines line c.define.new.self.code.items c.define.new.self.unresolved.items none (rw (c.define.ensures.code, c.define.ensures.unresolved) drafts.code);
     }
@@ -43,7 +43,7 @@ returns-in-Some-clause-drafts c =
     let pushed = ap length code ∙ length-append c.define.new.self.code.items (drafted c.in-Some.statement ∷ []) in
     let count : length self.code.items + statement_count line.statement ≡ length c.put.new.self.code.items = omega arith in
     record {
-      agree = rw c.put.ensures.labels (subst (λ (m : ℕ). AgreesWith (lines ++ line ∷ []) (place_of c.define.new.self.labels) m) count (c.in-Ok-true.ensures.agree c.in-Ok-true.field-0-test lines drafts.agree));
+      agree = rw c.put.ensures.labels (subst (λ (m : ℕ). AgreesWith (lines ++ line ∷ []) (label_place c.define.new.self.labels) m) count (c.in-Ok-true.ensures.agree c.in-Ok-true.field-0-test lines drafts.agree));
       pending = rw c.put.ensures.dangling (c.pending_after-self.ensures lines n (subst (λ (p : Option ℕ). IsPending lines p) (sym c.define.ensures.dangling) drafts.pending));
       code = draft_add lines line c.define.new.self.code.items c.put.new.self.code.items c.define.new.self.unresolved.items c.put.new.self.unresolved.items (c.args.at + 1) c.in-Some.statement some (ap (λ (k : ℕ). k + 1) (sym n)) code unresolved (rw (c.define.ensures.code, c.define.ensures.unresolved) drafts.code);
     })

@@ -3,7 +3,7 @@ use Rattle.std.specs.Prelude.{slice_get}
 use Rattle.card_core.specs.declared.reply.Reply.TheVariants.{NotNow}
 use Rattle.card_core.specs.declared.step.Step.TheVariants.{Enter}
 use Rattle.card_core.specs.Agreement.{CoreView, Follows}
-use Rattle.card_core.specs.Arrival.{Answers}
+use Rattle.card_core.specs.Arrival.{AnswersArrival}
 use Rattle.card_core.specs.Sections.{answer_to, unjudged_answer}
 use Rattle.card_core.specs.inner.Ports.{is_idle}
 use Rattle.card_core.proofs.ArrivalSteps.{arrives-judged, arrives-missed}
@@ -28,8 +28,8 @@ returns-in-Ok-clause-answered c =
     let told = c.tell_line.result in
     let found = c.in-Ok.found in
     let New : CoreView = core_of l.shape l.store l.directory after l.ports.items in
-    subst (λ (core : CoreView). Answers core c.args.port c.args.cell.now c.args.moment (answer_to c.args.cell.now told) New) c.self.view_is
-    (subst (λ (octets : List ℕ). Answers (core_of l.shape l.store l.directory l.lines.items l.ports.items) c.args.port c.args.cell.now c.args.moment (answer_to octets told) New)
+    subst (λ (core : CoreView). AnswersArrival core c.args.port c.args.cell.now c.args.moment (answer_to c.args.cell.now told) New) c.self.view_is
+    (subst (λ (octets : List ℕ). AnswersArrival (core_of l.shape l.store l.directory l.lines.items l.ports.items) c.args.port c.args.cell.now c.args.moment (answer_to octets told) New)
     c.in-Ok.ensures.found.naming.same
     (arrives-judged l.shape l.store l.directory l.lines.items l.ports.items c.args.port (record { cell = c.args.cell.now; moment = c.args.moment }) free
     found c.in-Ok.ensures.found (answer_to found.named.cell told) after c.tell_line.ensures.line))
@@ -39,6 +39,6 @@ returns-in-Err-clause-answered c =
     let l = c.self.inside in
     let free : is_idle (slice_get l.ports.items c.args.port) ≡ true =
     let test = c.is_idle_at.ensures in let same = c.deref.ensures.value in let is = c.if-not-is_idle_at.false in cc in
-    subst (λ (core : CoreView). Answers core c.args.port c.args.cell.now c.args.moment (unjudged_answer c.in-Err.reason) core) c.self.view_is
+    subst (λ (core : CoreView). AnswersArrival core c.args.port c.args.cell.now c.args.moment (unjudged_answer c.in-Err.reason) core) c.self.view_is
     (arrives-missed l.shape l.store l.directory l.lines.items l.ports.items c.args.port (record { cell = c.args.cell.now; moment = c.args.moment }) free
     (unjudged_answer c.in-Err.reason) c.in-Err.ensures.found)

@@ -4,7 +4,7 @@ use Rattle.gen_arena.specs.Free.{free_slots}
 use Rattle.gen_arena.specs.Insert.{Inserts}
 use Rattle.gen_arena.specs.declared.id.Id.{Id}
 use Rattle.gen_arena.specs.declared.place.Place.{Place}
-use Rattle.gen_arena.specs.inner.Chain.{slot_of, IsSound}
+use Rattle.gen_arena.specs.inner.Chain.{slot_of, IsSoundArena}
 use Rattle.gen_arena.proofs.ChangeLemmas.{none_from_zero}
 use Rattle.gen_arena.proofs.PastLemmas.{Inserts-live, Inserts-past}
 use Rattle.gen_arena.proofs.ChainLemmas.{IsSound-filled, Inserts-filled}
@@ -30,8 +30,8 @@ invariant_of-self g c =
     let filled = c.fill-generation.ensures in
     let some : 0 < free = omega (arith, c.if-self-eq0.false) in
     let sound = IsSound-filled places first free (new_place g c) c.args.value some c.self.invariant (ap (λ n. full_slot n c.args.value) filled.generation) in
-    let From : ℕ → Type 0 = λ n. IsSound (set places first (new_place g c)) n (free - 1) in
-    let Of : List (Place g.row.T.Denot) → Type 0 = λ ps. IsSound ps c.fill-generation.result.1 (free - 1) in
+    let From : ℕ → Type 0 = λ n. IsSoundArena (set places first (new_place g c)) n (free - 1) in
+    let Of : List (Place g.row.T.Denot) → Type 0 = λ ps. IsSoundArena ps c.fill-generation.result.1 (free - 1) in
     subst Of (sym filled.after) (subst From (sym filled.next) sound)
 
 pub returns-clause-inserted : goal.returns-clause-inserted

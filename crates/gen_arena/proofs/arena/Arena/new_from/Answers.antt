@@ -1,6 +1,6 @@
 use Rattle.std.proofs.Common.{◌≡◌, ◌≤◌, ℕ, sym, subst, arith}
 use Rattle.gen_arena.specs.Slot.{greatest_generation}
-use Rattle.gen_arena.specs.inner.Chain.{IsSound}
+use Rattle.gen_arena.specs.inner.Chain.{IsSoundArena}
 use Rattle.gen_arena.proofs.PlaceLemmas.{AreFresh-slots}
 use Rattle.gen_arena.proofs.ChainLemmas.{IsSound-fresh, IsSound-worn_out}
 use Rattle.gen_arena.proofs.arena.Arena.new_from.Goals.{then-used-lt4294967295, else-used-lt4294967295}
@@ -11,7 +11,7 @@ invariant_of-result g c =
     let places = c.in_ok-places.places in
     let few : c.args.slots ≤ 65535 = let fits = c.ranges.slots.fits in omega (arith, fits) in
     let most : c.args.used ≤ greatest_generation = let fits = c.ranges.used.fits in omega (arith, fits) in
-    let From : ℕ × ℕ → Type 0 = λ listed. IsSound places listed.0 listed.1 in
+    let From : ℕ × ℕ → Type 0 = λ listed. IsSoundArena places listed.0 listed.1 in
     elim c.if-used-lt4294967295.branch [
       | then-used-lt4294967295 w ↦
           subst From (sym w.first-is) (IsSound-fresh places c.args.slots c.args.used few c.in_ok-places.ensures w.if-used-lt4294967295.true)

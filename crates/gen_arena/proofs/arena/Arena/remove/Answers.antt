@@ -3,7 +3,7 @@ use Rattle.std.proofs.lemmas.Bool.{cases_lt}
 use Rattle.gen_arena.specs.Slot.{Slot, greatest_generation}
 use Rattle.gen_arena.specs.Remove.{Removes}
 use Rattle.gen_arena.specs.declared.place.Place.{Place}
-use Rattle.gen_arena.specs.inner.Chain.{slot_of, IsSound}
+use Rattle.gen_arena.specs.inner.Chain.{slot_of, IsSoundArena}
 use Rattle.gen_arena.proofs.PastLemmas.{Removes-past, Removes-is_past}
 use Rattle.gen_arena.proofs.ChainLemmas.{IsHeld, held_by, emptied_place, emptied_slot, stood_there, Removes-emptied, IsSound-relisted, IsSound-worn, IfSome-at, room_for_one}
 use Rattle.gen_arena.proofs.arena.Arena.remove.Given as given
@@ -30,10 +30,10 @@ invariant_of-self g c =
     let listed = c.relisted.ensures in
     let emptied = emptied_slot places id (held g c) first in
     let after = set places id.slot (new_place g c) in
-    let Of : List (Place g.row.T.Denot) → Type 0 = λ ps. IsSound ps c.relisted.result.0 c.relisted.result.1 in
-    let listed_so : (m n : ℕ) → m ≡ c.relisted.result.0 → n ≡ c.relisted.result.1 → IsSound after m n → IsSound after c.relisted.result.0 c.relisted.result.1 = λ m n e f sound.
-    let From : ℕ → Type 0 = λ j. IsSound after j n in
-    let Count : ℕ → Type 0 = λ j. IsSound after c.relisted.result.0 j in
+    let Of : List (Place g.row.T.Denot) → Type 0 = λ ps. IsSoundArena ps c.relisted.result.0 c.relisted.result.1 in
+    let listed_so : (m n : ℕ) → m ≡ c.relisted.result.0 → n ≡ c.relisted.result.1 → IsSoundArena after m n → IsSoundArena after c.relisted.result.0 c.relisted.result.1 = λ m n e f sound.
+    let From : ℕ → Type 0 = λ j. IsSoundArena after j n in
+    let Count : ℕ → Type 0 = λ j. IsSoundArena after c.relisted.result.0 j in
     subst Count f (subst From e sound) in
     subst Of (sym c.empty-value.ensures.after) (elim (cases_lt id.generation greatest_generation) [
       | inl below ↦

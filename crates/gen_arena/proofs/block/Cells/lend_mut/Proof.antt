@@ -36,7 +36,7 @@ use Rattle.core.proofs.mem.Param.{El, R, args, el_x}
 use Rattle.core.proofs.ptr.Rows.{times_below, one_below}
 use Rattle.std.proofs.raw_atomic.Walks.{proved_at, leaves}
 use Rattle.std_alloc.proofs.RcSteps.{word, word-Good}
-use Rattle.gen_arena.specs.inner.Cells.{Holds}
+use Rattle.gen_arena.specs.inner.Cells.{CellHolds}
 use Rattle.gen_arena.specs.inner.CellLends.{with_held}
 use Rattle.gen_arena.specs.inner.BlockMemory.{cell_owned, cells_owned, row_owned}
 use Rattle.gen_arena.proofs.raw.Rows.{width, Cell, held_within, gap, cell_out, cell_in}
@@ -79,7 +79,7 @@ lend_mut_spec 𝓤 𝓛 𝓜 𝓡 wired X LX =
     let Post : Val → SProp 𝓤 = (walk_of 𝓛 T hs c).post z in
     let κs = z.0.0 in let qs = z.0.1 in let a = z.0.3 in let us = z.0.4 in
     let rb = a.0.ref_ptr.0 in let ro = a.0.ref_ptr.1 in let d = a.0.now in let start = a.1.0 in let k = a.1.1.0 in
-    let Asks : Type 0 = (start.to ≡ d.start) × Holds d.held k in
+    let Asks : Type 0 = (start.to ≡ d.start) × CellHolds d.held k in
     let tokens = ‵ (flft κs.0 qs.0) ⊛ ‵ (flft κs.1.0 qs.1.0) ⊛ ‵ ftrue in
     qed 𝓛 ((tokens ⊛ ‵ (owns (types_at T.signature.params κs) a us)) ∷ raw ((c κs a).requires z.1) ∷ []) ∵
     move ! (1 ∷ []) $ use1 𝓛 (raw (fact 𝓤 (κs.1.0 ⊑ X.lives)) ⊛ raw (fact 𝓤 Asks)) (id⊢ 𝓤 _) $ split ! $ drop ! $ heard ! Asks (λ asked.

@@ -2,7 +2,7 @@ use Rattle.std.proofs.Common.{◌≡◌, ℕ, [], ◌∷◌, ◌++◌, ◌≤◌
 use Rattle.leaky.specs.declared.contract.Contract.{Contract}
 use Rattle.line_record.specs.declared.entry.Entry.{Entry}
 use Rattle.line_record.specs.History.{NamedCell}
-use Rattle.line_record.specs.JournalRun.{IsRun}
+use Rattle.line_record.specs.JournalRun.{IsJournalRun}
 use Rattle.line_record.specs.Line.{LineView, line_refusal}
 use Rattle.line_record.specs.inner.LineFields.{view_of, KeepsRoom}
 use Rattle.line_record.specs.StateAfter.{IsStateAfter}
@@ -17,8 +17,8 @@ invariant_of-self c =
     let entry = c.judge-entry.result in
     let next = c.judge-entry.new.self in
     let capacity = vec_capacity l.entries in
-    let run : IsRun l.contracts.items l.state (entry ∷ []) next =
-    subst (λ (under : List Contract). IsRun under l.state (entry ∷ []) next) c.as_slice.ensures.value c.judge-entry.ensures.run in
+    let run : IsJournalRun l.contracts.items l.state (entry ∷ []) next =
+    subst (λ (under : List Contract). IsJournalRun under l.state (entry ∷ []) next) c.as_slice.ensures.value c.judge-entry.ensures.run in
     let held : IsSome l.owner = subst (λ (line : LineView). IsSome line.owner) (sym c.self.view_is) c.requires in
     let at : entry.moment ≡ c.args.moment = ap (λ (cell : NamedCell). cell.moment) c.judge-entry.ensures.cell in
     let view = view_of l.owner l.contracts.items l.journal l.start l.entries.items l.state capacity in
@@ -38,8 +38,8 @@ returns-clause-history c history after =
     let l = c.self.inside in
     let entry = c.judge-entry.result in
     let next = c.judge-entry.new.self in
-    let run : IsRun l.contracts.items l.state (entry ∷ []) next =
-    subst (λ (under : List Contract). IsRun under l.state (entry ∷ []) next) c.as_slice.ensures.value c.judge-entry.ensures.run in
+    let run : IsJournalRun l.contracts.items l.state (entry ∷ []) next =
+    subst (λ (under : List Contract). IsJournalRun under l.state (entry ∷ []) next) c.as_slice.ensures.value c.judge-entry.ensures.run in
     let start : IsStateAfter l.contracts.items history l.state =
     subst (λ (line : LineView). IsStateAfter line.contracts history line.state) (sym c.self.view_is) after in
     (IsStateAfter-run l.contracts.items history l.state next (entry ∷ []) start run).1

@@ -3,7 +3,7 @@ use Rattle.std.specs.Prelude.{slice_get, slice_set}
 use Rattle.std.proofs.lemmas.List.{length-set}
 use Rattle.std.proofs.lemmas.Option.{slice_get_read}
 use Rattle.line_record.specs.declared.tally.Tally.{Tally}
-use Rattle.line_record.specs.Tally.{counted, total, IsPart}
+use Rattle.line_record.specs.Tally.{counted, total, IsPartTally}
 use Rattle.line_record.proofs.Public.{totals_count}
 use Rattle.port_card.specs.Seats.{SeatView, counted_on}
 use Rattle.port_card.specs.inner.Marks.{MarksView}
@@ -19,8 +19,8 @@ count-requires g c =
     let within : c.from.result < length items = rw c.from.ensures there in
     let at : slice_get items c.from.result ≡ Some here =
     slice_get_read items (length items) c.from.result here refl within c.index_mut.ensures.value in
-    let part : IsPart (total items) c.args.books.now =
-    subst (λ (t : Tally). IsPart t c.args.books.now) c.self.invariant.1 c.bound.ensures.part in
+    let part : IsPartTally (total items) c.args.books.now =
+    subst (λ (t : Tally). IsPartTally t c.args.books.now) c.self.invariant.1 c.bound.ensures.part in
     room_on-line items c.from.result here c.args.books.now c.args.verdict at part c.requires.room
 
 pub invariant_of-self : goal.invariant_of-self

@@ -2,14 +2,14 @@
 use Rattle.std.proofs.Common.{rules, true, false, [], Some, None, ◌≡◌, refl, sym, append-nil}
 use Rattle.text_io.specs.Words.{words_of, is_silent}
 use Rattle.card_core.specs.Shapes.{shape_fault}
-use Rattle.upc_run.specs.CardLine.{card_of}
+use Rattle.upc_run.specs.CardLine.{card_line_shape}
 use Rattle.upc_ports.proofs.ReadingText.{opens}
 use Rattle.upc_ports.proofs.script.ScriptMachine.answer.Goals as goal
 
 pub returns : goal.returns
 returns c =
     let speaks : is_silent (words_of c.args.line.now) ≡ false = search rules in
-    let card : card_of (words_of c.args.line.now) ≡ Some c.in-Some.shape = search rules in
+    let card : card_line_shape (words_of c.args.line.now) ≡ Some c.in-Some.shape = search rules in
     let fits : shape_fault c.in-Some.shape ≡ None = search rules in (
       [],
       sym (append-nil _),

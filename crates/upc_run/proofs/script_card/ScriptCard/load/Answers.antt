@@ -1,9 +1,9 @@
 -- The octets that the digits spell are a program, which is loaded.
 use Rattle.std.proofs.Common.{◌≡◌, ◌∙◌, Some, ap, option_map, subst, sym}
 use Rattle.card_core.specs.declared.step.Step.TheVariants.{Load}
-use Rattle.upc_words.specs.Hexadecimal.{octets_of}
+use Rattle.upc_words.specs.Hexadecimal.{octets_of_digits}
 use Rattle.upc_words.specs.Program.{ReadsAs}
-use Rattle.upc_run.specs.RunText.{Takes}
+use Rattle.upc_run.specs.RunText.{TakesCommand}
 use Rattle.upc_run.specs.ScriptCommands.{load}
 use Rattle.upc_words.specs.Finding.{Finds}
 use Rattle.upc_run.specs.inner.Policing.{Moves}
@@ -13,9 +13,9 @@ use Rattle.upc_run.proofs.script_card.ScriptCard.load.Goals as goal
 pub returns-in-Some-2 : goal.returns-in-Some-2
 returns-in-Some-2 c =
     let digits = c.args.digits.now in
-    let spelled : octets_of digits ≡ Some c.deref.result.now =
+    let spelled : octets_of_digits digits ≡ Some c.deref.result.now =
     c.in_ok-octets.ensures ∙ ap (λ found. option_map (λ octets. octets.items) found) c.in-Some.is ∙ ap Some (sym c.deref.ensures.value) in
     let found = subst (λ program. Finds (ReadsAs c.deref.result.now) program c.args.answers.now.items c.read_program.new.answers.items) c.in-Some-2.is c.in_ok-program.ensures in
     on-ok c.put.result c.put.ensures (λ moves.
     moves-load digits c.deref.result.now c.in-Some-2.program c.args.self.now c.put.new.self c.args.answers.now.items c.put.new.answers.items spelled found.0
-    (subst (λ old. Moves (λ before. Takes before (load digits) (Load c.in-Some-2.program)) c.args.self.now c.put.new.self old c.put.new.answers.items) found.1 moves))
+    (subst (λ old. Moves (λ before. TakesCommand before (load digits) (Load c.in-Some-2.program)) c.args.self.now c.put.new.self old c.put.new.answers.items) found.1 moves))

@@ -2,7 +2,7 @@
 use Rattle.std.proofs.Common.{ap, refl}
 use Rattle.card_core.specs.declared.reply.Reply.TheVariants.{Refused, Released}
 use Rattle.card_core.specs.declared.step.Step.TheVariants.{Release}
-use Rattle.upc_run.specs.RunText.{Obeys, Takes}
+use Rattle.upc_run.specs.RunText.{Obeys, TakesCommand}
 use Rattle.upc_run.specs.ScriptCommands.{release}
 use Rattle.upc_run.proofs.AddingLemmas.{adds-some}
 use Rattle.upc_run.specs.inner.Policing.{Held}
@@ -19,14 +19,14 @@ returns c =
       | in-Ok w ↦
           on-tie (λ before. Obeys before (release vc)) _ new _ _ _ _ _ w.result-is (ap (λ v. v.items) w.answers-is)
           (on-ok w.add_released.result w.add_released.ensures (λ added.
-          moves-at (λ before. Takes before (release vc) (Release vc)) old _ new _ _ c.self.view_is
+          moves-at (λ before. TakesCommand before (release vc) (Release vc)) old _ new _ _ c.self.view_is
           (moves-taken old new (release vc) (Release vc) (Released w.in-Ok.piece) _ _ _ w.in-Ok.ensures.follows (no-name old.names) added
           (λ before after stepped. refl))))
       | in-Err w ↦
           on-tie (λ before. Obeys before (release vc)) _ new _ _ _ _ _ w.result-is (ap (λ v. v.items) w.answers-is)
           (on-ok w.add_desk_fault.result w.add_desk_fault.ensures (λ added.
           let told = adds-some _ _ _ added in
-          moves-at (λ before. Takes before (release vc) (Release vc)) old _ new _ _ c.self.view_is
+          moves-at (λ before. TakesCommand before (release vc) (Release vc)) old _ new _ _ c.self.view_is
           (moves-taken old new (release vc) (Release vc) (Refused w.in-Err.fault) told.0 _ _ w.in-Err.ensures.follows (no-name old.names) told.1
           (λ before after stepped. told.2))))
     ]

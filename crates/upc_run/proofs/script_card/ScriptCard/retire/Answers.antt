@@ -2,7 +2,7 @@
 use Rattle.std.proofs.Common.{◌∙◌, ap, sym, refl}
 use Rattle.card_core.specs.declared.reply.Reply.TheVariants.{Refused, Retired}
 use Rattle.card_core.specs.declared.step.Step.TheVariants.{Retire}
-use Rattle.upc_run.specs.RunText.{Obeys, Takes}
+use Rattle.upc_run.specs.RunText.{Obeys, TakesCommand}
 use Rattle.upc_run.specs.ScriptCommands.{retire}
 use Rattle.upc_run.proofs.AddingLemmas.{adds-some}
 use Rattle.upc_run.specs.inner.Policing.{Held}
@@ -22,7 +22,7 @@ returns c =
           on-tie (λ before. Obeys before (retire number)) _ new _ _ _ _ _ w.result-is (ap (λ v. v.items) w.answers-is)
           (on-ok w.add_retired.result w.add_retired.ensures (λ added.
           moves-at (λ before. Obeys before (retire number)) old _ new _ _ c.self.view_is
-          (moves-named (λ before here. Takes before (retire number) (Retire here)) (retire number) number id old new _ _ named
+          (moves-named (λ before here. TakesCommand before (retire number) (Retire here)) (retire number) number id old new _ _ named
           (moves-taken old new (retire number) (Retire id) (Retired w.in-Ok.field-0) _ _ _ w.in-Ok.ensures.follows (no-name old.names) added
           (λ before after stepped. refl)))))
       | in-Err w ↦
@@ -30,7 +30,7 @@ returns c =
           (on-ok w.add_desk_fault.result w.add_desk_fault.ensures (λ added.
           let told = adds-some _ _ _ added in
           moves-at (λ before. Obeys before (retire number)) old _ new _ _ c.self.view_is
-          (moves-named (λ before here. Takes before (retire number) (Retire here)) (retire number) number id old new _ _ named
+          (moves-named (λ before here. TakesCommand before (retire number) (Retire here)) (retire number) number id old new _ _ named
           (moves-taken old new (retire number) (Retire id) (Refused w.in-Err.fault) told.0 _ _ w.in-Err.ensures.follows (no-name old.names) told.1
           (λ before after stepped. told.2)))))
     ]

@@ -3,7 +3,7 @@ use Rattle.std.proofs.Common.{◌∙◌, ap, sym, refl}
 use Rattle.card_core.specs.declared.ask.Ask.{Ask}
 use Rattle.card_core.specs.declared.reply.Reply.TheVariants.{NotSetUp, SetUp}
 use Rattle.card_core.specs.declared.step.Step.TheVariants.{Setup}
-use Rattle.upc_run.specs.RunText.{Obeys, Takes}
+use Rattle.upc_run.specs.RunText.{Obeys, TakesCommand}
 use Rattle.upc_run.specs.ScriptCommands.{setup}
 use Rattle.upc_run.proofs.AddingLemmas.{adds-some}
 use Rattle.upc_run.specs.inner.Policing.{Held}
