@@ -1,7 +1,8 @@
 -- The masks of stored words, while the check goes through the code once.
-use Rattle.std.proofs.Common.{◌≡◌, ℕ, zero, suc, ◌+◌, ◌<◌, ◌⊎◌, inl, inr, min, List, [], ◌∷◌, length, get_or, Any, refl, ap, sym, ◌∙◌, subst, arith}
+use Rattle.std.proofs.Common.{◌≡◌, ℕ, zero, suc, ◌+◌, ◌<◌, ◌⊎◌, inl, inr, min, List, [], ◌∷◌, length, get_or, replicate, Any, refl, ap, sym, ◌∙◌, subst, arith}
 use Rattle.std.specs.Int.{bit_at}
 use Rattle.std.proofs.lemmas.Bool.{cases_lt}
+use Rattle.std.proofs.lemmas.Grind.{common_steps}
 use Rattle.std.proofs.lemmas.Nat.Bits.{bit_at-lt, bit_at-zero, bit_at_ones}
 use Rattle.bpf_code.specs.declared.instr.Instr.{Instr}
 use Rattle.bpf_code.specs.declared.instr.Instr.TheVariants.{Store, StoreX}
@@ -11,6 +12,10 @@ use Rattle.bpf_verify.specs.Faults.{IsUnwrittenAt}
 use Rattle.bpf_verify.specs.Paths.{IsPath, IsWrittenAt, Stores}
 use Rattle.bpf_verify.proofs.Onward.{decide_leads, decide_same, successor_forward}
 use Rattle.bpf_verify.proofs.Places.{any_here, any_later, any_none, any_split, one_stands}
+
+-- Initially each of the masks has every word.
+pub all_begin : (size all place : ℕ) → place < size → get_or (replicate size all) place 0 ≡ all
+all_begin size all place lt = grind (arith, common_steps)
 
 -- The latest place of a path is before the bound.
 abbrev pub IsBefore : List ℕ → ℕ → Type 0

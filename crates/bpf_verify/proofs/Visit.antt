@@ -35,13 +35,13 @@ lacks_there code i stands goes_on j there returns =
     goes_on (subst IsReturn (one_stands code (length code - 1) j i there stands) returns)
 
 -- A sound instruction leads at most to the place after the last.
-pub next_within : (code : List Instr) (at : ℕ) (i : Instr) → IsSized code → at < length code → IsSoundInstr (length code) at i
-    → (next : ℕ) → LeadsTo at i next → next ≤ 4096
-next_within code at (Jump k) sized within sound next leads = omega (arith, sound.targets next leads, sized.most)
-next_within code at (Branch test by jt jf) sized within sound next leads = omega (arith, sound.targets next leads, sized.most)
-next_within code at (RetK k) sized within sound next leads = absurd leads
-next_within code at RetA sized within sound next leads = absurd leads
-next_within code at _ sized within sound next leads = omega (arith, leads, sized.most)
+pub next_within : (code : List Instr) (at : ℕ) (i : Instr) → at < length code → IsSoundInstr (length code) at i
+    → (next : ℕ) → LeadsTo at i next → next ≤ length code
+next_within code at (Jump k) within sound next leads = omega (arith, sound.targets next leads)
+next_within code at (Branch test by jt jf) within sound next leads = omega (arith, sound.targets next leads)
+next_within code at (RetK k) within sound next leads = absurd leads
+next_within code at RetA within sound next leads = absurd leads
+next_within code at _ within sound next leads = omega (arith, leads)
 
 -- One more place is written.
 pub one_more : (code : List Instr) (at : ℕ) → ((place : ℕ) → place < at → IsWrittenAt code place) → IsWrittenAt code at

@@ -11,8 +11,11 @@ ghost use Rattle.bpf_code.specs.Scratch.{ReadsWord, StoresWord};
 use crate::verifier::MOST_INSTRUCTIONS;
 use bpf_code::Instr;
 
-/// One place more than a program has, so that each place has a next one.
+/// One place more than the longest program has, so that each place has a next one.
 pub(crate) const MASK_PLACES: usize = MOST_INSTRUCTIONS + 1;
+
+/// The number of places of a short program, with one more.
+pub(crate) const SHORT_PLACES: usize = 256;
 
 /// Returns the word that an instruction reads and a mask lacks.
 pub(crate) fn unwritten_word(instr: Instr, mask: u16) -> Option<u32>
@@ -41,9 +44,8 @@ pub(crate) fn with_stored(instr: Instr, mask: u16) -> u16
 /// Hands the mask after an instruction to its successors; a return has none. Returns the new mask of the next
 /// place, since a processor is slow to read what it has just written.
 pub(crate) fn pass_on(written: &mut [u16], at: usize, instr: Instr, mask: u16) -> u16
-    requires size { length written.old ≡ MASK_PLACES }
-    requires place { at < MOST_INSTRUCTIONS }
-    requires within { (next : ℕ) → LeadsTo at instr next → next ≤ MOST_INSTRUCTIONS }
+    requires place { at + 1 < length written.old }
+    requires within { (next : ℕ) → LeadsTo at instr next → next < length written.old }
     ensures successors { (next word : ℕ) → LeadsTo at instr next
         → bit_at (slice_index written.new next) word
         ≡ min (bit_at (slice_index written.old next) word) (bit_at mask word) }
@@ -73,8 +75,7 @@ pub(crate) fn pass_on(written: &mut [u16], at: usize, instr: Instr, mask: u16) -
 /// Keeps, at the place after this many skipped instructions, the words that one more path to it stores too. Returns
 /// them.
 fn narrow(written: &mut [u16], at: usize, skipped: u32, mask: u16) -> u16
-    requires size { length written.old ≡ MASK_PLACES }
-    requires within { at + 1 + skipped ≤ MOST_INSTRUCTIONS }
+    requires { at + 1 + skipped < length written.old }
     ensures place { (place word : ℕ) → place ≡ at + 1 + skipped
         → bit_at (slice_index written.new place) word
         ≡ min (bit_at (slice_index written.old place) word) (bit_at mask word) }

@@ -1,6 +1,6 @@
 //! The check, in one pass.
 
-ghost use Rattle.std.specs.Prelude.{◌≡◌, ◌↔◌, ◌<◌, ℕ, IsOk, IsTrue, IfOk, IfErr, IfSome, IfNone};
+ghost use Rattle.std.specs.Prelude.{◌≡◌, ◌↔◌, ◌<◌, ℕ, IsOk, IsTrue, IfOk, IfErr, IfSome, IfNone, length, slice_index};
 ghost use Rattle.bpf_code.specs.Flow.{IsReturn};
 ghost use Rattle.bpf_verify.specs.Accepted.{IsAccepted, IsSized};
 ghost use Rattle.bpf_verify.specs.Faults.{FailsFirst, IsUnwrittenAt};
@@ -8,7 +8,7 @@ ghost use Rattle.bpf_verify.specs.Paths.{IsWrittenAt};
 
 use crate::fault::{Fault, Refused};
 use crate::program::Program;
-use crate::scratch::{MASK_PLACES, pass_on, unwritten_word, with_stored};
+use crate::scratch::{MASK_PLACES, SHORT_PLACES, pass_on, unwritten_word, with_stored};
 use crate::soundness::{fault_of, first_unsound};
 use bpf_code::Instr;
 
@@ -46,16 +46,54 @@ fn first_fault(code: &[Instr]) -> Option<Fault>
     first_in_order(code)
 }
 
-/// Returns the fault that comes first in a code of 1 to 4096 instructions, if it has one. One pass looks for the
-/// faults of each instruction by itself and for reads of unwritten words, so that a processor does both at a time.
-/// The function is not inlined, so that the 8 KiB of its masks are free again before a program is laid out.
-#[inline(never)]
+/// Returns the fault that comes first in a code of 1 to 4096 instructions, if it has one. A short code has masks of 1 KiB,
+/// since writing 8 KiB takes longer than checking it.
 fn first_in_order(code: &[Instr]) -> Option<Fault>
     requires { IsSized code.now }
     ensures none { IfNone result (IsAccepted code.now) }
     ensures some { IfSome result (FailsFirst code.now) }
 {
+    if code.len() < SHORT_PLACES {
+        first_in_short(code)
+    } else {
+        first_in_long(code)
+    }
+}
+
+/// Returns the fault that comes first in a short code, if it has one. The function is not inlined, so that its masks are
+/// free again before a program is laid out.
+#[inline(never)]
+fn first_in_short(code: &[Instr]) -> Option<Fault>
+    requires sized { IsSized code.now }
+    requires short { length code.now < SHORT_PLACES }
+    ensures none { IfNone result (IsAccepted code.now) }
+    ensures some { IfSome result (FailsFirst code.now) }
+{
+    let mut written = [u16::MAX; SHORT_PLACES];
+    first_among(code, &mut written)
+}
+
+/// Returns the fault that comes first in a code of any length up to 4096, if it has one. It isn't inlined either.
+#[inline(never)]
+fn first_in_long(code: &[Instr]) -> Option<Fault>
+    requires { IsSized code.now }
+    ensures none { IfNone result (IsAccepted code.now) }
+    ensures some { IfSome result (FailsFirst code.now) }
+{
     let mut written = [u16::MAX; MASK_PLACES];
+    first_among(code, &mut written)
+}
+
+/// Returns the fault that comes first in a code, if it has one. One pass looks for the faults of each instruction by
+/// itself and for reads of unwritten words, so that a processor does both at a time. The masks have every word, and there
+/// is one more of them than instructions.
+fn first_among(code: &[Instr], written: &mut [u16]) -> Option<Fault>
+    requires sized { IsSized code.now }
+    requires room { length code.now < length written.old }
+    requires full { (place : ℕ) → place < length written.old → slice_index written.old place ≡ 65535 }
+    ensures none { IfNone result (IsAccepted code.now) }
+    ensures some { IfSome result (FailsFirst code.now) }
+{
     written[0] = 0;
     let mut here = 0;
     for (at, instr) in code.iter().enumerate() {
@@ -65,7 +103,7 @@ fn first_in_order(code: &[Instr]) -> Option<Fault>
         if let Some(word) = unwritten_word(*instr, here) {
             return Some(unwritten_or_earlier(code, at, word));
         }
-        here = pass_on(&mut written, at, *instr, with_stored(*instr, here));
+        here = pass_on(written, at, *instr, with_stored(*instr, here));
     }
     if is_return(code[code.len() - 1]) {
         None

@@ -10,22 +10,21 @@ leads_from : (at : ℕ) (i j : Instr) (next : ℕ) → i ≡ j → LeadsTo at j 
 leads_from at i j next is leads = subst (λ k. LeadsTo at k next) (sym is) leads
 
 pub narrow-requires : goal.narrow-requires
-narrow-requires c = record {
-  size = c.requires.size;
-  within = c.requires.within _ (leads_from c.args.at c.args.instr _ (c.args.at + 1 + c.in-Jump.skipped) c.in-Jump.is refl);
-}
+narrow-requires c =
+    c.requires.within _ (leads_from c.args.at c.args.instr _ (c.args.at + 1 + c.in-Jump.skipped) c.in-Jump.is refl)
 
 pub returns-in-Jump-clause-successors : goal.returns-in-Jump-clause-successors
 returns-in-Jump-clause-successors c next word leads =
     c.narrow.ensures.place next word (subst (λ i. LeadsTo c.args.at i next) c.in-Jump.is leads)
 
-pub narrow-there-requires-clause-within : goal.narrow-there-requires-clause-within
-narrow-there-requires-clause-within c =
+pub narrow-there-requires : goal.narrow-there-requires
+narrow-there-requires c =
     rw c.from.ensures (c.requires.within _ (leads_from c.args.at c.args.instr _ (c.args.at + 1 + c.in-Branch.jt) c.in-Branch.is (inl refl)))
 
-pub narrow-here-requires-clause-within : goal.narrow-here-requires-clause-within
-narrow-here-requires-clause-within c =
-    rw c.from-in-Branch.ensures (c.requires.within _ (leads_from c.args.at c.args.instr _ (c.args.at + 1 + c.in-Branch.jf) c.in-Branch.is (inr refl)))
+pub narrow-here-requires : goal.narrow-here-requires
+narrow-here-requires c =
+    let within = c.requires.within _ (leads_from c.args.at c.args.instr _ (c.args.at + 1 + c.in-Branch.jf) c.in-Branch.is (inr refl)) in
+    omega (arith, within, c.narrow-there.auto.written, c.from-in-Branch.ensures)
 
 -- The instruction leads to the next place only.
 through : (c : In_default) → LeadsTo c.args.at c.args.instr (c.args.at + 1) × ((next : ℕ) → LeadsTo c.args.at c.args.instr next → next ≡ c.args.at + 1)
@@ -35,7 +34,7 @@ pub narrow-requires-in_default : goal.narrow-requires-in_default
 narrow-requires-in_default c =
     let here = through (goal.at.narrow-requires-in_default c).In_default in
     let within = c.requires.within (c.args.at + 1) here.0 in
-    record { size = c.requires.size; within = omega (arith, within) }
+    omega (arith, within)
 
 pub returns-in_default : goal.returns-in_default
 returns-in_default c =
