@@ -5,7 +5,7 @@ use Rattle.std.proofs.lemmas.Option.{slice_get-get_or, slice_get_within}
 use Rattle.bpf_code.specs.declared.instr.Instr.{Instr}
 use Rattle.bpf_code.specs.declared.instr.Instr.TheVariants.{Branch, Jump, RetA, RetK}
 use Rattle.bpf_code.specs.Flow.{IsReturn, LeadsTo, StandsAt}
-use Rattle.bpf_verify.specs.Accepted.{EndsInReturn, IsSized, IsSoundInstr}
+use Rattle.bpf_verify.specs.Accepted.{EndsInReturn, IsSoundInstr}
 use Rattle.bpf_verify.specs.Faults.{IsSoundBelow, LacksReturn}
 use Rattle.bpf_verify.specs.Paths.{IsWrittenAt}
 use Rattle.bpf_verify.proofs.Places.{one_stands}

@@ -28,7 +28,7 @@ pub fn verify(code: Vec<Instr>) -> Result<Program, Refused>
 {
     match first_fault(&code) {
         Some(fault) => Err(Refused { code, fault }),
-        None => Ok(Program::of_accepted(code)),
+        None => Program::of_accepted(code),
     }
 }
 
