@@ -17,7 +17,9 @@ use std::marker::Model;
 ///
 /// Contracts see the list of slots. If `T` is `Drop`, so is the arena: dropping it drops the values in it.
 ///
-/// `new` allocates one block of memory for all slots. The free slots form a linked list, so no call searches for one.
+/// `new` allocates one block of memory for all slots and writes to none of it: a slot's memory is first written when the
+/// slot first gets a value. The free slots form a linked list, so no call searches for one. The slots that were emptied
+/// come first in it, the last emptied one at its head, and then those that never had a value, in order.
 #[derive(Drop)]
 pub struct Arena<T> {
     places: PlaceRow<T>,
@@ -30,14 +32,15 @@ pub struct Arena<T> {
 impl<T> Model for Arena<T> {
     ghost use Rattle.std.specs.Prelude.{List, map};
     ghost use Rattle.gen_arena.specs.Slot.{Slot};
+    ghost use Rattle.gen_arena.specs.inner.PlaceRow.{IsReached};
 
     ghost Value = { List (Slot T) };
 
     ghost use Rattle.gen_arena.specs.inner.Chain.{slot_of, IsSoundArena};
 
-    ghost view = { λ a. map slot_of a.places };
+    ghost view = { λ a. map slot_of a.places.places };
 
-    ghost invariant = { λ a. IsSoundArena a.places a.first a.free };
+    ghost invariant = { λ a. IsSoundArena a.places.places a.first a.free × IsReached a.places a.first };
 }
 
 impl<T> Arena<T> {
@@ -67,7 +70,7 @@ impl<T> Arena<T> {
             return Err(ArenaFault::NoSlots);
         }
         let places = PlaceRow::new(alloc, slots, used)?;
-        // Each place links to the next one. If the places have no generation left, the free list is empty.
+        // Each fresh place counts as linked to the next one. If they have no generation left, the free list is empty.
         let (first, free) = if used < u32::MAX {
             (0, slots)
         } else {

@@ -1,17 +1,17 @@
 //! The places of an arena, in one block.
 
-ghost use Rattle.std.specs.Prelude.{◌≡◌, ℕ, ◌+◌, ◌<◌, length, None, Some, IfOk, replicate, slice_get, slice_set, option_copied};
+ghost use Rattle.std.specs.Prelude.{◌≡◌, ℕ, ◌+◌, ◌<◌, length, None, Some, IsSome, IfOk, IfSome, IfNone, replicate, slice_get, slice_set, option_copied};
 ghost use Rattle.gen_arena.specs.Slot.{greatest_generation};
-ghost use Rattle.gen_arena.specs.inner.Cells.{IsFull};
-ghost use Rattle.gen_arena.specs.inner.PlaceRow.{place_at, places_in, AreFresh};
+ghost use Rattle.gen_arena.specs.inner.Cells.{IsFilledTo};
+ghost use Rattle.gen_arena.specs.inner.PlaceRow.{place_at, AreFresh, IsReached};
 
 use crate::block::{Cells, Deed, Start, give_back, make};
 use std::alloc::{AllocError, Global};
 use std::marker::Model;
 use std_alloc::room::may_hold;
 
-/// The representation of a slot: its generation, its value, and, while it is free, the number of the next free slot.
-/// The last free slot has the number of slots here.
+/// The representation of a slot that has had a value: its generation, its value, and, while it is free, the number of
+/// the next free slot. If there is none, that is the number of slots.
 #[derive(Drop)]
 pub struct Place<T> {
     pub(crate) generation: u32,
@@ -36,52 +36,59 @@ impl<T> Place<T> {
 }
 
 /// A row of places, which owns its block.
+///
+/// A place is fresh until it is first filled. The cells of the fresh places are blank, so making a row writes to none of
+/// its memory. A fresh place counts as an empty one that links to the place after it. The others come before it.
 pub struct PlaceRow<T> {
     start: Start<Place<T>>,
     cells: Cells<Place<T>>,
     deed: Deed<Place<T>, Global>,
     alloc: Global,
     count: u16,
+    /// The number of the first fresh place, or the number of places if none is fresh.
+    fresh: u16,
+    /// The generation that each fresh place counts as having used.
+    used: u32,
 }
 
 impl<T> Model for PlaceRow<T> {
-    ghost use Rattle.std.specs.Prelude.{◌≡◌, List};
-    ghost use Rattle.gen_arena.specs.declared.place.Place.{Place};
-    ghost use Rattle.gen_arena.specs.inner.Cells.{IsFull};
-    ghost use Rattle.gen_arena.specs.inner.PlaceRow.{places_in};
+    ghost use Rattle.std.specs.Prelude.{◌≡◌};
+    ghost use Rattle.gen_arena.specs.inner.PlaceRow.{PlaceRowView, places_in, IsRow};
 
-    ghost Value = { List (Place T) };
+    ghost Value = { PlaceRowView T };
 
-    ghost view = { λ p. places_in p.cells.held };
+    ghost view = { λ p. record { places = places_in p.used 0 p.cells.held; fresh = p.fresh } };
 
-    ghost invariant = { λ p. (p.cells.start ≡ p.start.to) × (p.deed.start ≡ p.start.to) × (p.deed.count ≡ p.count) × (p.deed.from ≡ p.alloc) × IsFull p.cells.held p.count };
+    ghost invariant = { λ p. (p.cells.start ≡ p.start.to) × (p.deed.start ≡ p.start.to) × (p.deed.count ≡ p.count) × (p.deed.from ≡ p.alloc) × IsRow p.cells.held p.count p.fresh };
 }
 
 impl<T> PlaceRow<T> {
-    /// Makes a row of `count` empty places that used generation `used` last, each linked to the next.
+    /// Makes a row of `count` fresh places that count as having used generation `used`. Writes to no cell.
     pub(crate) fn new(alloc: Global, count: u16, used: u32) -> Result<Self, AllocError>
-        ensures { IfOk result (λ places. AreFresh places count used) }
+        ensures { IfOk result (λ row. AreFresh row.places count used) }
     {
         let room = usize::from(count);
         if !may_hold::<Place<T>>(room) {
             return Err(AllocError);
         }
-        let (start, mut cells, deed) = make(&alloc, room)?;
-        lay_out(&mut cells, start, count, used);
+        let (start, cells, deed) = make(&alloc, room)?;
         Ok(PlaceRow {
             start,
             cells,
             deed,
             alloc,
             count,
+            fresh: 0,
+            used,
         })
     }
 
-    /// The place of this number, if there is one.
+    /// The place of this number, if it exists and isn't fresh.
     pub(crate) fn get(&self, slot: u16) -> Option<&Place<T>>
-        ensures { option_copied result ≡ slice_get self.now slot }
+        ensures found { IfSome (option_copied result) (λ place. slice_get self.now.places slot ≡ Some place) }
+        ensures none { IfNone result ((place_at self.now.places slot).value ≡ None) }
     {
-        if slot >= self.count {
+        if slot >= self.fresh {
             return None;
         }
         Some(self.cells.lend(self.start, usize::from(slot)))
@@ -90,23 +97,53 @@ impl<T> PlaceRow<T> {
     /// Puts a value into an empty place under its next generation. Returns that generation and the place's link, the
     /// next free place.
     pub(crate) fn fill(&mut self, slot: u16, value: T) -> (u32, u16)
-        requires there { slot < length self.old }
-        requires empty { (place_at self.old slot).value ≡ None }
-        requires unworn { (place_at self.old slot).generation < greatest_generation }
-        ensures generation { result.0 ≡ (place_at self.old slot).generation + 1 }
-        ensures next { result.1 ≡ (place_at self.old slot).next }
-        ensures after { self.new ≡ slice_set self.old slot (record { generation = result.0; next = result.1; value = Some value }) }
+        requires there { slot < length self.old.places }
+        requires reached { IsReached self.old slot }
+        requires empty { (place_at self.old.places slot).value ≡ None }
+        requires unworn { (place_at self.old.places slot).generation < greatest_generation }
+        ensures generation { result.0 ≡ (place_at self.old.places slot).generation + 1 }
+        ensures next { result.1 ≡ (place_at self.old.places slot).next }
+        ensures after { self.new.places ≡ slice_set self.old.places slot (record { generation = result.0; next = result.1; value = Some value }) }
+        ensures reached { IsReached self.new result.1 }
     {
+        if slot == self.fresh {
+            return self.fill_fresh(value);
+        }
         let place = self.cells.lend_mut(self.start, usize::from(slot));
         let next = place.next;
         (place.fill(value), next)
     }
 
+    /// Writes the first fresh place, with a value. Returns its generation and its link, the place after it.
+    fn fill_fresh(&mut self, value: T) -> (u32, u16)
+        requires there { self.old.fresh < length self.old.places }
+        requires unworn { (place_at self.old.places self.old.fresh).generation < greatest_generation }
+        ensures generation { result.0 ≡ (place_at self.old.places self.old.fresh).generation + 1 }
+        ensures next { result.1 ≡ (place_at self.old.places self.old.fresh).next }
+        ensures after { self.new.places ≡ slice_set self.old.places self.old.fresh (record { generation = result.0; next = result.1; value = Some value }) }
+        ensures fresh { self.new.fresh ≡ result.1 }
+    {
+        let slot = self.fresh;
+        let generation = self.used + 1;
+        let next = slot + 1;
+        let place = Place {
+            generation,
+            next,
+            value: Some(value),
+        };
+        self.cells.put(self.start, usize::from(slot), place);
+        self.fresh = next;
+        (generation, next)
+    }
+
     /// Takes the value out of a place and sets its link.
     pub(crate) fn empty(&mut self, slot: u16, next: u16) -> Option<T>
-        requires there { slot < length self.old }
-        ensures value { result ≡ (place_at self.old slot).value }
-        ensures after { self.new ≡ slice_set self.old slot (record { generation = (place_at self.old slot).generation; next = next; value = None }) }
+        requires full { IsSome (place_at self.old.places slot).value }
+        requires reached { IsReached self.old next }
+        ensures value { result ≡ (place_at self.old.places slot).value }
+        ensures after { self.new.places ≡ slice_set self.old.places slot (record { generation = (place_at self.old.places slot).generation; next = next; value = None }) }
+        ensures fresh { self.new.fresh ≡ self.old.fresh }
+        ensures below { slot < self.old.fresh }
     {
         let place = self.cells.lend_mut(self.start, usize::from(slot));
         place.next = next;
@@ -122,36 +159,20 @@ impl<T: Drop> Drop for PlaceRow<T> {
             deed,
             alloc,
             count,
+            fresh,
+            used: _,
         } = self;
-        clear(&mut cells, start, count);
+        clear(&mut cells, start, fresh);
         give_back(&alloc, start, usize::from(count), cells, deed);
     }
 }
 
-/// Writes an empty place into each of the blank cells.
-fn lay_out<T>(cells: &mut Cells<Place<T>>, start: Start<Place<T>>, count: u16, used: u32)
-    requires start { start.to ≡ cells.old.start }
-    requires blank { cells.old.held ≡ replicate count None }
-    ensures start { cells.new.start ≡ cells.old.start }
-    ensures full { IsFull cells.new.held count }
-    ensures fresh { AreFresh (places_in cells.new.held) count used }
-{
-    for k in 0..count {
-        let place = Place {
-            generation: used,
-            next: k + 1,
-            value: None,
-        };
-        cells.put(start, usize::from(k), place);
-    }
-}
-
-/// Takes the place out of each cell and drops it.
+/// Takes the place out of each of the first `count` cells and drops it. The other cells are blank before.
 fn clear<T: Drop>(cells: &mut Cells<Place<T>>, start: Start<Place<T>>, count: u16)
     requires start { start.to ≡ cells.old.start }
-    requires full { IsFull cells.old.held count }
+    requires filled { IsFilledTo cells.old.held count }
     ensures start { cells.new.start ≡ cells.old.start }
-    ensures blank { cells.new.held ≡ replicate count None }
+    ensures blank { cells.new.held ≡ replicate (length cells.old.held) None }
 {
     for k in 0..count {
         drop(cells.take(start, usize::from(k)));
