@@ -1,5 +1,5 @@
 -- Held lines in terms of their marks.
-use Rattle.std.proofs.Common.{◌≡◌, ◌≢◌, ℕ, zero, suc, ◌<◌, ◌==◌, not, true, false, Some, List, [], ◌∷◌, length, replicate, map, slice_get, slice_set, slice_index, refl, ap, sym, ◌∙◌, arith}
+use Rattle.std.proofs.Common.{◌≡◌, ◌≢◌, ℕ, zero, suc, ◌<◌, ◌==◌, not, true, false, Some, List, [], ◌∷◌, length, replicate, slice_get, slice_set, slice_index, refl, ap, arith}
 use Rattle.std.proofs.lemmas.Grind.{common_steps}
 use Rattle.line_record.specs.inner.FirstFree.{are_held}
 
@@ -25,3 +25,6 @@ pub are_held-here : (marks : List ℕ) (line : ℕ) → line < length marks → 
 are_held-here [] line within same = absurd (omega arith)
 are_held-here (mark ∷ marks) zero within same = ap (λ (m : ℕ). Some (not (m == 0))) same
 are_held-here (first ∷ marks) (suc line) within same = are_held-here marks line (omega arith) same
+
+-- What a write of a mark does.
+pub ruleset mark_steps = (are_held-set)

@@ -1,6 +1,5 @@
-use Rattle.std.proofs.Common.{◌≡◌, ◌<◌, ◌==◌, ℕ, not, List, Bool, true, Some, length, slice_get, ap, sym, subst, ◌∙◌, arith}
+use Rattle.std.proofs.Common.{◌≡◌, ◌<◌, ◌==◌, ℕ, not, List, Bool, true, Some, length, slice_get, subst, arith}
 use Rattle.std.proofs.lemmas.List.{length-map}
-use Rattle.line_record.specs.inner.FirstFree.{are_held}
 use Rattle.line_record.proofs.MarkLemmas.{are_held-held}
 use Rattle.line_record.proofs.held_lines.HeldLines.lowest_free.Goals as goal
 
