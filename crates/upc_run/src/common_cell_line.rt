@@ -15,7 +15,7 @@ pub struct Arrival {
     pub cell: Cell,
 }
 
-/// Returns the text after `cell` and a space. None if the line doesn't begin so.
+/// Returns the text after `cell` and a space. None if the line doesn't begin with them.
 #[inline(always)]
 pub fn after_command(line: &[u8]) -> Option<&[u8]>
     ensures rest { IfSome result (λ rest. line.now ≡ codes "cell " ++ rest.now) }

@@ -1,5 +1,5 @@
 //! The names of the programs of a script: `p1` is the first program that was loaded, `p2` the next, and so on. A name
-//! is never given again.
+//! always names the same program.
 
 use gen_arena::Id;
 use std::alloc::{AllocError, Global};

@@ -1,4 +1,4 @@
-//! The answer lines for the replies of a card. Each function appends one to the answers.
+//! The answer lines for the replies of a card, which are appended to the answers.
 
 ghost use Rattle.std.specs.Prelude.{◌≡◌, ◌+◌, ◌≤◌, ◌++◌, codes, decimal, length, map, Ok, OnOk};
 ghost use Rattle.line_record.specs.Tally.{tally_of};

@@ -27,7 +27,7 @@ pub enum Wanted {
     Vbr3(Rate, Rate),
 }
 
-/// Both numbers are 0, which no rate may have. It fills a place that has no contract yet.
+/// Both numbers are 0, so the rate is never valid. It fills a place that has no contract yet.
 impl Default for Wanted {
     ghost use Rattle.upc_run.specs.ScriptWords.{IsBlankContract};
 

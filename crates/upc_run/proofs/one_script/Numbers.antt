@@ -153,7 +153,7 @@ number-at (loading ∷ earlier) once place id found = elim (get-append (names_of
       omega (arith, here, behind.0, many)
 ]
 
--- If so many programs were loaded, this is the number of a name.
+-- If this many programs were loaded, this is the number of a name.
 abbrev pub is_number : ℕ → ℕ → Bool
 is_number programs zero = false
 is_number programs (suc before) = nat_lt before programs

@@ -1,5 +1,6 @@
--- The view of a card, which is all that a script's answers depend on: its programs by the numbers of their names, its
--- connections without their lines, and their cells without the ids of programs.
+-- The view of a card, the part of it that a script can see: its programs by the numbers of their names, its connections
+-- without their lines, and their cells without the ids of programs. The proof keeps it equal between two cards that
+-- answer the same script.
 use Rattle.std.proofs.Common.{ℕ, ◌==◌, Bool, if◌then◌else◌, List, [], ◌∷◌, length, map, Option, Some, None, take, drop}
 use Rattle.std.specs.List.{list_any}
 use Rattle.upc_cell.specs.Connection.{is_same_vc}
