@@ -16,10 +16,12 @@ use std::marker::Model;
 #[derive(Debug, Drop)]
 pub struct Piece {
     owner: Owner,
-    contracts: ArrayVec<Contract, 4>,
     start: State,
     entries: Vec<Entry>,
     end: State,
+    // The contracts come last. With them behind the owner the compiler clears more and copies longer blocks when a
+    // piece is passed on: some 110 instructions more for each cut.
+    contracts: ArrayVec<Contract, 4>,
 }
 
 impl Model for Piece {
