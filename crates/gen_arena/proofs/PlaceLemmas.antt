@@ -175,11 +175,6 @@ module _ {T : Type 0} where
   slice_get-place (place ∷ later) zero within = refl
   slice_get-place (place ∷ later) (suc k) within = slice_get-place later k (omega arith)
 
-  pub slice_get-past : (places : List (Place T)) (k : ℕ) → length places ≤ k → slice_get places k ≡ None
-  slice_get-past [] k past = refl
-  slice_get-past (place ∷ later) zero past = absurd (omega arith)
-  slice_get-past (place ∷ later) (suc k) past = slice_get-past later k (omega arith)
-
   -- The slot of a place.
   pub slot_at : (places : List (Place T)) (k : ℕ) → k < length places → slice_get (map slot_of places) k ≡ Some (slot_of (place_at places k))
   slot_at [] k within = absurd (omega arith)
