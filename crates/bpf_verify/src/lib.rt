@@ -14,4 +14,4 @@ pub use fault::{Fault, Refused};
 pub use flat::{Flat, Row};
 pub use layout::{FLAT_PLACES, MOST_LAID_OUT};
 pub use program::Program;
-pub use verifier::{MOST_INSTRUCTIONS, verify};
+pub use verifier::{MOST_INSTRUCTIONS, first_fault, verify};

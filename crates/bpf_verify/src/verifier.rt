@@ -15,7 +15,7 @@ use bpf_code::Instr;
 /// The largest number of instructions of a program.
 pub const MOST_INSTRUCTIONS: usize = 4096;
 
-/// Checks a code, in one pass over its instructions and without an allocation.
+/// Checks a code, in one pass over its instructions and without an allocation, and makes its program.
 ///
 /// # Errors
 ///
@@ -28,12 +28,12 @@ pub fn verify(code: Vec<Instr>) -> Result<Program, Refused>
 {
     match first_fault(&code) {
         Some(fault) => Err(Refused { code, fault }),
-        None => Program::of_accepted(code),
+        None => Ok(Program::of_accepted(code)),
     }
 }
 
-/// Returns the fault that comes first, if the code has one.
-fn first_fault(code: &[Instr]) -> Option<Fault>
+/// Returns the fault that comes first, if the code has one. Doesn't allocate.
+pub fn first_fault(code: &[Instr]) -> Option<Fault>
     ensures none { IfNone result (IsAccepted code.now) }
     ensures some { IfSome result (FailsFirst code.now) }
 {

@@ -1,6 +1,7 @@
 //! The desk of a running card, which carries out the commands of a script.
 
 use arrayvec::ArrayVec;
+use bpf_verify::Program;
 use card_core::Ask;
 use port_card::{Card, Desk, Ledgers};
 use std::alloc::{AllocError, Global};
@@ -11,7 +12,7 @@ use upc_run::{
     add_no_such_program, add_released, add_reloaded, add_retired, add_set, contracts, contracts_of,
     read_command,
 };
-use upc_words::{add_bad_hex, add_bad_line, octets_of_word, read_program};
+use upc_words::{add_bad_hex, add_bad_line, octets_of_word, read_code};
 
 /// The desk of a card, the names of the programs that were loaded, and the side of the card's cells.
 #[derive(Drop)]
@@ -34,10 +35,10 @@ impl<S: Ledgers> ScriptDesk<S> {
         let Some(octets) = octets_of_word(self.alloc, digits)? else {
             return add_bad_hex(answers);
         };
-        let Some(program) = read_program(self.alloc, &octets, answers)? else {
+        let Some(code) = read_code(self.alloc, &octets, answers)? else {
             return Ok(());
         };
-        match self.desk.load(rt, card, program) {
+        match self.desk.load(rt, card, Program::of_accepted(code)) {
             Ok(id) => {
                 self.names.push(id)?;
                 add_loaded(answers, self.names.count() as u64)

@@ -8,7 +8,6 @@ ghost use Rattle.text_io.specs.Serving.{IsServed};
 use crate::answer_texts::{add_accepted, add_octets};
 use bpf_asm::{AsmFault, AsmKind, assemble};
 use bpf_code::{Instr, encode};
-use bpf_verify::Program;
 use std::alloc::{AllocError, Global};
 use text_io::{Done, Input, Output, RunFault, gather, give_last};
 use upc_words::{add_asm_fault, add_too_long, check_code};
@@ -16,13 +15,13 @@ use upc_words::{add_asm_fault, add_too_long, check_code};
 /// The maximum number of octets of a source.
 const MOST_SOURCE_OCTETS: u32 = 1048576;
 
-/// Appends the number of instructions of a program, and their octets.
+/// Appends the number of instructions of a code, and their octets.
 #[tactic(auto, using(std::proofs::lemmas::List::append_assoc))]
-fn add_program(alloc: Global, program: &Program, answers: &mut Vec<u8>) -> Result<(), AllocError>
-    ensures { OnOk result (answers.new.items ≡ answers.old.items ++ accepted_text program.now) }
+fn add_program(alloc: Global, code: &[Instr], answers: &mut Vec<u8>) -> Result<(), AllocError>
+    ensures { OnOk result (answers.new.items ≡ answers.old.items ++ accepted_text code.now) }
 {
-    let octets = encode(alloc, program.code()).map_err(|_| AllocError)?;
-    add_accepted(answers, program.code().len())?;
+    let octets = encode(alloc, code).map_err(|_| AllocError)?;
+    add_accepted(answers, code.len())?;
     add_octets(alloc, answers, &octets)
 }
 
@@ -32,8 +31,8 @@ fn answer_code(alloc: Global, code: Vec<Instr>, answers: &mut Vec<u8>) -> Result
         Adds (λ text. TellsCode code.items text done) answers.old.items answers.new.items) }
 {
     match check_code(code, answers)? {
-        Some(program) => {
-            add_program(alloc, &program, answers)?;
+        Some(code) => {
+            add_program(alloc, &code, answers)?;
             Ok(Done::Whole)
         }
         None => Ok(Done::Ended),

@@ -14,7 +14,7 @@ use text_io::{Done, Input, LineWords, Machine, Output, RunFault, Turn, answer_li
 use upc_cell::Cell;
 use upc_words::{
     CellWord, add_bad_hex, add_bad_line, add_too_long, add_wrong_length, cell_of_digits,
-    cell_of_word, octets_of_word, read_program,
+    cell_of_word, octets_of_word, read_code,
 };
 
 /// Answers a cell with the value of the program.
@@ -90,11 +90,11 @@ fn read_program_line(
         add_bad_hex(answers)?;
         return Ok(None);
     };
-    let Some(program) = read_program(alloc, &octets, answers)? else {
+    let Some(code) = read_code(alloc, &octets, answers)? else {
         return Ok(None);
     };
-    add_accepted(answers, program.code().len())?;
-    Ok(Some(program))
+    add_accepted(answers, code.len())?;
+    Ok(Some(Program::of_accepted(code)))
 }
 
 /// The subcommand as a machine, before and after the program line.

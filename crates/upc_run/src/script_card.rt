@@ -10,14 +10,14 @@ use crate::replies::{
 };
 use crate::script_words::Wanted;
 use arrayvec::ArrayVec;
+use bpf_code::Instr;
 use bpf_verify::Program;
 use card_core::{Ask, CardFault, Core, Judgement, Shape, Unjudged};
 use std::alloc::{AllocError, Global};
 use std::marker::Model;
 use upc_cell::{Cell, Side, Vc};
 use upc_words::{
-    CellWord, add_bad_hex, add_bad_line, add_wrong_length, cell_of_word, octets_of_word,
-    read_program,
+    CellWord, add_bad_hex, add_bad_line, add_wrong_length, cell_of_word, octets_of_word, read_code,
 };
 
 /// The port that every cell of a script enters.
@@ -41,6 +41,7 @@ impl Model for ScriptCard {
 // The functions of the desk are not inlined, so that the path of a cell doesn't need their stack space.
 impl ScriptCard {
     ghost use Rattle.std.specs.Prelude.{◌≡◌, ◌⊎◌, ◌∷◌, [], IfOk, IfErr, OnOk, MatchResult, None, Some, option_map};
+    ghost use Rattle.bpf_verify.specs.Accepted.{IsAccepted};
     ghost use Rattle.card_core.specs.Sections.{answer_to};
     ghost use Rattle.card_core.specs.Shapes.{shape_fault};
     ghost use Rattle.upc_run.specs.CardLine.{card_line_shape};
@@ -73,18 +74,19 @@ impl ScriptCard {
         }
     }
 
-    /// Loads a program.
+    /// Loads the program of this code.
     #[inline(never)]
     fn put(
         &mut self,
         digits: &[u8],
-        program: Program,
+        code: Vec<Instr>,
         answers: &mut Vec<u8>,
     ) -> Result<(), AllocError>
-        ensures { OnOk result (Moves (λ before. TakesCommand before (load digits.now) (Load program))
+        requires { IsAccepted code.items }
+        ensures { OnOk result (Moves (λ before. TakesCommand before (load digits.now) (Load code.items))
             self.old self.new answers.old.items answers.new.items) }
     {
-        let id = match self.core.load(program) {
+        let id = match self.core.load(Program::of_accepted(code)) {
             Ok(id) => id,
             Err((fault, _)) => return add_desk_fault(answers, fault),
         };
@@ -106,8 +108,8 @@ impl ScriptCard {
         let Some(octets) = octets_of_word(alloc, digits)? else {
             return add_bad_hex(answers);
         };
-        match read_program(alloc, &octets, answers)? {
-            Some(program) => self.put(digits, program, answers),
+        match read_code(alloc, &octets, answers)? {
+            Some(code) => self.put(digits, code, answers),
             None => Ok(()),
         }
     }

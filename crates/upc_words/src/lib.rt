@@ -14,5 +14,5 @@ pub use answer_texts::{
 };
 pub use digits::{CELL_DIGITS, HEADER_DIGITS, cell_of_digits};
 pub use hexadecimal::{CellWord, cell_of_word, octets_of_word};
-pub use program_reading::{check_code, read_program};
+pub use program_reading::{check_code, read_code};
 pub use text_from_end::TextFromEnd;
