@@ -1,5 +1,5 @@
 -- An input has one text of `eval`.
-use Rattle.std.proofs.Common.{◌≡◌, ℕ, ◌==◌, inl, inr, Bool, true, false, List, [], ◌∷◌, ◌++◌, Option, Some, None, length, codes, decimal, ap, sym, ◌∙◌, subst}
+use Rattle.std.proofs.Common.{◌≡◌, ℕ, ◌==◌, Bool, true, false, List, [], ◌∷◌, ◌++◌, Option, Some, None, length, codes, decimal, ap, sym, ◌∙◌, subst}
 use Rattle.std.specs.Bool.{MatchBool}
 use Rattle.std.specs.Option.{MatchOption}
 use Rattle.bpf_code.specs.declared.instr.Instr.{Instr}
@@ -9,10 +9,10 @@ use Rattle.text_io.specs.Lines.{lines_of}
 use Rattle.text_io.specs.Printing.{IsFunctional}
 use Rattle.text_io.proofs.Public.{one-text, some-text}
 use Rattle.upc_programs.specs.Eval.{EvalWorld, IsProgramAnswer, ReadsProgram, ProgramLine, TellsValue, RunsOn, CellLine, ReadsOrRuns, EvalSteps, EvalCloses, IsEvalText, eval_rules}
-use Rattle.upc_words.specs.Program.{ProgramReading, is_program, is_refused, ChecksAs, ReadsAs}
+use Rattle.upc_words.specs.Program.{ProgramReading, is_program, is_refused}
 use Rattle.upc_words.proofs.Public.{reads-once}
 use Rattle.upc_programs.specs.inner.EvalLaws.{eval-total}
-use Rattle.upc_words.specs.FaultLines.{line, bad_line, bad_hex, verify_fault, decode_fault, wrong_length}
+use Rattle.upc_words.specs.FaultLines.{line, bad_line, bad_hex, wrong_length}
 use Rattle.upc_words.specs.Hexadecimal.{octets_of_digits, cell_of_octets}
 use Rattle.text_io.specs.Words.{words_of, is_silent}
 use Rattle.text_io.specs.declared.ending.Done.{Done}

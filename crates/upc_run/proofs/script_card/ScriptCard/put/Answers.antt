@@ -20,9 +20,10 @@ returns c =
     let pushed : new.names ≡ old.names ++ c.in-Ok.id ∷ [] = c.in_ok-push.ensures in
     let count : c.count.result ≡ suc (length old.names) =
     c.count.ensures ∙ ap length pushed ∙ length-append old.names (c.in-Ok.id ∷ []) ∙ (let more : length old.names + 1 ≡ suc (length old.names) = omega arith in more) in
+    let follows = rw c.of_accepted.ensures at c.in-Ok.ensures.follows in
     on-ok c.add_loaded.result c.add_loaded.ensures (λ added.
     moves-at (λ before. TakesCommand before command (Load c.args.code.items)) old _ new _ _ c.self.view_is
-    (moves-taken old new command (Load c.args.code.items) (Loaded c.in-Ok.id) _ _ _ c.in-Ok.ensures.follows pushed added
+    (moves-taken old new command (Load c.args.code.items) (Loaded c.in-Ok.id) _ _ _ follows pushed added
     (λ before after stepped. ap (λ n. Some (line (codes "loaded " ++ program_name n))) (sym count))))
 
 pub returns-in-Err : goal.returns-in-Err
@@ -30,8 +31,9 @@ returns-in-Err c =
     let old : Held = record { core = c.self.inside.core; names = c.self.inside.names } in
     let new : Held = record { core = c.load.new.self; names = c.self.inside.names } in
     let command = load c.args.digits.now in
+    let follows = rw c.of_accepted.ensures at c.in-Err.ensures.follows in
     on-ok c.add_desk_fault.result c.add_desk_fault.ensures (λ added.
     let told = adds-some _ _ _ added in
     moves-at (λ before. TakesCommand before command (Load c.args.code.items)) old _ new _ _ c.self.view_is
-    (moves-taken old new command (Load c.args.code.items) (NotLoaded c.in-Err.fault c.in-Err.field-0-1) told.0 _ _ c.in-Err.ensures.follows
+    (moves-taken old new command (Load c.args.code.items) (NotLoaded c.in-Err.fault c.in-Err.field-0-1) told.0 _ _ follows
     (no-name old.names) told.1 (λ before after stepped. told.2)))
