@@ -46,8 +46,8 @@ pub fn first_fault(code: &[Instr]) -> Option<Fault>
     first_in_order(code)
 }
 
-/// Returns the fault that comes first in a code of 1 to 4096 instructions, if it has one. A short code has masks of 1 KiB,
-/// since writing 8 KiB takes longer than checking it.
+/// Returns the fault that comes first in a code of 1 to 4096 instructions, if it has one. A short code has masks of 512
+/// octets, since writing 8 KiB takes longer than checking it.
 fn first_in_order(code: &[Instr]) -> Option<Fault>
     requires { IsSized code.now }
     ensures none { IfNone result (IsAccepted code.now) }

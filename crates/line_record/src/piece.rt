@@ -19,7 +19,7 @@ pub struct Piece {
     start: State,
     entries: Vec<Entry>,
     end: State,
-    // The contracts come last. With them behind the owner the compiler clears more and copies longer blocks when a
+    // The contracts come last. With them after the owner the compiler clears more and copies longer blocks when a
     // piece is passed on: some 110 instructions more for each cut.
     contracts: ArrayVec<Contract, 4>,
 }
