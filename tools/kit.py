@@ -1,8 +1,12 @@
+#!/usr/bin/env python3
 """What the toolchain itself knows of this repository's crates.
 
 `rt` is a Python program. Its module knows which crates there are, what each depends on, and with which words the prover
 is called. These scripts use it to call the prover as `rt` does.
+
+    tools/kit.py MINUTES     says how long the gate takes with this toolchain, if it takes so many minutes from nothing
 """
+import functools
 import os
 import subprocess
 import sys
@@ -21,6 +25,27 @@ def module():
     return rtlib
 
 
+@functools.lru_cache(maxsize=None)
+def said(word):
+    """Returns what `rt` prints for a word. (The status of its help isn't 0.)"""
+    return subprocess.run(["rt", word], stdout=subprocess.PIPE, stderr=subprocess.STDOUT, text=True).stdout.strip()
+
+
+def name():
+    """Returns the toolchain's name, such as rattle-kit-13f."""
+    return said("version").split()[0]
+
+
+def logic():
+    """Returns the sum of the logic that proofs are checked in. Toolchains of one logic accept the same proofs."""
+    return said("version").split()[-1]
+
+
+def keeps():
+    """Returns whether `rt ci` keeps what passed on this machine: some toolchains prove everything in each run."""
+    return "rt ci NAME" in said("help")
+
+
 def crates(root=ROOT):
     """Returns the crates of the repository, lowest first."""
     return module().crates_below(root)
@@ -29,3 +54,12 @@ def crates(root=ROOT):
 def minutes(seconds):
     """Returns a time as people read it."""
     return f"{int(seconds) // 60} min {int(seconds) % 60:02d} s"
+
+
+def main(words):
+    kept = "what passed on this machine, on the same files, is kept" if keeps() else "it proves everything in each run"
+    print(f"{name()}: from nothing the gate takes some {words[0]} minutes on {module().cores()} processors; {kept}")
+
+
+if __name__ == "__main__":
+    main(sys.argv[1:])

@@ -2,7 +2,7 @@
 import os
 import re
 
-from . import definitions
+from . import definitions, places
 from .definitions import reached
 from .files import ROOT, exists, files_below, text_of
 
@@ -89,6 +89,13 @@ def named(sources):
                 yield f"{page}: nothing is called {name}"
 
 
+def placed(sources):
+    """Yields each path and each crate that a script or page names and that doesn't exist."""
+    pages = [*pages_of(sources), *(it for it in files_below("examples", ".md"))]
+    yield from places.missing(pages)
+    yield from places.gone(pages, sources.crates)
+
+
 # Names of the toolchain's and of other programs', which pages may name.
 KIT_NAMES = {"bpf_filter", "bpf_validate", "rte_meter", "may_wait", "tests_may", "std_alloc", "std_heap", "opt_level"}
 
@@ -114,7 +121,7 @@ def coded(sources):
                 yield f"{page}: its code isn't in {source[2]}"
 
 
-CHECKS = (comments, turned, defined, meant, linked, named, coded)
+CHECKS = (comments, turned, defined, meant, linked, named, placed, coded)
 
 
 def checked(sources):
