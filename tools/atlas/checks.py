@@ -2,7 +2,7 @@
 import os
 import re
 
-from . import definitions, places
+from . import definitions, memory, places
 from .definitions import reached
 from .files import ROOT, exists, files_below, text_of
 
@@ -96,6 +96,13 @@ def placed(sources):
     yield from places.gone(pages, sources.crates)
 
 
+def failed(sources):
+    """Yields each place that says that memory ran out for another reason than one failed call."""
+    for it in memory.all_places(sources):
+        if it.fault:
+            yield f"{it.function.path}:{it.line}: {it.function.name} says that memory ran out, but {it.fault}"
+
+
 # Names of the toolchain's and of other programs', which pages may name.
 KIT_NAMES = {"bpf_filter", "bpf_validate", "rte_meter", "may_wait", "tests_may", "std_alloc", "std_heap", "opt_level"}
 
@@ -121,7 +128,7 @@ def coded(sources):
                 yield f"{page}: its code isn't in {source[2]}"
 
 
-CHECKS = (comments, turned, defined, meant, linked, named, placed, coded)
+CHECKS = (comments, turned, defined, meant, linked, named, placed, failed, coded)
 
 
 def checked(sources):

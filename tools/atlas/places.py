@@ -10,7 +10,7 @@ FOLDERS = "bench|bin|crates|docs|examples|include|reference|tests|tools"
 # A path that begins at the top of the repository, in a script, a page or a comment.
 PATH = re.compile(rf"(?<![\w./*$}}-])(?:\$root/|\{{kit\.ROOT\}}/|\./)?((?:{FOLDERS})/[\w./*+-]*)")
 # What stands for any name in it, as in crates/NAME/src/..
-ANY = re.compile(r"\b[A-Z][A-Z-]*\b|\.\.")
+ANY = re.compile(r"\b[A-Z][A-Z-]*\b(?!\.md)|\.\.")
 # What the toolchain writes into a crate's out/.
 MADE = re.compile(r"(?:$|\*|rlib\b|incremental\b|stamp\b)")
 

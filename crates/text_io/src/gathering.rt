@@ -45,8 +45,10 @@ fn take_more<I: Input>(
     ensures reading { I.failures input.new ≡ read_failures result (I.failures input.old) }
     ensures fault { result ≢ Err RunFault.WriteFailed }
 {
-    if end == room.len() && make_room(room, end, most).is_err() {
-        return Err(RunFault::NoMemory);
+    if end == room.len() {
+        if make_room(room, end, most).is_err() {
+            return Err(RunFault::NoMemory);
+        }
     }
     take_behind(input, room, end).map_err(|_| RunFault::ReadFailed)
 }
