@@ -29,7 +29,7 @@ class Edit:
     def __init__(self, crate, path):
         self.crate, self.path, self.pairs = crate, path, []
         self.name, self.is_deep = os.path.basename(path).removesuffix(".edit"), "/must-fail-deep/" in path
-        self.refused_at, file, old = "", "", ""
+        self.refused_at, self.is_each, file, old = "", not self.is_deep, "", ""
         for line in text_of(path).split("\n"):
             word, _, text = line.partition(":")
             text = text[1:] if text.startswith(" ") else text
@@ -37,6 +37,8 @@ class Edit:
                 file = text
             elif word == "refused at":
                 self.refused_at = text.strip()
+            elif word == "gate":
+                self.is_each = text.strip() == "each"
             elif word == "old":
                 old = text
             elif word == "new":
