@@ -1,5 +1,5 @@
 -- Pieces, and the line of a connection at setup and cut.
-use Rattle.std.proofs.Common.{◌≡◌, ◌≢◌, ℕ, false, Some, None, List, [], ◌∷◌, length, take, drop, refl, sym, ap, subst, ◌∙◌, inl, inr, arith}
+use Rattle.std.proofs.Common.{◌≡◌, ◌≢◌, ℕ, false, Some, None, List, [], ◌∷◌, length, take, drop, refl, sym, ap, subst, ◌∙◌, inl, inr}
 use Rattle.std.specs.Prelude.{Result, Ok, Err, MatchResult, IfOk, OnOk, OnErr}
 use Rattle.line_record.specs.declared.directory.Seating.{Seating}
 use Rattle.line_record.specs.Directory.{DirectoryView, Sits}

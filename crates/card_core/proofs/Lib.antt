@@ -20,6 +20,7 @@ pub mod LogBursts
 pub mod LogLemmas
 pub mod LookUps
 pub mod OneAnswer
+pub mod OneStep
 pub mod OpeningLemmas
 pub mod OwnerLemmas
 pub mod PickSteps
@@ -28,6 +29,7 @@ pub mod PortSteps
 pub mod Promise
 pub mod Public
 pub mod Replies
+pub mod Returning
 pub mod RunLemmas
 pub mod SetupSteps
 pub mod Sound

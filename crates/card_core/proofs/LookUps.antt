@@ -1,5 +1,5 @@
 -- Options, tests and lists at a place.
-use Rattle.std.proofs.Common.{◌≡◌, ℕ, suc, Bool, true, false, cond, zero, replicate, Option, Some, None, IsSome, is_none, is_some, slice_get, option_map, refl, sym, ap, subst, arith}
+use Rattle.std.proofs.Common.{◌≡◌, ℕ, suc, Bool, true, false, cond, zero, replicate, Option, Some, None, IsSome, is_none, is_some, slice_get, option_map, refl, sym, ap, subst}
 use Rattle.std.proofs.lemmas.Option.{same_Some}
 
 pub same_some : {X : Type 0} (x y : X) → Some x ≡ Some y → x ≡ y

@@ -1,5 +1,5 @@
 -- The headline leaves one answer.
-use Rattle.std.proofs.Common.{◌≡◌, ℕ, true, List, [], ◌∷◌, ◌++◌, refl, sym, ap, ◌∙◌, subst}
+use Rattle.std.proofs.Common.{◌≡◌, ℕ, true, List, [], ◌∷◌, ◌++◌, append_assoc, refl, sym, ap, ◌∙◌, subst}
 use Rattle.std.proofs.lemmas.Bool.{eq-eqb}
 use Rattle.upc_cell.specs.declared.vc.Vc.{Vc}
 use Rattle.upc_cell.specs.Connection.{vc_of, is_same_vc}
@@ -82,50 +82,84 @@ one-loaded log id code other one another =
     (id_itself id) (id_itself id) one.last another.last (sym one.cut ∙ another.cut) in
     one_code code other id id cut.events
 
+-- The parts of the log of a promise.
+
+module _ (shape : Shape) (before : List Event) (port : ℕ) (judged : JudgedView) (p : IsPromised shape before port judged) where
+  -- The events before the pick, and those since the setup.
+  abbrev at_pick : List Event
+  at_pick = p.earlier ++ setting_up p.ask p.incarnation ∷ p.until
+
+  abbrev standing : List Event
+  standing = p.until ++ picking port ∷ p.since
+
+  cut-at_pick : before ≡ at_pick ++ picking port ∷ p.since
+  cut-at_pick = p.parts ∙ sym (append_assoc p.earlier (setting_up p.ask p.incarnation ∷ p.until) (picking port ∷ p.since))
+
+  stands : StandsSince before p.ask.vc p.ask standing
+  stands = record {
+    earlier = p.earlier;
+    incarnation = p.incarnation;
+    asked = refl;
+    cut = p.parts;
+    standing = p.standing;
+  }
+
 -- Two promises for one port after the same events.
 
 module _ (shape : Shape) (before : List Event) (port : ℕ) (one other : JudgedView) (p : IsPromised shape before port one) (q : IsPromised shape before port other) where
+  abbrev at_first : List Event
+  at_first = at_pick shape before port one p
+
+  abbrev at_second : List Event
+  at_second = at_pick shape before port other q
+
+  abbrev since_first : List Event
+  since_first = standing shape before port one p
+
+  abbrev since_second : List Event
+  since_second = standing shape before port other q
+
   -- Both cells were picked in one event and entered in one event.
-  one-pick : p.at_pick ≡ q.at_pick
+  one-pick : at_first ≡ at_second
   one-pick =
-      (one-cut (moves port) p.at_pick q.at_pick (picking port) (picking port) p.since q.since
-      (eq-eqb port port refl) (eq-eqb port port refl) p.alone q.alone (sym p.cut ∙ q.cut)).fronts
+      (one-cut (moves port) at_first at_second (picking port) (picking port) p.since q.since
+      (eq-eqb port port refl) (eq-eqb port port refl) p.alone q.alone
+      (sym (cut-at_pick shape before port one p) ∙ cut-at_pick shape before port other q)).fronts
 
   one-arrival : (p.came ≡ q.came) × (one.moment ≡ other.moment)
   one-arrival =
-      one-entered p.at_pick port p.came q.came one.moment other.moment p.arrived
+      one-entered at_first port p.came q.came one.moment other.moment p.arrived
       (subst (λ (l : List Event). HasEntered l port q.came other.moment) (sym one-pick) q.arrived)
 
   -- Both are of one connection, which names one program at the pick.
-  one-vc : p.vc ≡ q.vc
+  one-vc : p.ask.vc ≡ q.ask.vc
   one-vc = p.own ∙ ap (vc_of shape.side) one-arrival.0 ∙ sym q.own
 
-  one-asked : (p.ask ≡ q.ask) × (p.standing ≡ q.standing)
+  one-asked : (p.ask ≡ q.ask) × (since_first ≡ since_second)
   one-asked =
-      one-standing before p.vc p.ask q.ask p.standing q.standing p.stands
-      (subst (λ (v : Vc). StandsSince before v q.ask q.standing) (sym one-vc) q.stands)
+      one-standing before p.ask.vc p.ask q.ask since_first since_second (stands shape before port one p)
+      (subst (λ (v : Vc). StandsSince before v q.ask since_second) (sym one-vc) (stands shape before port other q))
 
   one-until : p.until ≡ q.until
   one-until =
       (one-cut (moves port) p.until q.until (picking port) (picking port) p.since q.since
-      (eq-eqb port port refl) (eq-eqb port port refl) p.alone q.alone (sym p.pick ∙ one-asked.1 ∙ q.pick)).fronts
+      (eq-eqb port port refl) (eq-eqb port port refl) p.alone q.alone one-asked.1).fronts
 
   one-program : one.program ≡ other.program
   one-program =
       p.named
-      ∙ ap (λ (v : Vc). program_after v p.ask.program p.until) one-vc
-      ∙ ap (λ (a : Ask). program_after q.vc a.program p.until) one-asked.0
-      ∙ ap (program_after q.vc q.ask.program) one-until
+      ∙ ap (λ (a : Ask). program_after a.vc a.program p.until) one-asked.0
+      ∙ ap (program_after q.ask.vc q.ask.program) one-until
       ∙ sym q.named
 
   -- The program gives one value.
   same-code : p.code ≡ q.code
   same-code =
-      let mine : IsLoadedOnce (p.at_pick ++ []) one.program p.code = (p.live [] (picking port ∷ p.since) refl).loaded in
-      let theirs : IsLoadedOnce (q.at_pick ++ []) other.program q.code = (q.live [] (picking port ∷ q.since) refl).loaded in
-      one-loaded (p.at_pick ++ []) one.program p.code q.code mine
+      let mine : IsLoadedOnce (at_first ++ []) one.program p.code = (p.live [] (picking port ∷ p.since) refl).loaded in
+      let theirs : IsLoadedOnce (at_second ++ []) other.program q.code = (q.live [] (picking port ∷ q.since) refl).loaded in
+      one-loaded (at_first ++ []) one.program p.code q.code mine
       (subst (λ (l : List Event). IsLoadedOnce (l ++ []) one.program q.code) (sym one-pick)
-      (subst (λ (id : Id). IsLoadedOnce (q.at_pick ++ []) id q.code) (sym one-program) theirs))
+      (subst (λ (id : Id). IsLoadedOnce (at_second ++ []) id q.code) (sym one-program) theirs))
 
   one-value : one.value ≡ other.value
   one-value =
@@ -136,7 +170,7 @@ module _ (shape : Shape) (before : List Event) (port : ℕ) (one other : JudgedV
 
   -- Both have one history, so they have one verdict.
   one-history : p.history ≡ q.history
-  one-history = p.cells ∙ ap (λ (v : Vc). cells_judged_on shape v p.standing) one-vc ∙ ap (cells_judged_on shape q.vc) one-asked.1 ∙ sym q.cells
+  one-history = p.cells ∙ ap (λ (a : Ask). cells_judged_on shape a.vc since_first) one-asked.0 ∙ ap (cells_judged_on shape q.ask.vc) one-asked.1 ∙ sym q.cells
 
   one-verdict : one.verdict ≡ other.verdict
   one-verdict =

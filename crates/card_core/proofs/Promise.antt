@@ -1,5 +1,7 @@
 -- The headline: the promise for each judged cell.
 use Rattle.std.proofs.Common.{◌≡◌, ℕ, true, List, [], ◌∷◌, ◌++◌, Some, None, slice_get, append_assoc, refl, sym, ap, ◌∙◌, subst}
+use Rattle.std.proofs.lemmas.Bool.{eq-eqb}
+use Rattle.upc_cell.specs.declared.vc.Vc.{Vc}
 use Rattle.upc_cell.specs.Connection.{vc_of}
 use Rattle.bpf_code.specs.declared.instr.Instr.{Instr}
 use Rattle.gen_arena.specs.declared.id.Id.{Id}
@@ -14,15 +16,16 @@ use Rattle.card_core.specs.Refusals.{refusal}
 use Rattle.card_core.specs.Steps.{Judges, WorldStep, cell_of_picking, verdict_on, number_with}
 use Rattle.card_core.specs.Log.{Event, Run}
 use Rattle.card_core.specs.Judged.{JudgedView}
-use Rattle.card_core.specs.Headline.{Never, loads, retires, judged_in, picking, judging, loading, IsLoadedOnce, IsLiveCode, IsLiveThrough, IsPromised, EachJudgedCellIsPromised}
+use Rattle.card_core.specs.Headline.{Never, moves, changes, loads, retires, program_after, cells_judged_on, judged_in, picking, judging, setting_up, loading, HasEntered, IsLoadedOnce, IsLiveCode, IsLiveThrough, IsPromised, EachJudgedCellIsPromised, TheHeadline}
 use Rattle.card_core.proofs.Sound.{WorldInvariant}
 use Rattle.card_core.proofs.LookUps.{same_some, there_is}
 use Rattle.card_core.proofs.Allowed.{IsAllowed, succeeded, starved, rejected, step-case, picking-allowed}
 use Rattle.card_core.proofs.SoundSteps.{history-more, reached-sound}
 use Rattle.card_core.proofs.TellingCells.{judgement_on}
 use Rattle.card_core.proofs.TellingRefusals.{CellRefused, at_no_time, with_answer, judge-refused}
-use Rattle.card_core.proofs.LogLemmas.{first-cut, never-joined, never-before, never-after}
+use Rattle.card_core.proofs.LogLemmas.{first-cut, one-cut, never-joined, never-before, never-after}
 use Rattle.card_core.proofs.Knows.{Knows, KnowsPick, leads-knows}
+use Rattle.card_core.proofs.Returning.{returns-safely}
 
 -- A run along two logs passes through a world between them.
 
@@ -84,28 +87,37 @@ module _ (shape : Shape) (log : List Event) (world : World) (sound : WorldInvari
   promised-picked =
       let p = known.picked_ports port pick had in
       let on = p.standing connection found same in
+      let set_up = on.stood.stands in
+      let standing : List Event = on.until ++ picking port ∷ p.since in
+      let front : List Event = set_up.earlier ++ setting_up on.ask set_up.incarnation ∷ on.until in
+      -- The events before the pick are those before the setup, the setup, and those until the pick.
+      let parted : p.at_pick ++ picking port ∷ p.since ≡ front ++ picking port ∷ p.since =
+      sym p.cut ∙ set_up.cut
+      ∙ sym (append_assoc set_up.earlier (setting_up on.ask set_up.incarnation ∷ on.until) (picking port ∷ p.since)) in
+      let at_front : p.at_pick ≡ front =
+      (one-cut (moves port) p.at_pick front (picking port) (picking port) p.since p.since
+      (eq-eqb port port refl) (eq-eqb port port refl) p.alone p.alone parted).fronts in
+      let asked : pick.vc ≡ on.ask.vc = sym set_up.asked in
       record {
-        at_pick = p.at_pick;
+        earlier = set_up.earlier;
+        ask = on.ask;
+        incarnation = set_up.incarnation;
+        until = on.until;
         since = p.since;
-        cut = p.cut;
+        parts = set_up.cut;
         alone = p.alone;
         came = pick.cell;
-        arrived = p.arrived;
+        arrived = subst (λ (l : List Event). HasEntered l port pick.cell pick.moment) at_front p.arrived;
         left = refl;
-        vc = pick.vc;
-        own = own-vc;
-        ask = on.ask;
-        standing = on.until ++ picking port ∷ p.since;
-        stands = on.stood.stands;
-        until = on.until;
-        pick = refl;
-        named = on.named;
+        own = set_up.asked ∙ own-vc;
+        standing = subst (λ (v : Vc). Never (changes v) standing) asked set_up.standing;
+        named = subst (λ (v : Vc). pick.program ≡ program_after v on.ask.program on.until) asked on.named;
         code = p.code;
         accepted = sound.programs.accepted pick.program p.code p.given_code;
-        live = live-picked p;
+        live = subst (λ (l : List Event). IsLiveThrough l (picking port ∷ p.since) pick.program p.code) at_front (live-picked p);
         gives = p.gives;
         history = connection.history;
-        cells = on.stood.cells;
+        cells = subst (λ (v : Vc). connection.history ≡ cells_judged_on shape v standing) asked on.stood.cells;
         held = on.stood.held;
         in_order = history-more 0 connection.history (cell_of_picking pick)
             (sound.connections.each pick.vc connection found).history allowed.forward;
@@ -149,3 +161,9 @@ judged-promised shape before after port judged is =
     let parts = run-parts (opening_world shape) before (event ∷ after) is.0 is.1 in
     promised-step shape before parts.0 port event.reply parts.2.0 judged
     (reached-sound shape before parts.0 parts.1) (leads-knows shape before parts.0 parts.1) parts.2.1 refl
+
+pub headline : TheHeadline
+headline = record {
+  programs_return = returns-safely;
+  cells_are_promised = judged-promised;
+}

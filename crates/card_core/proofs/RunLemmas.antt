@@ -4,6 +4,7 @@ use Rattle.card_core.specs.declared.reply.Reply.{Reply}
 use Rattle.card_core.specs.declared.step.Step.{Step}
 use Rattle.card_core.specs.Log.{Event, Run, Leads}
 use Rattle.card_core.specs.Agreement.{CoreView, Follows, FollowsAll, events_of}
+use Rattle.card_core.specs.Kept.{AnswersStep, AnswersSteps}
 use Rattle.card_core.proofs.Follow.{Run-next}
 
 pub events_of-next : (steps : List Step) (replies : List Reply) (step : Step) (reply : Reply) → length replies ≡ length steps
@@ -31,3 +32,14 @@ follows-next old middle new steps replies step reply e so_far next shape log bef
           (append_assoc log (events_of steps replies) last ∙ ap (λ (events : List Event). log ++ events) all) on.leads;
       agrees = on.agrees;
     }
+
+-- The same, core by core.
+pub takes-next : (old middle new : CoreView) (steps : List Step) (replies : List Reply) (step : Step) (reply : Reply)
+    → AnswersSteps old steps replies middle → AnswersStep middle step reply new
+    → AnswersSteps old (steps ++ step ∷ []) (replies ++ reply ∷ []) new
+takes-next old middle new [] [] step reply so_far next =
+    (new, subst (λ (core : CoreView). AnswersStep core step reply new) so_far next, refl)
+takes-next old middle new [] (other ∷ replies) step reply so_far next = absurd so_far
+takes-next old middle new (first ∷ steps) [] step reply so_far next = absurd so_far
+takes-next old middle new (first ∷ steps) (other ∷ replies) step reply so_far next =
+    (so_far.0, so_far.1, takes-next so_far.0 middle new steps replies step reply so_far.2 next)

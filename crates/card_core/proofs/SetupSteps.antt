@@ -138,18 +138,18 @@ module _ (shape : Shape) (store : List (Slot (List Instr))) (directory : Directo
       (is-live before agrees why.0) (is-taken before agrees why.1) refl refl refl
   unfit-is before sound agrees NoLine why =
       tests-are before false false false false (nat_le (2 ^ 62) before.used)
-      (is-live before agrees why.0) (ap is_some (absent before agrees why.1)) (some-is (length ask.contracts.items) why.2)
-      (no-room before agrees why.3) refl
+      (is-live before agrees why.0.0.0) (ap is_some (absent before agrees why.0.0.1)) (some-is (length ask.contracts.items) why.0.1)
+      (no-room before agrees why.1) refl
   unfit-is before sound agrees InUse why = absurd why
   unfit-is before sound agrees ProgramsFull why = absurd why
   unfit-is before sound agrees Exhausted why =
       tests-are before false false false true true
-      (is-live before agrees why.0) (ap is_some (absent before agrees why.1)) (some-is (length ask.contracts.items) why.2)
-      (some-room before sound agrees why.3.0 why.3.1 why.3.2) (worn-is before.used (sym agrees.seatings.used_up ∙ why.4))
+      (is-live before agrees why.0.0.0.0) (ap is_some (absent before agrees why.0.0.0.1)) (some-is (length ask.contracts.items) why.0.0.1)
+      (some-room before sound agrees why.0.1.0 why.0.1.1 why.0.1.2) (worn-is before.used (sym agrees.seatings.used_up ∙ why.1))
   unfit-is before sound agrees BadContracts why =
       tests-are before false false true
       (any_below before.shape.lines (is_open_line before)) (nat_le (2 ^ 62) before.used)
-      (is-live before agrees why.0) (ap is_some (absent before agrees why.1)) (empty-is (length ask.contracts.items) why.2) refl refl
+      (is-live before agrees why.0.0) (ap is_some (absent before agrees why.0.1)) (empty-is (length ask.contracts.items) why.1) refl refl
   unfit-is before sound agrees Busy why = absurd why
   unfit-is before sound agrees NoMemory why = absurd why
   unfit-is before sound agrees Stale why = absurd why

@@ -5,9 +5,18 @@ use Rattle.card_core.specs.declared.reply.Reply.TheVariants.{Entered, Picked, An
 use Rattle.card_core.specs.declared.step.Step.TheVariants.{Enter, Pick, Judge}
 use Rattle.card_core.specs.Agreement.{CoreView, FollowsAll}
 
--- The core takes the steps of a cell at a port, and the last of them has this answer: Enter and Pick, or Enter, Pick
--- and Judge.
+-- The pick answers the cell: it is of no connection.
+abbrev pub AnsweredByPick : CoreView → ℕ → List ℕ → ℕ → Answer → CoreView → Type 0
+AnsweredByPick old port cell moment answer new =
+    FollowsAll old (Enter port cell moment ∷ Pick port ∷ []) (Entered ∷ Answered answer ∷ []) new
+
+-- The pick finds the cell's connection, and the judgement answers the cell: with a verdict, or with the reason why it
+-- isn't judged.
+abbrev pub AnsweredByJudgement : CoreView → ℕ → List ℕ → ℕ → Answer → CoreView → Type 0
+AnsweredByJudgement old port cell moment answer new =
+    FollowsAll old (Enter port cell moment ∷ Pick port ∷ Judge port ∷ []) (Entered ∷ Picked ∷ Answered answer ∷ []) new
+
+-- The core takes the steps of a cell at a port, and the last of them has this answer.
 abbrev pub AnswersArrival : CoreView → ℕ → List ℕ → ℕ → Answer → CoreView → Type 0
 AnswersArrival old port cell moment answer new =
-    FollowsAll old (Enter port cell moment ∷ Pick port ∷ []) (Entered ∷ Answered answer ∷ []) new
-    ⊎ FollowsAll old (Enter port cell moment ∷ Pick port ∷ Judge port ∷ []) (Entered ∷ Picked ∷ Answered answer ∷ []) new
+    AnsweredByPick old port cell moment answer new ⊎ AnsweredByJudgement old port cell moment answer new

@@ -1,6 +1,7 @@
--- The promise of a log for each judged cell. A log is the list of the steps that were taken, each with its reply, the
--- earliest first. All definitions here are over the log alone: first the effect of one event, then the events of a
--- port, a connection and a program, then the promise, and last the headline.
+-- The headline, and the promise of a log for each judged cell. A log is the list of the steps that were taken, each with
+-- its reply, the earliest first. All definitions here are over the log alone: first the effect of one event, then the
+-- events of a port, a connection and a program, then the promise, and last the headline. Returning has its first half,
+-- which is about programs alone.
 use Rattle.std.specs.Prelude.{◌≡◌, ℕ, ◌^◌, ◌==◌, ◌≤◌, Bool, true, false, not, ◌&&◌, if◌then◌else◌, List, [], ◌∷◌, ◌++◌, map, filter, filter_map, fold, All, Option, None}
 use Rattle.upc_cell.specs.declared.vc.Vc.{Vc}
 use Rattle.bpf_code.specs.declared.instr.Instr.{Instr}
@@ -23,6 +24,7 @@ use Rattle.upc_cell.specs.Connection.{vc_of}
 use Rattle.card_core.specs.Judged.{JudgedView, told}
 use Rattle.card_core.specs.Steps.{Gives, cell_after, named_cell, number_with}
 use Rattle.card_core.specs.Log.{Event, IsLog}
+use Rattle.card_core.specs.Returning.{ReturnsSafely}
 
 -- No event of the log does this.
 abbrev pub Never : (Event → Bool) → List Event → Type 0
@@ -181,37 +183,35 @@ IsLiveThrough log further id code =
 
 -- The promise for a cell that was judged at this port, on a card of this shape, after these events.
 pub record IsPromised (shape : Shape) (before : List Event) (port : ℕ) (judged : JudgedView) : Type 0 where
-  -- The port's latest move was that its cell was picked.
-  pub at_pick : List Event
-  pub since : List Event
-  pub cut : before ≡ at_pick ++ picking port ∷ since
-  pub alone : Never (moves port) since
-  -- Before that, this cell entered the port at the moment in the answer. It leaves tagged if the verdict is Tag,
-  -- otherwise unchanged.
-  pub came : List ℕ
-  pub arrived : HasEntered at_pick port came judged.moment
-  pub left : judged.cell ≡ cell_after judged.verdict came
-  -- Its virtual connection was set up before the cell was picked, and was neither released nor set up again. `standing`
-  -- are all events since the setup, `until` those of them before the pick.
-  pub vc : Vc
-  pub own : vc ≡ vc_of shape.side came
+  -- The events in order: those before the connection of the cell was set up, the setup, those until the cell was
+  -- picked, the pick, and those since.
+  pub earlier : List Event
   pub ask : Ask
-  pub standing : List Event
-  pub stands : StandsSince before vc ask standing
+  pub incarnation : ℕ
   pub until : List Event
-  pub pick : standing ≡ until ++ picking port ∷ since
+  pub since : List Event
+  pub parts : before ≡ earlier ++ setting_up ask incarnation ∷ (until ++ picking port ∷ since)
+  -- The port's latest move is the pick. Its move before that is that this cell entered it, at the moment in the answer.
+  -- The cell leaves tagged if the verdict is Tag, otherwise unchanged.
+  pub alone : Never (moves port) since
+  pub came : List ℕ
+  pub arrived : HasEntered (earlier ++ setting_up ask incarnation ∷ until) port came judged.moment
+  pub left : judged.cell ≡ cell_after judged.verdict came
+  -- The connection is that of the cell's header. Since the setup it was neither released nor set up again.
+  pub own : ask.vc ≡ vc_of shape.side came
+  pub standing : Never (changes ask.vc) (until ++ picking port ∷ since)
   -- The program is the one that the connection named when the cell was picked: one accepted code, live from then until
   -- the judgement. Its value on the cell is the one in the answer.
-  pub named : judged.program ≡ program_after vc ask.program until
+  pub named : judged.program ≡ program_after ask.vc ask.program until
   pub code : List Instr
   pub accepted : IsAccepted code
-  pub live : IsLiveThrough at_pick (picking port ∷ since) judged.program code
+  pub live : IsLiveThrough (earlier ++ setting_up ask incarnation ∷ until) (picking port ∷ since) judged.program code
   pub gives : Gives code came judged.value
   -- The history of the connection is the list of the cells judged on it since it was set up. These are also the cells
   -- judged on its line since then.
   pub history : List NamedCell
-  pub cells : history ≡ cells_judged_on shape vc standing
-  pub held : history ≡ cells_on judged.line standing
+  pub cells : history ≡ cells_judged_on shape ask.vc (until ++ picking port ∷ since)
+  pub held : history ≡ cells_on judged.line (until ++ picking port ∷ since)
   -- From the first cell of the history to this one the moments never go back.
   pub in_order : IsHistory (history ++ named_cell came judged.moment judged.program judged.value ∷ [])
   -- The moment is at most 2^62.
@@ -222,8 +222,16 @@ pub record IsPromised (shape : Shape) (before : List Event) (port : ℕ) (judged
   -- The number counts the verdicts of this kind on the line, this one included.
   pub counted : judged.number ≡ number_with (verdicts_on judged.line before) judged.verdict
 
--- The headline: the promise holds for each judged cell of a log.
+-- The promise holds for each judged cell of a log.
 abbrev pub EachJudgedCellIsPromised : Type 0
 EachJudgedCellIsPromised = (shape : Shape) (before after : List Event) (port : ℕ) (judged : JudgedView)
     → IsLog shape (before ++ judging port judged ∷ after)
     → IsPromised shape before port judged
+
+-- The headline. An accepted program returns on every cell within as many instructions as it has, never leaving its code
+-- or reading an unwritten scratch word. Over every interleaving of arrivals, loads, retirements, reloads, setups and
+-- releases, each judged cell is judged by one whole accepted program still in the arena, and passed, tagged or
+-- discarded as the continuous-state leaky buckets of the named contract say for that connection's earlier cells.
+pub record TheHeadline : Type 0 where
+  pub programs_return : (code : List Instr) (cell : List ℕ) → IsAccepted code → ReturnsSafely code cell
+  pub cells_are_promised : EachJudgedCellIsPromised

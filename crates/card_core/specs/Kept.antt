@@ -1,9 +1,9 @@
 -- The core after a refusal: its slots, directory, lines and ports. A world doesn't have all of these, so this is more
--- than that the world is unchanged.
-use Rattle.std.specs.Prelude.{◌≡◌, ℕ, ⊤, length, Some, slice_get, slice_set}
+-- than that the world is unchanged. Last, all that is promised of a list of steps.
+use Rattle.std.specs.Prelude.{◌≡◌, ◌≢◌, ℕ, ⊤, List, [], ◌∷◌, length, Some, slice_get, slice_set}
 use Rattle.line_record.specs.Line.{LineView}
 use Rattle.card_core.specs.declared.answer.Answer.{Answer}
-use Rattle.card_core.specs.declared.answer.Answer.TheVariants.{Judged}
+use Rattle.card_core.specs.declared.answer.Answer.TheVariants.{Judged, NoMemory as NoMemoryAnswer}
 use Rattle.card_core.specs.declared.fault.DeskFault.{DeskFault}
 use Rattle.card_core.specs.declared.fault.DeskFault.TheVariants.{NoMemory}
 use Rattle.card_core.specs.declared.reply.Reply.{Reply}
@@ -11,8 +11,9 @@ use Rattle.card_core.specs.declared.reply.Reply.TheVariants.{NotNow, Answered, N
 use Rattle.card_core.specs.declared.step.Step.{Step}
 use Rattle.card_core.specs.declared.step.Step.TheVariants.{Pick, Judge}
 use Rattle.card_core.specs.World.{outside}
-use Rattle.card_core.specs.Agreement.{CoreView}
+use Rattle.card_core.specs.Agreement.{CoreView, Follows}
 use Rattle.card_core.specs.Sections.{MayBecomeReady}
+use Rattle.card_core.specs.Stale.{IsNeverStale}
 
 -- The core with this port without a cell.
 abbrev pub with_outside : CoreView → ℕ → CoreView
@@ -44,3 +45,19 @@ RefusalKeeps (NotSetUp fault ask) step old new = SetupKeeps fault old new
 RefusalKeeps (Answered answer) (Pick port) old new = AnswerKeeps answer port old new
 RefusalKeeps (Answered answer) (Judge port) old new = AnswerKeeps answer port old new
 RefusalKeeps _ _ old new = ⊤
+
+-- The core takes one step with this reply: it follows the world, and a refusal changes no more than it may. The reply to
+-- a judgement is never NoMemory, and no reply is Stale.
+pub record AnswersStep (old : CoreView) (step : Step) (reply : Reply) (new : CoreView) : Type 0 where
+  pub follows : Follows old step reply new
+  pub unchanged : RefusalKeeps reply step old new
+  pub judged : (port : ℕ) → step ≡ Judge port → reply ≢ Answered NoMemoryAnswer
+  pub fresh : IsNeverStale old reply
+
+-- The core takes these steps in order, with one reply for each.
+abbrev pub AnswersSteps : CoreView → List Step → List Reply → CoreView → Type 0
+AnswersSteps old [] [] new = new ≡ old
+AnswersSteps old [] (reply ∷ replies) new = ⊥
+AnswersSteps old (step ∷ steps) [] new = ⊥
+AnswersSteps old (step ∷ steps) (reply ∷ replies) new =
+    (next : CoreView) × AnswersStep old step reply next × AnswersSteps next steps replies new

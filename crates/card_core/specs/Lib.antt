@@ -1,6 +1,7 @@
--- The card with whole histories, its steps, its logs, and the agreement of a core with it. Read World, Refusals, Steps,
--- Log, Agreement, Arrival and Headline, in this order. Inspection and Sums have the reads of a core without a step,
--- Laws the laws beside the headline.
+-- The card with whole histories, its steps, its logs, and the agreement of a core with it. Headline has the promise of the
+-- card. It uses World, Refusals, Steps, Log, Judged and Returning; read them in this order, then Headline. Agreement,
+-- Arrival and Kept tie a core to its world. Inspection and Sums have the reads of a core without a step, Laws the laws
+-- beside the headline.
 pub mod World
 pub mod Refusals
 pub mod Steps
@@ -14,6 +15,7 @@ pub mod Inspection
 pub mod Sums
 pub mod Stale
 pub mod Judged
+pub mod Returning
 pub mod Headline
 pub mod Laws
 pub mod Sections

@@ -102,21 +102,34 @@ pub record Admits (store : List (Slot (List Instr))) (directory : DirectoryView)
   pub free : IsOpenLine directory line
   pub unworn : directory.used < 2 ^ 62
 
--- The reason why the requested connection can't be set up on any line: the program isn't live; else the virtual
--- connection is set up already; else there is no contract; else each line has a connection; else the last incarnation
--- was given.
+-- The conditions of a setup, in the order in which they are tried. Each of these definitions has those before it.
+
+-- The program is live.
+abbrev pub HasProgram : List (Slot (List Instr)) → Ask → Type 0
+HasProgram store ask = IsLive store ask.program
+
+-- The virtual connection isn't set up.
+abbrev pub IsNew : List (Slot (List Instr)) → DirectoryView → Ask → Type 0
+IsNew store directory ask = HasProgram store ask × (seating_at directory ask.vc ≡ None)
+
+-- There is a contract.
+abbrev pub HasContracts : List (Slot (List Instr)) → DirectoryView → Ask → Type 0
+HasContracts store directory ask = IsNew store directory ask × (0 < length ask.contracts.items)
+
+-- Some line has no connection.
+abbrev pub HasLine : List (Slot (List Instr)) → DirectoryView → Ask → Type 0
+HasLine store directory ask =
+    HasContracts store directory ask × ((line : ℕ) × (line < directory.lines) × IsOpenLine directory line)
+
+-- The reason why the requested connection can't be set up on any line: the first condition that fails. The last one is
+-- that an incarnation is left.
 abbrev pub IsUnfit : List (Slot (List Instr)) → DirectoryView → Ask → DeskFault → Type 0
 IsUnfit store directory ask NoProgram = live_value store ask.program ≡ None
-IsUnfit store directory ask Taken =
-    IsLive store ask.program × IsSome (seating_at directory ask.vc)
-IsUnfit store directory ask BadContracts =
-    IsLive store ask.program × (seating_at directory ask.vc ≡ None) × (length ask.contracts.items ≡ 0)
+IsUnfit store directory ask Taken = HasProgram store ask × IsSome (seating_at directory ask.vc)
+IsUnfit store directory ask BadContracts = IsNew store directory ask × (length ask.contracts.items ≡ 0)
 IsUnfit store directory ask NoLine =
-    IsLive store ask.program × (seating_at directory ask.vc ≡ None) × (0 < length ask.contracts.items)
-    × ((line : ℕ) → line < directory.lines → IsTakenLine directory line)
-IsUnfit store directory ask Exhausted =
-    IsLive store ask.program × (seating_at directory ask.vc ≡ None) × (0 < length ask.contracts.items)
-    × ((line : ℕ) × (line < directory.lines) × IsOpenLine directory line) × (directory.used ≡ 2 ^ 62)
+    HasContracts store directory ask × ((line : ℕ) → line < directory.lines → IsTakenLine directory line)
+IsUnfit store directory ask Exhausted = HasLine store directory ask × (directory.used ≡ 2 ^ 62)
 IsUnfit store directory ask _ = ⊥
 
 -- The reason why a setup on this line is refused: the line isn't free; or it is free, and an allocation failed.

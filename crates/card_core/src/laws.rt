@@ -1,7 +1,13 @@
 //! Laws of the worlds and logs of a card. Each function does nothing; its contract is the law.
 
-ghost use Rattle.card_core.specs.Headline.{EachJudgedCellIsPromised};
+ghost use Rattle.card_core.specs.Headline.{TheHeadline};
 ghost use Rattle.card_core.specs.Laws.{NamedProgramsAreLive, IdsAreGivenOnce, IdsNameOneCode, ConnectionsAreApart, ConnectionsBoundBursts, StepsHaveReplies, SomeAnswersNeverCome, ConnectionsAreAsTold, LogsBoundBursts, PromisesLeaveOneAnswer};
+
+/// The headline. An accepted program returns on every cell within as many instructions as it has, never leaving its
+/// code or reading an unwritten scratch word. The promise holds for each judged cell of a log.
+pub fn the_headline()
+    ensures { TheHeadline }
+{}
 
 /// Each connection and each picked cell names a live program.
 pub fn named_programs_are_live()
@@ -37,11 +43,6 @@ pub fn steps_have_replies()
 /// No reply is `Stale`, and `NoMemory` is a reply only to a Setup or a Cut.
 pub fn some_answers_never_come()
     ensures { SomeAnswersNeverCome }
-{}
-
-/// The headline: the promise holds for each judged cell of a log.
-pub fn each_judged_cell_is_promised()
-    ensures { EachJudgedCellIsPromised }
 {}
 
 /// The headline allows only one answer for a judged cell of a given line.

@@ -58,7 +58,7 @@ impl Core {
     ghost use Rattle.card_core.specs.Agreement.{CoreAgrees, Follows, FollowsAll};
     ghost use Rattle.card_core.specs.Arrival.{AnswersArrival};
     ghost use Rattle.card_core.specs.Inspection.{load_fault_of, IsRetireFault, PutsIn, TakesOut};
-    ghost use Rattle.card_core.specs.Kept.{RefusalKeeps};
+    ghost use Rattle.card_core.specs.Kept.{RefusalKeeps, AnswersSteps};
     ghost use Rattle.card_core.specs.Sections.{answer_to};
     ghost use Rattle.card_core.specs.PortReplies.{reply_of};
     ghost use Rattle.card_core.specs.DeskReplies.{load_reply, retire_reply, setup_reply, reload_reply, release_reply, cut_reply};
@@ -148,6 +148,10 @@ impl Core {
         ensures follows { IfOk result (λ replies.
             FollowsAll self.old steps.items replies.items self.new) }
         ensures one_each { IfOk result (λ replies. length replies.items ≡ length steps.items) }
+
+        // Each step is taken from the core that the step before left, and each refusal changes no more than it may.
+        ensures each { IfOk result (λ replies.
+            AnswersSteps self.old steps.items replies.items self.new) }
         ensures returned { IfErr result (λ returned. returned.items ≡ steps.items) }
         ensures unchanged { OnErr result (self.new ≡ self.old) }
     {
@@ -164,6 +168,7 @@ impl Core {
     pub fn enter(&mut self, port: u8, cell: Cell, moment: u64) -> PortReply
         ensures follows { Follows self.old (Enter port cell moment) (reply_of result) self.new }
         ensures unchanged { RefusalKeeps (reply_of result) (Enter port cell moment) self.old self.new }
+        ensures rest { self.new ≡ record self.old { ports = self.new.ports } }
     {
         if !is_idle_at(&self.ports, port) {
             return PortReply::NotNow;
@@ -176,6 +181,7 @@ impl Core {
     pub fn pick(&mut self, port: u8) -> PortReply
         ensures follows { Follows self.old (Pick port) (reply_of result) self.new }
         ensures unchanged { RefusalKeeps (reply_of result) (Pick port) self.old self.new }
+        ensures rest { self.new ≡ record self.old { ports = self.new.ports } }
     {
         let Some(came) = entered_at(&self.ports, port) else {
             return PortReply::NotNow;
@@ -197,6 +203,7 @@ impl Core {
     pub fn judge(&mut self, port: u8) -> PortReply
         ensures follows { Follows self.old (Judge port) (reply_of result) self.new }
         ensures unchanged { RefusalKeeps (reply_of result) (Judge port) self.old self.new }
+        ensures rest { self.new ≡ record self.old { lines = self.new.lines; ports = self.new.ports } }
         ensures memory { reply_of result ≢ Reply.Answered Answer.NoMemory }
     {
         let Some(found) = picked_at(&self.ports, port) else {
@@ -209,7 +216,7 @@ impl Core {
 
     /// Takes all steps of a cell at a port: `Enter`, `Pick` and, if its connection is found, `Judge`. Returns the last
     /// answer, without the leaving cell: that is the cell passed here, or `Cell::tagged` of it if the verdict is Tag.
-    /// Returns None and changes nothing if the port has a cell or there is no such port.
+    /// Returns None if the port has a cell or there is no such port. Changes nothing unless the cell is judged.
     #[inline(always)]
     pub fn arrive(
         &mut self,
@@ -222,6 +229,7 @@ impl Core {
         ensures not_now { IfNone result (Follows self.old (Enter port cell.now moment) Reply.NotNow self.new) }
         ensures rest { self.new ≡ record self.old { lines = self.new.lines } }
         ensures unchanged { IfNone result (self.new ≡ self.old) }
+        ensures refused { IfSome result (λ told. OnErr told (self.new ≡ self.old)) }
         ensures memory { IfSome result (λ told. answer_to cell.now told ≢ Answer.NoMemory) }
     {
         if !is_idle_at(&self.ports, port) {
@@ -348,7 +356,7 @@ impl Core {
     }
 }
 
-ghost use Rattle.std.specs.Prelude.{◌<◌, ◌≤◌, ◌≢◌, ◌^◌, false, length, replicate, None, Some, Err, IfSome, IfOk, MatchResult};
+ghost use Rattle.std.specs.Prelude.{◌<◌, ◌≤◌, ◌≢◌, ◌^◌, false, length, replicate, None, Some, Err, IfSome, IfOk, OnErr, MatchResult};
 ghost use Rattle.card_core.specs.Sections.{answer_to, unjudged_answer};
 ghost use Rattle.line_record.specs.Tally.{nothing};
 ghost use Rattle.line_record.specs.Line.{free_line};
@@ -410,6 +418,7 @@ fn tell_line(lines: &mut Vec<Line>, found: &Found) -> Result<Judgement, Unjudged
     requires { found.now.seating.line < length lines.old.items }
     ensures line { ChangesLine lines.old.items found.now.seating.line
         (JudgesOrRefuses found.now (answer_to found.now.named.cell result)) lines.new.items }
+    ensures unchanged { OnErr result (lines.new.items ≡ lines.old.items) }
     ensures memory { answer_to found.now.named.cell result ≢ Answer.NoMemory }
 {
     let line = &mut lines[usize::from(found.seating.line)];

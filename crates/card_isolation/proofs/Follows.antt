@@ -19,7 +19,7 @@ use Rattle.card_core.specs.inner.Sound.{WorldInvariant}
 use Rattle.card_core.proofs.Public.{step-replied}
 use Rattle.card_isolation.specs.Act.{Act}
 use Rattle.card_isolation.specs.OwnEvents.{OwnEvent, own_event}
-use Rattle.card_isolation.specs.Restriction.{is_for_kept}
+use Rattle.card_isolation.specs.Restriction.{is_for_no_other_than}
 use Rattle.card_isolation.proofs.Alone.{event_with}
 use Rattle.card_isolation.proofs.Views.{alone_in, notes_in, Goes, Tells}
 use Rattle.card_isolation.proofs.Steps.{HasJudgedFew, step-tells}
@@ -33,7 +33,7 @@ pub data Follows (kept : Vc → Bool) (world : World) (step : Step) (reply : Rep
   stays : ((vc : Vc) → kept vc ≡ true → own_event world.shape.side vc (notes_in vc world) reply step ≡ None) → Shadows kept after shadow
       → Follows kept world step reply after shadow
   goes_too : (answered : Reply) (later : World) → WorldStep shadow step answered later
-      → is_for_kept world.shape.side kept step ≡ true
+      → is_for_no_other_than world.shape.side kept step ≡ true
       → ((vc : Vc) → kept vc ≡ true
       → own_event shadow.shape.side vc (notes_in vc shadow) answered step ≡ own_event world.shape.side vc (notes_in vc world) reply step)
       → Shadows kept after later
@@ -95,7 +95,7 @@ module _ {kept : Vc → Bool} {world shadow : World} (beside : AreBeside kept wo
   -- An own step of a kept connection is a step of the shadow.
   pub goes-own : (vc : Vc) → kept vc ≡ true → (step : Step) (reply answered : Reply) (after later : World) (act other : Act)
       (holds : Option Holding → Option Holding) (more : ℕ)
-      → WorldStep world step reply after → WorldStep shadow step answered later → is_for_kept world.shape.side kept step ≡ true
+      → WorldStep world step reply after → WorldStep shadow step answered later → is_for_no_other_than world.shape.side kept step ≡ true
       → OwnStep vc world step reply after act holds more → OwnStep vc shadow step answered later other holds more → other ≡ act
       → Follows kept world step reply after shadow
   goes-own vc is_kept step reply answered after later act other holds more w w_too own_step own own_too same =
@@ -135,7 +135,7 @@ module _ {kept : Vc → Bool} {world shadow : World} (beside : AreBeside kept wo
 
   -- A step that is no connection's event and changes the programs of both in the same way.
   pub goes-beside : (step : Step) (reply answered : Reply) (after later : World) → WorldStep world step reply after → WorldStep shadow step answered later
-      → is_for_kept world.shape.side kept step ≡ true
+      → is_for_no_other_than world.shape.side kept step ≡ true
       → ((vc : Vc) → own_event world.shape.side vc (notes_in vc world) reply step ≡ None)
       → ((vc : Vc) → own_event shadow.shape.side vc (notes_in vc shadow) answered step ≡ None)
       → later.given ≡ after.given → later.live ≡ after.live

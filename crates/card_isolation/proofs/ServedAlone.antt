@@ -11,7 +11,7 @@ use Rattle.card_core.specs.World.{World, PortState, outside, opening_world}
 use Rattle.card_core.specs.Log.{Event, Run, Leads}
 use Rattle.card_core.proofs.Public.{worlds-sound, log-goes_on}
 use Rattle.card_isolation.specs.OwnEvents.{OwnEvent, Notes, notes_after, own_event, behind, own_events_after, opening_notes}
-use Rattle.card_isolation.specs.Restriction.{is_for_kept, LeavesOutSteps, AreServedAlike, KeptConnectionsAreServedAlike, EachIsServedAsAlone}
+use Rattle.card_isolation.specs.Restriction.{is_for_no_other_than, LeavesOutSteps, AreServedAlike, KeptConnectionsAreServedAlike, EachIsServedAsAlone}
 use Rattle.card_isolation.proofs.Views.{event_of, notes_in, Tells, same-notes}
 use Rattle.card_isolation.proofs.Steps.{HasJudgedFew, step-tells}
 use Rattle.card_isolation.proofs.Shadow.{Shadows}
@@ -25,7 +25,7 @@ record GoesAlone (shape : Shape) (kept : Vc → Bool) (world shadow : World) (lo
   pub end : World
   pub run : Run shadow restricted end
   pub leaves_out : LeavesOutSteps restricted log
-  pub only_kept : All (λ event. is_for_kept shape.side kept event.step ≡ true) restricted
+  pub only_kept : All (λ event. is_for_no_other_than shape.side kept event.step ≡ true) restricted
   pub same : (vc : Vc) → kept vc ≡ true
       → own_events_after shape.side vc (notes_in vc shadow) restricted ≡ own_events_after shape.side vc (notes_in vc world) log
 
@@ -52,7 +52,7 @@ module _ (kept : Vc → Bool) (shape : Shape) where
     end = shadow;
     run = refl;
     leaves_out = tt;
-    only_kept = All-nil (λ event. is_for_kept shape.side kept event.step ≡ true);
+    only_kept = All-nil (λ event. is_for_no_other_than shape.side kept event.step ≡ true);
     same = λ vc kept. refl;
   }
   goes-alone so_far own_so_far (event ∷ log) world shadow end leads leads_too run s is taken counted counted_too within =
@@ -114,8 +114,8 @@ module _ (kept : Vc → Bool) (shape : Shape) where
               end = rest.end;
               run = (later, stepped, rest.run);
               leaves_out = inl (refl, rest.leaves_out);
-              only_kept = All-cons (λ event. is_for_kept shape.side kept event.step ≡ true) event_too rest.restricted
-                  (subst (λ (x : Shape). is_for_kept x.side kept event.step ≡ true) is only_kept) rest.only_kept;
+              only_kept = All-cons (λ event. is_for_no_other_than shape.side kept event.step ≡ true) event_too rest.restricted
+                  (subst (λ (x : Shape). is_for_no_other_than x.side kept event.step ≡ true) is only_kept) rest.only_kept;
               same = λ vc is_kept.
                   first-own shape.side vc (notes_in vc shadow) (notes_in vc later) event_too rest.restricted (own vc) (one_here vc is_kept) (noted_too vc)
                   ∙ ap (behind (own vc)) (rest.same vc is_kept)

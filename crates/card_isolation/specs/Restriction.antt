@@ -9,15 +9,15 @@ use Rattle.card_core.specs.declared.step.Step.TheVariants.{Enter, Setup, Reload,
 use Rattle.card_core.specs.Log.{Event, IsLog}
 use Rattle.card_isolation.specs.OwnEvents.{own_events}
 
--- Whether the step is for a kept connection, or may be for none. An Enter is for the connection of its cell; a Load, a
--- Retire, a Pick and a Judge always pass.
-abbrev pub is_for_kept : Side → (Vc → Bool) → Step → Bool
-is_for_kept side kept (Enter port cell moment) = kept (vc_of side cell)
-is_for_kept side kept (Setup ask) = kept ask.vc
-is_for_kept side kept (Reload vc program) = kept vc
-is_for_kept side kept (Release vc) = kept vc
-is_for_kept side kept (Cut vc) = kept vc
-is_for_kept side kept _ = true
+-- Whether the step is for no other connection than the kept ones. An Enter is for the connection of its cell. A Load, a
+-- Retire, a Pick and a Judge name no connection, so they pass whatever is kept.
+abbrev pub is_for_no_other_than : Side → (Vc → Bool) → Step → Bool
+is_for_no_other_than side kept (Enter port cell moment) = kept (vc_of side cell)
+is_for_no_other_than side kept (Setup ask) = kept ask.vc
+is_for_no_other_than side kept (Reload vc program) = kept vc
+is_for_no_other_than side kept (Release vc) = kept vc
+is_for_no_other_than side kept (Cut vc) = kept vc
+is_for_no_other_than side kept _ = true
 
 -- The first log has steps of the second, in the same order, and may leave steps out. The replies may differ.
 abbrev pub LeavesOutSteps : List Event → List Event → Type 0
@@ -32,7 +32,7 @@ pub record AreServedAlike (shape : Shape) (kept : Vc → Bool) (log : List Event
   pub restricted : List Event
   pub is_log : IsLog shape restricted
   pub leaves_out : LeavesOutSteps restricted log
-  pub only_kept : All (λ event. is_for_kept shape.side kept event.step ≡ true) restricted
+  pub only_kept : All (λ event. is_for_no_other_than shape.side kept event.step ≡ true) restricted
   pub same : (vc : Vc) → kept vc ≡ true → own_events shape.side vc restricted ≡ own_events shape.side vc log
 
 -- This holds for each set of virtual connections and any log of at most 2^62 events: one log serves all kept
@@ -43,7 +43,7 @@ KeptConnectionsAreServedAlike = (shape : Shape) (log : List Event) (kept : Vc �
 
 -- Whether the step is for no other connection than this one.
 abbrev pub is_for_no_other : Side → Vc → Step → Bool
-is_for_no_other side vc step = is_for_kept side (λ other. is_same_vc vc other) step
+is_for_no_other side vc step = is_for_no_other_than side (λ other. is_same_vc vc other) step
 
 -- A card of this shape may have a log of some of these steps, in the same order, without steps for another connection,
 -- in which this one has the same own events with the same outcomes.

@@ -1,5 +1,4 @@
 use Rattle.std.proofs.Common.{◌≡◌, ◌≤◌, ◌*◌, ◌^◌, take}
-use Rattle.card_core.specs.declared.sums.Totals.{Totals}
 use Rattle.card_core.specs.Sums.{totals_of}
 use Rattle.card_core.proofs.sums.totals_of.Given as goal
 

@@ -1,4 +1,4 @@
-use Rattle.std.proofs.Common.{◌↔◌, Some, None, IsErr, refl, ◌≡◌, true, false, List, Result, Ok, Err, ap, sym, subst, ◌∙◌}
+use Rattle.std.proofs.Common.{◌↔◌, Some, None, IsErr, refl, ◌≡◌, true, false, List, Result, Ok, ap, sym, subst, ◌∙◌}
 use Rattle.std.specs.Prelude.{MatchResult, IfOk, OnErr}
 use Rattle.std.specs.List.{list_all}
 use Rattle.gen_arena.specs.Free.{free_slots}

@@ -1,13 +1,12 @@
-use Rattle.std.proofs.Common.{◌≡◌, ◌↔◌, true, false, Option, Some, None, IsTrue, subst}
+use Rattle.std.proofs.Common.{◌≡◌, true, false, Some, None, subst}
 use Rattle.std.specs.List.{list_all}
-use Rattle.gen_arena.specs.Live.{live_value, IsLive}
+use Rattle.gen_arena.specs.Live.{IsLive}
 use Rattle.line_record.specs.Directory.{IsNamed}
 use Rattle.card_core.specs.declared.fault.DeskFault.TheVariants.{Busy, NoProgram, InUse}
 use Rattle.card_core.specs.Agreement.{CoreView}
-use Rattle.card_core.specs.Inspection.{has_cell, IsRetireFault}
+use Rattle.card_core.specs.Inspection.{IsRetireFault}
 use Rattle.card_core.specs.inner.Ports.{is_free_port}
 use Rattle.card_core.proofs.Inspecting.{has-cell, not-live}
-use Rattle.card_core.proofs.PortLemmas.{core_of}
 use Rattle.card_core.proofs.serial.Core.retire_fault.Goals as goal
 
 pub returns-then-not-are_outside : goal.returns-then-not-are_outside

@@ -1,7 +1,8 @@
 use Rattle.std.proofs.Common.{◌+◌, List, ◌∷◌, ◌++◌, [], length, sym, ap, subst, ◌∙◌, arith, length-append}
 use Rattle.card_core.specs.declared.reply.Reply.{Reply}
 use Rattle.card_core.specs.Agreement.{FollowsAll}
-use Rattle.card_core.proofs.RunLemmas.{follows-next}
+use Rattle.card_core.specs.Kept.{AnswersSteps}
+use Rattle.card_core.proofs.RunLemmas.{follows-next, takes-next}
 use Rattle.card_core.proofs.serial.Core.run.Goals as goal
 
 pub loop-step-preserved : goal.loop-step-preserved
@@ -18,4 +19,7 @@ loop-step-preserved c =
       follows = subst (λ (list : List Reply). FollowsAll c.args.self.now (yielded ++ c.in-Some.step ∷ []) list c.step.new.self) (sym items)
           (follows-next c.args.self.now c.loop-step.self c.step.new.self yielded replies c.in-Some.step c.step.result
           c.loop-step.invariant.one_each c.loop-step.invariant.follows c.step.ensures.follows);
+      each = subst (λ (list : List Reply). AnswersSteps c.args.self.now (yielded ++ c.in-Some.step ∷ []) list c.step.new.self) (sym items)
+          (takes-next c.args.self.now c.loop-step.self c.step.new.self yielded replies c.in-Some.step c.step.result
+          c.loop-step.invariant.each (record { follows = c.step.ensures.follows; unchanged = c.step.ensures.unchanged; judged = c.step.ensures.judged; fresh = c.step.ensures.fresh }));
     }
