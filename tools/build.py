@@ -17,14 +17,32 @@ from concurrent.futures import FIRST_COMPLETED, ThreadPoolExecutor, wait
 import kit
 
 
-def jobs_for(ready, idle):
-    """Returns how many processors a check gets, of those that no other waits for."""
-    return max(1, min(4, idle // max(ready, 1)))
+# A crate that wasn't proved here before takes so many seconds, and a second more for each so many lines.
+LEAST, LINES = 15, 18
 
 
-def built(crate, jobs):
+def seconds(crate):
+    """Returns how long a crate takes: what it took here last time, otherwise an estimate by its lines."""
+    try:
+        with open(f"{crate.folder}/{TOOK}", encoding="utf-8") as it:
+            return float(it.read())
+    except (OSError, ValueError):
+        files = [it for part in ("src", "specs", "proofs") for it in pathlib.Path(crate.folder, part).rglob("*.*t")]
+        return LEAST + sum(it.read_bytes().count(b"\n") for it in files) / LINES
+
+
+def chains(program):
+    """Returns for each crate the seconds from its start to that of the program, if nothing waits for a processor."""
+    longest = {}
+    for crate in reversed(program.below()):
+        above = [longest[it.name] for it in program.below() if crate in it.deps]
+        longest[crate.name] = seconds(crate) + max(above, default=0)
+    return longest
+
+
+def built(crate, jobs, slower):
     """Proves a library and builds it. Returns what the prover printed if it refused, or nothing."""
-    rtlib, stamp = kit.module(), crate.stamp()
+    rtlib, stamp, begun = kit.module(), crate.stamp(), time.time()
     if crate.is_built():
         return ""
     folder = os.path.dirname(crate.rlib)

@@ -11,9 +11,9 @@ use Rattle.text_io.specs.declared.ending.RunFault.{RunFault}
 use Rattle.text_io.specs.declared.ending.RunFault.TheVariants.{ReadFailed, WriteFailed, NoMemory}
 use Rattle.upc.specs.ExitStatus.{status_of}
 use Rattle.upc.specs.Subcommand.{IsTextOf}
-use Rattle.upc.specs.declared.choice.Choice.{Choice}
-use Rattle.upc.specs.declared.choice.Stop.{Stop}
-use Rattle.upc.specs.declared.choice.Stop.TheVariants.{Help, Words, NoMemory as LacksMemory}
+use Rattle.upc_choice.specs.declared.choice.Choice.{Choice}
+use Rattle.upc_choice.specs.declared.choice.Stop.{Stop}
+use Rattle.upc_choice.specs.declared.choice.Stop.TheVariants.{Help, Words, NoMemory as LacksMemory}
 
 -- The message for each failure.
 abbrev pub failure_line : RunFault → List ℕ

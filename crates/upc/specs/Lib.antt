@@ -1,6 +1,4 @@
 -- The program `upc`. Read the modules in this order:
-pub mod Choice
 pub mod Subcommand
 pub mod ExitStatus
 pub mod Invocation
-pub mod inner

@@ -3,15 +3,15 @@
 ghost use Rattle.std.specs.Prelude.{◌≡◌, ◌≢◌, Ok as TheOk};
 ghost use Rattle.upc.specs.ExitStatus.{status_of};
 ghost use Rattle.upc.specs.Invocation.{CarriesOut, IsStatusFor, Reports, WritesMessage, failure_line};
-ghost use Rattle.upc.specs.declared.choice.Choice.TheVariants.{Ports};
+ghost use Rattle.upc_choice.specs.declared.choice.Choice.TheVariants.{Ports};
 
-use crate::choice::{Choice, Stop};
 use crate::exit::status;
 use crate::subcommand::run_alone;
 use std::alloc::Global;
 use std::sync::Wait;
 use std::thread::Threads;
 use text_io::{Done, Input, Output, RunFault, give_all};
+use upc_choice::{Choice, Stop};
 use upc_ports::run_ports;
 
 /// The message for a failure.

@@ -1,25 +1,23 @@
 //! `upc`: usage parameter control for an ATM line card, as a program over standard input and standard output.
 #![tactic(auto)]
 
-pub mod choice;
 pub mod exit;
 mod invocation;
 mod laws;
 mod subcommand;
 #[cfg(test)]
 mod tests;
-mod words;
 
-pub use choice::{Choice, Stop, choose};
 pub use exit::status;
 use invocation::{carry_out, carry_out_alone};
 use std::io::IsTerminal;
 use std::process::ExitCode;
 use text_io::{Giving, Taking};
+use upc_choice::words_after_name;
+pub use upc_choice::{Choice, Stop, choose};
 pub use upc_ports::{run_ports, run_ports_with};
 pub use upc_programs::{check_source, eval_bytes};
 pub use upc_run::run_script;
-use words::words_after_name;
 
 fn main(rt: HostRuntime) -> ExitCode {
     let chosen = match words_after_name(rt.alloc(), &rt) {

@@ -2,6 +2,7 @@
 //!
 //! Whole inputs and outputs are data: tests/worked/ at the top of the repository.
 
+mod choices;
 mod devices;
 mod statuses;
 

@@ -7,12 +7,12 @@ use Rattle.std.specs.Option.{option_map}
 use Rattle.text_io.specs.Devices.{Adds}
 use Rattle.gen_arena.specs.declared.id.Id.{Id}
 use Rattle.upc_cell.specs.declared.side.Side.{Side}
-use Rattle.upc_ports.specs.declared.dealing.Answerer.{Answerer}
+use Rattle.upc_dealing.specs.declared.dealing.Answerer.{Answerer}
 use Rattle.line_record.specs.declared.fault.LineFault.TheVariants.{TooLate, Back, Full, NoMemory}
 use Rattle.card_core.specs.declared.answer.Unjudged.{Unjudged}
 use Rattle.card_core.specs.declared.answer.Unjudged.TheVariants as unjudged
 use Rattle.card_core.specs.Sections.{unjudged_answer}
-use Rattle.upc_run.specs.Replies.{number_of_judging}
+use Rattle.upc_card_lines.specs.Replies.{number_of_judging}
 use Rattle.upc_ports.specs.declared.told.ToldCell.{ToldCell}
 use Rattle.upc_ports.specs.inner.InOrder.{IsTextOfAnswerer, AllTell}
 

@@ -1,5 +1,5 @@
 pub mod ReadingText
 pub mod PortsTexts
 pub mod InOrderLemmas
-pub mod DealingLemmas
+pub mod FirstLinesLemmas
 pub mod Public

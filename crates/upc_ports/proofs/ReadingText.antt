@@ -10,8 +10,8 @@ use Rattle.text_io.specs.declared.ending.Done.TheVariants.{Whole, Ended}
 use Rattle.card_core.specs.Shapes.{shape_fault}
 use Rattle.card_core.specs.declared.fault.CardFault.{CardFault}
 use Rattle.card_core.specs.declared.shape.Shape.{Shape}
-use Rattle.upc_run.specs.CardLine.{card_line_shape}
-use Rattle.upc_run.specs.CardFaults.{no_card, shape_fault_line}
+use Rattle.upc_card_lines.specs.CardLine.{card_line_shape}
+use Rattle.upc_card_lines.specs.CardFaults.{no_card, shape_fault_line}
 use Rattle.upc_ports.specs.PortsText.{ScriptReading, unread, OpensOrEnds, ReadsWords, ReadSteps, ReadCloses, reading_rules, IsReadingText}
 
 -- A line that doesn't end the reading prints nothing.

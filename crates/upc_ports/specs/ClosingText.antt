@@ -6,7 +6,7 @@ use Rattle.port_card.specs.Closing.{lines_total}
 use Rattle.text_io.specs.declared.ending.Done.{Done}
 use Rattle.text_io.specs.declared.ending.Done.TheVariants.{Whole, Ended}
 use Rattle.upc_words.specs.FaultLines.{line}
-use Rattle.upc_run.specs.Replies.{tally_text}
+use Rattle.upc_script.specs.ReplyTexts.{tally_text}
 
 -- The number of cells with each verdict, over all lines and their whole life.
 abbrev pub totals_line : Tally → List ℕ

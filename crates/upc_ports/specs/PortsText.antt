@@ -12,8 +12,8 @@ use Rattle.text_io.specs.Words.{words_of, is_silent}
 use Rattle.text_io.specs.declared.ending.Done.{Done}
 use Rattle.text_io.specs.declared.ending.Done.TheVariants.{Whole, Ended}
 use Rattle.upc_words.specs.FaultLines.{too_long}
-use Rattle.upc_run.specs.CardFaults.{no_card, shape_fault_line}
-use Rattle.upc_run.specs.CardLine.{card_line_shape}
+use Rattle.upc_card_lines.specs.CardFaults.{no_card, shape_fault_line}
+use Rattle.upc_card_lines.specs.CardLine.{card_line_shape}
 use Rattle.upc_ports.specs.ClosingText.{closing_text, done_of}
 
 -- The state of the reading of a script.

@@ -1,6 +1,4 @@
 -- Definitions that only private functions and proofs use.
 pub mod ReadingLaws
-pub mod CellLine
 pub mod Told
-pub mod Dealing
 pub mod InOrder

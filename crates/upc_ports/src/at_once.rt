@@ -1,7 +1,6 @@
 //! The ports and the desk of a card, which run at the same time, each port on a thread of its own.
 
 use crate::busy_ports::BusyPort;
-use crate::cell_line::{CellLine, read_cell_line};
 use crate::script_desk::ScriptDesk;
 use crate::told::{ToldCell, told_cell};
 use port_card::{Card, Gate, Ledgers, PortSeat};
@@ -9,6 +8,7 @@ use std::alloc::{AllocError, Global};
 use std::sync::Wait;
 use std::thread::{self, Threads};
 use upc_cell::Side;
+use upc_dealing::{CellLine, read_cell_line};
 
 /// Lets the cell of a line arrive, and returns what is stored of it and its answer. Returns None for a line without a
 /// cell; a port gets no such line.

@@ -8,7 +8,7 @@ use line_record::Tally;
 use port_card::Closing;
 use std::alloc::AllocError;
 use text_io::Done;
-use upc_run::add_tally;
+use upc_script::add_tally;
 use upc_words::add_number;
 
 /// Adds the totals of the verdicts.

@@ -4,19 +4,19 @@ ghost use Rattle.std.specs.Prelude.{◌≡◌, OnOk, map, slice_get};
 ghost use Rattle.std.specs.Option.{option_copied};
 ghost use Rattle.text_io.specs.Devices.{Adds};
 ghost use Rattle.upc_ports.specs.inner.InOrder.{AllTell, IsTextOfAnswerer, cell_at, given_text};
-ghost use Rattle.upc_run.specs.AddsSome.{AddsSome};
-ghost use Rattle.upc_run.specs.Replies.{answer_text};
+ghost use Rattle.upc_card_lines.specs.AddsSome.{AddsSome};
+ghost use Rattle.upc_card_lines.specs.Replies.{answer_text};
 ghost use Rattle.upc_cell.specs.Connection.{vc_of};
 ghost use Rattle.upc_ports.specs.inner.Told.{answer_kept, shown_cell};
 
 use crate::busy_ports::BusyPort;
-use crate::cell_line::add_cell_line_fault;
-use crate::dealing::Answerer;
 use crate::told::{ToldCell, judgement_of, shown_cell};
 use port_card::Ledgers;
 use std::alloc::AllocError;
+use upc_card_lines::{add_judged, add_unjudged};
 use upc_cell::Side;
-use upc_run::{Names, add_judged, add_unjudged};
+use upc_dealing::{Answerer, add_cell_line_fault};
+use upc_script::Names;
 
 /// Adds the answer to a cell.
 #[tactic(auto, using(crate::proofs::InOrderLemmas::unjudged_unnumbered))]

@@ -8,14 +8,11 @@
 
 mod at_once;
 mod busy_ports;
-mod cell_line;
 mod closing_lines;
-mod dealing;
 mod in_order;
 mod ports;
 mod script;
 mod script_desk;
-mod script_lines;
 mod told;
 
 pub use ports::{run_ports, run_ports_with};

@@ -7,16 +7,14 @@ ghost use Rattle.text_io.specs.Printing.{IsFront};
 ghost use Rattle.text_io.specs.Serving.{IsServed};
 ghost use Rattle.port_card.specs.Names.{AreFor};
 ghost use Rattle.upc_ports.specs.PortsText.{IsClosedText, IsPortsText};
-ghost use Rattle.upc_ports.specs.inner.Dealing.{AreLinesOf, from_first_cell};
+ghost use Rattle.upc_dealing.specs.Dealing.{AreLinesOf, from_first_cell};
 
 use crate::at_once::run_at_once;
 use crate::busy_ports::seats_of;
 use crate::closing_lines::{add_closing, done_after};
-use crate::dealing::{Deal, deal_lines};
 use crate::in_order::add_in_order;
 use crate::script::Script;
 use crate::script_desk::ScriptDesk;
-use crate::script_lines::{first_line, is_cell_line};
 use card_core::Shape;
 use port_card::{Blanks, Card, Closing, Gate, Ledgers, NoWait, PortSeat};
 use std::alloc::{AllocError, Global};
@@ -24,7 +22,8 @@ use std::marker::Brand;
 use std::sync::Wait;
 use std::thread::Threads;
 use text_io::{Done, Input, Output, RunFault, answer_lines, give_last};
-use upc_run::{Names, add_ready};
+use upc_dealing::{Deal, deal_lines, first_line, is_cell_line};
+use upc_script::{Names, add_ready};
 
 /// Answers the lines before the first cell line, and returns the lines from there on.
 fn answer_first<'a, S: Ledgers, R: Wait>(

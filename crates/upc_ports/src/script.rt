@@ -7,8 +7,9 @@ ghost use Rattle.upc_ports.specs.PortsText.{unread};
 use card_core::Shape;
 use std::alloc::{AllocError, Global};
 use text_io::{Done, Machine, Turn};
+use upc_card_lines::{add_no_card, add_shape_fault, read_card};
 use upc_cell::Side;
-use upc_run::{add_no_card, add_shape_fault, after_command, asking_word, read_card};
+use upc_script::{after_command, asking_word};
 use upc_words::add_too_long;
 
 /// Returns whether the line has no words or is a comment. A cell line in most cases needs no search for its words.

@@ -6,13 +6,14 @@ use card_core::Ask;
 use port_card::{Card, Desk, Ledgers};
 use std::alloc::{AllocError, Global};
 use std::sync::Wait;
+use upc_card_lines::{add_desk_fault, add_gcra_fault, add_no_such_program};
 use upc_cell::{Side, Vc};
-use upc_run::{
-    Command, Names, Wanted, add_cut, add_desk_fault, add_gcra_fault, add_loaded,
-    add_no_such_program, add_released, add_reloaded, add_retired, add_set, contracts, contracts_of,
-    read_command,
+use upc_codes::read_code;
+use upc_script::{
+    Command, Names, Wanted, add_cut, add_loaded, add_released, add_reloaded, add_retired, add_set,
+    contracts, contracts_of, read_command,
 };
-use upc_words::{add_bad_hex, add_bad_line, octets_of_word, read_code};
+use upc_words::{add_bad_hex, add_bad_line, octets_of_word};
 
 /// The desk of a card, the names of the programs that were loaded, and the side of the card's cells.
 #[derive(Drop)]

@@ -2,8 +2,10 @@
 
 ghost use Rattle.std.specs.Prelude.{◌≡◌, ◌++◌, codes, decimal, OnOk};
 ghost use Rattle.hex.specs.Hex.{encode_lower};
+ghost use Rattle.upc_programs.specs.SourceFaults.{asm_fault, asm_name};
 ghost use Rattle.upc_words.specs.FaultLines.{line, no_program};
 
+use bpf_asm::{AsmFault, AsmKind};
 use std::alloc::{AllocError, Global};
 use upc_words::{TextFromEnd, add_number, add_text};
 
@@ -54,4 +56,33 @@ pub fn add_value(answers: &mut Vec<u8>, value: u32, steps: u32) -> Result<(), Al
     text.put_short_number(value);
     text.put(b"value ");
     answers.extend_from_slice(text.as_slice())
+}
+
+/// The number and the name of an error in a source.
+fn name_of(kind: AsmKind) -> &'static [u8]
+    ensures { result.now ≡ asm_name kind }
+{
+    match kind {
+        AsmKind::BadLine => b"1 BadLine",
+        AsmKind::BadNumber => b"2 BadNumber",
+        AsmKind::LabelTwice => b"3 LabelTwice",
+        AsmKind::UnknownLabel => b"4 UnknownLabel",
+        AsmKind::Backward => b"5 Backward",
+        AsmKind::TooFar => b"6 TooFar",
+        AsmKind::DanglingLabel => b"7 DanglingLabel",
+        AsmKind::NoMemory => b"8 NoMemory",
+    }
+}
+
+/// Appends the answer to a source with an error.
+#[tactic(auto, using(std::proofs::lemmas::List::append_assoc))]
+pub fn add_asm_fault(answers: &mut Vec<u8>, fault: AsmFault) -> Result<(), AllocError>
+    ensures { OnOk result (answers.new.items ≡ answers.old.items ++ asm_fault fault) }
+{
+    answers.extend_from_slice(b"fault asm ")?;
+    answers.extend_from_slice(name_of(fault.kind))?;
+    answers.push(b' ')?;
+    add_number(answers, fault.line as u64)?;
+    answers.push(b'\n')?;
+    Ok(())
 }

@@ -5,12 +5,13 @@ ghost use Rattle.upc_programs.specs.Check.{IsCheckText, AnswersSource, TellsCode
 ghost use Rattle.text_io.specs.Devices.{Adds};
 ghost use Rattle.text_io.specs.Serving.{IsServed};
 
-use crate::answer_texts::{add_accepted, add_octets};
+use crate::answer_texts::{add_accepted, add_asm_fault, add_octets};
 use bpf_asm::{AsmFault, AsmKind, assemble};
 use bpf_code::{Instr, encode};
 use std::alloc::{AllocError, Global};
 use text_io::{Done, Input, Output, RunFault, gather, give_last};
-use upc_words::{add_asm_fault, add_too_long, check_code};
+use upc_codes::check_code;
+use upc_words::add_too_long;
 
 /// The maximum number of octets of a source.
 const MOST_SOURCE_OCTETS: u32 = 1048576;

@@ -12,9 +12,10 @@ use bpf_verify::Program;
 use std::alloc::{AllocError, Global};
 use text_io::{Done, Input, LineWords, Machine, Output, RunFault, Turn, answer_lines, line_words};
 use upc_cell::Cell;
+use upc_codes::read_code;
 use upc_words::{
     CellWord, add_bad_hex, add_bad_line, add_too_long, add_wrong_length, cell_of_digits,
-    cell_of_word, octets_of_word, read_code,
+    cell_of_word, octets_of_word,
 };
 
 /// Answers a cell with the value of the program.

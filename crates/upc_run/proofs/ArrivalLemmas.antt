@@ -18,11 +18,11 @@ use Rattle.card_core.specs.declared.answer.Unjudged.TheVariants as unjudged
 use Rattle.line_record.specs.declared.fault.LineFault.TheVariants.{TooLate, Back, Full, NoMemory}
 use Rattle.card_core.specs.declared.reply.Reply.TheVariants.{Answered, NotNow}
 use Rattle.card_core.specs.declared.step.Step.TheVariants.{Enter, Pick, Judge}
-use Rattle.upc_run.specs.Replies.{answer_text, number_of_judging, numbered_answer_text}
+use Rattle.upc_card_lines.specs.Replies.{answer_text, number_of_judging, numbered_answer_text}
 use Rattle.upc_words.specs.FaultLines.{bad_hex, wrong_length}
 use Rattle.upc_words.specs.Hexadecimal.{cell_of_octets, octets_of_digits}
 use Rattle.upc_run.specs.RunText.{Obeys, PolicesCell, PolicesOctets, RefusesLine}
-use Rattle.upc_run.specs.ScriptCommands.{cell}
+use Rattle.upc_script.specs.ScriptCommands.{cell}
 use Rattle.upc_run.proofs.MovesLemmas.{moves-map}
 use Rattle.upc_run.specs.inner.Policing.{AnswersCell, Held, Moves}
 use Rattle.upc_run.specs.inner.PortZero.{enter-goes}

@@ -1,15 +1,6 @@
-pub mod AddingLemmas
-pub mod MarkLemmas
 pub mod ArrivalLemmas
-pub mod SpelledCellLemmas
-pub mod CommonLineLemmas
+pub mod LineLemmas
 pub mod MovesLemmas
-pub mod NamingLemmas
-pub mod NumberLemmas
 pub mod PolicingLemmas
-pub mod ConnectionWords
-pub mod ContractWords
-pub mod PieceLemmas
-pub mod RateLemmas
 pub mod one_script
 pub mod Public

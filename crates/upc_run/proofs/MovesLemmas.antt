@@ -16,14 +16,15 @@ use Rattle.card_core.specs.declared.reply.Reply.{Reply}
 use Rattle.card_core.specs.declared.step.Step.{Step}
 use Rattle.upc_cell.specs.declared.side.Side.{Side}
 use Rattle.upc_words.specs.FaultLines.{bad_hex, bad_line}
-use Rattle.upc_run.specs.CardFaults.{gcra_fault, no_such_program}
+use Rattle.upc_card_lines.specs.CardFaults.{gcra_fault, no_such_program}
 use Rattle.upc_words.specs.Hexadecimal.{octets_of_digits}
-use Rattle.upc_words.specs.Program.{is_program, ReadsAs}
-use Rattle.upc_run.specs.Rates.{AreContracts, first_wanted_fault}
-use Rattle.upc_run.specs.Replies.{program_named, reply_text}
+use Rattle.upc_codes.specs.Program.{is_program, ReadsAs}
+use Rattle.upc_script.specs.Rates.{AreContracts, first_wanted_fault}
+use Rattle.upc_script.specs.ProgramNames.{program_named}
+use Rattle.upc_card_lines.specs.Replies.{reply_text}
 use Rattle.upc_run.specs.RunText.{AsksConnection, Card, CommandLine, LoadsOctets, Obeys, RefusesLine, TakesCommand, TakesNamed, id_loaded}
-use Rattle.upc_run.specs.ScriptCommands.{Command, command_of, load, setup}
-use Rattle.upc_run.specs.declared.script_words.Wanted.{Wanted}
+use Rattle.upc_script.specs.ScriptCommands.{Command, command_of, load, setup}
+use Rattle.upc_script.specs.declared.script_words.Wanted.{Wanted}
 use Rattle.upc_run.specs.inner.Policing.{Held, Moves, MovesBy, ObeysSeen, ShowsCard}
 
 -- A command that is refused before a step is taken.

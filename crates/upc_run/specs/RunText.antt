@@ -21,15 +21,16 @@ use Rattle.text_io.specs.Words.{words_of, is_silent}
 use Rattle.text_io.specs.declared.ending.Done.{Done}
 use Rattle.text_io.specs.declared.ending.Done.TheVariants.{Whole, Ended}
 use Rattle.card_core.specs.Shapes.{shape_fault}
-use Rattle.upc_run.specs.CardLine.{card_line_shape}
-use Rattle.upc_run.specs.ScriptCommands.{Command, load, retire, setup, reload, release, cut, cell, command_of}
-use Rattle.upc_run.specs.Rates.{AreContracts, first_wanted_fault}
+use Rattle.upc_card_lines.specs.CardLine.{card_line_shape}
+use Rattle.upc_script.specs.ScriptCommands.{Command, load, retire, setup, reload, release, cut, cell, command_of}
+use Rattle.upc_script.specs.Rates.{AreContracts, first_wanted_fault}
 use Rattle.upc_words.specs.FaultLines.{bad_hex, bad_line, too_long, wrong_length}
-use Rattle.upc_run.specs.CardFaults.{gcra_fault, no_card, no_such_program, shape_fault_line}
+use Rattle.upc_card_lines.specs.CardFaults.{gcra_fault, no_card, no_such_program, shape_fault_line}
 use Rattle.upc_words.specs.Hexadecimal.{octets_of_digits, cell_of_octets}
-use Rattle.upc_words.specs.Program.{ProgramReading, is_program, is_refused, ReadsAs}
-use Rattle.upc_run.specs.Replies.{answer_text, program_named, reply_text}
-use Rattle.upc_run.specs.declared.script_words.Wanted.{Wanted}
+use Rattle.upc_codes.specs.Program.{ProgramReading, is_program, is_refused, ReadsAs}
+use Rattle.upc_card_lines.specs.Replies.{answer_text, reply_text}
+use Rattle.upc_script.specs.ProgramNames.{program_named}
+use Rattle.upc_script.specs.declared.script_words.Wanted.{Wanted}
 
 -- A card, and the ids of the programs that were loaded, in the order of their names.
 pub record Card : Type 0 where

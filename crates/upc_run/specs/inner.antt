@@ -1,8 +1,4 @@
 -- Definitions that only private functions and proofs use.
-pub mod OnlyWord
-pub mod Digits
-pub mod SpelledCell
-pub mod Naming
 pub mod CardSteps
 pub mod PortZero
 pub mod Policing

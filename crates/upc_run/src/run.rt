@@ -6,12 +6,11 @@ ghost use Rattle.text_io.specs.Words.{words_of};
 ghost use Rattle.upc_run.specs.RunText.{IsRunText};
 ghost use Rattle.upc_run.specs.inner.Policing.{OpensAs};
 
-use crate::card_faults::{add_no_card, add_shape_fault};
-use crate::card_line::read_card;
-use crate::replies::add_ready;
 use crate::script_card::ScriptCard;
 use std::alloc::{AllocError, Global};
 use text_io::{Done, Input, LineWords, Machine, Output, RunFault, Turn, answer_lines, line_words};
+use upc_card_lines::{add_no_card, add_shape_fault, read_card};
+use upc_script::add_ready;
 use upc_words::add_too_long;
 
 /// Opens the card of the first line with words. If the line opens no card, returns None and adds the line's fault to

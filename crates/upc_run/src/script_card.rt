@@ -1,23 +1,22 @@
 //! The card that a script opened, and its commands.
 
-use crate::card_faults::{add_desk_fault, add_gcra_fault, add_no_such_program};
-use crate::commands::{Command, asking_word, contracts, named_command};
-use crate::common_cell_line::read_cell;
-use crate::names::Names;
-use crate::rates::contracts_of;
-use crate::replies::{
-    add_cut, add_judged, add_loaded, add_released, add_reloaded, add_retired, add_set, add_unjudged,
-};
-use crate::script_words::Wanted;
 use arrayvec::ArrayVec;
 use bpf_code::Instr;
 use bpf_verify::Program;
 use card_core::{Ask, CardFault, Core, Judgement, Shape, Unjudged};
 use std::alloc::{AllocError, Global};
 use std::marker::Model;
+use upc_card_lines::{
+    add_desk_fault, add_gcra_fault, add_judged, add_no_such_program, add_unjudged,
+};
 use upc_cell::{Cell, Side, Vc};
+use upc_codes::read_code;
+use upc_script::{
+    Command, Names, Wanted, add_cut, add_loaded, add_released, add_reloaded, add_retired, add_set,
+    asking_word, contracts, contracts_of, named_command, read_cell,
+};
 use upc_words::{
-    CellWord, add_bad_hex, add_bad_line, add_wrong_length, cell_of_word, octets_of_word, read_code,
+    CellWord, add_bad_hex, add_bad_line, add_wrong_length, cell_of_word, octets_of_word,
 };
 
 /// The port that every cell of a script enters.
@@ -44,11 +43,11 @@ impl ScriptCard {
     ghost use Rattle.bpf_verify.specs.Accepted.{IsAccepted};
     ghost use Rattle.card_core.specs.Sections.{answer_to};
     ghost use Rattle.card_core.specs.Shapes.{shape_fault};
-    ghost use Rattle.upc_run.specs.CardLine.{card_line_shape};
-    ghost use Rattle.upc_run.specs.ScriptCommands.{load, retire, setup, reload, release, cut, cell};
+    ghost use Rattle.upc_card_lines.specs.CardLine.{card_line_shape};
+    ghost use Rattle.upc_script.specs.ScriptCommands.{load, retire, setup, reload, release, cut, cell};
     ghost use Rattle.card_core.specs.declared.step.Step.TheVariants.{Load};
     ghost use Rattle.upc_run.specs.RunText.{AsksConnection, CommandLine, LoadsOctets, Obeys, PolicesCell, TakesCommand, TakesNamed, new_card};
-    ghost use Rattle.upc_run.specs.CommandSeen.{command_seen, setup_seen};
+    ghost use Rattle.upc_script.specs.CommandSeen.{command_seen, setup_seen};
     ghost use Rattle.upc_run.specs.inner.Policing.{AnswersCell, Moves, ObeysSeen, SaysLine, ShowsCard};
     ghost use Rattle.text_io.specs.Words.{words_of};
 

@@ -1,5 +1,4 @@
 pub mod HexadecimalLemmas
 pub mod CellWordLemmas
 pub mod DigitLemmas
-pub mod ReadingLemmas
 pub mod Public

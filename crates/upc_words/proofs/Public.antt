@@ -1,15 +1,12 @@
 -- Lemmas for other crates.
 use Rattle.std.proofs.Common.{◌≡◌, ℕ, ◌*◌, ◌<◌, ◌==◌, ◌⊎◌, List, Some, length, get_or, false}
-use Rattle.bpf_code.specs.declared.instr.Instr.{Instr}
 use Rattle.text_io.specs.Words.{is_blank}
 use Rattle.upc_words.specs.CellWord.{IsCellWord}
 use Rattle.upc_words.specs.Hexadecimal.{cell_of_octets, octets_of_digits}
-use Rattle.upc_words.specs.Program.{ProgramReading, ChecksAs, ReadsAs}
 use Rattle.upc_words.specs.declared.hexadecimal.CellWord.TheVariants.{OfCell}
 use Rattle.upc_words.proofs.CellWordLemmas as words
 use Rattle.upc_words.proofs.DigitLemmas as digits
 use Rattle.upc_words.proofs.HexadecimalLemmas as hexadecimal
-use Rattle.upc_words.proofs.ReadingLemmas as reading
 
 -- A word that spells a cell isn't empty and has no blank.
 pub cell-visible : (word cell : List ℕ) → IsCellWord word (OfCell cell)
@@ -19,21 +16,6 @@ cell-visible = digits.cell-visible
 -- It has 104 or eight octets.
 pub cell-lengths : (word cell : List ℕ) → IsCellWord word (OfCell cell) → (length word ≡ 104) ⊎ (length word ≡ 8)
 cell-lengths = words.cell-lengths
-
--- Any octets are a program or refused.
-pub reads-as : (octets : List ℕ) → (reading : ProgramReading) × ReadsAs octets reading
-reads-as = reading.reads-as
-
--- They are so in one way only.
-pub reads-once : (octets : List ℕ) (one other : ProgramReading) → ReadsAs octets one → ReadsAs octets other → one ≡ other
-reads-once = reading.reads-once
-
--- The same for a code.
-pub checks-as : (code : List Instr) → (reading : ProgramReading) × ChecksAs code reading
-checks-as = reading.checks-as
-
-pub checks-once : (code : List Instr) (one other : ProgramReading) → ChecksAs code one → ChecksAs code other → one ≡ other
-checks-once = reading.checks-once
 
 -- No octet of a hexadecimal word is a blank or `#`.
 pub digits-visible : (word octets : List ℕ) → octets_of_digits word ≡ Some octets → (k : ℕ) → k < length word

@@ -2,6 +2,4 @@
 pub mod Hexadecimal
 pub mod CellWord
 pub mod FaultLines
-pub mod Program
-pub mod Finding
 pub mod inner

@@ -3,20 +3,12 @@ use Rattle.std.specs.Prelude.{◌≡◌, ℕ, List, [], ◌∷◌, ◌++◌, Opt
 use Rattle.gen_arena.specs.declared.id.Id.{Id}
 use Rattle.upc_cell.specs.Connection.{vc_of}
 use Rattle.upc_cell.specs.declared.side.Side.{Side}
-use Rattle.upc_words.specs.FaultLines.{bad_line, bad_hex, wrong_length}
-use Rattle.upc_run.specs.Replies.{answer_text}
-use Rattle.upc_ports.specs.declared.cell_line.CellLineFault.{CellLineFault}
-use Rattle.upc_ports.specs.declared.cell_line.CellLineFault.TheVariants.{BadLine, BadHex, WrongLength}
-use Rattle.upc_ports.specs.declared.dealing.Answerer.{Answerer}
-use Rattle.upc_ports.specs.declared.dealing.Answerer.TheVariants.{Port, Desk, Fault}
+use Rattle.upc_dealing.specs.CellLine.{fault_text}
+use Rattle.upc_card_lines.specs.Replies.{answer_text}
+use Rattle.upc_dealing.specs.declared.dealing.Answerer.{Answerer}
+use Rattle.upc_dealing.specs.declared.dealing.Answerer.TheVariants.{Port, Desk, Fault}
 use Rattle.upc_ports.specs.declared.told.ToldCell.{ToldCell}
 use Rattle.upc_ports.specs.inner.Told.{answer_kept, shown_cell}
-
--- The answer to a cell line without a cell.
-abbrev pub fault_text : CellLineFault → List ℕ
-fault_text BadLine = bad_line
-fault_text BadHex = bad_hex
-fault_text (WrongLength count) = wrong_length count
 
 -- The cell at this place among those of a port.
 abbrev pub cell_at : Option (List ToldCell) → ℕ → Option ToldCell

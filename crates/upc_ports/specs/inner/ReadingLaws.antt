@@ -11,8 +11,8 @@ use Rattle.text_io.specs.Printing.{IsTotal}
 use Rattle.text_io.specs.Words.{words_of, is_silent}
 use Rattle.text_io.specs.declared.ending.Done.{Done}
 use Rattle.text_io.specs.declared.ending.Done.TheVariants.{Whole, Ended}
-use Rattle.upc_run.specs.CardLine.{card_line_shape}
-use Rattle.upc_run.specs.CardFaults.{no_card, shape_fault_line}
+use Rattle.upc_card_lines.specs.CardLine.{card_line_shape}
+use Rattle.upc_card_lines.specs.CardFaults.{no_card, shape_fault_line}
 use Rattle.upc_ports.specs.PortsText.{ScriptReading, OpensOrEnds, ReadsWords, ReadCloses, reading_rules}
 
 shaped : (reading : ScriptReading) (shape : Shape) (fault : Option CardFault) → (text : List ℕ) × (next : Option ScriptReading)

@@ -18,8 +18,10 @@ use Rattle.card_core.specs.declared.answer.Answer.TheVariants as answer
 use Rattle.card_core.specs.declared.reply.Reply.TheVariants.{Answered, Picked}
 use Rattle.card_core.specs.declared.step.Step.TheVariants.{Judge}
 use Rattle.text_io.specs.Limits.{most_input_lines}
-use Rattle.upc_run.specs.CardFaults.{arrive_fault}
-use Rattle.upc_run.specs.Replies.{answer_text, judging_text, number_of_program, verdict_text}
+use Rattle.upc_card_lines.specs.CardFaults.{arrive_fault}
+use Rattle.upc_card_lines.specs.Replies.{answer_text}
+use Rattle.upc_script.specs.ReplyTexts.{judging_text, verdict_text}
+use Rattle.upc_script.specs.ProgramNames.{number_of_program}
 use Rattle.upc_run.specs.RunText.{Arrives, IsAnswered}
 use Rattle.upc_run.specs.inner.PortZero.{PortIs}
 use Rattle.upc_run.proofs.one_script.CellCases.{entered-as, judge-case, found_so, judged_so, missed_so, pick-case, put-back, put-back_twice, put-there, refused_so, JudgeCase}

@@ -15,10 +15,11 @@ use Rattle.card_core.specs.declared.reply.Reply.{Reply}
 use Rattle.card_core.specs.declared.reply.Reply.TheVariants.{NotSetUp}
 use Rattle.card_core.specs.declared.step.Step.TheVariants.{Setup}
 use Rattle.upc_words.specs.FaultLines.{line}
-use Rattle.upc_run.specs.Replies.{connection_name, reply_text}
+use Rattle.upc_script.specs.ReplyTexts.{connection_name}
+use Rattle.upc_card_lines.specs.Replies.{reply_text}
 use Rattle.upc_run.specs.RunText.{id_loaded}
-use Rattle.upc_run.specs.ScriptCommands.{setup}
-use Rattle.upc_run.specs.declared.script_words.Wanted.{Wanted}
+use Rattle.upc_script.specs.ScriptCommands.{setup}
+use Rattle.upc_script.specs.declared.script_words.Wanted.{Wanted}
 use Rattle.upc_run.proofs.one_script.Numbers.{number_in}
 use Rattle.upc_run.proofs.one_script.OpenPlaces.{apart-filter, is_taken, open-place, taken-filter}
 use Rattle.upc_run.proofs.one_script.Seen.{Seen, SeenConnection, code_of, found_at, seen, seen_connection, seen_connections, with_at}

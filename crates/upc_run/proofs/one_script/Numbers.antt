@@ -9,8 +9,8 @@ use Rattle.gen_arena.specs.SameId.{is_same_id}
 use Rattle.gen_arena.specs.declared.id.Id.{Id}
 use Rattle.gen_arena.proofs.Public.{id_same, id_itself, id_differs, id_cases}
 use Rattle.card_core.specs.World.{Loading, code_in}
-use Rattle.upc_run.specs.Replies.{number_of_program, program_named}
-use Rattle.upc_run.proofs.NamingLemmas.{number-push}
+use Rattle.upc_script.specs.ProgramNames.{number_of_program, program_named}
+use Rattle.upc_script.proofs.Public.{number-push}
 
 -- The ids of these codes in the order in which they were given. The list has the latest first.
 abbrev pub names_of : List Loading → List Id

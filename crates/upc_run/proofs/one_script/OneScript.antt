@@ -13,8 +13,8 @@ use Rattle.text_io.specs.Lines.{lines_of}
 use Rattle.text_io.specs.Words.{is_silent, words_of}
 use Rattle.text_io.specs.declared.ending.Done.{Done}
 use Rattle.text_io.specs.inner.Alike.{KeepsAlike, LeadAlike}
-use Rattle.upc_run.specs.CardLine.{card_line_shape}
-use Rattle.upc_run.specs.CardFaults.{no_card, shape_fault_line}
+use Rattle.upc_card_lines.specs.CardLine.{card_line_shape}
+use Rattle.upc_card_lines.specs.CardFaults.{no_card, shape_fault_line}
 use Rattle.upc_run.specs.RunText.{Card, CommandLine, IsLed, IsRunText, OpensCard, RunCloses, RunSteps, RunWorld, OpensOrObeys, new_card, run_rules}
 use Rattle.upc_run.specs.inner.RunLaws.{run-total}
 use Rattle.upc_run.proofs.one_script.OneAnswer.{line-once}

@@ -18,9 +18,10 @@ use Rattle.card_core.specs.declared.reply.Reply.TheVariants.{Loaded, NotLoaded, 
 use Rattle.card_core.specs.declared.step.Step.TheVariants.{Load, Retire}
 use Rattle.text_io.specs.Limits.{most_input_lines}
 use Rattle.upc_words.specs.FaultLines.{line}
-use Rattle.upc_run.specs.Replies.{program_name, reply_text}
+use Rattle.upc_script.specs.ReplyTexts.{program_name}
+use Rattle.upc_card_lines.specs.Replies.{reply_text}
 use Rattle.upc_run.specs.RunText.{id_loaded}
-use Rattle.upc_run.specs.ScriptCommands.{load, retire}
+use Rattle.upc_script.specs.ScriptCommands.{load, retire}
 use Rattle.upc_run.proofs.one_script.Numbers.{names_of, number_in, number-next, number-none}
 use Rattle.upc_run.proofs.one_script.OpenPlaces.{any-same, apart-filter, is_open, is_taken, open-place}
 use Rattle.upc_run.proofs.one_script.Seen.{Seen, code_of, names_number, seen, seen_live, without_program}

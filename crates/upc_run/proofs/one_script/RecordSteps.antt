@@ -16,9 +16,10 @@ use Rattle.card_core.specs.declared.reply.Reply.{Reply}
 use Rattle.card_core.specs.declared.reply.Reply.TheVariants.{Cut as CutOff, Refused, Released, Reloaded}
 use Rattle.card_core.specs.declared.step.Step.TheVariants.{Cut, Release, Reload}
 use Rattle.upc_words.specs.FaultLines.{line}
-use Rattle.upc_run.specs.Replies.{connection_name, piece_text, program_name, reply_text, tally_text}
+use Rattle.upc_script.specs.ReplyTexts.{connection_name, piece_text, program_name, tally_text}
+use Rattle.upc_card_lines.specs.Replies.{reply_text}
 use Rattle.upc_run.specs.RunText.{id_loaded}
-use Rattle.upc_run.specs.ScriptCommands.{cut, release, reload}
+use Rattle.upc_script.specs.ScriptCommands.{cut, release, reload}
 use Rattle.upc_run.proofs.one_script.ConnectionSteps.{changed_at, changed-seen, connections-changed, connections-without, found-there, none-seen}
 use Rattle.upc_run.proofs.one_script.Numbers.{number_in}
 use Rattle.upc_run.proofs.one_script.Seen.{Seen, SeenConnection, code_of, found_at, kept_verdicts, seen, seen_connection, seen_connections, without_at}

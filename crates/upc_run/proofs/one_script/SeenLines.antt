@@ -14,14 +14,15 @@ use Rattle.card_core.specs.declared.step.Step.{Step}
 use Rattle.card_core.specs.declared.step.Step.TheVariants.{Cut, Load, Release, Reload, Retire, Setup}
 use Rattle.text_io.specs.Limits.{most_input_lines}
 use Rattle.upc_words.specs.FaultLines.{bad_hex, bad_line, wrong_length}
-use Rattle.upc_run.specs.CardFaults.{gcra_fault, no_such_program}
+use Rattle.upc_card_lines.specs.CardFaults.{gcra_fault, no_such_program}
 use Rattle.upc_words.specs.Hexadecimal.{cell_of_octets, octets_of_digits}
-use Rattle.upc_words.specs.Program.{ReadsAs, ProgramReading, is_program, is_refused}
-use Rattle.upc_run.specs.Rates.{AreContracts, first_wanted_fault}
-use Rattle.upc_run.specs.Replies.{program_named, reply_text}
+use Rattle.upc_codes.specs.Program.{ReadsAs, ProgramReading, is_program, is_refused}
+use Rattle.upc_script.specs.Rates.{AreContracts, first_wanted_fault}
+use Rattle.upc_script.specs.ProgramNames.{program_named}
+use Rattle.upc_card_lines.specs.Replies.{reply_text}
 use Rattle.upc_run.specs.RunText.{AsksConnection, Card, CommandLine, IsLed, LoadsOctets, Obeys, PolicesCell, PolicesOctets, RefusesLine, TakesCommand, TakesNamed, TakesReading, id_loaded}
-use Rattle.upc_run.specs.ScriptCommands.{Command, cell, command_of, cut, load, release, reload, retire, setup}
-use Rattle.upc_run.specs.declared.script_words.Wanted.{Wanted}
+use Rattle.upc_script.specs.ScriptCommands.{Command, cell, command_of, cut, load, release, reload, retire, setup}
+use Rattle.upc_script.specs.declared.script_words.Wanted.{Wanted}
 use Rattle.upc_run.proofs.one_script.CellSteps.{PolicesSeen, cell-comes}
 use Rattle.upc_run.proofs.one_script.ConnectionSteps.{changed_at, seen_setup_fault, set_text, set_up, setup-comes}
 use Rattle.upc_run.proofs.one_script.Numbers.{IsNamed, is_number, length-names, named, named-number, names_of, number_in, unnamed as none_named}

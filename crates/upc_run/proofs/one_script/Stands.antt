@@ -8,10 +8,10 @@ use Rattle.card_core.specs.declared.fault.DeskFault.{DeskFault}
 use Rattle.card_core.specs.declared.reply.Reply.{Reply}
 use Rattle.card_core.specs.declared.shape.Shape.{Shape}
 use Rattle.card_core.specs.declared.step.Step.{Step}
-use Rattle.upc_run.specs.CardFaults.{desk_fault}
-use Rattle.upc_run.specs.Replies.{reply_text}
+use Rattle.upc_card_lines.specs.CardFaults.{desk_fault}
+use Rattle.upc_card_lines.specs.Replies.{reply_text}
 use Rattle.upc_run.specs.RunText.{id_loaded}
-use Rattle.upc_run.specs.ScriptCommands.{Command}
+use Rattle.upc_script.specs.ScriptCommands.{Command}
 use Rattle.upc_run.proofs.one_script.Numbers.{AreOnce, names_of}
 use Rattle.upc_run.proofs.one_script.OpenPlaces.{AreApart, AreBelow}
 use Rattle.upc_run.proofs.one_script.Seen.{Seen, seen}

@@ -19,11 +19,11 @@ use Rattle.card_core.specs.declared.reply.Reply.{Reply}
 use Rattle.card_core.specs.declared.reply.Reply.TheVariants.{Answered, NotLoaded, NotSetUp, Refused}
 use Rattle.card_core.specs.declared.step.Step.{Step}
 use Rattle.card_core.specs.declared.step.Step.TheVariants.{Load, Retire, Setup, Reload, Release, Cut}
-use Rattle.upc_run.specs.ScriptCommands.{Command, load, retire, setup, reload, release, cut}
+use Rattle.upc_script.specs.ScriptCommands.{Command, load, retire, setup, reload, release, cut}
 use Rattle.upc_words.specs.FaultLines.{line}
-use Rattle.upc_run.specs.CardFaults.{arrive_fault, desk_fault}
-use Rattle.upc_run.specs.Replies.{answer_text, reply_text}
-use Rattle.upc_run.specs.declared.script_words.Wanted.{Wanted}
+use Rattle.upc_card_lines.specs.CardFaults.{arrive_fault, desk_fault}
+use Rattle.upc_card_lines.specs.Replies.{answer_text, reply_text}
+use Rattle.upc_script.specs.declared.script_words.Wanted.{Wanted}
 
 -- There is a text.
 abbrev pub Told : Option (List ℕ) → Type 0

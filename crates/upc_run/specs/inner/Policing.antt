@@ -6,7 +6,7 @@ use Rattle.card_core.specs.World.{World}
 use Rattle.card_core.specs.declared.answer.Answer.{Answer}
 use Rattle.upc_words.specs.FaultLines.{bad_line}
 use Rattle.upc_run.specs.RunText.{Arrives, Card, IsLed, Obeys, OpeningLine, RefusesLine, RunSteps, RunWorld}
-use Rattle.upc_run.specs.ScriptCommands.{Command}
+use Rattle.upc_script.specs.ScriptCommands.{Command}
 
 -- The core, and the ids of the programs in the order of their names.
 pub record Held : Type 0 where

@@ -37,20 +37,21 @@ use Rattle.text_io.specs.Words.{is_silent, words_of}
 use Rattle.text_io.specs.declared.ending.Done.{Done}
 use Rattle.text_io.specs.declared.ending.Done.TheVariants.{Whole, Ended}
 use Rattle.card_core.specs.Shapes.{shape_fault}
-use Rattle.upc_run.specs.CardLine.{card_line_shape}
-use Rattle.upc_run.specs.ScriptCommands.{Command, load, retire, setup, reload, release, cut, cell, command_of}
+use Rattle.upc_card_lines.specs.CardLine.{card_line_shape}
+use Rattle.upc_script.specs.ScriptCommands.{Command, load, retire, setup, reload, release, cut, cell, command_of}
 use Rattle.upc_words.specs.FaultLines.{bad_hex, bad_line, wrong_length}
-use Rattle.upc_run.specs.CardFaults.{gcra_fault, no_card, no_such_program, shape_fault_line}
+use Rattle.upc_card_lines.specs.CardFaults.{gcra_fault, no_card, no_such_program, shape_fault_line}
 use Rattle.upc_words.specs.Hexadecimal.{octets_of_digits, cell_of_octets}
-use Rattle.upc_words.specs.Program.{ProgramReading, is_program, is_refused, ReadsAs}
-use Rattle.upc_run.specs.Rates.{AreContracts, IsContract, IsRate, first_of_two, first_wanted_fault, rate_fault, wanted_fault}
-use Rattle.upc_run.specs.Replies.{program_named, reply_text}
+use Rattle.upc_codes.specs.Program.{ProgramReading, is_program, is_refused, ReadsAs}
+use Rattle.upc_script.specs.Rates.{AreContracts, IsContract, IsRate, first_of_two, first_wanted_fault, rate_fault, wanted_fault}
+use Rattle.upc_script.specs.ProgramNames.{program_named}
+use Rattle.upc_card_lines.specs.Replies.{reply_text}
 use Rattle.upc_run.specs.RunText.{AsksConnection, Card, IsAnswered, IsLed, IsSoundRun, LoadsOctets, Obeys, OpensCard, PolicesCell, PolicesOctets, RefusesLine, RunCloses, RunWorld, TakesCommand, TakesNamed, TakesReading, OpensOrObeys, id_loaded, ids_loaded, new_card, run_rules}
-use Rattle.upc_run.specs.declared.script_words.Rate.{Rate}
-use Rattle.upc_run.specs.declared.script_words.Wanted.{Wanted}
-use Rattle.upc_run.specs.declared.script_words.Wanted.TheVariants as wanted
+use Rattle.upc_script.specs.declared.script_words.Rate.{Rate}
+use Rattle.upc_script.specs.declared.script_words.Wanted.{Wanted}
+use Rattle.upc_script.specs.declared.script_words.Wanted.TheVariants as wanted
 use Rattle.upc_run.specs.inner.CardSteps.{Spares, Told, answer-told, cut-told, load-told, release-told, reload-told, retire-told, setup-told}
-use Rattle.upc_words.proofs.Public.{reads-as}
+use Rattle.upc_codes.proofs.Public.{reads-as}
 use Rattle.upc_run.specs.inner.PortZero.{PortIs, cut-ports, enter-goes, judge-goes, load-ports, pick-goes, release-ports, reload-ports, retire-ports, setup-ports}
 
 -- The ids of a log with one more event.

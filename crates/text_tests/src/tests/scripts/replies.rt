@@ -6,8 +6,8 @@ use leaky::Verdict;
 use std::alloc::{AllocError, Global};
 use std::process::Abort;
 use std::test::Fail;
+use upc_card_lines::add_answer;
 use upc_cell::{Cell, Side, Vc};
-use upc_run::add_answer;
 
 /// A cell with this verdict, the largest value and a header of ones.
 fn judged(verdict: Verdict) -> Answer {

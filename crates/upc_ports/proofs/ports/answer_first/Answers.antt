@@ -1,6 +1,6 @@
 -- The lines before the first cell line are passed, one after another.
 use Rattle.std.proofs.Common.{sym, ◌∙◌}
-use Rattle.upc_ports.proofs.DealingLemmas.{one_passed, found_first, found_none}
+use Rattle.upc_ports.proofs.FirstLinesLemmas.{one_passed, found_first, found_none}
 use Rattle.upc_ports.proofs.ports.answer_first.Goals as goal
 
 pub returns-then-is_cell_line : goal.returns-then-is_cell_line

@@ -1,7 +1,7 @@
 -- No line so far is a cell line.
 use Rattle.std.proofs.Common.{ℕ, List, length}
-use Rattle.upc_ports.specs.inner.Dealing.{AreLinesOf}
-use Rattle.upc_ports.proofs.DealingLemmas.{IsBefore}
+use Rattle.upc_dealing.specs.Dealing.{AreLinesOf}
+use Rattle.upc_ports.proofs.FirstLinesLemmas.{IsBefore}
 use Rattle.upc_ports.proofs.ports.answer_first.Given as goal
 
 abbrev pub invariant-loop-line : goal.invariant-loop-line

@@ -1,6 +1,6 @@
 -- A line that begins as a cell line has words.
 use Rattle.std.proofs.Common.{sym}
-use Rattle.upc_run.proofs.Public.{command-asks}
+use Rattle.upc_script.proofs.Public.{command-asks}
 use Rattle.upc_ports.proofs.script.is_silent.Goals as goal
 
 pub returns-in-Some : goal.returns-in-Some

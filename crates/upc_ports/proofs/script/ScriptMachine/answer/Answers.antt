@@ -2,7 +2,7 @@
 use Rattle.std.proofs.Common.{rules, true, false, [], Some, None, ◌≡◌, refl, sym, append-nil}
 use Rattle.text_io.specs.Words.{words_of, is_silent}
 use Rattle.card_core.specs.Shapes.{shape_fault}
-use Rattle.upc_run.specs.CardLine.{card_line_shape}
+use Rattle.upc_card_lines.specs.CardLine.{card_line_shape}
 use Rattle.upc_ports.proofs.ReadingText.{opens}
 use Rattle.upc_ports.proofs.script.ScriptMachine.answer.Goals as goal
 

@@ -1,5 +1,6 @@
 -- The cell of the line is policed.
-use Rattle.upc_run.proofs.SpelledCellLemmas.{cell-line, moves-cell_line}
+use Rattle.upc_script.proofs.Public.{cell-line}
+use Rattle.upc_run.proofs.LineLemmas.{moves-cell_line}
 use Rattle.upc_run.proofs.MovesLemmas.{on-ok}
 use Rattle.upc_run.proofs.script_card.ScriptCard.answer.Goals as goal
 

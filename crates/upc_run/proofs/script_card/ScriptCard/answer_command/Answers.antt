@@ -1,7 +1,7 @@
 -- The command that the words spell is carried out.
 use Rattle.std.proofs.Common.{◌∷◌, ap, sym, ◌∙◌}
 use Rattle.text_io.specs.Words.{words_of}
-use Rattle.upc_run.specs.CommandSeen.{command_seen}
+use Rattle.upc_script.specs.CommandSeen.{command_seen}
 use Rattle.upc_run.proofs.MovesLemmas.{moves-seen, on-ok}
 use Rattle.upc_run.proofs.script_card.ScriptCard.answer_command.Goals as goal
 

@@ -2,7 +2,7 @@
 use Rattle.std.proofs.Common.{subst, sym}
 use Rattle.upc_run.specs.RunText.{CommandLine}
 use Rattle.upc_run.specs.inner.Policing.{Moves}
-use Rattle.upc_run.proofs.SpelledCellLemmas.{moves-asked, moves-silent}
+use Rattle.upc_run.proofs.LineLemmas.{moves-asked, moves-silent}
 use Rattle.upc_run.proofs.MovesLemmas.{on-ok}
 use Rattle.upc_run.proofs.script_card.ScriptCard.answer_words.Goals as goal
 

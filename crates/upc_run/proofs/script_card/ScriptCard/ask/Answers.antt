@@ -1,7 +1,7 @@
 -- The words spell these contracts.
 use Rattle.std.proofs.Common.{List, Option, OnOk, option_map, subst}
-use Rattle.upc_run.specs.ScriptCommands.{setup}
-use Rattle.upc_run.specs.declared.script_words.Wanted.{Wanted}
+use Rattle.upc_script.specs.ScriptCommands.{setup}
+use Rattle.upc_script.specs.declared.script_words.Wanted.{Wanted}
 use Rattle.upc_run.specs.inner.Policing.{Moves, ObeysSeen}
 use Rattle.upc_run.proofs.script_card.ScriptCard.ask.Goals as goal
 

@@ -3,8 +3,8 @@ use Rattle.std.proofs.Common.{ap, refl}
 use Rattle.card_core.specs.declared.reply.Reply.TheVariants.{Refused, Cut as CutOff}
 use Rattle.card_core.specs.declared.step.Step.TheVariants.{Cut}
 use Rattle.upc_run.specs.RunText.{Obeys, TakesCommand}
-use Rattle.upc_run.specs.ScriptCommands.{cut}
-use Rattle.upc_run.proofs.AddingLemmas.{adds-some}
+use Rattle.upc_script.specs.ScriptCommands.{cut}
+use Rattle.upc_card_lines.proofs.Public.{adds-some}
 use Rattle.upc_run.specs.inner.Policing.{Held}
 use Rattle.upc_run.proofs.MovesLemmas.{moves-at, moves-taken, no-name, on-ok, on-tie}
 use Rattle.upc_run.proofs.script_card.ScriptCard.cut.Goals.{in-Ok, in-Err}

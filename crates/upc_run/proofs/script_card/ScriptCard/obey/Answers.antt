@@ -1,6 +1,6 @@
 -- A function carries out each command.
 use Rattle.std.proofs.Common.{OnOk, subst, sym}
-use Rattle.upc_run.specs.CommandSeen.{command_seen}
+use Rattle.upc_script.specs.CommandSeen.{command_seen}
 use Rattle.upc_run.specs.inner.Policing.{Moves, ObeysSeen}
 use Rattle.upc_run.proofs.script_card.ScriptCard.obey.Goals as goal
 

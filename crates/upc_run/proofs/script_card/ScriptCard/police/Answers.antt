@@ -2,8 +2,9 @@
 use Rattle.std.proofs.Common.{◌≡◌, ◌∙◌, Ok, Err, Some, ap, option_map, subst, sym}
 use Rattle.upc_cell.specs.Connection.{vc_of}
 use Rattle.card_core.specs.Sections.{answer_to, unjudged_answer}
-use Rattle.upc_run.specs.Replies.{number_of_program, numbered_answer_text}
-use Rattle.upc_run.proofs.AddingLemmas.{adds-some}
+use Rattle.upc_script.specs.ProgramNames.{number_of_program}
+use Rattle.upc_card_lines.specs.Replies.{numbered_answer_text}
+use Rattle.upc_card_lines.proofs.Public.{adds-some}
 use Rattle.upc_run.specs.inner.Policing.{AnswersCell}
 use Rattle.upc_run.proofs.ArrivalLemmas.{number-unjudged, polices-never, polices-told}
 use Rattle.upc_run.proofs.MovesLemmas.{on-ok}

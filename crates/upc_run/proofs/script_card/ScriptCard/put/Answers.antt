@@ -4,10 +4,10 @@ use Rattle.std.specs.Prelude.{suc}
 use Rattle.card_core.specs.declared.reply.Reply.TheVariants.{Loaded, NotLoaded}
 use Rattle.card_core.specs.declared.step.Step.TheVariants.{Load}
 use Rattle.upc_words.specs.FaultLines.{line}
-use Rattle.upc_run.specs.Replies.{program_name}
+use Rattle.upc_script.specs.ReplyTexts.{program_name}
 use Rattle.upc_run.specs.RunText.{TakesCommand}
-use Rattle.upc_run.specs.ScriptCommands.{load}
-use Rattle.upc_run.proofs.AddingLemmas.{adds-some}
+use Rattle.upc_script.specs.ScriptCommands.{load}
+use Rattle.upc_card_lines.proofs.Public.{adds-some}
 use Rattle.upc_run.specs.inner.Policing.{Held}
 use Rattle.upc_run.proofs.MovesLemmas.{moves-at, moves-taken, no-name, on-ok}
 use Rattle.upc_run.proofs.script_card.ScriptCard.put.Goals as goal

@@ -3,8 +3,8 @@ use Rattle.std.proofs.Common.{◌∙◌, ap, sym, refl}
 use Rattle.card_core.specs.declared.reply.Reply.TheVariants.{Refused, Reloaded}
 use Rattle.card_core.specs.declared.step.Step.TheVariants.{Reload}
 use Rattle.upc_run.specs.RunText.{Obeys, TakesCommand}
-use Rattle.upc_run.specs.ScriptCommands.{reload}
-use Rattle.upc_run.proofs.AddingLemmas.{adds-some}
+use Rattle.upc_script.specs.ScriptCommands.{reload}
+use Rattle.upc_card_lines.proofs.Public.{adds-some}
 use Rattle.upc_run.specs.inner.Policing.{Held}
 use Rattle.upc_run.proofs.MovesLemmas.{moves-at, moves-named, moves-taken, no-name, on-ok, on-tie}
 use Rattle.upc_run.proofs.script_card.ScriptCard.reload.Goals.{in-Ok, in-Err}

@@ -1,0 +1,46 @@
+-- The line that opens a card: its size and the side of its cells.
+use Rattle.std.specs.Prelude.{ℕ, if◌then◌else◌, List, [], ◌∷◌, codes, Option, Some, None}
+use Rattle.std.specs.Option.{option_and_then}
+use Rattle.std.specs.Str.{bytes_eq}
+use Rattle.upc_cell.specs.declared.side.Side.{Side}
+use Rattle.upc_cell.specs.declared.side.Side.TheVariants.{Uni, Nni}
+use Rattle.card_core.specs.declared.shape.Shape.{Shape}
+use Rattle.upc_script.specs.ScriptWords.{with_both, number_of_digits}
+
+-- The interface that a word names.
+abbrev pub side_of : List ℕ → Option Side
+side_of word =
+    if bytes_eq word (codes "uni") then Some Uni
+    else if bytes_eq word (codes "nni") then Some Nni
+    else None
+
+-- Two numbers, from one word each.
+abbrev pub two_numbers : List ℕ → List ℕ → Option (ℕ × ℕ)
+two_numbers word other = with_both (λ one another. (one, another)) (number_of_digits word) (number_of_digits other)
+
+-- The shape with these numbers and this side.
+abbrev pub shape_with : Side → ℕ × ℕ → ℕ × ℕ → Shape
+shape_with side store queues = record {
+  programs = store.0;
+  lines = store.1;
+  ports = queues.0;
+  journal = queues.1;
+  side = side;
+}
+
+-- The shape of four words and a side.
+abbrev pub sized_shape : List ℕ → List ℕ → List ℕ → List ℕ → Side → Option Shape
+sized_shape programs lines ports journal side =
+    with_both (shape_with side) (two_numbers programs lines) (two_numbers ports journal)
+
+-- The shape of the words after `card`. Without a fifth word the side is the user network interface.
+abbrev pub shape_of : List (List ℕ) → Option Shape
+shape_of (programs ∷ lines ∷ ports ∷ journal ∷ []) = sized_shape programs lines ports journal Uni
+shape_of (programs ∷ lines ∷ ports ∷ journal ∷ side ∷ []) =
+    option_and_then (sized_shape programs lines ports journal) (side_of side)
+shape_of _ = None
+
+-- `card PROGRAMS LINES PORTS JOURNAL`, optionally followed by a side.
+abbrev pub card_line_shape : List (List ℕ) → Option Shape
+card_line_shape [] = None
+card_line_shape (name ∷ words) = if bytes_eq name (codes "card") then shape_of words else None

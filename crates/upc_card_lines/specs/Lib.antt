@@ -1,0 +1,5 @@
+-- The lines of a dialogue that are about a card. Read the modules in this order:
+pub mod CardLine
+pub mod CardFaults
+pub mod Replies
+pub mod AddsSome

@@ -1,0 +1,13 @@
+//! The lines of a dialogue that are about a card: the line that opens it, the fault lines of its shape and its desk, and
+//! the answers to its cells.
+#![tactic(auto)]
+
+mod card_faults;
+mod card_line;
+mod replies;
+
+pub use card_faults::{
+    add_desk_fault, add_gcra_fault, add_no_card, add_no_such_program, add_shape_fault,
+};
+pub use card_line::read_card;
+pub use replies::{add_answer, add_judged, add_unjudged};

@@ -1,0 +1,3 @@
+-- The choice of a subcommand by the words of the command line.
+pub mod Choice
+pub mod inner

@@ -1,0 +1,102 @@
+-- The port or the desk that answers each line of a script, from its first cell line on.
+use Rattle.std.specs.Prelude.{◌≡◌, ◌≢◌, ℕ, ◌+◌, ◌*◌, ◌%◌, ◌<◌, Bool, false, if◌then◌else◌, List, [], ◌∷◌, ◌++◌, All, Some, MatchBool, codes, length, map, replicate, slice_get, slice_index, slice_set}
+use Rattle.std.specs.Str.{bytes_eq}
+use Rattle.upc_cell.specs.Connection.{vc_of}
+use Rattle.upc_cell.specs.declared.side.Side.{Side}
+use Rattle.upc_cell.specs.declared.vc.Vc.{Vc}
+use Rattle.text_io.specs.Words.{words_of}
+use Rattle.upc_script.specs.ScriptCommands.{command_of}
+use Rattle.upc_dealing.specs.declared.cell_line.CellLine.{CellLine}
+use Rattle.upc_dealing.specs.declared.cell_line.CellLine.TheVariants.{Comes, IsFaulty}
+use Rattle.upc_dealing.specs.declared.dealing.Answerer.{Answerer}
+use Rattle.upc_dealing.specs.declared.dealing.Answerer.TheVariants.{Port, Desk, Fault}
+use Rattle.upc_dealing.specs.declared.dealing.Deal.{Deal}
+use Rattle.upc_dealing.specs.CellLine.{IsCellLine}
+
+-- No octet of the line is a line feed.
+abbrev pub IsOneLine : List ℕ → Type 0
+IsOneLine line = (k : ℕ) → k < length line → slice_index line k ≢ 10
+
+-- The text of these lines, each ended with a line feed.
+abbrev pub text_of : List (List ℕ) → List ℕ
+text_of [] = []
+text_of (line ∷ lines) = line ++ 10 ∷ text_of lines
+
+-- The octets are the text of these lines.
+pub record AreLinesOf (octets : List ℕ) (lines : List (List ℕ)) : Type 0 where
+  pub text : octets ≡ text_of lines
+  pub each : All IsOneLine lines
+
+-- Whether the first word is that of a cell line.
+abbrev pub is_cell_line : List (List ℕ) → Bool
+is_cell_line [] = false
+is_cell_line (word ∷ words) = bytes_eq word (codes "cell")
+
+-- The lines from the first cell line on.
+abbrev pub from_first_cell : List (List ℕ) → List (List ℕ)
+from_first_cell [] = []
+from_first_cell (line ∷ lines) = if is_cell_line (words_of line) then line ∷ lines else from_first_cell lines
+
+-- The number of channels of a path.
+abbrev pub channels : ℕ
+channels = 65536
+
+-- The port for the cells of this connection, of `ports` ports, from its path and its channel.
+abbrev pub port_of : Vc → ℕ → ℕ
+port_of vc ports = (vc.vpi * channels + vc.vci) % ports
+
+-- The assignment of lines: the answerer of each line, in the script's order; the lines of the desk; and the lines of
+-- each port.
+pub record Dealt : Type 0 where
+  pub order : List Answerer
+  pub desk : List (List ℕ)
+  pub arrivals : List (List (List ℕ))
+
+-- No line is assigned, for this number of ports.
+abbrev pub none_dealt : ℕ → Dealt
+none_dealt ports = record { order = []; desk = []; arrivals = replicate ports [] }
+
+-- The assignment in a deal.
+abbrev pub dealt : Deal → Dealt
+dealt deal = record {
+  order = deal.order.items;
+  desk = map (λ line. line.now) deal.desk.items;
+  arrivals = map (λ own. map (λ line. line.now) own.items) deal.arrivals.items;
+}
+
+-- The line of a cell is assigned to the port of the cell's connection, after the earlier lines of that port.
+pub record DealsCell (side : Side) (cell line : List ℕ) (before after : Dealt) : Type 0 where
+  pub own : List (List ℕ)
+  pub there : slice_get before.arrivals (port_of (vc_of side cell) (length before.arrivals)) ≡ Some own
+  pub dealt : after ≡ record before {
+    order = before.order ++ Port (port_of (vc_of side cell) (length before.arrivals)) (length own) ∷ [];
+    arrivals = slice_set before.arrivals (port_of (vc_of side cell) (length before.arrivals)) (own ++ line ∷ []);
+  }
+
+-- A cell line with a cell is assigned to a port. A cell line with an error is assigned to nobody.
+abbrev pub DealsFound : Side → List ℕ → CellLine → Dealt → Dealt → Type 0
+DealsFound side line (Comes moment cell) before after = DealsCell side cell line before after
+DealsFound side line (IsFaulty fault) before after = after ≡ record before { order = before.order ++ Fault fault ∷ [] }
+
+-- A cell line is assigned by its content.
+pub record DealsCellLine (side : Side) (line : List ℕ) (before after : Dealt) : Type 0 where
+  pub found : CellLine
+  pub brings : IsCellLine (command_of side (words_of line)) found
+  pub dealt : DealsFound side line found before after
+
+-- Any other line is the next line of the desk.
+abbrev pub DealsDeskLine : List ℕ → Dealt → Dealt → Type 0
+DealsDeskLine line before after = after ≡ record before {
+  order = before.order ++ Desk (length before.desk) ∷ [];
+  desk = before.desk ++ line ∷ [];
+}
+
+-- One line is assigned.
+abbrev pub DealsLine : Side → List ℕ → Dealt → Dealt → Type 0
+DealsLine side line before after =
+    MatchBool (is_cell_line (words_of line)) (DealsCellLine side line before after) (DealsDeskLine line before after)
+
+-- All lines are assigned, one by one.
+abbrev pub DealsAll : Side → List (List ℕ) → Dealt → Dealt → Type 0
+DealsAll side [] before after = after ≡ before
+DealsAll side (line ∷ lines) before after = (next : Dealt) × DealsLine side line before next × DealsAll side lines next after

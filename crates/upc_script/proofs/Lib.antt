@@ -1,0 +1,10 @@
+pub mod MarkLemmas
+pub mod SpelledCellLemmas
+pub mod CommonLineLemmas
+pub mod NamingLemmas
+pub mod NumberLemmas
+pub mod ConnectionWords
+pub mod ContractWords
+pub mod PieceLemmas
+pub mod RateLemmas
+pub mod Public

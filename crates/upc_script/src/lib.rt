@@ -1,0 +1,20 @@
+//! The words of a script, and the texts of its answers that need no card: commands, cell lines in the common form,
+//! rates, the names of programs, counts and verdicts.
+#![tactic(auto)]
+
+mod commands;
+mod common_cell_line;
+mod names;
+mod rates;
+mod reply_texts;
+mod script_words;
+
+pub use commands::{Command, asking_word, contracts, named_command, read_command};
+pub use common_cell_line::{Arrival, after_command, read_cell};
+pub use names::Names;
+pub use rates::contracts_of;
+pub use reply_texts::{
+    add_cut, add_loaded, add_ready, add_released, add_reloaded, add_retired, add_set, add_tally,
+    add_verdict,
+};
+pub use script_words::{Rate, Wanted, number};
