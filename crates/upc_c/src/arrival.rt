@@ -4,8 +4,7 @@ ghost use Rattle.std.specs.Prelude.{◌≡◌, ◌≢◌, ◌⊎◌, ◌<◌, No
 ghost use Rattle.card_core.specs.Arrival.{AnswersArrival};
 ghost use Rattle.card_core.specs.Sections.{answer_to, unjudged_answer};
 ghost use Rattle.card_core.specs.Steps.{cell_after};
-ghost use Rattle.card_core.specs.declared.answer.Answer.{Answer as TheAnswer};
-ghost use Rattle.upc_c.specs.CardArrival.{ArrivesAtCard, IsArrivalFault, IsPoliced, reason_of_answer};
+ghost use Rattle.upc_c.specs.CardArrival.{ArrivesAtCard, IsArrivalFault, IsPoliced, RefusesCell, reason_of_answer};
 ghost use Rattle.upc_c.specs.CardHandle.{card_in, card_missing};
 ghost use Rattle.upc_c.specs.Faults.{no_fault};
 ghost use Rattle.upc_c.specs.Judging.{number_of_verdict};
@@ -82,8 +81,7 @@ fn arrive_on(
     ensures judged { IfOk result (λ judgement.
         ArrivesAtCard card.old card.new cell.now moment (answer_to cell.now (Ok judgement))) }
     ensures refused { IfErr result (λ fault. ((card_in card.old ≡ None) × (card_in card.new ≡ None) × (fault ≡ card_missing))
-        ⊎ ((answer : TheAnswer) × ArrivesAtCard card.old card.new cell.now moment answer
-        × (reason_of_answer answer ≡ Some fault))) }
+        ⊎ RefusesCell card.old card.new cell.now moment fault) }
     ensures numbered { IfErr result (λ fault. 0 < fault.number) }
 {
     let Some(mut core) = take_core(alloc, card) else {
