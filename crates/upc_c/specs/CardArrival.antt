@@ -47,10 +47,9 @@ pub record RefusesCell (before after : UpcCard) (cell : List ℕ) (moment : ℕ)
   pub arrives : ArrivesAtCard before after cell moment answer
   pub told : reason_of_answer answer ≡ Some fault
 
--- The error for C: the octets aren't a cell, and the card is unchanged; else there is no card; else the card doesn't
--- judge the cell.
+-- The error for C: the octets aren't a cell; else there is no card; else the card doesn't judge the cell.
 abbrev pub IsArrivalFault : UpcCard → UpcCard → List ℕ → ℕ → UpcFault → Type 0
 IsArrivalFault before after cell moment fault =
-    (IsCellFault cell fault × (card_in after ≡ card_in before))
-    ⊎ ((length cell ≡ 52) × (card_in before ≡ None) × (card_in after ≡ None) × (fault ≡ card_missing))
+    IsCellFault cell fault
+    ⊎ ((length cell ≡ 52) × (card_in before ≡ None) × (fault ≡ card_missing))
     ⊎ ((length cell ≡ 52) × RefusesCell before after cell moment fault)
