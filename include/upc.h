@@ -15,6 +15,8 @@
  *
  *  - A upc_program and a upc_card are all zeros, or as these calls left them.
  *
+ *  - The thread has UPC_STACK octets of stack left. That this is enough is measured, and not proved.
+ *
  * Any number of threads may call at once. The library stores nothing between calls except in its caller's objects.
  */
 #ifndef UPC_H
@@ -26,6 +28,9 @@
 #ifdef __cplusplus
 extern "C" {
 #endif
+
+/* The stack that a call takes, in octets. */
+#define UPC_STACK 65536
 
 /* ---- Faults ---- */
 
@@ -51,10 +56,10 @@ enum upc_kind {
 	UPC_GCRA = 6,   /* 1 ZeroIncrement, 2 TooLarge; place: the bucket, 1 or 2 */
 	UPC_BURST = 7,  /* 1 ZeroMbs, 2 PeakSlower, 3 TooLarge */
 	UPC_ARRIVE = 8, /* 1 NoConnection, 4 MomentBack, 5 MomentTooLate, 6 JournalFull; place: of MomentBack, the moment of the
-	                   connection's last judged cell. Only cards in threads report 2 and 3 */
+	                   connection's last judged cell. No card of this library reports 2 or 3 (proved) */
 	UPC_SHAPE = 9,  /* 1 Programs, 2 Lines, 3 Ports, 4 Journal */
 	UPC_DESK = 10   /* 1 NoProgram, 2 NoConnection, 3 Taken, 4 NoLine, 5 InUse, 6 ProgramsFull, 7 Exhausted,
-	                   8 BadContracts. Only cards in threads report 9 and 11, and 10 is UPC_NO_MEMORY here */
+	                   8 BadContracts. No card of this library reports 9 or 11 (proved), and 10 is UPC_NO_MEMORY here */
 };
 
 enum upc_call {
@@ -159,7 +164,7 @@ uint32_t upc_listing(const uint8_t *program, size_t length, uint8_t *room, size_
 
 /* A program, or none: all zeros are none, as in `upc_program p = {0, 0};`. Only these calls fill it: its owner neither
  * reads nor writes its members and makes no second copy, and frees the program before the upc_program is gone. It may
- * be moved to another place, but only the thread that made it may use it. */
+ * be moved to another place, but the earlier place is then used no more. Only the thread that made it may use it. */
 typedef struct upc_program {
 	uint32_t live;
 	void *at;
@@ -181,7 +186,8 @@ void upc_program_free(upc_program *program);
 
 /* A card with programs and connections, which judges each cell on the connection that its header names; or none: all
  * zeros are none, as in `upc_card c = {0, 0};`. As with a upc_program, only these calls fill it, it has no second copy,
- * it is freed before it is gone, and only the thread that made it may use it. A card serves one caller. */
+ * it is freed before it is gone, it may be moved, and only the thread that made it may use it. A card serves one
+ * caller. */
 typedef struct upc_card {
 	uint32_t live;
 	void *at;
@@ -290,8 +296,10 @@ uint32_t upc_card_cut(upc_card *card, uint16_t path, uint16_t channel, upc_entry
                       upc_journal *journal, upc_fault *fault);
 
 /* Judges the cell with these 52 octets, which arrived at this moment, on the connection that its header names, and
- * writes its answer. If the verdict is UPC_TAG, the octets become the tagged cell. It doesn't allocate.
- * Faults: cell 1 WrongLength, then UPC_NO_CARD, then those of UPC_ARRIVE: 1, then 5, 4, 6. */
+ * writes its answer. If the verdict is UPC_TAG, the octets become the tagged cell. It doesn't allocate. If it refuses,
+ * the card is unchanged.
+ * Faults: cell 1 WrongLength, then UPC_NO_CARD, then those of UPC_ARRIVE: NoConnection, then MomentTooLate, MomentBack,
+ * JournalFull. */
 uint32_t upc_card_arrive(upc_card *card, uint8_t *octets, size_t length, uint64_t moment, upc_answer *answer,
                          upc_fault *fault);
 

@@ -1,4 +1,4 @@
-/* A card in forty lines. Reads lines "cell MOMENT HEADER", judges the cells of one connection, VPI/VCI 1/100, by the contract
+/* A card in fifty lines. Reads lines "cell MOMENT HEADER", judges the cells of one connection, VPI/VCI 1/100, by the contract
  * that a program names, and prints each verdict with the header of the cell that leaves. Ignores other lines. */
 #include <inttypes.h>
 #include <stdio.h>
@@ -7,7 +7,12 @@
 int main(void)
 {
 	static const char *const verdicts[] = {"pass", "tag", "discard", "refuse"};
-	static const uint8_t program[] = {0, 6, 0, 0, 0, 0, 0, 1}; /* ret #1 */
+	static const uint8_t program[] = {
+		0, 0x30, 0, 0, 0, 0, 0, 3, /* ldb [3]: the octet with the payload type */
+		0, 0x45, 1, 0, 0, 0, 0, 8, /* jset #8: over one instruction if the cell is no user cell */
+		0, 0x06, 0, 0, 0, 0, 0, 1, /* ret #1: by the contract */
+		0, 0x06, 0, 0, 0, 0, 0, 0, /* ret #0: by none, so the cell is refused */
+	};
 	const upc_shape shape = {UPC_UNI, 1, 1, 1, 16};
 	const upc_contract contract = {UPC_VBR3, 5, 0, 20, 20};
 	upc_card card = {0, 0};

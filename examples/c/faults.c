@@ -187,12 +187,20 @@ static void card_desk(upc_card *card, upc_id id, upc_contract it)
 	     sizeof other.generation);
 	none.peak_increment = 0;
 	set_up("five contracts", card, 1, 1, id, it, 5);
+	set_up("five without an increment", card, 1, 1, id, none, 5);
+	set_up("five on a large path", card, 256, 1, id, it, 5);
+	set_up("five, and another program", card, 1, 1, other, it, 5);
 	set_up("no contract's numbers", card, 1, 1, id, none, 1);
+	set_up("no contract's numbers on a large path", card, 256, 1, id, none, 4);
 	set_up("large path", card, 256, 1, id, it, 1);
+	set_up("large path, another program", card, 256, 1, other, it, 0);
 	set_up("another program", card, 1, 1, other, it, 1);
 	set_up("no contracts", card, 1, 1, id, it, 0);
 	set_up("connection", card, 1, 1, id, it, 1);
+	set_up("connection again, another program", card, 1, 1, other, it, 1);
+	set_up("connection again without contracts", card, 1, 1, id, it, 0);
 	set_up("connection again", card, 1, 1, id, it, 1);
+	set_up("one more connection without contracts", card, 1, 2, id, it, 0);
 	set_up("one more connection", card, 1, 2, id, it, 1);
 	tell("retire a program in use", upc_card_retire(card, &id, &fault), "", "", 0);
 	tell("retire another", upc_card_retire(card, &other, &fault), "", "", 0);
@@ -239,7 +247,7 @@ static void inspect(const char *what, upc_card *card, uint16_t path, uint16_t ch
 static void kept_card(void)
 {
 	static const uint8_t octets[] = {0, 6, 0, 0, 0, 0, 0, 2};
-	const upc_contract cbr = {UPC_CBR1, 10, 5, 0, 0};
+	const upc_contract cbr = {UPC_CBR1, 10, 5, 0, 0}, zero = {0, 0, 0, 0, 0};
 	const upc_shape shape = {UPC_UNI, 1, 1, 1, 2};
 	upc_card card = {0, 0};
 	upc_journal journal;
@@ -257,6 +265,8 @@ static void kept_card(void)
 	inspect("inspect no card", &card, 1, 1);
 	tell_journal("cut no card", upc_card_cut(&card, 1, 1, room, 3, &journal, &fault), &journal);
 	set_up("set up on no card", &card, 1, 1, id, cbr, 1);
+	set_up("five on no card", &card, 1, 1, id, cbr, 5);
+	set_up("no contract's numbers on no card", &card, 256, 1, id, zero, 1);
 	tell("new card", upc_card_new(&shape, &card, &fault), "", "", 0);
 	tell("new card again", upc_card_new(&shape, &card, &fault), "", "", 0);
 	tell("load", upc_card_load(&card, octets, sizeof octets, &id, &fault), "", "", 0);

@@ -101,11 +101,15 @@ impl Drop for Card {
 
 fn police() -> Result<(), Fault> {
     let mut card = Card::new(&Shape { side: 0, programs: 1, lines: 1, ports: 1, journal: 16 })?;
-    let program = card.load(&[0, 6, 0, 0, 0, 0, 0, 1])?;
+    // ldb [3]; jset #8, over one; ret #1; ret #0: contract 1 for user cells, and none for others, which are refused.
+    let program = [[0, 0x30, 0, 0, 0, 0, 0, 3], [0, 0x45, 1, 0, 0, 0, 0, 8], [0, 6, 0, 0, 0, 0, 0, 1], [0, 6, 0, 0, 0, 0, 0, 0]];
+    let program = card.load(&program.concat())?;
     card.set_up(1, 100, program, &[Contract { kind: 4, peak: [5, 0], sustained: [20, 20] }])?;
-    for moment in [0, 5, 10, 12, 20] {
+    let user = [0, 5, 10, 12, 15, 20].map(|moment| (moment, 0x40));
+    let other = [26, 27, 28].map(|moment| (moment, 0x48));
+    for (moment, last) in [&user[..], &[(25, 0x41)], &other].concat() {
         let mut cell = [0; 52];
-        cell[..4].copy_from_slice(&[0x00, 0x10, 0x06, 0x40]);
+        cell[..4].copy_from_slice(&[0x00, 0x10, 0x06, last]);
         println!("{} {}", card.arrive(&mut cell, moment)?.verdict, cell[3] & 1);
     }
     println!("{:?}", card.counts(1, 100)?);

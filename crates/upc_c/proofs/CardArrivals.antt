@@ -1,5 +1,6 @@
 -- All steps of a cell at port 0, which has no cell before and afterwards.
-use Rattle.std.proofs.Common.{◌≡◌, ◌⊎◌, inl, inr, ℕ, zero, suc, Bool, true, false, List, [], ◌∷◌, ◌++◌, Option, Some, None, replicate, refl, ap, ◌∙◌, subst}
+use Rattle.std.proofs.Common.{◌≡◌, ◌⊎◌, inl, inr, ℕ, zero, suc, Bool, true, false, not, ◌&&◌, List, [], ◌∷◌, ◌++◌, Option, Some, None, replicate, refl, ap, ◌∙◌, subst}
+use Rattle.std.specs.List.{list_all}
 use Rattle.std.specs.Option.{MatchOption, option_map}
 use Rattle.std.specs.Prelude.{slice_get, slice_set, if◌then◌else◌, is_none}
 use mathlib.Core.Logic.{∥∥₁_elim, ∥∥₁_map}
@@ -8,8 +9,8 @@ use Rattle.card_core.specs.Arrival.{AnswersArrival}
 use Rattle.card_core.specs.Log.{Event, Run}
 use Rattle.card_core.specs.Refusals.{enter_refusal, pick_refusal, judge_refusal, picking_refusal}
 use Rattle.card_core.specs.Shapes.{is_beyond, shape_fault}
-use Rattle.card_core.specs.Steps.{FindsNoMemory, IsRefused, Succeeds, WorldStep, left_by_judge, left_by_pick}
-use Rattle.card_core.specs.World.{World, PortState, Picking, outside, entered, picked, connection_in, opening_world}
+use Rattle.card_core.specs.Steps.{FindsNoMemory, IsRefused, Succeeds, WorldStep, left_by_judge, left_by_pick, picking_of}
+use Rattle.card_core.specs.World.{World, PortState, Picking, Connection, outside, entered, picked, connection_in, is_busy, is_outside, opening_world}
 use Rattle.card_core.specs.declared.answer.Answer.{Answer}
 use Rattle.card_core.specs.declared.answer.Answer.TheVariants.{NoConnection as UnknownCell}
 use Rattle.card_core.specs.declared.fault.CardFault.TheVariants.{Programs, Lines, Ports, Journal}
@@ -27,17 +28,17 @@ written [] before state e = let no : None ≡ Some before = e in cc
 written (port ∷ ports) before state e = refl
 
 -- The ports are those of the other world, except for this state of port 0.
-abbrev With : World → PortState → World → Type 0
+abbrev pub With : World → PortState → World → Type 0
 With before state after = after.ports ≡ slice_set before.ports 0 state
 
-there : (before after : World) (state had : PortState) → slice_get before.ports 0 ≡ Some had → With before state after → slice_get after.ports 0 ≡ Some state
+pub there : (before after : World) (state had : PortState) → slice_get before.ports 0 ≡ Some had → With before state after → slice_get after.ports 0 ≡ Some state
 there before after state had e with = ap (λ (ports : List PortState). slice_get ports 0) with ∙ written before.ports had state e
 
 -- A step that isn't refused.
-abbrev Taken : World → Step → Reply → World → Type 0
+abbrev pub Taken : World → Step → Reply → World → Type 0
 Taken before step reply after = Succeeds before step reply after ⊎ FindsNoMemory before step reply after
 
-enters : (before after : World) (cell : List ℕ) (moment : ℕ) (reply : Reply) → IsIdlePort before
+pub enters : (before after : World) (cell : List ℕ) (moment : ℕ) (reply : Reply) → IsIdlePort before
     → WorldStep before (Enter 0 cell moment) reply after → Taken before (Enter 0 cell moment) reply after
 enters before after cell moment reply idle step =
     let P : Option PortState → Type 0 = λ port. MatchOption (enter_refusal port) (Taken before (Enter 0 cell moment) reply after)
@@ -45,7 +46,7 @@ enters before after cell moment reply idle step =
     subst P idle step
 
 -- A cell enters a port without a cell, and no other reply is possible.
-entered-there : (before after : World) (cell : List ℕ) (moment : ℕ) → Taken before (Enter 0 cell moment) Entered after
+pub entered-there : (before after : World) (cell : List ℕ) (moment : ℕ) → Taken before (Enter 0 cell moment) Entered after
     → With before (entered cell moment) after
 entered-there before after cell moment (inl e) = ap (λ (w : World). w.ports) e.world
 entered-there before after cell moment (inr l) = let no = l.answer in cc
@@ -55,11 +56,11 @@ never-now before after cell moment (inl e) = let no : NotNow ≡ Entered = e.ans
 never-now before after cell moment (inr l) = let no = l.answer in cc
 
 -- The two outcomes of a pick, by whether a connection is missing.
-abbrev PickedBy : Bool → World → Reply → World → Type 0
+abbrev pub PickedBy : Bool → World → Reply → World → Type 0
 PickedBy missing before reply after = MatchOption (if missing then Some (Answered UnknownCell) else None)
     (Taken before (Pick 0) reply after) (λ refused. IsRefused before (Pick 0) refused reply after)
 
-picks : (before after : World) (cell : List ℕ) (moment : ℕ) (reply : Reply) → slice_get before.ports 0 ≡ Some (entered cell moment)
+pub picks : (before after : World) (cell : List ℕ) (moment : ℕ) (reply : Reply) → slice_get before.ports 0 ≡ Some (entered cell moment)
     → WorldStep before (Pick 0) reply after → PickedBy (is_none (connection_in before.connections (vc_of before.shape.side cell))) before reply after
 picks before after cell moment reply had step =
     let P : Option PortState → Type 0 = λ port. MatchOption (pick_refusal before port) (Taken before (Pick 0) reply after)
@@ -74,11 +75,24 @@ pick-answered true before after cell moment answer had is =
 pick-answered false before after cell moment answer had (inl p) = let no : Answered answer ≡ Picked = p.answer in cc
 pick-answered false before after cell moment answer had (inr l) = let no = l.answer in cc
 
--- After a successful pick the port has the picked cell.
-pick-picked : (missing : Bool) (before after : World) (cell : List ℕ) (moment : ℕ) → PickedBy missing before Picked after
-    → (picking : Picking) × With before (picked picking) after
+-- After a successful pick the port has the picked cell, whose connection is there.
+pub record PickedFrom (before after : World) : Type 0 where
+  pub picking : Picking
+  pub connection : Connection
+  pub found : connection_in after.connections picking.vc ≡ Some connection
+  pub same : connection.incarnation ≡ picking.incarnation
+  pub placed : With before (picked picking) after
+
+pub pick-picked : (missing : Bool) (before after : World) (cell : List ℕ) (moment : ℕ) → PickedBy missing before Picked after → PickedFrom before after
 pick-picked true before after cell moment is = let no : Picked ≡ Answered UnknownCell = is.answer in cc
-pick-picked false before after cell moment (inl p) = (_, ap (λ (w : World). w.ports) p.world)
+pick-picked false before after cell moment (inl p) =
+    let vc = vc_of before.shape.side p.cell in record {
+      picking = picking_of p.cell p.moment vc p.connection p.value;
+      connection = p.connection;
+      found = ap (λ (w : World). connection_in w.connections vc) p.world ∙ p.found;
+      same = refl;
+      placed = ap (λ (w : World). w.ports) p.world;
+    }
 pick-picked false before after cell moment (inr l) = let no = l.answer in cc
 
 -- After the judgement the port has no cell.
@@ -99,40 +113,66 @@ judged before after picking answer had step =
     judge-answered (picking_refusal before picking (connection_in before.connections picking.vc)) before after picking answer had (subst P had step)
 
 -- The events of a cell, with the answer at the pick or at the judgement.
-abbrev at_pick : List ℕ → ℕ → Answer → List Event
+abbrev pub at_pick : List ℕ → ℕ → Answer → List Event
 at_pick cell moment answer =
     record { step = Enter 0 cell moment; reply = Entered } ∷ record { step = Pick 0; reply = Answered answer } ∷ []
 
-abbrev at_judging : List ℕ → ℕ → Answer → List Event
+abbrev pub at_judging : List ℕ → ℕ → Answer → List Event
 at_judging cell moment answer =
     record { step = Enter 0 cell moment; reply = Entered } ∷ record { step = Pick 0; reply = Picked }
     ∷ record { step = Judge 0; reply = Answered answer } ∷ []
 
-same-idle : (before after : World) → after ≡ before → IsIdlePort before → IsIdlePort after
-same-idle before after same idle = ap (λ (w : World). slice_get w.ports 0) same ∙ idle
+-- Of two states that are written to port 0 one after the other, the later one remains.
+written-twice : (ports : List PortState) (one other : PortState) → slice_set (slice_set ports 0 one) 0 other ≡ slice_set ports 0 other
+written-twice [] one other = refl
+written-twice (port ∷ ports) one other = refl
 
-pick-idle : (before after : World) (cell : List ℕ) (moment : ℕ) (answer : Answer) → IsIdlePort before
-    → Run before (at_pick cell moment answer) after → IsIdlePort after
-pick-idle before after cell moment answer idle run =
+over : (before next after : World) (one other : PortState) → With before one next → With next other after → With before other after
+over before next after one other first second =
+    second ∙ ap (λ (ports : List PortState). slice_set ports 0 other) first ∙ written-twice before.ports one other
+
+left-same : (before last after : World) → after ≡ last → With before outside last → With before outside after
+left-same before last after same left = ap (λ (w : World). w.ports) same ∙ left
+
+-- The steps of a cell leave port 0 without a cell, and the other ports as they were.
+pick-leaves : (before after : World) (cell : List ℕ) (moment : ℕ) (answer : Answer) → IsIdlePort before
+    → Run before (at_pick cell moment answer) after → With before outside after
+pick-leaves before after cell moment answer idle run =
     let one = run.0 in let entering = entered-there before one cell moment (enters before one cell moment Entered idle run.1) in
     let in_port = there before one (entered cell moment) outside idle entering in
     let two = run.2.0 in
     let left = pick-answered (is_none (connection_in one.connections (vc_of one.shape.side cell))) one two cell moment answer in_port
     (picks one two cell moment (Answered answer) in_port run.2.1) in
-    same-idle two after run.2.2 (there one two outside (entered cell moment) in_port left)
+    left-same before two after run.2.2 (over before one two (entered cell moment) outside entering left)
 
-judging-idle : (before after : World) (cell : List ℕ) (moment : ℕ) (answer : Answer) → IsIdlePort before
-    → Run before (at_judging cell moment answer) after → IsIdlePort after
-judging-idle before after cell moment answer idle run =
+judging-leaves : (before after : World) (cell : List ℕ) (moment : ℕ) (answer : Answer) → IsIdlePort before
+    → Run before (at_judging cell moment answer) after → With before outside after
+judging-leaves before after cell moment answer idle run =
     let one = run.0 in let entering = entered-there before one cell moment (enters before one cell moment Entered idle run.1) in
     let in_port = there before one (entered cell moment) outside idle entering in
     let two = run.2.0 in
-    let picking = pick-picked (is_none (connection_in one.connections (vc_of one.shape.side cell))) one two cell moment
+    let from = pick-picked (is_none (connection_in one.connections (vc_of one.shape.side cell))) one two cell moment
     (picks one two cell moment Picked in_port run.2.1) in
-    let found = there one two (picked picking.0) (entered cell moment) in_port picking.1 in
+    let found = there one two (picked from.picking) (entered cell moment) in_port from.placed in
     let three = run.2.2.0 in
-    let left = judged two three picking.0 answer found run.2.2.1 in
-    same-idle three after run.2.2.2 (there two three outside (picked picking.0) found left)
+    let left = judged two three from.picking answer found run.2.2.1 in
+    let picked_there = over before one two (entered cell moment) (picked from.picking) entering from.placed in
+    left-same before three after run.2.2.2 (over before two three (picked from.picking) outside picked_there left)
+
+idle-left : (before after : World) → IsIdlePort before → With before outside after → IsIdlePort after
+idle-left before after idle left = there before after outside outside idle left
+
+-- If no port had a cell, none has one after port 0 was emptied.
+second-passes : (one other : Bool) → not (one && other) ≡ false → not other ≡ false
+second-passes true other e = e
+second-passes false other e = let no : true ≡ false = e in cc
+
+still-quiet : (ports : List PortState) → not (list_all is_outside ports) ≡ false → not (list_all is_outside (slice_set ports 0 outside)) ≡ false
+still-quiet [] quiet = refl
+still-quiet (port ∷ ports) quiet = second-passes (is_outside port) (list_all is_outside ports) quiet
+
+quiet-left : (before after : World) → is_busy before ≡ false → With before outside after → is_busy after ≡ false
+quiet-left before after quiet left = ap (λ (ports : List PortState). not (list_all is_outside ports)) left ∙ still-quiet before.ports quiet
 
 -- The log with the events of the cell.
 pub answers-reached : (old new : CoreView) (cell : List ℕ) (moment : ℕ) (answer : Answer) → IsReachedCore old
@@ -145,7 +185,8 @@ answers-reached old new cell moment answer reached (inl follows) = ∥∥₁_map
       world = gone.after;
       leads = gone.leads;
       agrees = gone.agrees;
-      idle = pick-idle r.world gone.after cell moment answer r.idle gone.stepped;
+      idle = idle-left r.world gone.after r.idle (pick-leaves r.world gone.after cell moment answer r.idle gone.stepped);
+      quiet = quiet-left r.world gone.after r.quiet (pick-leaves r.world gone.after cell moment answer r.idle gone.stepped);
     })
 answers-reached old new cell moment answer reached (inr follows) = ∥∥₁_map reached (λ r.
     let gone = follows r.shape r.log r.world r.leads r.agrees in
@@ -155,7 +196,8 @@ answers-reached old new cell moment answer reached (inr follows) = ∥∥₁_map
       world = gone.after;
       leads = gone.leads;
       agrees = gone.agrees;
-      idle = judging-idle r.world gone.after cell moment answer r.idle gone.stepped;
+      idle = idle-left r.world gone.after r.idle (judging-leaves r.world gone.after cell moment answer r.idle gone.stepped);
+      quiet = quiet-left r.world gone.after r.quiet (judging-leaves r.world gone.after cell moment answer r.idle gone.stepped);
     })
 
 -- NotNow is never the answer.
@@ -181,6 +223,10 @@ pub opening-idle : (shape : Shape) → shape_fault shape ≡ None → IsIdlePort
 opening-idle shape e =
     first-idle shape.ports (some-port (is_beyond shape.programs 1024) (is_beyond shape.lines 4096) (is_beyond shape.ports 16) (is_beyond shape.journal 65536) e)
 
+all-outside : (ports : ℕ) → not (list_all is_outside (replicate ports outside)) ≡ false
+all-outside zero = refl
+all-outside (suc more) = all-outside more
+
 -- The empty log leads to the opening world.
 pub opening-reached : (shape : Shape) (core : CoreView) → shape_fault shape ≡ None → CoreAgrees core (opening_world shape) → IsReachedCore core
 opening-reached shape core fits agrees = ∣ record {
@@ -190,4 +236,5 @@ opening-reached shape core fits agrees = ∣ record {
   leads = refl;
   agrees = agrees;
   idle = opening-idle shape fits;
+  quiet = all-outside shape.ports;
 } ∣₁

@@ -1,12 +1,13 @@
 -- Steps of a card that other steps have led to.
-use Rattle.std.proofs.Common.{◌≡◌, ◌⊎◌, inl, inr, Bool, true, false, List, [], ◌∷◌, ◌++◌, Option, Some, None, refl, sym, ap, ◌∙◌, subst}
+use Rattle.std.proofs.Common.{◌≡◌, ◌⊎◌, inl, inr, Bool, true, false, not, List, [], ◌∷◌, ◌++◌, Option, Some, None, refl, sym, ap, ◌∙◌, subst}
+use Rattle.std.specs.List.{list_all}
 use Rattle.std.specs.Option.{MatchOption, option_map}
 use Rattle.std.specs.Prelude.{slice_get}
 use mathlib.Core.Logic.{∥∥₁_map}
 use Rattle.card_core.specs.Agreement.{CoreView, Follows}
 use Rattle.card_core.specs.Refusals.{load_fault, missing_fault, reload_fault, retire_fault, setup_fault}
 use Rattle.card_core.specs.Steps.{FindsNoMemory, IsRefused, Succeeds, WorldStep}
-use Rattle.card_core.specs.World.{World, PortState}
+use Rattle.card_core.specs.World.{World, PortState, is_outside}
 use Rattle.card_core.specs.declared.fault.DeskFault.{DeskFault}
 use Rattle.card_core.specs.declared.fault.DeskFault.TheVariants.{NoMemory}
 use Rattle.card_core.specs.declared.reply.Reply.{Reply}
@@ -79,6 +80,7 @@ reached-on old new step reply desk reached follows = ∥∥₁_map reached (λ r
       leads = gone.leads;
       agrees = gone.agrees;
       idle = ap (λ (ports : List PortState). slice_get ports 0) (ports-left r.world gone.after step reply desk gone.stepped) ∙ r.idle;
+      quiet = ap (λ (ports : List PortState). not (list_all is_outside ports)) (ports-left r.world gone.after step reply desk gone.stepped) ∙ r.quiet;
     })
 
 -- The same for the core that was taken out of a card.

@@ -6,6 +6,7 @@ mod ContractLemmas
 mod EntryLemmas
 mod HandingOut
 mod LineLemmas
+mod Listed
 mod Policing
 mod SettingUp
 mod Walks

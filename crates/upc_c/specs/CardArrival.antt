@@ -41,11 +41,15 @@ reason_of_answer MomentTooLate = Some (plain_fault 8 5 0)
 reason_of_answer JournalFull = Some (plain_fault 8 6 0)
 reason_of_answer NoMemory = Some out_of_memory
 
--- The error for C: the octets aren't a cell, and the card is unchanged; else there is no card; else the card's answer
--- is not a judgement.
+-- The card took all steps of the cell, did not judge it, and this is the error for C.
+pub record RefusesCell (before after : UpcCard) (cell : List ℕ) (moment : ℕ) (fault : UpcFault) : Type 0 where
+  pub answer : Answer
+  pub arrives : ArrivesAtCard before after cell moment answer
+  pub told : reason_of_answer answer ≡ Some fault
+
+-- The error for C: the octets aren't a cell; else there is no card; else the card doesn't judge the cell.
 abbrev pub IsArrivalFault : UpcCard → UpcCard → List ℕ → ℕ → UpcFault → Type 0
 IsArrivalFault before after cell moment fault =
-    (IsCellFault cell fault × (card_in after ≡ card_in before))
-    ⊎ ((length cell ≡ 52) × (card_in before ≡ None) × (card_in after ≡ None) × (fault ≡ card_missing))
-    ⊎ ((length cell ≡ 52)
-    × ((answer : Answer) × ArrivesAtCard before after cell moment answer × (reason_of_answer answer ≡ Some fault)))
+    IsCellFault cell fault
+    ⊎ ((length cell ≡ 52) × (card_in before ≡ None) × (fault ≡ card_missing))
+    ⊎ ((length cell ≡ 52) × RefusesCell before after cell moment fault)

@@ -85,9 +85,9 @@ AreGivenContracts [] (contract ∷ later) = ⊥
 AreGivenContracts (given ∷ others) [] = ⊥
 AreGivenContracts (given ∷ others) (contract ∷ later) = IsGivenContract given contract × AreGivenContracts others later
 
--- There are contracts with these numbers.
+-- A connection may have these contracts: there are at most four, and all of them are contracts.
 abbrev pub AreAllContracts : List UpcContract → Type 0
-AreAllContracts given = (contracts : List Contract) × AreGivenContracts given contracts
+AreAllContracts given = (length given ≤ 4) × ((contracts : List Contract) × AreGivenContracts given contracts)
 
 -- The first of these that is no contract has this error.
 abbrev pub IsFirstContractFault : List UpcContract → UpcFault → Type 0
@@ -99,10 +99,11 @@ IsFirstContractFault (given ∷ others) fault =
 abbrev pub too_many_contracts : UpcFault
 too_many_contracts = plain_fault 1 11 0
 
--- The error if these are not the contracts of a connection: there are more than four, or the first that is no contract.
+-- The error if a connection can't have these contracts: there are more than four; else that of the first that is no
+-- contract.
 abbrev pub IsContractsFault : List UpcContract → UpcFault → Type 0
 IsContractsFault given fault =
-    ((4 < length given) × (fault ≡ too_many_contracts)) ⊎ IsFirstContractFault given fault
+    ((4 < length given) × (fault ≡ too_many_contracts)) ⊎ ((length given ≤ 4) × IsFirstContractFault given fault)
 
 -- The path is above the highest at the card's side: UPC_LARGE_PATH.
 abbrev pub path_too_large : UpcFault
@@ -120,10 +121,11 @@ pub record IsVc (card : UpcCard) (vpi vci : ℕ) (vc : Vc) : Type 0 where
   pub path : vc.vpi ≡ vpi
   pub channel : vc.vci ≡ vci
 
--- The request to the desk with these numbers.
+-- The request to the desk with these numbers, which has at most four contracts.
 pub record IsAsk (card : UpcCard) (path channel : ℕ) (named : UpcId) (given : List UpcContract) (ask : Ask) : Type 0 where
   pub vc : IsVc card path channel ask.vc
   pub program : ask.program ≡ id_of named
+  pub few : length given ≤ 4
   pub contracts : AreGivenContracts given ask.contracts.items
 
 -- The connection was set up.
@@ -131,8 +133,8 @@ abbrev pub IsSetUp : UpcCard → UpcCard → ℕ → ℕ → UpcId → List UpcC
 IsSetUp before after path channel program given = (ask : Ask) × IsAsk before path channel program given ask
     × ((owner : Owner) × CardTakes before after (Setup ask) (SetUp owner))
 
--- The error if no connection was set up: that of the contracts; then, there is no card; then, the card's side has no
--- such path; then, the step has an error.
+-- The error if no connection was set up: that of the contracts; else there is no card; else the card's side has no such
+-- path; else that of the step.
 abbrev pub IsSetupFault : UpcCard → UpcCard → ℕ → ℕ → UpcId → List UpcContract → UpcFault → Type 0
 IsSetupFault before after path channel program given fault =
     IsContractsFault given fault

@@ -12,4 +12,5 @@ pub mod CardDesk
 pub mod CardInspection
 pub mod CardJournal
 pub mod CardArrival
+pub mod ListedFaults
 pub mod inner

@@ -1,13 +1,13 @@
 //! Cells that arrive at a card that C has.
 
-ghost use Rattle.std.specs.Prelude.{◌≡◌, ◌≢◌, ◌⊎◌, ◌<◌, None, Some, Ok, IfOk, IfErr};
+ghost use Rattle.std.specs.Prelude.{◌≡◌, ◌≢◌, ◌⊎◌, ◌<◌, None, Some, Ok, IfOk, IfErr, OnErr};
 ghost use Rattle.card_core.specs.Arrival.{AnswersArrival};
 ghost use Rattle.card_core.specs.Sections.{answer_to, unjudged_answer};
 ghost use Rattle.card_core.specs.Steps.{cell_after};
-ghost use Rattle.card_core.specs.declared.answer.Answer.{Answer as TheAnswer};
-ghost use Rattle.upc_c.specs.CardArrival.{ArrivesAtCard, IsArrivalFault, IsPoliced, reason_of_answer};
+ghost use Rattle.card_core.specs.declared.answer.Answer.TheVariants.{NoMemory};
+ghost use Rattle.upc_c.specs.CardArrival.{ArrivesAtCard, IsArrivalFault, IsPoliced, RefusesCell, reason_of_answer};
 ghost use Rattle.upc_c.specs.CardHandle.{card_in, card_missing};
-ghost use Rattle.upc_c.specs.Faults.{no_fault};
+ghost use Rattle.upc_c.specs.Faults.{no_fault, out_of_memory};
 ghost use Rattle.upc_c.specs.Judging.{number_of_verdict};
 ghost use Rattle.upc_c.specs.inner.ReachedCore.{IsReachedCore};
 
@@ -65,6 +65,8 @@ fn arrive_at(core: &mut Core, cell: &Cell, moment: u64) -> Result<Judgement, Unj
     requires { IsReachedCore core.old }
     ensures answers { AnswersArrival core.old 0 cell.now moment (answer_to cell.now result) core.new }
     ensures reached { IsReachedCore core.new }
+    ensures left { OnErr result (core.new ≡ core.old) }
+    ensures memory { answer_to cell.now result ≢ NoMemory }
 {
     match core.arrive(0, cell, moment) {
         Some(answered) => answered,
@@ -81,9 +83,10 @@ fn arrive_on(
 ) -> Result<Judgement, UpcFault>
     ensures judged { IfOk result (λ judgement.
         ArrivesAtCard card.old card.new cell.now moment (answer_to cell.now (Ok judgement))) }
-    ensures refused { IfErr result (λ fault. ((card_in card.old ≡ None) × (card_in card.new ≡ None) × (fault ≡ card_missing))
-        ⊎ ((answer : TheAnswer) × ArrivesAtCard card.old card.new cell.now moment answer
-        × (reason_of_answer answer ≡ Some fault))) }
+    ensures refused { IfErr result (λ fault. ((card_in card.old ≡ None) × (fault ≡ card_missing))
+        ⊎ RefusesCell card.old card.new cell.now moment fault) }
+    ensures left { OnErr result (card_in card.new ≡ card_in card.old) }
+    ensures memory { IfErr result (λ fault. fault ≢ out_of_memory) }
     ensures numbered { IfErr result (λ fault. 0 < fault.number) }
 {
     let Some(mut core) = take_core(alloc, card) else {
@@ -122,7 +125,9 @@ pub extern "C" fn upc_card_arrive(
     ensures judged { result ≡ 0 → IsPoliced card.old card.new octets.old moment answer.new octets.new }
     ensures fine { result ≡ 0 → fault.new ≡ no_fault }
     ensures refused { result ≢ 0 → IsArrivalFault card.old card.new octets.old moment fault.new }
-    ensures left { result ≢ 0 → octets.new ≡ octets.old }
+    ensures memory { fault.new ≢ out_of_memory }
+    ensures left { result ≢ 0 → card_in card.new ≡ card_in card.old }
+    ensures octets_left { result ≢ 0 → octets.new ≡ octets.old }
     ensures answer_left { result ≢ 0 → answer.new ≡ answer.old }
 {
     let cell = match cell_of(octets) {

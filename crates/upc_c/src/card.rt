@@ -6,7 +6,8 @@ ghost use Rattle.upc_c.specs.inner.ReachedCore.{IsReachedCore};
 
 use crate::hidden::HiddenCard;
 
-/// A card, or none: all zeros are none. C must not move it, copy it, or read or write its content.
+/// A card, or none: all zeros are none. C must not make a second copy of it, or read or write its content. It may move
+/// it to another place if it no longer uses the earlier one: what it owns depends on its value, and not on its place.
 #[repr(C)]
 #[derive(Drop)]
 pub struct UpcCard {

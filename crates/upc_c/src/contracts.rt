@@ -1,6 +1,6 @@
 //! The contracts of a connection, as C gives them.
 
-ghost use Rattle.std.specs.Prelude.{◌≡◌, ◌<◌, IfOk, IfErr};
+ghost use Rattle.std.specs.Prelude.{◌≡◌, ◌<◌, ◌≤◌, length, IfOk, IfErr};
 ghost use Rattle.upc_c.specs.CardDesk.{AreGivenContracts, IsContractsFault};
 
 use crate::contract::{UpcContract, contract_of};
@@ -13,6 +13,7 @@ const MOST_CONTRACTS: usize = 4;
 
 /// Returns the contracts with these numbers, in order.
 pub(crate) fn contracts_of(given: &[UpcContract]) -> Result<ArrayVec<Contract, 4>, UpcFault>
+    ensures few { IfOk result (λ _. length given.now ≤ 4) }
     ensures contracts { IfOk result (λ contracts. AreGivenContracts given.now contracts.items) }
     ensures fault { IfErr result (IsContractsFault given.now) }
     ensures numbered { IfErr result (λ fault. 0 < fault.number) }

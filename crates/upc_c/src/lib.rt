@@ -18,6 +18,7 @@ mod hidden;
 mod id;
 mod inspecting;
 mod journal;
+pub mod laws;
 mod loading;
 mod meter;
 mod program;

@@ -1,15 +1,15 @@
 -- Cores of cards that started empty and took steps.
-use Rattle.std.specs.Prelude.{◌≡◌, List, Some, slice_get}
+use Rattle.std.specs.Prelude.{◌≡◌, List, Some, false, slice_get}
 use Rattle.card_core.specs.declared.shape.Shape.{Shape}
 use Rattle.card_core.specs.Agreement.{CoreView, CoreAgrees}
 use Rattle.card_core.specs.Log.{Event, Leads}
-use Rattle.card_core.specs.World.{World, outside}
+use Rattle.card_core.specs.World.{World, is_busy, outside}
 
 -- Port 0 has no cell.
 abbrev pub IsIdlePort : World → Type 0
 IsIdlePort world = slice_get world.ports 0 ≡ Some outside
 
--- The core agrees with a world that some log leads to, and whose port 0 has no cell.
+-- The core agrees with a world that some log leads to. The world has a port 0, and none of its ports has a cell.
 pub record Reaching (core : CoreView) : Type 0 where
   pub shape : Shape
   pub log : List Event
@@ -17,6 +17,7 @@ pub record Reaching (core : CoreView) : Type 0 where
   pub leads : Leads shape log world
   pub agrees : CoreAgrees core world
   pub idle : IsIdlePort world
+  pub quiet : is_busy world ≡ false
 
 -- There is such a log.
 abbrev pub IsReachedCore : CoreView → Type 0

@@ -1,0 +1,269 @@
+/* Makes the calls at each limit that the header names: at the limit a call succeeds, and one beyond it fails with the error
+ * that belongs to the limit. Prints what was tried, and exits with status 1 if a call answers otherwise. */
+#include <stdio.h>
+#include <stdlib.h>
+#include <string.h>
+#include "upc.h"
+
+enum { PROGRAMS = 1024, LINES = 4096, PORTS = 16, JOURNAL = 65536, INSTRUCTIONS = 4096, SOURCE = 1048576 };
+
+static upc_fault fault;
+
+/* Exits if a call answered otherwise. */
+static void ask(int holds, const char *what)
+{
+	if (!holds) {
+		printf("otherwise: %s: kind %u number %u place %lu\n", what, (unsigned)fault.kind, (unsigned)fault.number,
+		       (unsigned long)fault.place);
+		exit(1);
+	}
+}
+
+/* Expects that the last call failed with this error. */
+static void refused(const char *what, uint32_t kind, uint32_t number)
+{
+	ask(fault.kind == kind && fault.number == number, what);
+}
+
+static void *room_of(size_t size)
+{
+	void *room = malloc(size);
+
+	ask(room != NULL, "no memory for the test");
+	return room;
+}
+
+/* ret #NUMBER */
+static void put_return(uint8_t *octets, uint32_t number)
+{
+	int k;
+
+	memset(octets, 0, 8);
+	octets[1] = 0x06;
+	for (k = 0; k < 4; k++)
+		octets[4 + k] = (uint8_t)(number >> (24 - 8 * k));
+}
+
+/* Assembles a source of this many octets: the line "ret #1", as often as it fits, and blanks at the end. */
+static void assemble(size_t length)
+{
+	static const char line[] = "ret #1\n";
+	static const uint8_t octets[8] = {0, 6, 0, 0, 0, 0, 0, 1};
+	size_t lines = length / 7, count = 0, k;
+	uint8_t *source = (uint8_t *)room_of(length), *room = (uint8_t *)room_of(8 * lines);
+
+	memset(source, ' ', length);
+	for (k = 0; k < lines; k++)
+		memcpy(source + 7 * k, line, 7);
+	ask(upc_assemble(source, length, room, 8 * lines, &count, &fault) == 0 && count == 8 * lines, "a long source");
+	for (k = 0; k < lines; k++)
+		ask(memcmp(room + 8 * k, octets, 8) == 0, "an instruction of a long source");
+	ask(upc_assemble(source, length, room, 8 * lines - 1, &count, &fault) == UPC_NO_ROOM && fault.place == 8 * lines,
+	    "a room that lacks one octet");
+	source[7 * lines - 2] = 'x';
+	ask(upc_assemble(source, length, room, 8 * lines, &count, &fault) != 0 && fault.kind == UPC_ASM && fault.place == lines,
+	    "the last line of a long source");
+	printf("a source of %lu octets has %lu instructions\n", (unsigned long)length, (unsigned long)lines);
+	free(source);
+	free(room);
+}
+
+/* A program of 4096 instructions takes 4096 steps, and none may have more. */
+static void run_longest(void)
+{
+	uint8_t *octets = (uint8_t *)room_of(8 * (INSTRUCTIONS + 1)), *text = (uint8_t *)room_of(8 * INSTRUCTIONS);
+	uint8_t cell[UPC_CELL_OCTETS] = {0};
+	upc_program program = {0, 0};
+	uint32_t value = 0, steps = 0;
+	size_t k, count;
+
+	for (k = 0; k <= INSTRUCTIONS; k++) {
+		memset(octets + 8 * k, 0, 8);
+		octets[8 * k + 1] = 0x04; /* add #1 */
+		octets[8 * k + 7] = 1;
+	}
+	octets[8 * INSTRUCTIONS - 7] = 0x16; /* ret a */
+	octets[8 * INSTRUCTIONS + 1] = 0x16;
+	ask(upc_program_new(octets, 8 * INSTRUCTIONS, &program, &fault) == 0, "4096 instructions");
+	ask(upc_program_run(&program, cell, sizeof cell, &value, &steps, &fault) == 0, "a run of 4096 instructions");
+	ask(value == INSTRUCTIONS - 1 && steps == INSTRUCTIONS, "the value of 4096 instructions");
+	upc_program_free(&program);
+	upc_program_new(octets, 8 * (INSTRUCTIONS + 1), &program, &fault);
+	refused("4097 instructions", UPC_VERIFY, 2);
+	upc_listing(octets, 8 * INSTRUCTIONS, text, 8 * INSTRUCTIONS, &count, &fault);
+	ask(fault.number == 0 && count == 7 * (INSTRUCTIONS - 1) + 6, "the listing of 4096 instructions");
+	printf("a program of %d instructions took %u steps\n", (int)INSTRUCTIONS, (unsigned)steps);
+	free(octets);
+	free(text);
+}
+
+/* The largest numbers of contracts, levels, moments and burst tolerances. */
+static void judge_largest(void)
+{
+	upc_contract it = {UPC_VBR3, UPC_MOST_TICKS, UPC_MOST_TICKS, UPC_MOST_TICKS, UPC_MOST_TICKS};
+	upc_levels levels = {UPC_LAST_LEVEL, UPC_LAST_LEVEL};
+	uint64_t ticks = 0;
+	uint32_t verdict = 9;
+
+	ask(upc_contract_check(&it, &fault) == 0, "a contract of the largest numbers");
+	ask(upc_judge(&it, &levels, 0, UPC_LAST_MOMENT, &verdict, &fault) == 0 && verdict == UPC_DISCARD, "the last levels");
+	levels.first = levels.second = 0;
+	ask(upc_judge(&it, &levels, 0, UPC_LAST_MOMENT, &verdict, &fault) == 0 && verdict == UPC_PASS, "the last moment");
+	ask(levels.first == UPC_LAST_MOMENT + UPC_MOST_TICKS && levels.second == levels.first, "the levels after the last moment");
+	upc_judge(&it, &levels, 0, UPC_LAST_MOMENT + 1, &verdict, &fault);
+	refused("one tick more", UPC_ARRIVE, 5);
+	levels.second = UPC_LAST_LEVEL + 1;
+	upc_judge(&it, &levels, 0, UPC_LAST_MOMENT, &verdict, &fault);
+	refused("one level more", UPC_CALL, UPC_LATE_LEVELS);
+	it.sustained_limit++;
+	upc_contract_check(&it, &fault);
+	refused("one tick more in the limit", UPC_GCRA, 2);
+	ask(upc_burst_tolerance(2, UPC_MOST_TICKS, 0, &ticks, &fault) == 0 && ticks == UPC_MOST_TICKS, "the largest tolerance");
+	upc_burst_tolerance(2, UPC_MOST_TICKS + 1, 0, &ticks, &fault);
+	refused("one tick more in the tolerance", UPC_BURST, 3);
+	printf("contracts, levels, moments and tolerances\n");
+}
+
+/* The shapes of cards: each number at its limits, and one beyond. */
+static void make_cards(void)
+{
+	static const upc_shape least = {UPC_UNI, 1, 1, 1, 1}, most = {UPC_NNI, PROGRAMS, LINES, PORTS, JOURNAL};
+	upc_card card = {0, 0};
+	upc_shape shape;
+	int k;
+
+	ask(upc_card_new(&least, &card, &fault) == 0, "the smallest card");
+	upc_card_free(&card);
+	ask(upc_card_new(&most, &card, &fault) == 0, "the largest card");
+	upc_card_free(&card);
+	for (k = 0; k < 8; k++) {
+		shape = k < 4 ? least : most;
+		if (k % 4 == 0)
+			shape.programs += k < 4 ? (uint64_t)-1 : 1;
+		else if (k % 4 == 1)
+			shape.lines += k < 4 ? (uint64_t)-1 : 1;
+		else if (k % 4 == 2)
+			shape.ports += k < 4 ? (uint64_t)-1 : 1;
+		else
+			shape.journal += k < 4 ? (uint64_t)-1 : 1;
+		upc_card_new(&shape, &card, &fault);
+		refused("a number beyond its limit", UPC_SHAPE, (uint32_t)(k % 4) + 1);
+	}
+	printf("cards of the smallest and the largest shape\n");
+}
+
+/* 1024 programs on a card. */
+static void load_all(void)
+{
+	static const upc_shape shape = {UPC_UNI, PROGRAMS, 1, 1, 1};
+	upc_id *ids = (upc_id *)room_of(PROGRAMS * sizeof *ids), other = {7, 7};
+	upc_card card = {0, 0};
+	uint8_t octets[8];
+	uint32_t k;
+
+	ask(upc_card_new(&shape, &card, &fault) == 0, "a card of 1024 programs");
+	for (k = 0; k < PROGRAMS; k++) {
+		put_return(octets, k);
+		ask(upc_card_load(&card, octets, sizeof octets, &ids[k], &fault) == 0, "a program");
+	}
+	upc_card_load(&card, octets, sizeof octets, &other, &fault);
+	refused("one program more", UPC_DESK, 6);
+	ask(upc_card_retire(&card, &ids[500], &fault) == 0, "retiring a program");
+	ask(upc_card_load(&card, octets, sizeof octets, &other, &fault) == 0 && other.slot == ids[500].slot &&
+	        other.generation == ids[500].generation + 1,
+	    "a program in its place");
+	upc_card_retire(&card, &ids[500], &fault);
+	refused("a retired name", UPC_DESK, 1);
+	upc_card_free(&card);
+	free(ids);
+	printf("%d programs\n", (int)PROGRAMS);
+}
+
+/* 4096 connections on a card, each with four contracts, and a cell on each. */
+static void set_up_all(void)
+{
+	static const upc_shape shape = {UPC_NNI, 1, LINES, PORTS, 2};
+	static const upc_contract cbr = {UPC_CBR1, 10, 0, 0, 0};
+	uint8_t octets[8], *seen = (uint8_t *)room_of(LINES);
+	upc_contract four[UPC_MOST_CONTRACTS];
+	upc_card card = {0, 0};
+	upc_answer answer;
+	upc_id id;
+	uint32_t k;
+
+	memset(seen, 0, LINES);
+	for (k = 0; k < UPC_MOST_CONTRACTS; k++)
+		four[k] = cbr;
+	put_return(octets, UPC_MOST_CONTRACTS);
+	ask(upc_card_new(&shape, &card, &fault) == 0 && upc_card_load(&card, octets, sizeof octets, &id, &fault) == 0,
+	    "a card of 4096 lines");
+	for (k = 0; k < LINES; k++)
+		ask(upc_card_setup(&card, (uint16_t)k, (uint16_t)(65535 - k), &id, four, UPC_MOST_CONTRACTS, &fault) == 0, "a connection");
+	upc_card_setup(&card, 0, 0, &id, four, 1, &fault);
+	refused("one connection more", UPC_DESK, 4);
+	upc_card_setup(&card, 4096, 0, &id, four, 1, &fault);
+	refused("one path more", UPC_CALL, UPC_LARGE_PATH);
+	for (k = 0; k < LINES; k++) {
+		uint32_t channel = 65535 - k, header = k << 20 | channel << 4;
+		uint8_t cell[UPC_CELL_OCTETS] = {(uint8_t)(header >> 24), (uint8_t)(header >> 16), (uint8_t)(header >> 8), (uint8_t)header};
+
+		ask(upc_card_arrive(&card, cell, sizeof cell, k, &answer, &fault) == 0, "a cell of a connection");
+		ask(answer.verdict == UPC_PASS && answer.value == 4 && answer.number == 1 && answer.line < LINES && !seen[answer.line],
+		    "a line of its own");
+		seen[answer.line] = 1;
+	}
+	upc_card_free(&card);
+	free(seen);
+	printf("%d connections\n", (int)LINES);
+}
+
+/* 65,536 cells in the journal of a connection on a card of the largest shape. */
+static void fill_journal(void)
+{
+	static const upc_shape shape = {UPC_UNI, PROGRAMS, LINES, PORTS, JOURNAL};
+	static const upc_contract cbr = {UPC_CBR1, 2, 0, 0, 0};
+	upc_entry *room = (upc_entry *)room_of(JOURNAL * sizeof *room);
+	uint8_t octets[8], cell[UPC_CELL_OCTETS] = {0x0f, 0xf0};
+	upc_card card = {0, 0};
+	upc_journal journal;
+	upc_answer answer;
+	size_t cells = 0;
+	upc_id id;
+	uint32_t k;
+
+	put_return(octets, 1);
+	ask(upc_card_new(&shape, &card, &fault) == 0 && upc_card_load(&card, octets, sizeof octets, &id, &fault) == 0 &&
+	        upc_card_setup(&card, 255, 0, &id, &cbr, 1, &fault) == 0,
+	    "a card of the largest journals");
+	for (k = 0; k < JOURNAL; k++)
+		ask(upc_card_arrive(&card, cell, sizeof cell, k, &answer, &fault) == 0 && answer.verdict == (k % 2 ? UPC_DISCARD : UPC_PASS),
+		    "a cell of the journal");
+	upc_card_arrive(&card, cell, sizeof cell, k, &answer, &fault);
+	refused("one cell more", UPC_ARRIVE, 6);
+	ask(upc_card_journal(&card, 255, 0, &cells, &fault) == 0 && cells == JOURNAL, "the number of cells");
+	upc_card_cut(&card, 255, 0, room, JOURNAL - 1, &journal, &fault);
+	refused("a room that lacks one entry", UPC_CALL, UPC_NO_ROOM);
+	ask(fault.place == JOURNAL && upc_card_cut(&card, 255, 0, room, JOURNAL, &journal, &fault) == 0, "the cut");
+	ask(journal.cells == JOURNAL && journal.after.passed == JOURNAL / 2 && journal.after.discarded == JOURNAL / 2, "its counts");
+	for (k = 0; k < JOURNAL; k++)
+		ask(room[k].moment == k && room[k].verdict == (k % 2 ? UPC_DISCARD : UPC_PASS), "an entry");
+	ask(upc_card_arrive(&card, cell, sizeof cell, JOURNAL, &answer, &fault) == 0 && answer.number == JOURNAL / 2 + 1,
+	    "the cell after the cut");
+	upc_card_free(&card);
+	free(room);
+	printf("%d cells in a journal\n", (int)JOURNAL);
+}
+
+int main(void)
+{
+	assemble(65536);
+	assemble(65537);
+	assemble(SOURCE);
+	run_longest();
+	judge_largest();
+	make_cards();
+	load_all();
+	set_up_all();
+	fill_journal();
+	return 0;
+}
