@@ -1,0 +1,10 @@
+pub mod Made
+pub mod Suffixes
+pub mod Growing
+pub mod Branches
+pub mod Spans
+pub mod Loads
+pub mod Tests
+pub mod LinesFit
+pub mod LinesAccepted
+pub mod Coding

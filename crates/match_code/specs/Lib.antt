@@ -1,0 +1,7 @@
+pub mod Labels
+pub mod Lines
+pub mod PlainTests
+pub mod Promise
+pub mod TestCode
+pub mod LineCode
+pub mod inner

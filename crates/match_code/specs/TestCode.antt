@@ -1,0 +1,144 @@
+-- The code that decides a test.
+use Rattle.std.specs.Prelude.{ℕ, Bool, true, false, ◌&&◌, ◌==◌, if◌then◌else◌, List, [], ◌∷◌, length, Option, Some, None}
+use Rattle.bpf_code.specs.declared.instr.By.TheVariants.{Imm}
+use Rattle.bpf_code.specs.declared.instr.Instr.{Instr}
+use Rattle.bpf_code.specs.declared.instr.Instr.TheVariants.{LoadAbs, Alu}
+use Rattle.bpf_code.specs.declared.instr.Op.TheVariants.{And}
+use Rattle.bpf_code.specs.declared.instr.Test.TheVariants.{Eq, Gt, Ge, Set}
+use Rattle.bpf_interp.specs.Packet.{octets_loaded}
+use Rattle.match_code.specs.Labels.{Tested, branched}
+use Rattle.match_code.specs.declared.part.Left.{Left}
+use Rattle.match_code.specs.declared.part.Part.{Part}
+use Rattle.match_code.specs.declared.part.Span.{Span}
+use Rattle.match_code.specs.declared.plain_test.PlainTest.{PlainTest, Always, Among, Has, Not', Both', Either'}
+
+-- Whether two masks are the same.
+abbrev pub is_same_mask : Option ℕ → Option ℕ → Bool
+is_same_mask None None = true
+is_same_mask None (Some other) = false
+is_same_mask (Some one) None = false
+is_same_mask (Some one) (Some other) = one == other
+
+-- Whether two parts are of the same octets.
+abbrev pub is_same_load : Part → Part → Bool
+is_same_load one other = (octets_loaded one.size == octets_loaded other.size) && (one.at == other.at)
+
+-- Whether two parts are the same number in every packet, seen from their fields.
+abbrev pub is_same_part : Part → Part → Bool
+is_same_part one other = is_same_load one other && is_same_mask one.mask other.mask
+
+-- Whether the register A, which holds this if anything is known of it, holds the part.
+abbrev pub is_held : Option Part → Part → Bool
+is_held None part = false
+is_held (Some held) part = is_same_part held part
+
+-- Whether A holds the octets of the part without a mask.
+abbrev pub is_loaded : Option Part → Part → Bool
+is_loaded None part = false
+is_loaded (Some held) part = is_same_load held part && is_same_mask held.mask None
+
+-- What is known of A where two ways join that leave this in it.
+abbrev pub joined : Option Part → Option Part → Option Part
+joined None other = None
+joined (Some one) None = None
+joined (Some one) (Some other) = if is_same_part one other then Some one else None
+
+-- What is known of A after a test.
+abbrev pub left_by : PlainTest → Option Part → Left
+left_by Always held = record { met = held; unmet = held }
+left_by (Among part first others) held = record { met = Some part; unmet = Some part }
+left_by (Has part bits) held = record { met = Some part; unmet = Some part }
+left_by (Not' p test) held = record { met = (left_by test held).unmet; unmet = (left_by test held).met }
+left_by (Both' p one q other) held =
+    record { met = (left_by other (left_by one held).met).met; unmet = joined (left_by one held).unmet (left_by other (left_by one held).met).unmet }
+left_by (Either' p one q other) held =
+    record { met = joined (left_by one held).met (left_by other (left_by one held).unmet).met; unmet = (left_by other (left_by one held).unmet).unmet }
+
+-- The mask of a part put in front of code.
+abbrev pub masked : Option ℕ → List Instr → List Instr
+masked None code = code
+masked (Some mask) code = Alu And (Imm mask) ∷ code
+
+-- The load of a part put in front of code, unless A holds it.
+abbrev pub loaded : Option Part → Part → List Instr → List Instr
+loaded held part code =
+    if is_held held part then code else (
+    if is_loaded held part then masked part.mask code else LoadAbs part.size part.at ∷ masked part.mask code)
+
+-- The two sides changed over.
+abbrev pub turned : Tested → Tested
+turned t = record { code = t.code; ways = record { entry = t.ways.entry; met = t.ways.unmet; unmet = t.ways.met } }
+
+-- A comparison with the lower bound put in front of the comparison with the upper one.
+abbrev pub bounded_from : Tested → Tested → Tested
+bounded_from upper lower = record {
+  code = lower.code;
+  ways = record { entry = lower.ways.entry; met = upper.ways.met; unmet = lower.ways.unmet };
+}
+
+-- The lower bound in front of the code for the upper one.
+abbrev pub with_lower : ℕ → Tested → Tested
+with_lower low upper = bounded_from upper (branched Ge low upper.code upper.ways.entry upper.ways.unmet)
+
+-- The test of a span put in front of code: one comparison where the span is one number or begins at 0, otherwise two.
+unfoldable pub span_code : Span → List Instr → ℕ → ℕ → Tested
+span_code span code met unmet =
+    if span.low == span.high then branched Eq span.low code met unmet else (
+    if span.low == 0 then turned (branched Gt span.high code unmet met) else
+    with_lower span.low (turned (branched Gt span.high code unmet met)))
+
+-- The labels of a span in front of the test of further spans.
+abbrev pub before_spans : Tested → Tested → Tested
+before_spans more first = record {
+  code = first.code;
+  ways = record {
+    entry = first.ways.entry;
+    met = first.ways.met;
+    unmet = if more.ways.entry == more.ways.unmet then first.ways.unmet else more.ways.unmet;
+  };
+}
+
+-- A span in front of the test of further spans: where it doesn't hold the number, they are tried.
+unfoldable pub spans_from : Span → Tested → Tested
+spans_from span more = before_spans more (span_code span more.code more.ways.met more.ways.entry)
+
+-- The test of spans put in front of code.
+unfoldable pub spans_code : List Span → List Instr → ℕ → ℕ → Tested
+spans_code [] code met unmet = record { code = code; ways = record { entry = unmet; met = met; unmet = unmet } }
+spans_code (span ∷ more) code met unmet = spans_from span (spans_code more code met unmet)
+
+-- The load of a part in front of a test of it.
+unfoldable pub with_load : Option Part → Part → Tested → Tested
+with_load held part t = record {
+  code = loaded held part t.code;
+  ways = record { entry = length (loaded held part t.code); met = t.ways.met; unmet = t.ways.unmet };
+}
+
+-- Both tests: where the first is met, the second is tried.
+abbrev pub both_ways : Tested → Tested → Tested
+both_ways other one = record {
+  code = one.code;
+  ways = record { entry = one.ways.entry; met = other.ways.met; unmet = one.ways.unmet };
+}
+
+-- One of two tests: where the first isn't met, the second is tried.
+abbrev pub either_way : Tested → Tested → Tested
+either_way other one = record {
+  code = one.code;
+  ways = record { entry = one.ways.entry; met = one.ways.met; unmet = other.ways.unmet };
+}
+
+-- The code of a test put in front of code, where A holds this if anything is known of it, with the labels of its two
+-- sides.
+unfoldable pub test_code : PlainTest → Option Part → List Instr → ℕ → ℕ → Tested
+test_code Always held code met unmet = record { code = code; ways = record { entry = met; met = met; unmet = unmet } }
+test_code (Among part first others) held code met unmet =
+    with_load held part (spans_code (first ∷ others.items) code met unmet)
+test_code (Has part bits) held code met unmet = with_load held part (branched Set bits code met unmet)
+test_code (Not' p test) held code met unmet = turned (test_code test held code unmet met)
+test_code (Both' p one q other) held code met unmet =
+    let second = test_code other (left_by one held).met code met unmet in
+    both_ways second (test_code one held second.code second.ways.entry second.ways.unmet)
+test_code (Either' p one q other) held code met unmet =
+    let second = test_code other (left_by one held).unmet code met unmet in
+    either_way second (test_code one held second.code second.ways.met second.ways.entry)

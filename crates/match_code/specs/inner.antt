@@ -1,0 +1,3 @@
+-- What only private functions and proofs need.
+pub mod Making
+pub mod Coding

@@ -1,0 +1,15 @@
+//! Tests on the numbers in a packet, lines of such tests, and the classic BPF code that decides them.
+#![tactic(auto)]
+
+mod draft;
+mod fault;
+mod leaves;
+mod lines;
+mod part;
+mod plain_test;
+mod tests_code;
+
+pub use fault::CodeFault;
+pub use lines::{Line, generate};
+pub use part::{Part, Span};
+pub use plain_test::PlainTest;

@@ -1,0 +1,215 @@
+//! Lines, and their code.
+
+ghost use Rattle.std.specs.Prelude.{◌≡◌, ◌<◌, ◌≤◌, ℕ, [], ◌∷◌, length, Err, IfOk, OnOk, None, Some, slice_get};
+ghost use Rattle.match_code.specs.LineCode.{Coded, held_at, left_after, first_after, later_after, line_code, lines_coded, begun, lines_code};
+ghost use Rattle.match_code.specs.Promise.{Classifies};
+ghost use Rattle.match_code.specs.inner.Coding.{coded_of};
+ghost use Rattle.bpf_verify.specs.Accepted.{IsAccepted};
+
+use crate::draft::Draft;
+use crate::fault::CodeFault;
+use crate::part::Part;
+use crate::plain_test::PlainTest;
+use crate::tests_code::{left_by, put_test};
+use bpf_code::Instr;
+use bpf_verify::MOST_INSTRUCTIONS;
+use std::alloc::{AllocError, Global};
+use std::marker::Model;
+
+/// A line: a rule, the head of a block, or its end. Lines are tried in order.
+#[derive(Debug, Drop)]
+pub enum Line {
+    /// Where the test holds, the value is this.
+    Rule {
+        /// The test.
+        test: PlainTest,
+        /// The value.
+        value: u32,
+    },
+    /// The lines up to the block's end are tried only where the test holds.
+    Block {
+        /// The test.
+        test: PlainTest,
+    },
+    /// The end of the block that began last.
+    End,
+}
+
+/// The labels after the ends of blocks. Contracts see the list of them, that of the first end first.
+#[derive(Drop)]
+struct Ends {
+    /// The labels, that of the last end first.
+    reversed: Vec<usize>,
+}
+
+impl Model for Ends {
+    ghost use Rattle.std.specs.Prelude.{ℕ, List, reverse};
+
+    ghost Value = { List ℕ };
+
+    ghost view = { λ e. reverse e.reversed.items };
+}
+
+impl Ends {
+    /// Returns the labels of no ends.
+    fn new(alloc: Global) -> Ends
+        ensures { result ≡ [] }
+    {
+        Ends {
+            reversed: Vec::new(alloc),
+        }
+    }
+
+    /// Puts the label after an end that comes before the others.
+    fn put(&mut self, label: usize) -> Result<(), AllocError>
+        ensures { OnOk result (self.new ≡ label ∷ self.old) }
+    {
+        self.reversed.push(label)?;
+        Ok(())
+    }
+
+    /// Takes the label after the first end, or that of the last return if there is no end.
+    fn take(&mut self) -> usize
+        ensures label { result ≡ first_after self.old }
+        ensures left { self.new ≡ later_after self.old }
+    {
+        match self.reversed.pop() {
+            None => 1,
+            Some(label) => label,
+        }
+    }
+}
+
+/// The code of the last lines.
+#[derive(Drop)]
+struct Coding {
+    /// The code.
+    draft: Draft,
+    /// The label where the lines begin.
+    entry: usize,
+    /// The labels after the ends of the blocks that they leave.
+    after: Ends,
+}
+
+/// Puts a line in front.
+#[tactic(auto, unfolding(crate::specs::LineCode::line_code))]
+fn put_line(coding: &mut Coding, line: &Line, held: Option<Part>) -> Result<(), AllocError>
+    ensures { OnOk result (coded_of coding.new ≡ line_code line.now held (coded_of coding.old)) }
+{
+    match line {
+        Line::Rule { test, value } => {
+            coding.draft.put(Instr::RetK(*value))?;
+            let met = coding.draft.len();
+            let ways = put_test(&mut coding.draft, test, held, met, coding.entry)?;
+            coding.entry = ways.entry;
+        }
+        Line::Block { test } => {
+            let unmet = coding.after.take();
+            let ways = put_test(&mut coding.draft, test, held, coding.entry, unmet)?;
+            coding.entry = ways.entry;
+        }
+        Line::End => coding.after.put(coding.entry)?,
+    }
+    Ok(())
+}
+
+/// What is known of A at each line.
+fn helds(alloc: Global, lines: &[Line]) -> Result<Vec<Option<Part>>, AllocError>
+    ensures count { IfOk result (λ helds. length helds.items ≡ length lines.now) }
+    ensures held { IfOk result (λ helds. (at : ℕ) → at < length lines.now → slice_get helds.items at ≡ Some (held_at lines.now None at)) }
+{
+    let mut helds = Vec::new(alloc);
+    let mut held = None;
+    for line in lines {
+        helds.push(held)?;
+        held = left_after(line, held);
+    }
+    Ok(helds)
+}
+
+/// What is known of A at the line after this one, if it is reached from this one.
+fn left_after(line: &Line, held: Option<Part>) -> Option<Part>
+    ensures { result ≡ left_after line.now held }
+{
+    match line {
+        Line::Rule { test, .. } => left_by(test, held).unmet,
+        Line::Block { test } => left_by(test, held).met,
+        Line::End => None,
+    }
+}
+
+/// The code of all lines, from the last to the first.
+fn put_lines(alloc: Global, lines: &[Line], otherwise: u32) -> Result<Coding, AllocError>
+    ensures { IfOk result (λ coding. coded_of coding ≡ lines_coded lines.now None otherwise) }
+{
+    let helds = helds(alloc, lines)?;
+    let mut coding = first_coding(alloc, otherwise)?;
+    let mut left = lines.len();
+    while left > 0 {
+        left -= 1;
+        put_line(&mut coding, &lines[left], helds[left])?;
+    }
+    Ok(coding)
+}
+
+/// The code without lines: the last return.
+fn first_coding(alloc: Global, otherwise: u32) -> Result<Coding, AllocError>
+    ensures { IfOk result (λ coding. coded_of coding ≡ lines_coded [] None otherwise) }
+{
+    let mut draft = Draft::new(alloc);
+    draft.put(Instr::RetK(otherwise))?;
+    Ok(Coding {
+        draft,
+        entry: 1,
+        after: Ends::new(alloc),
+    })
+}
+
+/// The code of lines, however long it is.
+fn whole_code(alloc: Global, lines: &[Line], otherwise: u32) -> Result<Vec<Instr>, AllocError>
+    ensures { IfOk result (λ code. code.items ≡ lines_code lines.now otherwise) }
+{
+    let coding = put_lines(alloc, lines, otherwise)?;
+    let code = begun(coding)?;
+    Ok(code)
+}
+
+/// The code from its first instruction on. If the lines don't begin there, puts `ja` in front.
+fn begun(coding: Coding) -> Result<Vec<Instr>, AllocError>
+    ensures { IfOk result (λ code. code.items ≡ begun (coded_of coding)) }
+{
+    let Coding {
+        mut draft,
+        entry,
+        after: _,
+    } = coding;
+    let count = draft.len();
+    if entry == count {
+        return Ok(draft.into_code());
+    }
+    draft.put(Instr::Jump(count.saturating_sub(entry) as u32))?;
+    Ok(draft.into_code())
+}
+
+/// Makes the code that gives the value of lines on every packet of 52 octets, with this value where no rule gives one.
+///
+/// # Errors
+///
+/// `TooLong` exactly if the code that is defined for the lines (`lines_code`) has more than 4096 instructions, and
+/// `NoMemory` if an allocation failed.
+pub fn generate(alloc: Global, lines: &[Line], otherwise: u32) -> Result<Vec<Instr>, CodeFault>
+    ensures accepted { IfOk result (λ code. IsAccepted code.items) }
+    ensures value { IfOk result (λ code. Classifies lines.now otherwise code.items) }
+    ensures code { IfOk result (λ code. code.items ≡ lines_code lines.now otherwise) }
+    ensures too_long { result ≡ Err CodeFault.TooLong → 4096 < length (lines_code lines.now otherwise) }
+    ensures short { IfOk result (λ code. length (lines_code lines.now otherwise) ≤ 4096) }
+{
+    let code = match whole_code(alloc, lines, otherwise) {
+        Ok(code) => code,
+        Err(_) => return Err(CodeFault::NoMemory),
+    };
+    if code.len() > MOST_INSTRUCTIONS {
+        return Err(CodeFault::TooLong);
+    }
+    Ok(code)
+}

@@ -1,0 +1,37 @@
+//! The parts of a packet that tests look at.
+
+ghost use Rattle.std.specs.Prelude.{◌+◌, ◌≤◌};
+ghost use Rattle.bpf_interp.specs.Packet.{octets_loaded};
+
+use bpf_code::Size;
+
+/// A number in a packet of 52 octets: one, two or four octets from an offset, big-endian, of which a mask may keep some
+/// bits.
+#[derive(Clone, Copy, Debug)]
+pub struct Part {
+    /// How many octets.
+    pub size: Size,
+    /// The offset of the first, counted from 0.
+    pub at: u32,
+    /// The bits that count, if not all do.
+    pub mask: Option<u32>,
+    ghost inside: { at + octets_loaded size ≤ 52 },
+}
+
+/// The numbers from the lowest to the highest, both among them.
+#[derive(Clone, Copy, Debug, PartialEq, Eq)]
+pub struct Span {
+    /// The lowest number.
+    pub low: u32,
+    /// The highest number.
+    pub high: u32,
+}
+
+/// What is known of A after a test: the part that it holds, if any is known.
+#[derive(Clone, Copy)]
+pub(crate) struct Left {
+    /// Where the test is met.
+    pub met: Option<Part>,
+    /// Where it isn't.
+    pub unmet: Option<Part>,
+}
