@@ -4,7 +4,8 @@
 `rt` is a Python program. Its module knows which crates there are, what each depends on, and with which words the prover
 is called. These scripts use it to call the prover as `rt` does.
 
-    tools/kit.py MINUTES     says how long the gate takes with this toolchain, if it takes so many minutes from nothing
+    tools/kit.py MINUTES             says how long the gate takes with this toolchain, if it takes so many minutes from nothing
+    tools/kit.py --note COMMIT LAST  prints what bin/test notes of a commit that passed: it, the toolchain, the logic, the last line
 """
 import functools
 import os
@@ -57,6 +58,9 @@ def minutes(seconds):
 
 
 def main(words):
+    if words[:1] == ["--note"]:
+        print(f"commit: {words[1]}\ntoolchain: {name()}\nlogic: {logic()}\nlast line: {words[2]}")
+        return
     kept = "what passed on this machine, on the same files, is kept" if keeps() else "it proves everything in each run"
     print(f"{name()}: from nothing the gate takes some {words[0]} minutes on {module().cores()} processors; {kept}")
 
