@@ -2,6 +2,7 @@
 
 mod interleaving;
 mod isolation;
+mod limits;
 
 use arrayvec::ArrayVec;
 use bpf_code::Instr;
