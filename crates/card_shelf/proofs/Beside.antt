@@ -1,152 +1,80 @@
 -- A shelf that polices arrivals stays beside one card that answers them.
-use Rattle.std.proofs.Common.{◌≡◌, ℕ, ◌+◌, ◌≤◌, ◌<◌, ◌^◌, Bool, true, false, List, [], ◌∷◌, ◌++◌, length, Some, refl, sym, ap, ◌∙◌, subst, inl, inr, arith, length-set}
+use Rattle.std.proofs.Common.{◌≡◌, ◌≢◌, ◌⊎◌, ℕ, ◌+◌, ◌*◌, ◌≤◌, ◌<◌, ◌^◌, Bool, true, false, List, [], ◌∷◌, ◌++◌, length, Some, refl, sym, ap, ◌∙◌, subst, inl, inr, arith, length-set}
 use Rattle.std.specs.Prelude.{slice_get, slice_set}
-use Rattle.std.proofs.lemmas.List.{length-append}
+use Rattle.std.proofs.lemmas.List.{length-append, append_assoc}
 use Rattle.std.proofs.lemmas.Option.{same_Some, slice_get_within}
 use Rattle.upc_cell.specs.declared.side.Side.{Side}
 use Rattle.upc_cell.specs.declared.vc.Vc.{Vc}
 use Rattle.upc_cell.specs.Connection.{vc_of, is_same_vc}
-use Rattle.upc_cell.proofs.Public.{vc_same, vc_itself}
-use Rattle.card_core.specs.declared.answer.Answer.{Answer}
-use Rattle.card_core.specs.declared.reply.Reply.TheVariants.{Entered, Picked}
+use Rattle.upc_cell.proofs.Public.{vc_same}
 use Rattle.card_core.specs.declared.shape.Shape.{Shape}
-use Rattle.card_core.specs.declared.step.Step.TheVariants.{Enter, Pick}
-use Rattle.card_core.specs.Agreement.{CoreView, GoneAll, events_of}
-use Rattle.card_core.specs.Log.{Event, IsLog, Leads}
+use Rattle.card_core.specs.Agreement.{CoreView}
+use Rattle.card_core.specs.Log.{Event}
 use Rattle.card_core.specs.Sections.{answer_to}
-use Rattle.card_core.specs.World.{World, Loading, opening_world}
+use Rattle.card_core.specs.World.{Loading}
 use Rattle.card_isolation.specs.Isolation.{account_of}
 use Rattle.card_isolation.specs.Outcome.{outcome_of}
 use Rattle.card_shelf.specs.declared.arrival.Arrival.{Arrival}
 use Rattle.card_shelf.specs.Dealing.{card_of, card_for}
-use Rattle.card_shelf.specs.Own.{ServesAll}
+use Rattle.card_shelf.specs.Logs.{IsWayOf, AreWaysOf, GoesOnBy}
+use Rattle.card_shelf.specs.Own.{ServesAll, own_arrivals, own_told}
 use Rattle.card_shelf.specs.Policing.{ServesArrival, Polices, PolicesAll}
-use Rattle.card_shelf.specs.OneCard.{IsLogOf, IsBeside, HasTimeFor, codes_in, AreAlike, IsToldAlike, AreToldAlike, ShelvesTellAsOneCard}
-use Rattle.card_shelf.proofs.GoingOn.{run-append}
+use Rattle.card_shelf.specs.OneCard.{IsLogOf, IsBeside, HaveTimeFor, codes_in, AreAlike, IsToldAlike, AreToldAlike, ShelvesTellAsOneCard}
 use Rattle.gen_arena.proofs.Public.{slice_get-set}
+use Rattle.card_shelf.proofs.BesideStep.{steps-beside}
+use Rattle.card_shelf.proofs.BothGo.{both-go}
+use Rattle.card_shelf.proofs.GoingOn.{goes-nowhere, goes-first}
 use Rattle.card_shelf.proofs.Lists.{there}
-use Rattle.card_shelf.proofs.OwnLemmas.{Told}
-use Rattle.card_shelf.proofs.WayAlike.{both-missed, both-judged, missed-here-alone, missed-there-alone}
-use Rattle.card_shelf.proofs.Ways.{missed_way, judged_way, missed-foreign, judged-foreign, missed-codes, judged-codes}
+use Rattle.card_shelf.proofs.OwnLemmas.{Told, own-here, own-elsewhere, told-here, told-elsewhere}
 
--- What one card has come to by a cell: by which steps, after which its log has at most three more events, has put no
--- code in, and has left the accounts of other connections.
-record GoesBy (shape : Shape) (log : List Event) (arrival : Arrival) (next : CoreView) (way : List Event) : Type 0 where
-  is_log : IsLogOf shape (log ++ way) next
-  short : length way ≤ 3
-  codes : codes_in (log ++ way) ≡ codes_in log
-  foreign : (vc : Vc) → is_same_vc vc (vc_of shape.side arrival.cell) ≡ false → account_of shape.side vc (log ++ way) ≡ account_of shape.side vc log
+-- The log of the card of this number after an arrival: it goes on by the arrival's steps, if the arrival is the card's.
+abbrev pub GrowsBy : ℕ → ℕ → Arrival → Told → List Event → List Event → Type 0
+GrowsBy mine number arrival told earlier own =
+    ((mine ≡ number) × (way : List Event) × IsWayOf arrival (answer_to arrival.cell told) way × (own ≡ earlier ++ way))
+    ⊎ ((mine ≢ number) × (own ≡ earlier))
 
-by-missed : (shape : Shape) (log : List Event) (arrival : Arrival) (next : CoreView) (before : World) (answer : Answer)
-    → GoneAll shape log before (missed_way arrival.cell arrival.moment answer) next
-    → GoesBy shape log arrival next (missed_way arrival.cell arrival.moment answer)
-by-missed shape log arrival next before answer gone = record {
-  is_log = record { world = gone.after; leads = gone.leads; agrees = gone.agrees };
-  short = omega arith;
-  codes = missed-codes log arrival.cell arrival.moment answer;
-  foreign = λ vc foreign. missed-foreign shape.side vc log arrival.cell arrival.moment answer foreign;
-}
+-- The card of this number has gone on by its own arrivals, the first of them and the later ones.
+own-goes : (side : Side) (cards number : ℕ) (x : Arrival) (t : Told) (xs : List Arrival) (ts : List Told) (log between own : List Event)
+    → GrowsBy (card_for side cards x) number x t log between
+    → GoesOnBy between (own_arrivals side cards number xs) (own_told side cards number xs ts) own
+    → GoesOnBy log (own_arrivals side cards number (x ∷ xs)) (own_told side cards number (x ∷ xs) (t ∷ ts)) own
+own-goes side cards number x t xs ts log between own (inl mine) goes =
+    let own_xs = own_arrivals side cards number xs in
+    let own_ts = own_told side cards number xs ts in
+    subst (λ (us : List Told). GoesOnBy log (own_arrivals side cards number (x ∷ xs)) us own) (sym (told-here side cards number x xs t ts mine.0))
+    (subst (λ (ys : List Arrival). GoesOnBy log ys (t ∷ own_ts) own) (sym (own-here side cards number x xs mine.0))
+    (goes-first log between own x t own_xs own_ts mine.1 mine.2 mine.3 goes))
+own-goes side cards number x t xs ts log between own (inr apart) goes =
+    subst (λ (us : List Told). GoesOnBy log (own_arrivals side cards number (x ∷ xs)) us own) (sym (told-elsewhere side cards number x xs t ts apart.0))
+    (subst (λ (ys : List Arrival). GoesOnBy log ys (own_told side cards number xs ts) own) (sym (own-elsewhere side cards number x xs apart.0))
+    (subst (λ (l : List Event). GoesOnBy l (own_arrivals side cards number xs) (own_told side cards number xs ts) own) apart.1 goes))
 
-by-judged : (shape : Shape) (log : List Event) (arrival : Arrival) (next : CoreView) (before : World) (answer : Answer)
-    → GoneAll shape log before (judged_way arrival.cell arrival.moment answer) next
-    → GoesBy shape log arrival next (judged_way arrival.cell arrival.moment answer)
-by-judged shape log arrival next before answer gone = record {
-  is_log = record { world = gone.after; leads = gone.leads; agrees = gone.agrees };
-  short = omega arith;
-  codes = judged-codes log arrival.cell arrival.moment answer;
-  foreign = λ vc foreign. judged-foreign shape.side vc log arrival.cell arrival.moment answer foreign;
-}
-
--- The log up to the pick.
-picked-log : (shape : Shape) (log : List Event) (arrival : Arrival) (next : CoreView) (before : World) (answer : Answer)
-    → Leads shape log before → GoneAll shape log before (judged_way arrival.cell arrival.moment answer) next
-    → IsLog shape (log ++ events_of (Enter 0 arrival.cell arrival.moment ∷ Pick 0 ∷ []) (Entered ∷ Picked ∷ []))
-picked-log shape log arrival next before answer leads gone =
-    let run = gone.stepped in
-    let picked = run.2.0 in (
-      picked,
-      run-append (opening_world shape) before picked log
-          (events_of (Enter 0 arrival.cell arrival.moment ∷ Pick 0 ∷ []) (Entered ∷ Picked ∷ []))
-          leads (run.0, run.1, (picked, run.2.1, refl)),
-    )
-
--- Both cards have answered the cell alike, and the account of its connection is the same afterwards.
-record BothGo (one shape : Shape) (log another : List Event) (arrival : Arrival) (answer told : Answer) (next after : CoreView) : Type 0 where
-  way : List Event
-  way_too : List Event
-  here : GoesBy one log arrival next way
-  there : GoesBy shape another arrival after way_too
-  alike : outcome_of (codes_in log) answer ≡ outcome_of (codes_in another) told
-  own : (vc : Vc) → is_same_vc vc (vc_of one.side arrival.cell) ≡ true → account_of one.side vc (log ++ way) ≡ account_of shape.side vc (another ++ way_too)
+-- Each of the longer logs has loaded the codes of the one that it grew from.
+abbrev pub KeepsCodes : List (List Event) → List (List Event) → Type 0
+KeepsCodes logs longer = (number : ℕ) (own : List Event) → slice_get longer number ≡ Some own
+    → (earlier : List Event) × (slice_get logs number ≡ Some earlier) × (codes_in own ≡ codes_in earlier)
 
 module _ (one shape : Shape) (side : one.side ≡ shape.side) (journal : one.journal ≡ shape.journal) where
-  both-go : (log another : List Event) (arrival : Arrival) (answer told : Told) (card next core after : CoreView)
-      → length log + 3 ≤ 2 ^ 62 → length another + 3 ≤ 2 ^ 62
-      → IsLogOf one log card → IsLogOf shape another core
-      → ((vc : Vc) → is_same_vc vc (vc_of one.side arrival.cell) ≡ true → account_of one.side vc log ≡ account_of shape.side vc another)
-      → ServesArrival arrival answer card next → ServesArrival arrival told core after
-      → BothGo one shape log another arrival (answer_to arrival.cell answer) (answer_to arrival.cell told) next after
-  both-go log another arrival answer told card next core after few few_too is is_too accounts (inl here) (inl there) =
-      let a = answer_to arrival.cell answer in
-      let t = answer_to arrival.cell told in
-      let gone = here one log is.world is.leads is.agrees in
-      let gone_too = there shape another is_too.world is_too.leads is_too.agrees in
-      let both = λ (vc : Vc) (own : is_same_vc vc (vc_of one.side arrival.cell) ≡ true). both-missed one shape log another vc arrival.cell arrival.moment side journal few few_too own
-      (accounts vc own) a t (gone.after, gone.leads) (gone_too.after, gone_too.leads) in
-      let mine = vc_of one.side arrival.cell in
-      record {
-        way = missed_way arrival.cell arrival.moment a;
-        way_too = missed_way arrival.cell arrival.moment t;
-        here = by-missed one log arrival next is.world a gone;
-        there = by-missed shape another arrival after is_too.world t gone_too;
-        alike = (both mine (vc_itself mine)).1;
-        own = λ vc own. (both vc own).0;
-      }
-  both-go log another arrival answer told card next core after few few_too is is_too accounts (inr here) (inr there) =
-      let a = answer_to arrival.cell answer in
-      let t = answer_to arrival.cell told in
-      let gone = here one log is.world is.leads is.agrees in
-      let gone_too = there shape another is_too.world is_too.leads is_too.agrees in
-      let both = λ (vc : Vc) (own : is_same_vc vc (vc_of one.side arrival.cell) ≡ true). both-judged one shape log another vc arrival.cell arrival.moment side journal few few_too own
-      (accounts vc own) a t (gone.after, gone.leads) (gone_too.after, gone_too.leads) in
-      let mine = vc_of one.side arrival.cell in
-      record {
-        way = judged_way arrival.cell arrival.moment a;
-        way_too = judged_way arrival.cell arrival.moment t;
-        here = by-judged one log arrival next is.world a gone;
-        there = by-judged shape another arrival after is_too.world t gone_too;
-        alike = (both mine (vc_itself mine)).1;
-        own = λ vc own. (both vc own).0;
-      }
-  both-go log another arrival answer told card next core after few few_too is is_too accounts (inl here) (inr there) =
-      let mine = vc_of one.side arrival.cell in
-      let gone = here one log is.world is.leads is.agrees in
-      let gone_too = there shape another is_too.world is_too.leads is_too.agrees in
-      absurd (missed-here-alone one shape log another mine arrival.cell arrival.moment side journal few few_too (vc_itself mine)
-      (accounts mine (vc_itself mine)) (answer_to arrival.cell answer) (gone.after, gone.leads)
-      (picked-log shape another arrival after is_too.world (answer_to arrival.cell told) is_too.leads gone_too))
-  both-go log another arrival answer told card next core after few few_too is is_too accounts (inr here) (inl there) =
-      let mine = vc_of one.side arrival.cell in
-      let gone = here one log is.world is.leads is.agrees in
-      let gone_too = there shape another is_too.world is_too.leads is_too.agrees in
-      absurd (missed-there-alone one shape log another mine arrival.cell arrival.moment side journal few few_too (vc_itself mine)
-      (accounts mine (vc_itself mine)) (answer_to arrival.cell told)
-      (picked-log one log arrival next is.world (answer_to arrival.cell answer) is.leads gone) (gone_too.after, gone_too.leads))
+  -- The card with this log is beside the cards with these logs.
+  abbrev pub Beside : List Event → CoreView → List (List Event) → List CoreView → Type 0
+  Beside log card logs cards = IsBeside (record { shape = one; log = log; card = card }) (record { shape = shape; logs = logs; cards = cards })
 
   -- One arrival: the shelf and the card are beside each other afterwards.
   record OneOn (log : List Event) (next : CoreView) (logs : List (List Event)) (between : List CoreView) (arrival : Arrival) (answer told : Told) : Type 0 where
     way : List Event
+    way_is : IsWayOf arrival (answer_to arrival.cell answer) way
     longer : List (List Event)
-    beside : IsBeside one (log ++ way) next shape longer between
+    beside : Beside (log ++ way) next longer between
     short : length way ≤ 3
     same_length : length longer ≡ length logs
     grown : (number : ℕ) (own : List Event) → slice_get longer number ≡ Some own
         → (earlier : List Event) × (slice_get logs number ≡ Some earlier) × (length own ≤ length earlier + 3) × (codes_in own ≡ codes_in earlier)
+        × GrowsBy (card_for shape.side (length logs) arrival) number arrival told earlier own
     codes : codes_in (log ++ way) ≡ codes_in log
     alike : IsToldAlike shape.side log logs arrival answer told
 
   one-on : (log : List Event) (card next : CoreView) (logs : List (List Event)) (cards between : List CoreView) (arrival : Arrival) (answer told : Told)
-      → IsBeside one log card shape logs cards → length log + 3 ≤ 2 ^ 62
+      → Beside log card logs cards → length log + 3 ≤ 2 ^ 62
       → ((number : ℕ) (own : List Event) → slice_get logs number ≡ Some own → length own + 3 ≤ 2 ^ 62)
       → ServesArrival arrival answer card next → Polices shape.side cards arrival told between
       → OneOn log next logs between arrival answer told
@@ -154,63 +82,25 @@ module _ (one shape : Shape) (side : one.side ≡ shape.side) (journal : one.jou
       let mine = vc_of shape.side arrival.cell in
       let number = card_for shape.side (length cards) arrival in
       let in_cards : number < length cards = slice_get_within cards number polices.card polices.there in
-      let at = there logs number (omega (arith, in_cards, beside.sized)) in
+      let at = there logs number (omega (arith, in_cards, beside.logged.sized)) in
       let own = at.0 in
-      let same_number : card_of mine (length logs) ≡ number = ap (card_of mine) beside.sized in
+      let same_number : card_of mine (length logs) ≡ number = ap (card_of mine) beside.logged.sized in
       let accounts : (vc : Vc) → is_same_vc vc (vc_of one.side arrival.cell) ≡ true → account_of one.side vc log ≡ account_of shape.side vc own =
       λ vc is. beside.accounts vc own
       (ap (λ (v : Vc). slice_get logs (card_of v (length logs))) (vc_same vc (vc_of one.side arrival.cell) is ∙ ap (λ (s : Side). vc_of s arrival.cell) side)
       ∙ ap (slice_get logs) same_number ∙ at.1) in
-      let go = both-go log own arrival answer told card next polices.card polices.next few (each_few number own at.1) beside.here
-      (beside.each number own polices.card at.1 polices.there) accounts serves polices.did in
+      let go = both-go one shape side journal log own arrival answer told card next polices.card polices.next few (each_few number own at.1) beside.logged.here
+      (beside.logged.each number own polices.card at.1 polices.there) accounts serves polices.did in
       let longer = slice_set logs number (own ++ go.way_too) in
       let same_length : length longer ≡ length logs = length-set logs number (own ++ go.way_too) in
-      let cards_same : length between ≡ length cards = ap length polices.after ∙ length-set cards number polices.next in
       record {
         way = go.way;
+        way_is = go.way_is;
         longer = longer;
-        beside = record {
-          here = go.here.is_log;
-          sized = same_length ∙ beside.sized ∙ sym cards_same;
-          each = λ k other core is is_core.
-              elim (slice_get-set logs number k (own ++ go.way_too) other is) [
-                | inl same ↦
-                    let core_is : slice_get (slice_set cards number polices.next) k ≡ Some core = ap (λ (cs : List CoreView). slice_get cs k) (sym polices.after) ∙ is_core in
-                    elim (slice_get-set cards number k polices.next core core_is) [
-                      | inl same_too ↦ subst (λ (c : CoreView). IsLogOf shape other c) same_too.1
-                          (subst (λ (l : List Event). IsLogOf shape l polices.next) same.1 go.there.is_log)
-                      | inr apart ↦ absurd (apart.0 same.0)
-                    ]
-                | inr apart ↦
-                    let core_is : slice_get (slice_set cards number polices.next) k ≡ Some core = ap (λ (cs : List CoreView). slice_get cs k) (sym polices.after) ∙ is_core in
-                    elim (slice_get-set cards number k polices.next core core_is) [
-                      | inl same_too ↦ absurd (apart.0 same_too.0)
-                      | inr apart_too ↦ beside.each k other core apart.1 apart_too.1
-                    ]
-              ];
-          accounts = λ vc other is.
-              let is_at : slice_get longer (card_of vc (length logs)) ≡ Some other = ap (λ (n : ℕ). slice_get longer (card_of vc n)) (sym same_length) ∙ is in
-              let choice : (b : Bool) → is_same_vc vc (vc_of one.side arrival.cell) ≡ b → account_of one.side vc (log ++ go.way) ≡ account_of shape.side vc other = elim [
-                | true ↦ λ mine_too.
-                    let card_is : card_of vc (length logs) ≡ number =
-                    ap (λ (v : Vc). card_of v (length logs)) (vc_same vc (vc_of one.side arrival.cell) mine_too ∙ ap (λ (s : Side). vc_of s arrival.cell) side) ∙ same_number in
-                    elim (slice_get-set logs number (card_of vc (length logs)) (own ++ go.way_too) other is_at) [
-                      | inl same ↦ subst (λ (l : List Event). account_of one.side vc (log ++ go.way) ≡ account_of shape.side vc l) same.1 (go.own vc mine_too)
-                      | inr apart ↦ absurd (apart.0 card_is)
-                    ]
-                | false ↦ λ foreign.
-                    let foreign_too : is_same_vc vc (vc_of shape.side arrival.cell) ≡ false = subst (λ (s : Side). is_same_vc vc (vc_of s arrival.cell) ≡ false) side foreign in
-                    go.here.foreign vc foreign
-                    ∙ elim (slice_get-set logs number (card_of vc (length logs)) (own ++ go.way_too) other is_at) [
-                      | inl same ↦
-                          let own_at : slice_get logs (card_of vc (length logs)) ≡ Some own = ap (slice_get logs) same.0 ∙ at.1 in
-                          subst (λ (l : List Event). account_of one.side vc log ≡ account_of shape.side vc l) same.1
-                          (beside.accounts vc own own_at ∙ sym (go.there.foreign vc foreign_too))
-                      | inr apart ↦ beside.accounts vc other apart.1
-                    ]
-              ] in
-              choice (is_same_vc vc (vc_of one.side arrival.cell)) refl;
-        };
+        beside = steps-beside (record { shape = one; log = log; card = card }) (record { shape = shape; logs = logs; cards = cards }) beside
+            (vc_of one.side arrival.cell) number own go.way go.way_too next polices.next between
+            (ap (λ (s : Side). card_of (vc_of s arrival.cell) (length logs)) side ∙ same_number) at.1 polices.after go.here.is_log go.there.is_log go.own go.here.foreign
+            (λ vc foreign. go.there.foreign vc (subst (λ (s : Side). is_same_vc vc (vc_of s arrival.cell) ≡ false) side foreign));
         short = go.here.short;
         same_length = same_length;
         grown = λ k other is. elim (slice_get-set logs number k (own ++ go.way_too) other is) [
@@ -221,8 +111,9 @@ module _ (one shape : Shape) (side : one.side ≡ shape.side) (journal : one.jou
                 let is_length : length (own ++ go.way_too) ≡ length other = ap length same.1 in
                 omega (arith, more, is_length, go.there.short)),
             ap codes_in (sym same.1) ∙ go.there.codes,
+            inl (same_number ∙ sym same.0, go.way_too, go.way_too_is, sym same.1),
           )
-          | inr apart ↦ (other, apart.1, omega arith, refl)
+          | inr apart ↦ (other, apart.1, omega arith, refl, inr (λ is_mine. apart.0 (sym is_mine ∙ same_number), refl))
         ];
         codes = go.here.codes;
         alike = λ other is.
@@ -230,11 +121,6 @@ module _ (one shape : Shape) (side : one.side ≡ shape.side) (journal : one.jou
             let same : own ≡ other = same_Some own other (sym at.1 ∙ here) in
             subst (λ (l : List Event). AreAlike log l arrival answer told) same go.alike;
       }
-
-  -- Each of the longer logs has put in the codes of the one that it grew from.
-  abbrev KeepsCodes : List (List Event) → List (List Event) → Type 0
-  KeepsCodes logs longer = (number : ℕ) (own : List Event) → slice_get longer number ≡ Some own
-      → (earlier : List Event) × (slice_get logs number ≡ Some earlier) × (codes_in own ≡ codes_in earlier)
 
   -- What was told alike after some logs is so after longer ones with the same codes.
   told-later : (log longer : List Event) (logs grown : List (List Event)) (arrival : Arrival) (answer told : Told)
@@ -248,29 +134,39 @@ module _ (one shape : Shape) (side : one.side ≡ shape.side) (journal : one.jou
       ∙ alike was.0 at
       ∙ ap (λ (cs : List Loading). outcome_of cs (answer_to arrival.cell told)) (sym was.2)
 
-  -- All arrivals.
-  record AllOn (log : List Event) (next : CoreView) (logs : List (List Event)) (new : List CoreView) (arrivals : List Arrival) (answers told : List Told) : Type 0 where
-    longer : List Event
-    grown : List (List Event)
-    beside : IsBeside one longer next shape grown new
-    codes : codes_in longer ≡ codes_in log
-    sized : length grown ≡ length logs
-    each : KeepsCodes logs grown
-    alike : AreToldAlike shape.side longer grown arrivals answers told
+  -- The log of each card goes on by the steps of its own arrivals.
+  abbrev pub EachGoesOn : List (List Event) → List (List Event) → List Arrival → List Told → Type 0
+  EachGoesOn logs grown arrivals told = (number : ℕ) (own : List Event) → slice_get grown number ≡ Some own
+      → (earlier : List Event) × (slice_get logs number ≡ Some earlier)
+      × GoesOnBy earlier (own_arrivals shape.side (length logs) number arrivals) (own_told shape.side (length logs) number arrivals told) own
 
-  all-on : (log : List Event) (card next : CoreView) (logs : List (List Event)) (cards new : List CoreView) (arrivals : List Arrival) (answers told : List Told)
-      → IsBeside one log card shape logs cards → HasTimeFor (length arrivals) log
-      → ((number : ℕ) (own : List Event) → slice_get logs number ≡ Some own → HasTimeFor (length arrivals) own)
+  -- All arrivals.
+  pub record AllOn (log : List Event) (next : CoreView) (logs : List (List Event)) (new : List CoreView) (arrivals : List Arrival) (answers told : List Told) : Type 0 where
+    pub longer : List Event
+    pub grown : List (List Event)
+    pub beside : Beside longer next grown new
+    pub goes : GoesOnBy log arrivals answers longer
+    pub codes : codes_in longer ≡ codes_in log
+    pub sized : length grown ≡ length logs
+    pub each : KeepsCodes logs grown
+    pub each_goes : EachGoesOn logs grown arrivals told
+    pub alike : AreToldAlike shape.side longer grown arrivals answers told
+
+  pub all-on : (log : List Event) (card next : CoreView) (logs : List (List Event)) (cards new : List CoreView) (arrivals : List Arrival) (answers told : List Told)
+      → Beside log card logs cards → length log + 3 * length arrivals ≤ 2 ^ 62
+      → ((number : ℕ) (own : List Event) → slice_get logs number ≡ Some own → length own + 3 * length arrivals ≤ 2 ^ 62)
       → ServesAll card arrivals answers next → PolicesAll shape.side cards arrivals told new
       → AllOn log next logs new arrivals answers told
   all-on log card next logs cards new [] [] [] beside few each_few serves polices = record {
     longer = log;
     grown = logs;
-    beside = subst (λ (c : CoreView). IsBeside one log c shape logs new) (sym serves)
-        (subst (λ (cs : List CoreView). IsBeside one log card shape logs cs) (sym polices) beside);
+    beside = subst (λ (c : CoreView). Beside log c logs new) (sym serves)
+        (subst (λ (cs : List CoreView). Beside log card logs cs) (sym polices) beside);
+    goes = goes-nowhere log;
     codes = refl;
     sized = refl;
     each = λ number own is. (own, is, refl);
+    each_goes = λ number own is. (own, is, goes-nowhere own);
     alike = tt;
   }
   all-on log card next logs cards new [] [] (t ∷ ts) beside few each_few serves polices = absurd polices
@@ -298,13 +194,31 @@ module _ (one shape : Shape) (side : one.side ≡ shape.side) (journal : one.jou
         longer = later.longer;
         grown = later.grown;
         beside = later.beside;
+        goes = goes-first log (log ++ first.way) later.longer x a xs answers first.way first.way_is refl later.goes;
         codes = codes;
         sized = sized;
         each = each;
+        each_goes = λ number own is.
+            let was = later.each_goes number own is in
+            let before = first.grown number was.0 was.1 in
+            let goes = subst (λ (n : ℕ). GoesOnBy was.0 (own_arrivals shape.side n number xs) (own_told shape.side n number xs ts) own) first.same_length was.2 in
+            (before.0, before.1, own-goes shape.side (length logs) number x t xs ts before.0 was.0 own before.4 goes);
         alike = (told-later log later.longer logs later.grown x a t codes sized each first.alike, later.alike);
       }
 
 pub tells-as-one : ShelvesTellAsOneCard
-tells-as-one shape old new arrivals told polices one log logs card next answers side journal beside few each_few serves =
-    let all = all-on one shape side journal log card next logs old new arrivals answers told beside few each_few serves polices in
-    record { log = all.longer; logs = all.grown; beside = all.beside; alike = all.alike }
+tells-as-one shape old new arrivals told polices one logs next answers beside time serves =
+    let all = all-on one.shape shape beside.logged.side beside.logged.journal one.log one.card next logs old new arrivals answers told beside time.here time.each
+    serves polices in
+    record {
+      log = all.longer;
+      logs = all.grown;
+      goes_on = all.goes;
+      sized = all.sized;
+      each_goes_on = λ number earlier own was is.
+          let goes = all.each_goes number own is in
+          let same : goes.0 ≡ earlier = same_Some goes.0 earlier (sym goes.1 ∙ was) in
+          subst (λ (l : List Event). GoesOnBy l (own_arrivals shape.side (length logs) number arrivals) (own_told shape.side (length logs) number arrivals told) own) same goes.2;
+      beside = all.beside;
+      alike = all.alike;
+    }

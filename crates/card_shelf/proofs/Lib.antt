@@ -10,6 +10,14 @@ pub mod RunningLemmas
 pub mod GoingOn
 pub mod Ways
 pub mod WayAlike
+pub mod BothGo
+pub mod BesideStep
 pub mod Beside
+pub mod DeskWays
+pub mod ServiceBeside
+pub mod BatchBeside
+pub mod ProgramsBeside
+pub mod CallsBeside
+pub mod Lives
 pub mod SameActs
 pub mod ProgramLemmas

@@ -1,5 +1,5 @@
 -- What lists have at a place.
-use Rattle.std.proofs.Common.{◌≡◌, ◌⊎◌, ℕ, zero, suc, ◌+◌, ◌<◌, List, [], ◌∷◌, ◌++◌, length, take, drop, replicate, Some, refl, sym, ap, ◌∙◌, inl, inr, arith, drop_of_length-le}
+use Rattle.std.proofs.Common.{◌≡◌, ◌⊎◌, ℕ, zero, suc, ◌+◌, ◌<◌, List, [], ◌∷◌, ◌++◌, length, map, take, drop, replicate, Some, refl, sym, ap, ◌∙◌, subst, inl, inr, arith, drop_of_length-le}
 use Rattle.std.specs.Prelude.{slice_get}
 use Rattle.std.proofs.lemmas.List.{take_more, take-append-drop, drop_more, append-nil, take_all}
 use Rattle.std.proofs.lemmas.Option.{same_Some, slice_get_within, get_or_from_slice_get}
@@ -50,3 +50,23 @@ module _ {X : Type 0} where
   overwritten n old new sized kept =
       ap (λ (xs : List X). take n (new ++ xs)) (drop_of_length-le old (omega (arith, kept)))
       ∙ ap (take n) (append-nil new) ∙ take_all n new (omega (arith, sized, kept))
+
+-- The value at a place of a mapped list comes from the one at that place.
+pub map-there : {X Y : Type 0} (f : X → Y) (xs : List X) (k : ℕ) (y : Y) → slice_get (map f xs) k ≡ Some y
+    → (x : X) × (slice_get xs k ≡ Some x) × (f x ≡ y)
+map-there f [] k y e = absurd (cc)
+map-there f (x ∷ xs) zero y e = (x, refl, same_Some (f x) y e)
+map-there f (x ∷ xs) (suc k) y e = map-there f xs k y e
+
+-- If there is a value for each place below a number, there is a list of them.
+pub chosen : {X : Type 0} (n : ℕ) (P : ℕ → X → Type 0) → ((k : ℕ) → k < n → (x : X) × P k x)
+    → (xs : List X) × (length xs ≡ n) × ((k : ℕ) (x : X) → slice_get xs k ≡ Some x → P k x)
+chosen zero P each = ([], refl, λ k x e. absurd (cc))
+chosen {X = X} (suc n) P each =
+    let first = each 0 (omega arith) in
+    let later = chosen {X = X} n (λ k. P (suc k)) (λ k below. each (suc k) (omega (arith, below))) in
+    let at : (k : ℕ) (x : X) → slice_get (first.0 ∷ later.0) k ≡ Some x → P k x = elim [
+      | zero ↦ λ x e. subst (P 0) (same_Some first.0 x e) first.1
+      | suc k ↦ λ x e. later.2 k x e
+    ] in
+    (first.0 ∷ later.0, omega (arith, later.1), at)

@@ -1,5 +1,5 @@
 -- What one card does of a list of arrivals, as the list grows.
-use Rattle.std.proofs.Common.{◌≡◌, ◌≢◌, ◌==◌, ℕ, Bool, true, false, cond, List, [], ◌∷◌, ◌++◌, length, Option, Some, None, Result, refl, ap, ◌∙◌, subst, arith}
+use Rattle.std.proofs.Common.{◌≡◌, ◌≢◌, ◌==◌, ◌≤◌, ℕ, Bool, true, false, cond, List, [], ◌∷◌, ◌++◌, length, Option, Some, None, Result, refl, ap, ◌∙◌, subst, arith}
 use Rattle.std.specs.Prelude.{slice_get}
 use Rattle.std.proofs.lemmas.Bool.{eq-eqb, ne_eqb}
 use Rattle.upc_cell.specs.declared.side.Side.{Side}
@@ -55,6 +55,16 @@ module _ (side : Side) (cards number : ℕ) where
       let own = own_told side cards number in
       let b = card_for side cards x == number in
       ap (λ (zs : List Told). cond b (t ∷ zs) zs) (told-append xs ys ts more (omega (arith, e))) ∙ cond-append b t (own xs ts) (own ys more)
+
+cond-few : (b : Bool) (x : Arrival) (xs ys : List Arrival) → length xs ≤ length ys → length (cond b (x ∷ xs) xs) ≤ length (x ∷ ys)
+cond-few true x xs ys few = omega (arith, few)
+cond-few false x xs ys few = omega (arith, few)
+
+-- A card has no more arrivals than there are.
+pub own-few : (side : Side) (cards number : ℕ) (xs : List Arrival) → length (own_arrivals side cards number xs) ≤ length xs
+own-few side cards number [] = omega arith
+own-few side cards number (x ∷ xs) =
+    cond-few (card_for side cards x == number) x (own_arrivals side cards number xs) xs (own-few side cards number xs)
 
 -- A card that has answered some arrivals answers one more.
 pub serves-next : (old middle new : CoreView) (xs : List Arrival) (ts : List Told) (x : Arrival) (t : Told)

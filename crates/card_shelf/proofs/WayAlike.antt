@@ -23,11 +23,11 @@ use Rattle.card_shelf.specs.OneCard.{codes_in}
 use Rattle.card_shelf.proofs.Ways.{missed_way, judged_way, entered_in, two, three, missed-here, picked-here, judged-here}
 
 -- What a list that goes on as another does has there.
-abbrev rest : List OwnEvent → List OwnEvent
+abbrev pub rest : List OwnEvent → List OwnEvent
 rest [] = []
 rest (event ∷ later) = later
 
-cancel : (xs ys zs : List OwnEvent) → xs ++ ys ≡ xs ++ zs → ys ≡ zs
+pub cancel : (xs ys zs : List OwnEvent) → xs ++ ys ≡ xs ++ zs → ys ≡ zs
 cancel [] ys zs e = e
 cancel (x ∷ xs) ys zs e = cancel xs ys zs (ap rest e)
 

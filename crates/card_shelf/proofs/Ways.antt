@@ -27,11 +27,11 @@ abbrev pub judged_way : List ℕ → ℕ → Answer → List Event
 judged_way cell moment answer = events_of (Enter 0 cell moment ∷ Pick 0 ∷ Judge 0 ∷ []) (Entered ∷ Picked ∷ Answered answer ∷ [])
 
 -- The reader's notes after a log, and the arrivals after own events.
-abbrev notes_of : Side → Vc → Notes → List Event → Notes
+abbrev pub notes_of : Side → Vc → Notes → List Event → Notes
 notes_of side vc notes [] = notes
 notes_of side vc notes (event ∷ later) = notes_of side vc (notes_after side vc notes event) later
 
-abbrev arrivals_of : Arrivals → List OwnEvent → Arrivals
+abbrev pub arrivals_of : Arrivals → List OwnEvent → Arrivals
 arrivals_of arrivals [] = arrivals
 arrivals_of arrivals (event ∷ later) = arrivals_of (arrivals_after arrivals event.act) later
 
@@ -39,7 +39,7 @@ behind-append : (event : Option OwnEvent) (xs ys : List OwnEvent) → behind eve
 behind-append None xs ys = refl
 behind-append (Some event) xs ys = refl
 
-own-append : (side : Side) (vc : Vc) (notes : Notes) (log further : List Event)
+pub own-append : (side : Side) (vc : Vc) (notes : Notes) (log further : List Event)
     → own_events_after side vc notes (log ++ further)
     ≡ own_events_after side vc notes log ++ own_events_after side vc (notes_of side vc notes log) further
 own-append side vc notes [] further = refl
@@ -49,12 +49,12 @@ own-append side vc notes (event ∷ later) further =
     ap (behind own) (own-append side vc next later further)
     ∙ behind-append own (own_events_after side vc next later) (own_events_after side vc (notes_of side vc next later) further)
 
-notes-codes : (side : Side) (vc : Vc) (notes : Notes) (log : List Event)
+pub notes-codes : (side : Side) (vc : Vc) (notes : Notes) (log : List Event)
     → (notes_of side vc notes log).codes ≡ fold (λ (codes : List Loading) (event : Event). codes_after codes event.reply event.step) notes.codes log
 notes-codes side vc notes [] = refl
 notes-codes side vc notes (event ∷ later) = notes-codes side vc (notes_after side vc notes event) later
 
-numbered-append : (arrivals : Arrivals) (xs ys : List OwnEvent)
+pub numbered-append : (arrivals : Arrivals) (xs ys : List OwnEvent)
     → by_arrival_after arrivals (xs ++ ys) ≡ by_arrival_after arrivals xs ++ by_arrival_after (arrivals_of arrivals xs) ys
 numbered-append arrivals [] ys = refl
 numbered-append arrivals (event ∷ later) ys =

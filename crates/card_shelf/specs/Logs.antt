@@ -1,5 +1,5 @@
 -- What policing adds to the log of a card, so that what holds of logs holds of a shelf's cards.
-use Rattle.std.specs.Prelude.{◌≡◌, ◌⊎◌, List, [], ◌∷◌, ◌++◌, Result}
+use Rattle.std.specs.Prelude.{◌≡◌, ◌≤◌, ◌*◌, ◌⊎◌, List, [], ◌∷◌, ◌++◌, length, Result}
 use Rattle.card_core.specs.Agreement.{CoreView, CoreAgrees, GoneAll, events_of}
 use Rattle.card_core.specs.Log.{Event, Leads}
 use Rattle.card_core.specs.Sections.{answer_to}
@@ -28,6 +28,17 @@ AreWaysOf (arrival ∷ later) [] events = ⊥
 AreWaysOf (arrival ∷ later) (told ∷ more) events =
     (first : List Event) × (rest : List Event) × IsWayOf arrival (answer_to arrival.cell told) first
     × AreWaysOf later more rest × (events ≡ first ++ rest)
+
+-- The steps of arrivals are at most three for each.
+abbrev pub WaysAreShort : Type 0
+WaysAreShort = (arrivals : List Arrival) (told : List (Result Judgement Unjudged)) (events : List Event)
+    → AreWaysOf arrivals told events → length events ≤ 3 * length arrivals
+
+-- The log goes on by the steps of these arrivals, with these answers.
+pub record GoesOnBy (old : List Event) (arrivals : List Arrival) (told : List (Result Judgement Unjudged)) (new : List Event) : Type 0 where
+  pub way : List Event
+  pub steps : AreWaysOf arrivals told way
+  pub log : new ≡ old ++ way
 
 -- A card that has answered arrivals has taken their steps. If it agreed with a world to which a log leads, the log with
 -- these steps added leads to a world that the card agrees with now.

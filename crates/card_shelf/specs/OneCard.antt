@@ -15,7 +15,8 @@ use Rattle.card_isolation.specs.Outcome.{outcome_of}
 use Rattle.card_isolation.specs.OwnEvents.{acts_of, codes_after}
 use Rattle.card_shelf.specs.declared.arrival.Arrival.{Arrival}
 use Rattle.card_shelf.specs.Dealing.{card_of, card_for}
-use Rattle.card_shelf.specs.Own.{ServesAll}
+use Rattle.card_shelf.specs.Logs.{GoesOnBy}
+use Rattle.card_shelf.specs.Own.{ServesAll, own_arrivals, own_told}
 use Rattle.card_shelf.specs.Policing.{PolicesAll}
 
 -- The log is one of this card: it leads to a world that the card agrees with.
@@ -24,21 +25,40 @@ pub record IsLogOf (shape : Shape) (log : List Event) (card : CoreView) : Type 0
   pub leads : Leads shape log world
   pub agrees : CoreAgrees card world
 
--- The cards of a shelf have these logs, one each, and another card has this log. For each connection that card has
--- the same account as the card of the shelf that serves it: the same was done for the connection, in the same
--- order, with the same outcomes.
-pub record IsBeside (one : Shape) (log : List Event) (card : CoreView) (shape : Shape) (logs : List (List Event)) (cards : List CoreView) : Type 0 where
-  pub here : IsLogOf one log card
-  pub sized : length logs ≡ length cards
-  pub each : (number : ℕ) (own : List Event) (core : CoreView) → slice_get logs number ≡ Some own → slice_get cards number ≡ Some core
-      → IsLogOf shape own core
-  pub accounts : (vc : Vc) (own : List Event) → slice_get logs (card_of vc (length logs)) ≡ Some own
-      → account_of one.side vc log ≡ account_of shape.side vc own
+-- A card of this shape, and a log of the steps that it has taken.
+pub record LoggedCard : Type 0 where
+  pub shape : Shape
+  pub log : List Event
+  pub card : CoreView
 
--- With the steps of this number of arrivals the log has at most 2^62 events. After 2^62 cells of a line a card answers that
--- its journal is full.
-abbrev pub HasTimeFor : ℕ → List Event → Type 0
-HasTimeFor arrivals log = length log + 3 * arrivals ≤ 2 ^ 62
+-- The cards of a shelf, each of this shape, and for each a log of the steps that it has taken.
+pub record LoggedShelf : Type 0 where
+  pub shape : Shape
+  pub logs : List (List Event)
+  pub cards : List CoreView
+
+-- The cells of the card and of the shelf have the same header, their journals hold as many entries, and the logs are
+-- theirs.
+pub record AreLogged (one : LoggedCard) (shelf : LoggedShelf) : Type 0 where
+  pub side : one.shape.side ≡ shelf.shape.side
+  pub journal : one.shape.journal ≡ shelf.shape.journal
+  pub here : IsLogOf one.shape one.log one.card
+  pub sized : length shelf.logs ≡ length shelf.cards
+  pub each : (number : ℕ) (own : List Event) (core : CoreView) → slice_get shelf.logs number ≡ Some own
+      → slice_get shelf.cards number ≡ Some core → IsLogOf shelf.shape own core
+
+-- The card is beside the shelf: for each connection it has the same account as the card of the shelf that serves the
+-- connection. The same was done for the connection, in the same order, with the same outcomes.
+pub record IsBeside (one : LoggedCard) (shelf : LoggedShelf) : Type 0 where
+  pub logged : AreLogged one shelf
+  pub accounts : (vc : Vc) (own : List Event) → slice_get shelf.logs (card_of vc (length shelf.logs)) ≡ Some own
+      → account_of one.shape.side vc one.log ≡ account_of shelf.shape.side vc own
+
+-- With this number of further events each log has at most 2^62. After 2^62 cells of a line a card answers that its journal
+-- is full.
+pub record HaveTimeFor (events : ℕ) (one : LoggedCard) (shelf : LoggedShelf) : Type 0 where
+  pub here : length one.log + events ≤ 2 ^ 62
+  pub each : (number : ℕ) (own : List Event) → slice_get shelf.logs number ≡ Some own → length own + events ≤ 2 ^ 62
 
 -- The codes that were loaded by this log, each under its id.
 abbrev pub codes_in : List Event → List Loading
@@ -62,27 +82,30 @@ AreToldAlike side log logs (arrival ∷ later) (answer ∷ answers) (told ∷ mo
     IsToldAlike side log logs arrival answer told × AreToldAlike side log logs later answers more
 AreToldAlike side log logs _ _ _ = ⊥
 
--- Afterwards both have longer logs. The card is beside the shelf again, and both have given the same answer to each
--- arrival.
-pub record StaysBeside (one : Shape) (card : CoreView) (shape : Shape) (cards : List CoreView) (arrivals : List Arrival)
+-- Afterwards both have longer logs: the card's goes on by the steps of these arrivals, and that of each card of the shelf
+-- by the steps of its own arrivals. The card is beside the shelf again, and both have given the same answer to each arrival.
+pub record StaysBeside (one : LoggedCard) (shelf : LoggedShelf) (next : CoreView) (new : List CoreView) (arrivals : List Arrival)
     (answers told : List (Result Judgement Unjudged)) : Type 0 where
   pub log : List Event
   pub logs : List (List Event)
-  pub beside : IsBeside one log card shape logs cards
-  pub alike : AreToldAlike shape.side log logs arrivals answers told
+  pub goes_on : GoesOnBy one.log arrivals answers log
+  pub sized : length logs ≡ length shelf.logs
+  pub each_goes_on : (number : ℕ) (earlier own : List Event) → slice_get shelf.logs number ≡ Some earlier
+      → slice_get logs number ≡ Some own
+      → GoesOnBy earlier (own_arrivals shelf.shape.side (length shelf.logs) number arrivals)
+      (own_told shelf.shape.side (length shelf.logs) number arrivals told) own
+  pub beside : IsBeside (record one { log = log; card = next }) (record shelf { logs = logs; cards = new })
+  pub alike : AreToldAlike shelf.shape.side log logs arrivals answers told
 
 -- The answers of the cards of a shelf to these arrivals are those of one card with all their connections. This holds for
--- any card beside them whose cells have the same header and whose journals hold as many entries, and for any answers of
--- that card to all the arrivals, one after another.
+-- any card beside them, and for any answers of that card to all the arrivals, one after another.
 abbrev pub TellsAsOneCard : Shape → List CoreView → List Arrival → List (Result Judgement Unjudged) → List CoreView → Type 0
-TellsAsOneCard shape old arrivals told new = (one : Shape) (log : List Event) (logs : List (List Event)) (card next : CoreView)
-    (answers : List (Result Judgement Unjudged))
-    → one.side ≡ shape.side → one.journal ≡ shape.journal
-    → IsBeside one log card shape logs old
-    → HasTimeFor (length arrivals) log
-    → ((number : ℕ) (own : List Event) → slice_get logs number ≡ Some own → HasTimeFor (length arrivals) own)
-    → ServesAll card arrivals answers next
-    → StaysBeside one next shape new arrivals answers told
+TellsAsOneCard shape old arrivals told new =
+    (one : LoggedCard) (logs : List (List Event)) (next : CoreView) (answers : List (Result Judgement Unjudged))
+    → IsBeside one (record { shape = shape; logs = logs; cards = old })
+    → HaveTimeFor (3 * length arrivals) one (record { shape = shape; logs = logs; cards = old })
+    → ServesAll one.card arrivals answers next
+    → StaysBeside one (record { shape = shape; logs = logs; cards = old }) next new arrivals answers told
 
 -- If each arrival is answered by its own card, one after another, the answers are those of one card with all the connections.
 abbrev pub ShelvesTellAsOneCard : Type 0
@@ -92,13 +115,7 @@ ShelvesTellAsOneCard = (shape : Shape) (old new : List CoreView) (arrivals : Lis
 -- A card is beside a shelf if the same was done for each connection, in the same order, on the one card and on the card of
 -- the shelf that serves the connection. The outcomes are then the same.
 abbrev pub TheSameActsSuffice : Type 0
-TheSameActsSuffice = (one shape : Shape) (log : List Event) (logs : List (List Event)) (card : CoreView) (cards : List CoreView)
-    → one.side ≡ shape.side → one.journal ≡ shape.journal
-    → length log ≤ 2 ^ 62
-    → ((number : ℕ) (own : List Event) → slice_get logs number ≡ Some own → length own ≤ 2 ^ 62)
-    → IsLogOf one log card → length logs ≡ length cards
-    → ((number : ℕ) (own : List Event) (core : CoreView) → slice_get logs number ≡ Some own → slice_get cards number ≡ Some core
-    → IsLogOf shape own core)
-    → ((vc : Vc) (own : List Event) → slice_get logs (card_of vc (length logs)) ≡ Some own
-    → acts_of (account_of one.side vc log) ≡ acts_of (account_of shape.side vc own))
-    → IsBeside one log card shape logs cards
+TheSameActsSuffice = (one : LoggedCard) (shelf : LoggedShelf) → AreLogged one shelf → HaveTimeFor 0 one shelf
+    → ((vc : Vc) (own : List Event) → slice_get shelf.logs (card_of vc (length shelf.logs)) ≡ Some own
+    → acts_of (account_of one.shape.side vc one.log) ≡ acts_of (account_of shelf.shape.side vc own))
+    → IsBeside one shelf
