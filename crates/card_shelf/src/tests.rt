@@ -1,5 +1,8 @@
 //! A shelf beside one card, and each call once.
 
+mod faults;
+mod sizes;
+
 use crate::{Arrival, NoRoom, ProgramFault, Room, Shelf, ShelfFault, Told};
 use arrayvec::ArrayVec;
 use bpf_code::Instr;
