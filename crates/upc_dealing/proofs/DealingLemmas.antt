@@ -16,7 +16,7 @@ use Rattle.upc_dealing.specs.declared.cell_line.CellLine.{CellLine}
 use Rattle.upc_dealing.specs.declared.cell_line.CellLine.TheVariants.{Comes, IsFaulty}
 use Rattle.upc_dealing.specs.declared.dealing.Answerer.{Answerer}
 use Rattle.upc_dealing.specs.declared.dealing.Answerer.TheVariants.{Port}
-use Rattle.upc_dealing.specs.Dealing.{IsOneLine, text_of, AreLinesOf, is_cell_line, from_first_cell, port_of, Dealt, DealsAll, DealsCell, DealsCellLine, DealsDeskLine, DealsFound, DealsLine}
+use Rattle.upc_dealing.specs.Dealing.{IsOneLine, text_of, AreLinesOf, is_cell_line, port_of, Dealt, DealsAll, DealsCell, DealsCellLine, DealsDeskLine, DealsFound, DealsLine}
 
 -- The line of a cell was assigned to the port of the cell's connection, after the earlier lines of that port.
 pub cell_dealt : (side : Side) (cell line : List ℕ) (order : List Answerer) (desk : List (List ℕ)) (V : Type 0) (v : V → List (List ℕ))

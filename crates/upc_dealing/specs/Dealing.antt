@@ -32,11 +32,6 @@ abbrev pub is_cell_line : List (List ℕ) → Bool
 is_cell_line [] = false
 is_cell_line (word ∷ words) = bytes_eq word (codes "cell")
 
--- The lines from the first cell line on.
-abbrev pub from_first_cell : List (List ℕ) → List (List ℕ)
-from_first_cell [] = []
-from_first_cell (line ∷ lines) = if is_cell_line (words_of line) then line ∷ lines else from_first_cell lines
-
 -- The number of channels of a path.
 abbrev pub channels : ℕ
 channels = 65536

@@ -2,7 +2,8 @@
 use Rattle.std.proofs.Common.{◌≡◌, ◌≢◌, ℕ, ◌<◌, true, false, List, [], ◌∷◌, ◌++◌, length, get_or, ap, sym, subst, ◌∙◌, if◌then◌else◌}
 use Rattle.text_io.specs.Words.{words_of}
 use Rattle.upc_dealing.proofs.Public.{NoneBefore, no_lines, starts_with}
-use Rattle.upc_dealing.specs.Dealing.{AreLinesOf, is_cell_line, from_first_cell}
+use Rattle.upc_dealing.specs.Dealing.{AreLinesOf, is_cell_line}
+use Rattle.upc_ports.specs.inner.FirstLines.{from_first_cell}
 
 -- The state before the first cell line: the rest of the script, from its first cell line on, is that of the whole
 -- script.

@@ -7,7 +7,8 @@ ghost use Rattle.text_io.specs.Printing.{IsFront};
 ghost use Rattle.text_io.specs.Serving.{IsServed};
 ghost use Rattle.port_card.specs.Names.{AreFor};
 ghost use Rattle.upc_ports.specs.PortsText.{IsClosedText, IsPortsText};
-ghost use Rattle.upc_dealing.specs.Dealing.{AreLinesOf, from_first_cell};
+ghost use Rattle.upc_dealing.specs.Dealing.{AreLinesOf};
+ghost use Rattle.upc_ports.specs.inner.FirstLines.{from_first_cell};
 
 use crate::at_once::run_at_once;
 use crate::busy_ports::seats_of;
