@@ -12,7 +12,7 @@ use Rattle.card_isolation.specs.Outcome.{Outcome, outcome_of}
 use Rattle.card_shelf.specs.declared.arrival.Arrival.{Arrival}
 use Rattle.card_shelf.specs.Calls.{CardState, ShelfState, CardPolices, ShelfPolices, police, codes_at, outcomes_of, outcomes_on}
 use Rattle.card_shelf.specs.Dealing.{card_for}
-use Rattle.card_shelf.specs.Life.{GoOnBeside, state_of, states_of}
+use Rattle.card_shelf.specs.Life.{GoOnBeside, card_state_of, shelf_state_of}
 use Rattle.card_shelf.specs.Logs.{GoesOnBy}
 use Rattle.card_shelf.specs.OneCard.{LoggedCard, LoggedShelf, IsBeside, HaveTimeFor, codes_in, AreToldAlike}
 use Rattle.card_shelf.specs.Own.{own_arrivals, own_told}
@@ -77,7 +77,7 @@ grown-short log own arrivals told goes =
 
 pub police-keeps : (one : LoggedCard) (shelf : LoggedShelf) (arrivals : List Arrival) (answers told : List Outcome) (next : CardState) (new : ShelfState)
     → IsBeside one shelf → HaveTimeFor (3 * length arrivals) one shelf
-    → CardPolices arrivals (state_of one) answers next → ShelfPolices shelf.shape.side arrivals (states_of shelf) told new
+    → CardPolices arrivals (card_state_of one) answers next → ShelfPolices shelf.shape.side arrivals (shelf_state_of shelf) told new
     → GoOnBeside one shelf (police arrivals) answers told next new
 police-keeps one shelf arrivals answers told next new beside time here there_too =
     let all = all-on one.shape shelf.shape beside.logged.side beside.logged.journal one.log one.card next.card shelf.logs shelf.cards new.cards arrivals here.told there_too.told
@@ -98,8 +98,8 @@ police-keeps one shelf arrivals answers told next new beside time here there_too
             let room = had.each number was.0 was.1 in
             omega (arith, few, fewer, room);
       };
-      same = there_too.tells
+      same = there_too.returns
           ∙ batch-same shelf.shape.side shelf.cards new.cards one.log all.longer shelf.logs all.grown arrivals here.told there_too.told beside.logged.sized there_too.answers
           all.codes all.sized all.each all.alike
-          ∙ sym here.tells;
+          ∙ sym here.returns;
     }

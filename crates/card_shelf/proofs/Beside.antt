@@ -90,7 +90,7 @@ module _ (one shape : Shape) (side : one.side ≡ shape.side) (journal : one.jou
       (ap (λ (v : Vc). slice_get logs (card_of v (length logs))) (vc_same vc (vc_of one.side arrival.cell) is ∙ ap (λ (s : Side). vc_of s arrival.cell) side)
       ∙ ap (slice_get logs) same_number ∙ at.1) in
       let go = both-go one shape side journal log own arrival answer told card next polices.card polices.next few (each_few number own at.1) beside.logged.here
-      (beside.logged.each number own polices.card at.1 polices.there) accounts serves polices.did in
+      (beside.logged.each number own polices.card at.1 polices.there) accounts serves.answers polices.did.answers in
       let longer = slice_set logs number (own ++ go.way_too) in
       let same_length : length longer ≡ length logs = length-set logs number (own ++ go.way_too) in
       record {

@@ -8,6 +8,7 @@ use Rattle.card_core.specs.declared.reply.Reply.TheVariants.{Entered, Picked}
 use Rattle.card_core.specs.declared.shape.Shape.{Shape}
 use Rattle.card_core.specs.declared.step.Step.TheVariants.{Enter, Pick}
 use Rattle.card_core.specs.Agreement.{CoreView, GoneAll, events_of}
+use Rattle.card_core.specs.Arrival.{AnswersArrival}
 use Rattle.card_core.specs.Log.{Event, IsLog, Leads}
 use Rattle.card_core.specs.Sections.{answer_to}
 use Rattle.card_core.specs.World.{World, opening_world}
@@ -15,7 +16,6 @@ use Rattle.card_isolation.specs.Isolation.{account_of}
 use Rattle.card_isolation.specs.Outcome.{outcome_of}
 use Rattle.card_shelf.specs.declared.arrival.Arrival.{Arrival}
 use Rattle.card_shelf.specs.Logs.{IsWayOf}
-use Rattle.card_shelf.specs.Policing.{ServesArrival}
 use Rattle.card_shelf.specs.OneCard.{IsLogOf, codes_in}
 use Rattle.card_shelf.proofs.GoingOn.{run-append}
 use Rattle.card_shelf.proofs.OwnLemmas.{Told}
@@ -79,7 +79,8 @@ module _ (one shape : Shape) (side : one.side ≡ shape.side) (journal : one.jou
       → length log + 3 ≤ 2 ^ 62 → length another + 3 ≤ 2 ^ 62
       → IsLogOf one log card → IsLogOf shape another core
       → ((vc : Vc) → is_same_vc vc (vc_of one.side arrival.cell) ≡ true → account_of one.side vc log ≡ account_of shape.side vc another)
-      → ServesArrival arrival answer card next → ServesArrival arrival told core after
+      → AnswersArrival card 0 arrival.cell arrival.moment (answer_to arrival.cell answer) next
+      → AnswersArrival core 0 arrival.cell arrival.moment (answer_to arrival.cell told) after
       → BothGo one shape log another arrival (answer_to arrival.cell answer) (answer_to arrival.cell told) next after
   both-go log another arrival answer told card next core after few few_too is is_too accounts (inl here) (inl there) =
       let a = answer_to arrival.cell answer in

@@ -48,7 +48,7 @@ did codes vc (set_up contracts code) outcome old new grants = record {
       ∙ ap (λ (cs : List Contract). own_where (is_same_vc other vc) (sets_up cs (code_in notes.codes grants.ask.program)) done) grants.under
       ∙ ap (λ (c : Option (List Instr)). own_where (is_same_vc other vc) (sets_up contracts c) done)
       (ap (λ (loaded : List Loading). code_in loaded grants.ask.program) noted ∙ grants.program)
-      ∙ ap (own_where (is_same_vc other vc) (sets_up contracts (Some code))) (sym grants.tells);
+      ∙ ap (own_where (is_same_vc other vc) (sets_up contracts (Some code))) (sym grants.returns);
   no_code = λ loaded. refl;
 }
 did codes vc (reload code) outcome old new grants = record {
@@ -57,19 +57,19 @@ did codes vc (reload code) outcome old new grants = record {
   own = λ side other notes noted.
       ap (λ (loaded : List Loading). own_where (is_same_vc other vc) (reloads (code_in loaded grants.id)) (named_before (code_in loaded grants.before))) noted
       ∙ ap (λ (c : Option (List Instr)). own_where (is_same_vc other vc) (reloads c) (named_before (code_in codes grants.before))) grants.program
-      ∙ ap (own_where (is_same_vc other vc) (reloads (Some code))) (sym grants.tells);
+      ∙ ap (own_where (is_same_vc other vc) (reloads (Some code))) (sym grants.returns);
   no_code = λ loaded. refl;
 }
 did codes vc release outcome old new grants = record {
   event = record { step = Release vc; reply = Released grants.piece };
   follows = grants.takes.follows;
-  own = λ side other notes noted. ap (own_where (is_same_vc other vc) releases) (sym grants.tells);
+  own = λ side other notes noted. ap (own_where (is_same_vc other vc) releases) (sym grants.returns);
   no_code = λ loaded. refl;
 }
 did codes vc cut outcome old new grants = record {
   event = record { step = Cut vc; reply = CutOff grants.piece };
   follows = grants.takes.follows;
-  own = λ side other notes noted. ap (own_where (is_same_vc other vc) cuts) (sym grants.tells);
+  own = λ side other notes noted. ap (own_where (is_same_vc other vc) cuts) (sym grants.returns);
   no_code = λ loaded. refl;
 }
 

@@ -46,7 +46,7 @@ goes-on old new [] (told ∷ more) served shape log before leads agrees = absurd
 goes-on old new (arrival ∷ later) [] served shape log before leads agrees = absurd served
 goes-on old new (arrival ∷ later) (told ∷ more) served shape log before leads agrees =
     let answer = answer_to arrival.cell told in
-    elim served.1 [
+    elim served.1.answers [
       | inl missed ↦
           let first = events_of (Enter 0 arrival.cell arrival.moment ∷ Pick 0 ∷ []) (Entered ∷ Answered answer ∷ []) in
           let gone = missed shape log before leads agrees in

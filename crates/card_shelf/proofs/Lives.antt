@@ -10,7 +10,7 @@ use Rattle.card_core.specs.declared.shape.Shape.{Shape}
 use Rattle.card_isolation.specs.Isolation.{account_of}
 use Rattle.card_isolation.specs.Outcome.{Outcome}
 use Rattle.card_shelf.specs.Calls.{Call, CardState, ShelfState}
-use Rattle.card_shelf.specs.Life.{CardLives, ShelfLives, LiveBeside, ShelvesLiveAsOneCard, most_events, most_events_of, state_of, states_of}
+use Rattle.card_shelf.specs.Life.{CardGrantsAll, ShelfGrantsAll, TakeTheSameCalls, ShelvesAnswerAsOneCard, most_events, most_events_of, card_state_of, shelf_state_of}
 use Rattle.card_shelf.specs.OneCard.{LoggedCard, LoggedShelf, IsLogOf, IsBeside, HaveTimeFor, codes_in}
 use Rattle.card_shelf.proofs.CallsBeside.{calls-keep}
 use Rattle.card_shelf.proofs.Lists.{map-there}
@@ -24,7 +24,7 @@ less-time one shelf few many fewer time = record {
 
 live-on : (calls : List Call) (answers told : List (List Outcome)) (one : LoggedCard) (shelf : LoggedShelf)
     → IsBeside one shelf → HaveTimeFor (most_events_of calls) one shelf
-    → CardLives (state_of one) calls answers → ShelfLives shelf.shape.side (states_of shelf) calls told → told ≡ answers
+    → CardGrantsAll (card_state_of one) calls answers → ShelfGrantsAll shelf.shape.side (shelf_state_of shelf) calls told → told ≡ answers
 live-on [] [] [] one shelf beside time lives lives_too = refl
 live-on [] [] (t ∷ ts) one shelf beside time lives lives_too = absurd lives_too
 live-on [] (a ∷ answers) told one shelf beside time lives lives_too = absurd lives
@@ -37,11 +37,11 @@ live-on (call ∷ later) (a ∷ answers) (t ∷ ts) one shelf beside time lives 
     lives.1 lives_too.1 in
     let one_then : LoggedCard = record one { log = went.log; card = next.card } in
     let shelf_then : LoggedShelf = record shelf { logs = went.logs; cards = new.cards } in
-    let card_lives : CardLives (state_of one_then) later answers =
-    subst (λ (codes : List Loading). CardLives (record { card = next.card; codes = codes }) later answers) went.codes lives.2 in
-    let shelf_lives : ShelfLives shelf.shape.side (states_of shelf_then) later ts =
-    subst (λ (codes : List (List Loading)). ShelfLives shelf.shape.side (record { cards = new.cards; codes = codes }) later ts) went.codes_on lives_too.2 in
-    let rest = live-on later answers ts one_then shelf_then went.beside (went.time (most_events_of later) time) card_lives shelf_lives in
+    let card_grants : CardGrantsAll (card_state_of one_then) later answers =
+    subst (λ (codes : List Loading). CardGrantsAll (record { card = next.card; codes = codes }) later answers) went.codes lives.2 in
+    let shelf_grants : ShelfGrantsAll shelf.shape.side (shelf_state_of shelf_then) later ts =
+    subst (λ (codes : List (List Loading)). ShelfGrantsAll shelf.shape.side (record { cards = new.cards; codes = codes }) later ts) went.codes_on lives_too.2 in
+    let rest = live-on later answers ts one_then shelf_then went.beside (went.time (most_events_of later) time) card_grants shelf_grants in
     ap (λ (first : List Outcome). first ∷ ts) went.same ∙ ap (λ (others : List (List Outcome)). a ∷ others) rest
 
 -- The logs of new cards are empty, and have loaded no code.
@@ -68,18 +68,18 @@ new-beside one shape card cards side journal here each = record {
       ap (account_of shape.side vc) (map-there (λ (core : CoreView). let none : List Event = [] in none) cards _ own is).2;
 }
 
-pub lives-alike : ShelvesLiveAsOneCard
+pub lives-alike : ShelvesAnswerAsOneCard
 lives-alike calls answers told both =
-    let one : LoggedCard = record { shape = both.one; log = []; card = both.card } in
-    let shelf : LoggedShelf = record { shape = both.shape; logs = no_logs both.cards; cards = both.cards } in
-    let beside : IsBeside one shelf = new-beside both.one both.shape both.card both.cards both.side both.journal
-    (record { world = opening_world both.one; leads = refl; agrees = both.new_card })
-    (λ number core is. record { world = opening_world both.shape; leads = refl; agrees = both.new_cards number core is }) in
+    let one : LoggedCard = record { shape = both.card_shape; log = []; card = both.card } in
+    let shelf : LoggedShelf = record { shape = both.shelf_shape; logs = no_logs both.cards; cards = both.cards } in
+    let beside : IsBeside one shelf = new-beside both.card_shape both.shelf_shape both.card both.cards both.side both.journal
+    (record { world = opening_world both.card_shape; leads = refl; agrees = both.new_card })
+    (λ number core is. record { world = opening_world both.shelf_shape; leads = refl; agrees = both.new_cards number core is }) in
     let time : HaveTimeFor (most_events_of calls) one shelf = record {
       here = omega (arith, both.few);
       each = λ number own is.
           let empty = (map-there (λ (core : CoreView). let none : List Event = [] in none) both.cards number own is).2 in
           omega (arith, both.few, ap length empty);
     } in
-    live-on calls answers told one shelf beside time both.card_lives
-    (subst (λ (codes : List (List Loading)). ShelfLives both.shape.side (record { cards = both.cards; codes = codes }) calls told) (no-codes both.cards) both.shelf_lives)
+    live-on calls answers told one shelf beside time both.card_grants
+    (subst (λ (codes : List (List Loading)). ShelfGrantsAll both.shelf_shape.side (record { cards = both.cards; codes = codes }) calls told) (no-codes both.cards) both.shelf_grants)

@@ -18,7 +18,7 @@ use Rattle.card_isolation.specs.Outcome.{Outcome, done}
 use Rattle.card_isolation.specs.OwnEvents.{Notes, own_event, codes_after}
 use Rattle.card_shelf.specs.Calls.{CardState, ShelfState, CardLoads, CardRetires, ShelfLoads, ShelfRetires, load, retire, with_code}
 use Rattle.card_shelf.specs.Dealing.{card_of}
-use Rattle.card_shelf.specs.Life.{GoOnBeside, state_of, states_of}
+use Rattle.card_shelf.specs.Life.{GoOnBeside, card_state_of, shelf_state_of}
 use Rattle.card_shelf.specs.OneCard.{LoggedCard, LoggedShelf, IsLogOf, IsBeside, HaveTimeFor, codes_in}
 use Rattle.card_shelf.proofs.DeskWays.{not-own, codes-next}
 use Rattle.card_shelf.proofs.Lists.{there, map-there, chosen}
@@ -112,7 +112,7 @@ loaded-codes code (id ∷ ids) (log ∷ later) =
     ∙ ap (λ (rest : List (List Loading)). codes_in (log ++ loading code id ∷ []) ∷ rest) (loaded-codes code ids later)
 
 pub load-keeps : (one : LoggedCard) (shelf : LoggedShelf) (code : List Instr) (answers told : List Outcome) (next : CardState) (new : ShelfState)
-    → IsBeside one shelf → CardLoads code (state_of one) answers next → ShelfLoads code (states_of shelf) told new
+    → IsBeside one shelf → CardLoads code (card_state_of one) answers next → ShelfLoads code (shelf_state_of shelf) told new
     → GoOnBeside one shelf (load code) answers told next new
 load-keeps one shelf code answers told next new beside here there_too =
     let event = loading code here.id in
@@ -131,7 +131,7 @@ load-keeps one shelf code answers told next new beside here there_too =
       codes = here.codes ∙ sym (codes-next one.log event);
       codes_on = there_too.codes ∙ loaded-codes code there_too.ids shelf.logs;
       time = programs-time one shelf next.card new.cards event events beside (λ side vc notes. refl) here.takes.follows sized there_too.loads.cards each;
-      same = there_too.tells ∙ sym here.tells;
+      same = there_too.returns ∙ sym here.returns;
     }
 
 -- Events that load no code leave the codes.
@@ -150,7 +150,7 @@ record IsRetiring (shelf : LoggedShelf) (new : List CoreView) (number : ℕ) (ev
   no_code : (codes : List Loading) → codes_after codes event.reply event.step ≡ codes
 
 pub retire-keeps : (one : LoggedCard) (shelf : LoggedShelf) (answers told : List Outcome) (next : CardState) (new : ShelfState)
-    → IsBeside one shelf → CardRetires (state_of one) answers next → ShelfRetires (states_of shelf) told new
+    → IsBeside one shelf → CardRetires (card_state_of one) answers next → ShelfRetires (shelf_state_of shelf) told new
     → GoOnBeside one shelf retire answers told next new
 retire-keeps one shelf answers told next new beside here there_too =
     let event : Event = record { step = Retire here.id; reply = Retired here.code } in
@@ -181,5 +181,5 @@ retire-keeps one shelf answers told next new beside here there_too =
       codes = here.codes ∙ sym (codes-next one.log event);
       codes_on = there_too.codes ∙ kept-codes events shelf.logs (λ k own is. (all.2 k own is).no_code);
       time = programs-time one shelf next.card new.cards event events beside (λ side vc notes. refl) here.takes.follows all.1 retires.cards each;
-      same = there_too.tells ∙ sym here.tells;
+      same = there_too.returns ∙ sym here.returns;
     }

@@ -18,7 +18,7 @@ use Rattle.card_isolation.specs.OwnEvents.{OwnEvent, acts_of}
 use Rattle.card_isolation.proofs.Isolated.{isolated}
 use Rattle.card_shelf.specs.Calls.{Service, Grants, CardState, ShelfState, CardServes, ShelfServes, serve, codes_at}
 use Rattle.card_shelf.specs.Dealing.{card_of}
-use Rattle.card_shelf.specs.Life.{GoOnBeside, state_of, states_of}
+use Rattle.card_shelf.specs.Life.{GoOnBeside, card_state_of, shelf_state_of}
 use Rattle.card_shelf.specs.OneCard.{LoggedCard, LoggedShelf, IsLogOf, IsBeside, HaveTimeFor, codes_in}
 use Rattle.gen_arena.proofs.Public.{slice_get-set}
 use Rattle.card_shelf.proofs.BesideStep.{steps-beside}
@@ -66,7 +66,7 @@ act_in event = event.act
 
 module _ (one : LoggedCard) (shelf : LoggedShelf) (vc : Vc) (service : Service) (answers told : List Outcome) (next : CardState) (new : ShelfState)
     (beside : IsBeside one shelf) (time : HaveTimeFor 1 one shelf)
-    (here : CardServes vc service (state_of one) answers next) (there_too : ShelfServes vc service (states_of shelf) told new) where
+    (here : CardServes vc service (card_state_of one) answers next) (there_too : ShelfServes vc service (shelf_state_of shelf) told new) where
   abbrev Number : ℕ
   Number = card_of vc (length shelf.cards)
 
@@ -171,5 +171,5 @@ module _ (one : LoggedCard) (shelf : LoggedShelf) (vc : Vc) (service : Service) 
             | inr apart ↦ let room = had.each number log apart.1 in omega (arith, room)
           ];
         };
-        same = there_too.tells ∙ ap (λ (outcome : Outcome). outcome ∷ []) same-outcome ∙ sym here.tells;
+        same = there_too.returns ∙ ap (λ (outcome : Outcome). outcome ∷ []) same-outcome ∙ sym here.returns;
       }

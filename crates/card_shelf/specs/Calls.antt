@@ -1,5 +1,5 @@
--- Calls at a shelf, and the same calls at one card: what each does, and what it tells except for what belongs to a card,
--- which is the number of a line, the count on it, and the ids.
+-- Calls at a shelf, and the same calls at one card: what each does, and its outcome. An outcome has no line number, no
+-- count and no id, since these belong to a card.
 use Rattle.std.specs.Prelude.{◌≡◌, ℕ, List, [], ◌∷◌, length, Some, Result, unwrap_or, slice_get}
 use Rattle.upc_cell.specs.declared.side.Side.{Side}
 use Rattle.upc_cell.specs.declared.vc.Vc.{Vc}
@@ -32,8 +32,8 @@ pub data Service : Type 0 where
   release : Service
   cut : Service
 
--- A call: these arrivals are policed; a program of this code is loaded; a program is retired; or the desk does this for
--- a connection. A shelf loads a program on every card and retires it from every card.
+-- A call: these arrivals are policed; a program of this code is loaded; a program is retired, which no connection names;
+-- or the desk does this for a connection. A shelf loads a program on every card, and retires one from every card.
 pub data Call : Type 0 where
   police : List Arrival → Call
   load : List Instr → Call
@@ -59,38 +59,38 @@ pub record GrantsSetup (codes : List Loading) (vc : Vc) (contracts : List Contra
   pub under : ask.contracts.items ≡ contracts
   pub program : code_in codes ask.program ≡ Some code
   pub takes : TakesStep (Setup ask) (SetUp owner) old new
-  pub tells : outcome ≡ done
+  pub returns : outcome ≡ done
 
--- The card, where these codes are loaded, takes the step Reload for the connection, and tells the code of the program
--- that the connection had before.
+-- The card, where these codes are loaded, takes the step Reload for the connection. The outcome has the code of the
+-- program that the connection had before.
 pub record GrantsReload (codes : List Loading) (vc : Vc) (code : List Instr) (outcome : Outcome) (old new : CoreView) : Type 0 where
   pub id : Id
   pub before : Id
   pub program : code_in codes id ≡ Some code
   pub takes : TakesStep (Reload vc id) (Reloaded before) old new
-  pub tells : outcome ≡ named_before (code_in codes before)
+  pub returns : outcome ≡ named_before (code_in codes before)
 
--- The card takes the step Release for the connection, and hands out its last journal.
+-- The card takes the step Release for the connection. The outcome has the contracts and the entries of its last journal.
 pub record GrantsRelease (vc : Vc) (outcome : Outcome) (old new : CoreView) : Type 0 where
   pub piece : PieceView
   pub takes : TakesStep (Release vc) (Released piece) old new
-  pub tells : outcome ≡ outcome_of_piece piece
+  pub returns : outcome ≡ outcome_of_piece piece
 
--- The card takes the step Cut for the connection, and hands out its journal.
+-- The card takes the step Cut for the connection. The outcome has the contracts and the entries of its journal.
 pub record GrantsCut (vc : Vc) (outcome : Outcome) (old new : CoreView) : Type 0 where
   pub piece : PieceView
   pub takes : TakesStep (Cut vc) (CutOff piece) old new
-  pub tells : outcome ≡ outcome_of_piece piece
+  pub returns : outcome ≡ outcome_of_piece piece
 
--- The card, where these codes are loaded, does this for the connection, and tells this outcome.
+-- The card, where these codes are loaded, does this for the connection, with this outcome.
 abbrev pub Grants : List Loading → Vc → Service → Outcome → CoreView → CoreView → Type 0
 Grants codes vc (set_up contracts code) outcome old new = GrantsSetup codes vc contracts code outcome old new
 Grants codes vc (reload code) outcome old new = GrantsReload codes vc code outcome old new
 Grants codes vc release outcome old new = GrantsRelease vc outcome old new
 Grants codes vc cut outcome old new = GrantsCut vc outcome old new
 
--- What a card tells of arrivals, where these codes are loaded: for each the moment, the value, the code of the program
--- that gave it, the verdict and the cell as it leaves, or why the cell was not judged.
+-- The outcomes of these answers of a card to arrivals, where these codes are loaded: for each the moment, the value, the
+-- code of the program that gave it, the verdict and the cell as it leaves, or why the cell was not judged.
 abbrev pub outcomes_of : List Loading → List Arrival → List (Result Judgement Unjudged) → List Outcome
 outcomes_of codes [] told = []
 outcomes_of codes (arrival ∷ later) [] = []
@@ -100,14 +100,14 @@ outcomes_of codes (arrival ∷ later) (told ∷ more) = outcome_of codes (answer
 pub record CardPolices (arrivals : List Arrival) (old : CardState) (outcomes : List Outcome) (new : CardState) : Type 0 where
   pub told : List (Result Judgement Unjudged)
   pub answers : ServesAll old.card arrivals told new.card
-  pub tells : outcomes ≡ outcomes_of old.codes arrivals told
+  pub returns : outcomes ≡ outcomes_of old.codes arrivals told
   pub codes : new.codes ≡ old.codes
 
 -- The card loads a program of this code.
 pub record CardLoads (code : List Instr) (old : CardState) (outcomes : List Outcome) (new : CardState) : Type 0 where
   pub id : Id
   pub takes : TakesStep (Load code) (Loaded id) old.card new.card
-  pub tells : outcomes ≡ done ∷ []
+  pub returns : outcomes ≡ done ∷ []
   pub codes : new.codes ≡ record { id = id; code = code } ∷ old.codes
 
 -- The card retires a program.
@@ -115,28 +115,29 @@ pub record CardRetires (old : CardState) (outcomes : List Outcome) (new : CardSt
   pub id : Id
   pub code : List Instr
   pub takes : TakesStep (Retire id) (Retired code) old.card new.card
-  pub tells : outcomes ≡ done ∷ []
+  pub returns : outcomes ≡ done ∷ []
   pub codes : new.codes ≡ old.codes
 
 -- The card does this for the connection.
 pub record CardServes (vc : Vc) (service : Service) (old : CardState) (outcomes : List Outcome) (new : CardState) : Type 0 where
   pub outcome : Outcome
   pub grants : Grants old.codes vc service outcome old.card new.card
-  pub tells : outcomes ≡ outcome ∷ []
+  pub returns : outcomes ≡ outcome ∷ []
   pub codes : new.codes ≡ old.codes
 
--- One card grants the call, and tells these outcomes.
-abbrev pub CardTakes : Call → CardState → List Outcome → CardState → Type 0
-CardTakes (police arrivals) old outcomes new = CardPolices arrivals old outcomes new
-CardTakes (load code) old outcomes new = CardLoads code old outcomes new
-CardTakes retire old outcomes new = CardRetires old outcomes new
-CardTakes (serve vc service) old outcomes new = CardServes vc service old outcomes new
+-- One card grants the call, with these outcomes: one for each arrival of a batch, and one for a call of the desk.
+abbrev pub CardGrants : Call → CardState → List Outcome → CardState → Type 0
+CardGrants (police arrivals) old outcomes new = CardPolices arrivals old outcomes new
+CardGrants (load code) old outcomes new = CardLoads code old outcomes new
+CardGrants retire old outcomes new = CardRetires old outcomes new
+CardGrants (serve vc service) old outcomes new = CardServes vc service old outcomes new
 
 -- The codes that are loaded on the card of this number.
 abbrev pub codes_at : List (List Loading) → ℕ → List Loading
 codes_at codes number = unwrap_or (slice_get codes number) []
 
--- What the cards of a shelf tell of arrivals, each card of its own, where these codes are loaded.
+-- The outcomes of these answers of a shelf to arrivals, where these codes are loaded on its cards. The code of a program
+-- is that on the card of the arrival.
 abbrev pub outcomes_on : Side → List (List Loading) → List Arrival → List (Result Judgement Unjudged) → List Outcome
 outcomes_on side codes [] told = []
 outcomes_on side codes (arrival ∷ later) [] = []
@@ -154,21 +155,21 @@ with_code code (id ∷ ids) (codes ∷ later) = (record { id = id; code = code }
 pub record ShelfPolices (side : Side) (arrivals : List Arrival) (old : ShelfState) (outcomes : List Outcome) (new : ShelfState) : Type 0 where
   pub told : List (Result Judgement Unjudged)
   pub answers : PolicesAll side old.cards arrivals told new.cards
-  pub tells : outcomes ≡ outcomes_on side old.codes arrivals told
+  pub returns : outcomes ≡ outcomes_on side old.codes arrivals told
   pub codes : new.codes ≡ old.codes
 
 -- The shelf loads a program of this code on every card, as `Shelf::load` does.
 pub record ShelfLoads (code : List Instr) (old : ShelfState) (outcomes : List Outcome) (new : ShelfState) : Type 0 where
   pub ids : List Id
   pub loads : LoadsEach old.cards code ids new.cards
-  pub tells : outcomes ≡ done ∷ []
+  pub returns : outcomes ≡ done ∷ []
   pub codes : new.codes ≡ with_code code ids old.codes
 
 -- The shelf retires a program from every card, as `Shelf::retire` does.
 pub record ShelfRetires (old : ShelfState) (outcomes : List Outcome) (new : ShelfState) : Type 0 where
   pub ids : List Id
   pub retires : RetiresEach old.cards ids new.cards
-  pub tells : outcomes ≡ done ∷ []
+  pub returns : outcomes ≡ done ∷ []
   pub codes : new.codes ≡ old.codes
 
 -- The card that serves the connection does this for it, as in `Shelf::setup`, `reload`, `release` and `cut`. Every other
@@ -177,12 +178,12 @@ pub record ShelfServes (vc : Vc) (service : Service) (old : ShelfState) (outcome
   pub outcome : Outcome
   pub grants : ChangesCard old.cards (card_of vc (length old.cards))
       (Grants (codes_at old.codes (card_of vc (length old.codes))) vc service outcome) new.cards
-  pub tells : outcomes ≡ outcome ∷ []
+  pub returns : outcomes ≡ outcome ∷ []
   pub codes : new.codes ≡ old.codes
 
--- The shelf grants the call, and tells these outcomes.
-abbrev pub ShelfTakes : Side → Call → ShelfState → List Outcome → ShelfState → Type 0
-ShelfTakes side (police arrivals) old outcomes new = ShelfPolices side arrivals old outcomes new
-ShelfTakes side (load code) old outcomes new = ShelfLoads code old outcomes new
-ShelfTakes side retire old outcomes new = ShelfRetires old outcomes new
-ShelfTakes side (serve vc service) old outcomes new = ShelfServes vc service old outcomes new
+-- The shelf grants the call, with these outcomes.
+abbrev pub ShelfGrants : Side → Call → ShelfState → List Outcome → ShelfState → Type 0
+ShelfGrants side (police arrivals) old outcomes new = ShelfPolices side arrivals old outcomes new
+ShelfGrants side (load code) old outcomes new = ShelfLoads code old outcomes new
+ShelfGrants side retire old outcomes new = ShelfRetires old outcomes new
+ShelfGrants side (serve vc service) old outcomes new = ShelfServes vc service old outcomes new

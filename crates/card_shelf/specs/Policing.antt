@@ -1,5 +1,5 @@
 -- How a list of arrivals is policed: one after another, each by its card.
-use Rattle.std.specs.Prelude.{◌≡◌, List, [], ◌∷◌, length, Result}
+use Rattle.std.specs.Prelude.{◌≡◌, List, [], ◌∷◌, length, Result, OnErr}
 use Rattle.upc_cell.specs.declared.side.Side.{Side}
 use Rattle.card_core.specs.Agreement.{CoreView}
 use Rattle.card_core.specs.Arrival.{AnswersArrival}
@@ -10,9 +10,11 @@ use Rattle.card_shelf.specs.declared.arrival.Arrival.{Arrival}
 use Rattle.card_shelf.specs.Dealing.{card_for}
 use Rattle.card_shelf.specs.Shelf.{ChangesCard}
 
--- A card answers the arrival at its port 0: the cell goes its whole way there.
-abbrev pub ServesArrival : Arrival → Result Judgement Unjudged → CoreView → CoreView → Type 0
-ServesArrival arrival told old new = AnswersArrival old 0 arrival.cell arrival.moment (answer_to arrival.cell told) new
+-- A card answers the arrival at its port 0: the cell goes its whole way there. If the cell isn't judged, the card is as it
+-- was before.
+pub record ServesArrival (arrival : Arrival) (told : Result Judgement Unjudged) (old new : CoreView) : Type 0 where
+  pub answers : AnswersArrival old 0 arrival.cell arrival.moment (answer_to arrival.cell told) new
+  pub refused : OnErr told (new ≡ old)
 
 -- The card of the arrival's connection answers it, and every other card is as before.
 abbrev pub Polices : Side → List CoreView → Arrival → Result Judgement Unjudged → List CoreView → Type 0

@@ -1,6 +1,6 @@
 //! Laws of shelves. These functions do nothing: the contract of each is a law.
 
-ghost use Rattle.card_shelf.specs.Life.{CallsKeepACardBeside, ShelvesLiveAsOneCard};
+ghost use Rattle.card_shelf.specs.Life.{CallsKeepACardBeside, ShelvesAnswerAsOneCard};
 ghost use Rattle.card_shelf.specs.Logs.{CardsGoOnByTheirArrivals, WaysAreShort};
 ghost use Rattle.card_shelf.specs.OneCard.{ShelvesTellAsOneCard, TheSameActsSuffice};
 
@@ -25,14 +25,14 @@ pub fn the_same_acts_suffice()
     ensures { TheSameActsSuffice }
 {}
 
-/// If a card is beside a shelf, and both grant the same call, the card is beside the shelf afterwards, and both have told
-/// the same. The call is a batch of arrivals or a call of the desk.
+/// If a card is beside a shelf, and both grant the same call, the outcomes are the same, and the card is beside the shelf
+/// afterwards. The call is a batch of arrivals or a call of the desk.
 pub fn calls_keep_a_card_beside()
     ensures { CallsKeepACardBeside }
 {}
 
-/// For any list of batches and granted calls of the desk, on any number of threads, a shelf tells what one card tells that
-/// takes the same calls, and the arrivals one after another. Line numbers, counts and ids are left out.
-pub fn shelves_live_as_one_card()
-    ensures { ShelvesLiveAsOneCard }
+/// For any list of batches and granted calls of the desk, policed on any number of threads, the answers of a shelf are those
+/// of one card that takes the same calls, and the arrivals one after another. Line numbers, counts and ids are left out.
+pub fn shelves_answer_as_one_card()
+    ensures { ShelvesAnswerAsOneCard }
 {}

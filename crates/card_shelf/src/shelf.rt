@@ -235,8 +235,8 @@ impl Shelf {
     }
 
     /// Polices arrivals, and returns the answer to each, in their order. The answers, and the cards afterwards, are those of
-    /// policing the arrivals one after another, each on its card. Each card polices its own arrivals, on at most this number
-    /// of threads (one if the number is 0). The cards share nothing.
+    /// policing the arrivals one after another, each on its card. An arrival that is not judged changes nothing. Each card
+    /// polices its own arrivals, on at most this number of threads (one if the number is 0). The cards share nothing.
     ///
     /// # Errors
     ///

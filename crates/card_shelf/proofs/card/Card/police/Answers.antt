@@ -29,7 +29,7 @@ loop-place-preserved c =
       served = subst (λ (ts : List Told). ServesAll first (picked arrivals (take (k + 1) places)) ts core) (sym c.push_reserved.ensures.items)
           (subst (λ (xs : List Arrival). ServesAll first xs (c.loop-place.self.told.items ++ c.in-Some.told ∷ []) core) (sym grown)
           (serves-next first c.loop-place.self.core core (picked arrivals (take k places)) c.loop-place.self.told.items arrival c.in-Some.told
-          c.loop-place.invariant.served c.in-Some.ensures.answered));
+          c.loop-place.invariant.served (record { answers = c.in-Some.ensures.answered; refused = c.in-Some.ensures.refused })));
       rest = serving-rests c.loop-place.self.core core arrival.cell arrival.moment (answer_to arrival.cell c.in-Some.told)
           c.loop-place.invariant.rest c.in-Some.ensures.answered;
       told = omega (arith, c.push_reserved.ensures.len, c.loop-place.invariant.told);

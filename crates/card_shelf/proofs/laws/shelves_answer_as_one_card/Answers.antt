@@ -1,5 +1,5 @@
 use Rattle.card_shelf.proofs.Lives.{lives-alike}
-use Rattle.card_shelf.proofs.laws.shelves_live_as_one_card.Goals as goal
+use Rattle.card_shelf.proofs.laws.shelves_answer_as_one_card.Goals as goal
 
 pub returns : goal.returns
 returns c = lives-alike
