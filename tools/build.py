@@ -13,36 +13,29 @@ import sys
 import threading
 import time
 from concurrent.futures import FIRST_COMPLETED, ThreadPoolExecutor, wait
+from pathlib import Path
 
 import kit
 
-
-# A crate that wasn't proved here before takes so many seconds, and a second more for each so many lines.
-LEAST, LINES = 15, 18
-
-
-def seconds(crate):
-    """Returns how long a crate takes: what it took here last time, otherwise an estimate by its lines."""
-    try:
-        with open(f"{crate.folder}/{TOOK}", encoding="utf-8") as it:
-            return float(it.read())
-    except (OSError, ValueError):
-        files = [it for part in ("src", "specs", "proofs") for it in pathlib.Path(crate.folder, part).rglob("*.*t")]
-        return LEAST + sum(it.read_bytes().count(b"\n") for it in files) / LINES
+# What a crate costs before its first line is proved, in lines.
+START = 300
 
 
 def chains(program):
-    """Returns for each crate the seconds from its start to that of the program, if nothing waits for a processor."""
+    """Returns for each crate how long the longest chain is that begins with it and ends below the program, in lines.
+
+    A crate takes about as long as it has lines of code, definitions and proofs, and as START lines more."""
     longest = {}
     for crate in reversed(program.below()):
-        above = [longest[it.name] for it in program.below() if crate in it.deps]
-        longest[crate.name] = seconds(crate) + max(above, default=0)
+        files = [it for part in ("src", "specs", "proofs") for it in Path(crate.folder, part).rglob("*.*t")]
+        own = START + sum(it.read_bytes().count(b"\n") for it in files)
+        longest[crate.name] = own + max((longest[it.name] for it in program.below() if crate in it.deps), default=0)
     return longest
 
 
-def built(crate, jobs, slower):
+def built(crate, jobs, nice):
     """Proves a library and builds it. Returns what the prover printed if it refused, or nothing."""
-    rtlib, stamp, begun = kit.module(), crate.stamp(), time.time()
+    rtlib, stamp = kit.module(), crate.stamp()
     if crate.is_built():
         return ""
     folder = os.path.dirname(crate.rlib)
@@ -51,7 +44,7 @@ def built(crate, jobs, slower):
     # What an earlier check kept serves again. Else nothing is kept: that is faster.
     keeps = crate.has_kept()
     words = crate.words(["--jobs", str(jobs)], keeps=keeps) + (rtlib.KEPT if keeps else [])
-    whole = [*rtlib.guarded(), rtlib.RATTLE, "build", *words, "-o", crate.rlib]
+    whole = ["nice", "-n", str(nice), *rtlib.guarded(), rtlib.RATTLE, "build", *words, "-o", crate.rlib]
     how = {"stdin": subprocess.DEVNULL, "stdout": subprocess.PIPE, "stderr": subprocess.STDOUT, "errors": "replace"}
     ran = subprocess.run(whole, cwd=crate.folder, **how)
     if ran.returncode:
@@ -66,7 +59,7 @@ def main(name):
     rtlib.guarded()
     begun, printing = time.time(), threading.Lock()
     program = next(it for it in kit.crates() if it.name == name)
-    left, ready, running = list(program.below()), set(), {}
+    left, ready, running, longest = list(program.below()), set(), {}, chains(program)
     number, lanes = len(left) + 1, rtlib.cores()
 
     def tell(said):
@@ -78,11 +71,14 @@ def main(name):
     with ThreadPoolExecutor(lanes) as pool:
         while left or running:
             free = [it for it in left if all(below.name in ready for below in it.below())]
+            free.sort(key=lambda it: -longest[it.name])
             while free and len(running) < lanes:
                 crate = free.pop(0)
                 left.remove(crate)
-                jobs = jobs_for(len(free) + 1, lanes - len(running))
-                running[pool.submit(built, crate, jobs)] = crate
+                # The crate that the longest chain waits for takes as many processors as it can use, before the others.
+                leads = all(longest[crate.name] >= longest[it.name] for it in running.values())
+                jobs = lanes if leads else max(1, (lanes - len(running)) // (len(free) + 1))
+                running[pool.submit(built, crate, jobs, 0 if leads else 5)] = crate
             for it in wait(running, return_when=FIRST_COMPLETED).done:
                 crate = running.pop(it)
                 said = it.result()

@@ -13,14 +13,14 @@ use invocation::{carry_out, carry_out_alone};
 use std::io::IsTerminal;
 use std::process::ExitCode;
 use text_io::{Giving, Taking};
-use upc_choice::words_after_name;
+use upc_choice::{OfProcess, awaited, words_after_name};
 pub use upc_choice::{Choice, Stop, choose};
 pub use upc_ports::{run_ports, run_ports_with};
 pub use upc_programs::{check_source, eval_bytes};
 pub use upc_run::run_script;
 
 fn main(rt: HostRuntime) -> ExitCode {
-    let chosen = match words_after_name(rt.alloc(), &rt) {
+    let chosen = match words_after_name(rt.alloc(), &OfProcess(&rt)) {
         Ok(words) => choose(rt.alloc(), words),
         Err(_) => Err(Stop::NoMemory),
     };
@@ -40,17 +40,4 @@ fn main(rt: HostRuntime) -> ExitCode {
         &mut output,
         &mut errors,
     ))
-}
-
-/// The message when the input is a terminal, because nothing else shows that the program waits for input.
-fn awaited(choice: Choice) -> &'static str {
-    match choice {
-        Choice::Check => "upc check: reading the source of a program from the terminal, to its end",
-        Choice::Eval =>
-            "upc eval: reading a program and cells from the terminal, a line each, to the end",
-        Choice::Run =>
-            "upc run: reading a script of a card from the terminal, a line each, to the end",
-        Choice::Ports =>
-            "upc ports: reading a script of a card from the terminal, to its end; the answers come then",
-    }
 }

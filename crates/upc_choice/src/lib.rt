@@ -2,7 +2,11 @@
 #![tactic(auto)]
 
 mod choice;
+mod command_line;
+mod notice;
 mod words;
 
 pub use choice::{Choice, Stop, choose};
+pub use command_line::{CommandLine, InMemory, OfProcess};
+pub use notice::awaited;
 pub use words::words_after_name;

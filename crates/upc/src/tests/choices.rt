@@ -3,6 +3,7 @@
 use crate::{Choice, Stop, choose};
 use std::alloc::{AllocError, Global};
 use std::test::Fail;
+use upc_choice::{InMemory, words_after_name};
 
 fn chosen_by(alloc: Global, line: &str) -> Result<Result<Choice, Stop>, AllocError> {
     let mut words = Vec::new(alloc);
@@ -57,5 +58,40 @@ fn help_names_the_subcommands(rt: HostRuntime) -> Result<(), Fail> {
         assert!(rt; text.as_str().contains("\n  run "), "{line}");
         assert!(rt; text.as_str().contains("\n  ports "), "{line}");
     }
+    Ok(())
+}
+
+#[test]
+fn each_word_after_the_name_is_shown_in_order(rt: HostRuntime) -> Result<(), Fail> {
+    let limit = [b'a'; 1024];
+    let over = [b'a'; 1025];
+    let line = [
+        b"upc".as_slice(),
+        b"eval",
+        &over,
+        b"a\x7f\x1bb",
+        b"\xff",
+        &limit,
+        b"--",
+        b"check",
+    ];
+    let words = words_after_name(rt.alloc(), &InMemory(&line))?;
+    let mut shown = Vec::new(rt.alloc());
+    for word in &words {
+        shown.push(word.as_bytes())?;
+    }
+    assert_eq!(rt;
+        shown.as_slice(),
+        [
+            b"eval".as_slice(),
+            "\u{fffd}".as_bytes(),
+            "a\u{fffd}\u{fffd}b".as_bytes(),
+            "\u{fffd}".as_bytes(),
+            &limit,
+            b"--",
+            b"check",
+        ]
+        .as_slice()
+    );
     Ok(())
 }
