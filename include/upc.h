@@ -1,8 +1,8 @@
 /* upc.h: the proved policer for ATM cells, as a library for C and C++.
  *
- * Each call returns 0, or the number of the fault for which it refused, and fills *fault with zeros, or with that
- * fault. A call that refuses writes nothing else. The result of each call is proved (crates/upc_c/README.md) if its
- * caller keeps these rules, which nothing checks:
+ * Each call returns 0, or the constant of the fault for which it refused, such as UPC_VERIFY_UNWRITTEN, and fills
+ * *fault with zeros, or with that fault. A call that refuses writes nothing else. The result of each call is proved
+ * (crates/upc_c/README.md) if its caller keeps these rules, which nothing checks:
  *
  *  - No pointer is null, even if the length next to it is 0. Each points to memory of its type, aligned for it; octets,
  *    contracts and entries to as many as the length next to them says, which take at most PTRDIFF_MAX octets. The call
@@ -29,7 +29,30 @@
 extern "C" {
 #endif
 
-/* The stack that a call takes, in octets. */
+/* What compilers are told: the result of a call that may refuse is looked at, and no pointer is null. */
+#if defined(__GNUC__)
+#define UPC_NONNULL __attribute__((__nonnull__))
+#define UPC_RESULT __attribute__((__nonnull__, __warn_unused_result__))
+#else
+#define UPC_NONNULL
+#define UPC_RESULT
+#endif
+
+/* Stops the compiler if a type has another size than in the library, which is made for machines of 64 bits. */
+#if defined(__cplusplus) && __cplusplus >= 201103L
+#define UPC_SIZE(type, size) static_assert(sizeof(type) == (size), "the size of " #type)
+#elif defined(__STDC_VERSION__) && __STDC_VERSION__ >= 201112L
+#define UPC_SIZE(type, size) _Static_assert(sizeof(type) == (size), "the size of " #type)
+#else
+#define UPC_SIZE(type, size) typedef char type##_has_its_size[sizeof(type) == (size) ? 1 : -1]
+#endif
+
+/* The version of this header, and of the library that is linked. */
+#define UPC_VERSION 2
+uint32_t upc_version(void);
+
+/* The stack that is enough for each call, in octets. Measured on x86-64: upc_check, upc_program_new and upc_card_load take
+ * 25 KiB, upc_listing takes 4 KiB, and each other call less than 2 KiB. */
 #define UPC_STACK 65536
 
 /* ---- Faults ---- */
@@ -37,44 +60,93 @@ extern "C" {
 /* The reason why a call refused. A member that the fault doesn't use is 0. */
 typedef struct upc_fault {
 	uint32_t kind;   /* one of enum upc_kind */
-	uint32_t number; /* from 1: the fault of this kind with this number, also the result of the call */
+	uint32_t number; /* from 1: its number among the faults of this kind. The result of the call is 256 * kind + number */
 	size_t place;    /* see enum upc_kind */
-	uint32_t word;   /* the scratch word, 0 to 15, of verify 8 Unwritten */
-	uint32_t code;   /* the code of decode 2 UnknownCode */
+	uint32_t word;   /* the scratch word, 0 to 15, of UPC_VERIFY_UNWRITTEN */
+	uint32_t code;   /* the code of UPC_DECODE_UNKNOWN_CODE */
 } upc_fault;
+UPC_SIZE(upc_fault, 24);
 
 /* The kind of a fault. Names and numbers are those of docs/FORMATS.md, except UPC_CALL, which only the library has. */
 enum upc_kind {
 	UPC_FINE = 0,   /* none */
 	UPC_CALL = 1,   /* one of enum upc_call */
-	UPC_CELL = 2,   /* 1 WrongLength; place: the number of octets */
-	UPC_DECODE = 3, /* 1 Ragged, 2 UnknownCode; place: of the instruction, from 0 */
-	UPC_ASM = 4,    /* 1 BadLine, 2 BadNumber, 3 LabelTwice, 4 UnknownLabel, 5 Backward, 6 TooFar, 7 DanglingLabel;
-	                   place: the line, from 1 */
-	UPC_VERIFY = 5, /* 1 Empty, 2 TooLong, 3 BadScratch, 4 ZeroDivisor, 5 BadShift, 6 JumpOutside, 7 NoReturn,
-	                   8 Unwritten; place: of the instruction, from 0 */
-	UPC_GCRA = 6,   /* 1 ZeroIncrement, 2 TooLarge; place: the bucket, 1 or 2 */
-	UPC_BURST = 7,  /* 1 ZeroMbs, 2 PeakSlower, 3 TooLarge */
-	UPC_ARRIVE = 8, /* 1 NoConnection, 4 MomentBack, 5 MomentTooLate, 6 JournalFull; place: of MomentBack, the moment of the
-	                   connection's last judged cell. No card of this library reports 2 or 3 (proved) */
-	UPC_SHAPE = 9,  /* 1 Programs, 2 Lines, 3 Ports, 4 Journal */
-	UPC_DESK = 10   /* 1 NoProgram, 2 NoConnection, 3 Taken, 4 NoLine, 5 InUse, 6 ProgramsFull, 7 Exhausted,
-	                   8 BadContracts. No card of this library reports 9 or 11 (proved), and 10 is UPC_NO_MEMORY here */
+	UPC_CELL = 2,   /* place: the number of octets */
+	UPC_DECODE = 3, /* place: of the instruction, from 0 */
+	UPC_ASM = 4,    /* place: the line, from 1 */
+	UPC_VERIFY = 5, /* place: of the instruction, from 0 */
+	UPC_GCRA = 6,   /* place: the bucket, 1 or 2 */
+	UPC_BURST = 7,
+	UPC_ARRIVE = 8, /* place: of UPC_ARRIVE_MOMENT_BACK, the moment of the connection's last judged cell. A card in threads
+	                   may report 2 Released and 3 Stale, which no card of this library reports (proved) */
+	UPC_SHAPE = 9,
+	UPC_DESK = 10   /* a card in threads may report 9 Busy and 11 Stale, which no card of this library reports (proved) */
 };
 
+/* The results of calls that refuse: each is 256 times the kind of the fault, plus its number. Here are those of the call
+ * itself: */
 enum upc_call {
-	UPC_NO_MEMORY = 1,     /* malloc or realloc returned null */
-	UPC_NO_ROOM = 2,       /* the room is too small; place: the number of octets or entries that are needed */
-	UPC_UNKNOWN_KIND = 3,  /* the contract is of none of the four kinds */
-	UPC_LATE_LEVELS = 4,   /* the levels are above UPC_LAST_LEVEL */
-	UPC_UNKNOWN_SIDE = 5,  /* the side is none of enum upc_side */
-	UPC_PROGRAM_THERE = 6, /* the upc_program has a program already */
-	UPC_NO_PROGRAM = 7,    /* the upc_program has none */
-	UPC_CARD_THERE = 8,    /* the upc_card has a card already */
-	UPC_NO_CARD = 9,       /* the upc_card has none */
-	UPC_LARGE_PATH = 10,   /* the path is above 255, or between nodes of the network above 4095 */
-	UPC_MANY_CONTRACTS = 11 /* there are more than UPC_MOST_CONTRACTS */
+	UPC_NO_MEMORY = 257,      /* malloc or realloc returned null */
+	UPC_NO_ROOM = 258,        /* the room is too small; place: the number of octets or entries that are needed */
+	UPC_UNKNOWN_KIND = 259,   /* the contract is of none of the four kinds */
+	UPC_LATE_LEVELS = 260,    /* the levels are above UPC_LAST_LEVEL */
+	UPC_UNKNOWN_SIDE = 261,   /* the side is none of enum upc_side */
+	UPC_PROGRAM_THERE = 262,  /* the upc_program has a program already */
+	UPC_NO_PROGRAM = 263,     /* the upc_program has none */
+	UPC_CARD_THERE = 264,     /* the upc_card has a card already */
+	UPC_NO_CARD = 265,        /* the upc_card has none */
+	UPC_LARGE_PATH = 266,     /* the path is above 255, or between nodes of the network above 4095 */
+	UPC_MANY_CONTRACTS = 267  /* there are more than UPC_MOST_CONTRACTS */
 };
+
+/* And here those of the other kinds, which docs/FORMATS.md explains; made by tools/faults.py. */
+enum upc_result {
+	UPC_CELL_WRONG_LENGTH = 513,
+	UPC_DECODE_RAGGED = 769,
+	UPC_DECODE_UNKNOWN_CODE = 770,
+	UPC_ASM_BAD_LINE = 1025,
+	UPC_ASM_BAD_NUMBER = 1026,
+	UPC_ASM_LABEL_TWICE = 1027,
+	UPC_ASM_UNKNOWN_LABEL = 1028,
+	UPC_ASM_BACKWARD = 1029,
+	UPC_ASM_TOO_FAR = 1030,
+	UPC_ASM_DANGLING_LABEL = 1031,
+	UPC_VERIFY_EMPTY = 1281,
+	UPC_VERIFY_TOO_LONG = 1282,
+	UPC_VERIFY_BAD_SCRATCH = 1283,
+	UPC_VERIFY_ZERO_DIVISOR = 1284,
+	UPC_VERIFY_BAD_SHIFT = 1285,
+	UPC_VERIFY_JUMP_OUTSIDE = 1286,
+	UPC_VERIFY_NO_RETURN = 1287,
+	UPC_VERIFY_UNWRITTEN = 1288,
+	UPC_GCRA_ZERO_INCREMENT = 1537,
+	UPC_GCRA_TOO_LARGE = 1538,
+	UPC_BURST_ZERO_MBS = 1793,
+	UPC_BURST_PEAK_SLOWER = 1794,
+	UPC_BURST_TOO_LARGE = 1795,
+	UPC_ARRIVE_NO_CONNECTION = 2049,
+	UPC_ARRIVE_MOMENT_BACK = 2052,
+	UPC_ARRIVE_MOMENT_TOO_LATE = 2053,
+	UPC_ARRIVE_JOURNAL_FULL = 2054,
+	UPC_SHAPE_PROGRAMS = 2305,
+	UPC_SHAPE_LINES = 2306,
+	UPC_SHAPE_PORTS = 2307,
+	UPC_SHAPE_JOURNAL = 2308,
+	UPC_DESK_NO_PROGRAM = 2561,
+	UPC_DESK_NO_CONNECTION = 2562,
+	UPC_DESK_TAKEN = 2563,
+	UPC_DESK_NO_LINE = 2564,
+	UPC_DESK_IN_USE = 2565,
+	UPC_DESK_PROGRAMS_FULL = 2566,
+	UPC_DESK_EXHAUSTED = 2567,
+	UPC_DESK_BAD_CONTRACTS = 2568
+};
+/* end of faults */
+
+/* The kind, number and name of a fault, as "verify 8 Unwritten", and the name of a kind, as "verify". A null pointer and
+ * a fault of zeros are "no fault". The strings are constant. These two calls are C, and not proved. */
+const char *upc_strerror(const upc_fault *fault);
+const char *upc_kind_name(uint32_t kind);
 
 /* ---- A meter on the caller's state (no call allocates) ---- */
 
@@ -95,31 +167,33 @@ typedef struct upc_contract {
 	uint64_t sustained_increment; /* bucket 2, the sustainable cell rate */
 	uint64_t sustained_limit;
 } upc_contract;
+UPC_SIZE(upc_contract, 40);
 
 /* The state of one contract: the theoretical arrival times of its buckets, in ticks. Both are 0 before the first cell. */
 typedef struct upc_levels {
 	uint64_t first;
 	uint64_t second;
 } upc_levels;
+UPC_SIZE(upc_levels, 16);
 
 /* Only a card gives UPC_REFUSE: the program's value was not the number of a contract. */
 enum upc_verdict { UPC_PASS = 0, UPC_TAG = 1, UPC_DISCARD = 2, UPC_REFUSE = 3 };
 
 /* Tests whether the numbers are a contract.
  * Faults: UPC_UNKNOWN_KIND, then those of UPC_GCRA of the first faulty bucket. */
-uint32_t upc_contract_check(const upc_contract *contract, upc_fault *fault);
+uint32_t upc_contract_check(const upc_contract *contract, upc_fault *fault) UPC_RESULT;
 
 /* Judges a cell of cell loss priority 0, or of 1 if clp is any other number, at a moment of at most UPC_LAST_MOMENT
  * ticks. *verdict becomes UPC_PASS, UPC_TAG or UPC_DISCARD, and *levels the levels after the cell. The moments of the
  * cells of one upc_levels don't go back: a cell that comes before another is still judged, but not as by I.371.
- * Faults: those of upc_contract_check, then UPC_LATE_LEVELS, then arrive 5 MomentTooLate. */
+ * Faults: those of upc_contract_check, then UPC_LATE_LEVELS, then UPC_ARRIVE_MOMENT_TOO_LATE. */
 uint32_t upc_judge(const upc_contract *contract, upc_levels *levels, uint32_t clp, uint64_t moment, uint32_t *verdict,
-                   upc_fault *fault);
+                   upc_fault *fault) UPC_RESULT;
 
 /* The burst tolerance (mbs - 1)(sustained - peak) in ticks, for a burst of mbs cells and the increments of two rates.
  * Faults: those of UPC_BURST. */
 uint32_t upc_burst_tolerance(uint64_t mbs, uint64_t sustained_increment, uint64_t peak_increment, uint64_t *ticks,
-                             upc_fault *fault);
+                             upc_fault *fault) UPC_RESULT;
 
 /* ---- Cells (no call allocates) ---- */
 
@@ -136,29 +210,31 @@ typedef struct upc_fields {
 	uint8_t pti;  /* payload type, 0 to 7 */
 	uint8_t clp;  /* cell loss priority, 0 or 1 */
 } upc_fields;
+UPC_SIZE(upc_fields, 8);
 
-/* The fields of the cell with these 52 octets. Faults: cell 1 WrongLength, then UPC_UNKNOWN_SIDE. */
-uint32_t upc_cell_fields(const uint8_t *octets, size_t length, uint32_t side, upc_fields *fields, upc_fault *fault);
+/* The fields of the cell with these 52 octets. Faults: UPC_CELL_WRONG_LENGTH, then UPC_UNKNOWN_SIDE. */
+uint32_t upc_cell_fields(const uint8_t *octets, size_t length, uint32_t side, upc_fields *fields,
+                         upc_fault *fault) UPC_RESULT;
 
-/* Tags the cell with these 52 octets: its cell loss priority becomes 1. Faults: cell 1 WrongLength. */
-uint32_t upc_cell_tag(uint8_t *octets, size_t length, upc_fault *fault);
+/* Tags the cell with these 52 octets: its cell loss priority becomes 1. Faults: UPC_CELL_WRONG_LENGTH. */
+uint32_t upc_cell_tag(uint8_t *octets, size_t length, upc_fault *fault) UPC_RESULT;
 
 /* ---- Programs in octets (memory) ---- */
 
 /* Tests whether octets are a program that the check accepts. Faults: those of UPC_DECODE, then those of UPC_VERIFY. */
-uint32_t upc_check(const uint8_t *program, size_t length, upc_fault *fault);
+uint32_t upc_check(const uint8_t *program, size_t length, upc_fault *fault) UPC_RESULT;
 
 /* Writes the octets of the code that a source means into the room, and their number into *count. Doesn't check the
  * code.
  * Faults: those of UPC_ASM, then UPC_NO_ROOM. */
 uint32_t upc_assemble(const uint8_t *source, size_t source_length, uint8_t *room, size_t room_length, size_t *count,
-                      upc_fault *fault);
+                      upc_fault *fault) UPC_RESULT;
 
 /* Writes the listing of the code that octets spell, which upc_assemble reads again, into the room, and its number of
  * octets into *count. The code needn't pass the check, but its jumps lead to places of the code.
- * Faults: those of UPC_DECODE, then verify 6 JumpOutside, then UPC_NO_ROOM. */
+ * Faults: those of UPC_DECODE, then UPC_VERIFY_JUMP_OUTSIDE, then UPC_NO_ROOM. */
 uint32_t upc_listing(const uint8_t *program, size_t length, uint8_t *room, size_t room_length, size_t *count,
-                     upc_fault *fault);
+                     upc_fault *fault) UPC_RESULT;
 
 /* ---- A program that the library stores (memory) ---- */
 
@@ -169,18 +245,19 @@ typedef struct upc_program {
 	uint32_t live;
 	void *at;
 } upc_program;
+UPC_SIZE(upc_program, 16);
 
 /* Makes the program that octets spell, if there is none yet. Faults: UPC_PROGRAM_THERE, then those of upc_check. */
-uint32_t upc_program_new(const uint8_t *octets, size_t length, upc_program *program, upc_fault *fault);
+uint32_t upc_program_new(const uint8_t *octets, size_t length, upc_program *program, upc_fault *fault) UPC_RESULT;
 
 /* Runs the program on the cell with these 52 octets: *value becomes its value, and *steps the number of instructions
  * that it began. It doesn't allocate.
- * Faults: cell 1 WrongLength, then UPC_NO_PROGRAM. */
+ * Faults: UPC_CELL_WRONG_LENGTH, then UPC_NO_PROGRAM. */
 uint32_t upc_program_run(upc_program *program, const uint8_t *octets, size_t length, uint32_t *value, uint32_t *steps,
-                         upc_fault *fault);
+                         upc_fault *fault) UPC_RESULT;
 
 /* Frees the program, so that there is none. Does nothing if there is none. */
-void upc_program_free(upc_program *program);
+void upc_program_free(upc_program *program) UPC_NONNULL;
 
 /* ---- A card (memory) ---- */
 
@@ -192,6 +269,7 @@ typedef struct upc_card {
 	uint32_t live;
 	void *at;
 } upc_card;
+UPC_SIZE(upc_card, 16);
 
 /* The size of a card. */
 typedef struct upc_shape {
@@ -201,12 +279,14 @@ typedef struct upc_shape {
 	uint64_t ports;    /* 1 to 16; the calls below use one */
 	uint64_t journal;  /* the most cells of a connection between two cuts, 1 to 65536 */
 } upc_shape;
+UPC_SIZE(upc_shape, 40);
 
 /* The name of a program on a card. No other program of that card ever has the same. */
 typedef struct upc_id {
 	uint16_t slot;
 	uint32_t generation;
 } upc_id;
+UPC_SIZE(upc_id, 8);
 
 /* The answer to a judged cell. */
 typedef struct upc_answer {
@@ -217,6 +297,7 @@ typedef struct upc_answer {
 	upc_id program;   /* the program that gave the value */
 	uint16_t line;    /* the number of the line, from 0 */
 } upc_answer;
+UPC_SIZE(upc_answer, 40);
 
 /* The number of cells of each verdict that were judged on a line since the card was made. */
 typedef struct upc_counts {
@@ -225,6 +306,7 @@ typedef struct upc_counts {
 	uint64_t discarded;
 	uint64_t refused;
 } upc_counts;
+UPC_SIZE(upc_counts, 32);
 
 /* A judged cell of a journal. */
 typedef struct upc_entry {
@@ -234,6 +316,7 @@ typedef struct upc_entry {
 	uint32_t clp;     /* its cell loss priority before it was judged, 0 or 1 */
 	uint32_t verdict; /* one of enum upc_verdict */
 } upc_entry;
+UPC_SIZE(upc_entry, 32);
 
 /* The part of a connection's journal that a release or a cut returns in addition to its entries. */
 typedef struct upc_journal {
@@ -241,67 +324,74 @@ typedef struct upc_journal {
 	upc_counts before; /* the counts of its line before the first of them */
 	upc_counts after;  /* and after the last */
 } upc_journal;
+UPC_SIZE(upc_journal, 72);
 
 enum { UPC_MOST_CONTRACTS = 4 };
 
 /* Makes a card without programs and connections, if there is none yet.
  * Faults: UPC_CARD_THERE, then UPC_UNKNOWN_SIDE, then those of UPC_SHAPE. */
-uint32_t upc_card_new(const upc_shape *shape, upc_card *card, upc_fault *fault);
+uint32_t upc_card_new(const upc_shape *shape, upc_card *card, upc_fault *fault) UPC_RESULT;
 
 /* Frees the card, with its programs and connections, so that there is none. Does nothing if there is none. */
-void upc_card_free(upc_card *card);
+void upc_card_free(upc_card *card) UPC_NONNULL;
 
 /* Loads the program that octets spell; *id becomes its name.
- * Faults: those of upc_check, then UPC_NO_CARD, then desk 6 ProgramsFull. */
-uint32_t upc_card_load(upc_card *card, const uint8_t *octets, size_t length, upc_id *id, upc_fault *fault);
+ * Faults: those of upc_check, then UPC_NO_CARD, then UPC_DESK_PROGRAMS_FULL. */
+uint32_t upc_card_load(upc_card *card, const uint8_t *octets, size_t length, upc_id *id, upc_fault *fault) UPC_RESULT;
 
 /* Retires a program that no connection names. It doesn't allocate.
- * Faults: UPC_NO_CARD, then desk 1 NoProgram, 5 InUse. */
-uint32_t upc_card_retire(upc_card *card, const upc_id *program, upc_fault *fault);
+ * Faults: UPC_NO_CARD, then UPC_DESK_NO_PROGRAM, UPC_DESK_IN_USE. */
+uint32_t upc_card_retire(upc_card *card, const upc_id *program, upc_fault *fault) UPC_RESULT;
 
 /* Sets up a connection on this path and channel. For each of its cells the program names one of the one to four
  * contracts, the first by 1.
  * Faults: UPC_MANY_CONTRACTS, then those of upc_contract_check of the first faulty contract, then UPC_NO_CARD,
- * UPC_LARGE_PATH, then desk 1 NoProgram, 3 Taken, 8 BadContracts (there is none), 4 NoLine, 7 Exhausted. */
+ * UPC_LARGE_PATH, then UPC_DESK_NO_PROGRAM, UPC_DESK_TAKEN, UPC_DESK_BAD_CONTRACTS (there is none), UPC_DESK_NO_LINE,
+ * UPC_DESK_EXHAUSTED. */
 uint32_t upc_card_setup(upc_card *card, uint16_t path, uint16_t channel, const upc_id *program,
-                        const upc_contract *contracts, size_t count, upc_fault *fault);
+                        const upc_contract *contracts, size_t count, upc_fault *fault) UPC_RESULT;
 
 /* Gives a connection another program; *earlier becomes the one that it had. Its buckets and its journal are unchanged.
  * It doesn't allocate.
- * Faults: UPC_NO_CARD, UPC_LARGE_PATH, then desk 1 NoProgram, 2 NoConnection. */
+ * Faults: UPC_NO_CARD, UPC_LARGE_PATH, then UPC_DESK_NO_PROGRAM, UPC_DESK_NO_CONNECTION. */
 uint32_t upc_card_reload(upc_card *card, uint16_t path, uint16_t channel, const upc_id *program, upc_id *earlier,
-                         upc_fault *fault);
+                         upc_fault *fault) UPC_RESULT;
 
 /* Writes the number of cells in the journal of a connection: a release or a cut writes as many entries. It doesn't
  * allocate.
- * Faults: UPC_NO_CARD, UPC_LARGE_PATH, then desk 2 NoConnection. */
-uint32_t upc_card_journal(upc_card *card, uint16_t path, uint16_t channel, size_t *cells, upc_fault *fault);
+ * Faults: UPC_NO_CARD, UPC_LARGE_PATH, then UPC_DESK_NO_CONNECTION. */
+uint32_t upc_card_journal(upc_card *card, uint16_t path, uint16_t channel, size_t *cells, upc_fault *fault) UPC_RESULT;
 
 /* Writes the counts of a connection's line. It doesn't allocate.
- * Faults: UPC_NO_CARD, UPC_LARGE_PATH, then desk 2 NoConnection. */
-uint32_t upc_card_counts(upc_card *card, uint16_t path, uint16_t channel, upc_counts *counts, upc_fault *fault);
+ * Faults: UPC_NO_CARD, UPC_LARGE_PATH, then UPC_DESK_NO_CONNECTION. */
+uint32_t upc_card_counts(upc_card *card, uint16_t path, uint16_t channel, upc_counts *counts,
+                         upc_fault *fault) UPC_RESULT;
 
 /* Ends a connection, and returns its last journal: its cells, the earliest first, become the first entries of the room.
  * The other entries of the room are unchanged, and *journal has the number of cells. It doesn't allocate. A room of
  * length 0 is enough for an empty journal. If the room is too small, the connection continues, and the fault's place is
  * the number of entries that are needed.
- * Faults: UPC_NO_CARD, UPC_LARGE_PATH, then desk 2 NoConnection, then UPC_NO_ROOM. */
+ * Faults: UPC_NO_CARD, UPC_LARGE_PATH, then UPC_DESK_NO_CONNECTION, then UPC_NO_ROOM. */
 uint32_t upc_card_release(upc_card *card, uint16_t path, uint16_t channel, upc_entry *room, size_t room_length,
-                          upc_journal *journal, upc_fault *fault);
+                          upc_journal *journal, upc_fault *fault) UPC_RESULT;
 
 /* Returns a connection's journal in the same way, and empties it. The connection continues: its buckets and its last
  * moment are unchanged.
- * Faults: UPC_NO_CARD, UPC_LARGE_PATH, then desk 2 NoConnection, then UPC_NO_ROOM. */
+ * Faults: UPC_NO_CARD, UPC_LARGE_PATH, then UPC_DESK_NO_CONNECTION, then UPC_NO_ROOM. */
 uint32_t upc_card_cut(upc_card *card, uint16_t path, uint16_t channel, upc_entry *room, size_t room_length,
-                      upc_journal *journal, upc_fault *fault);
+                      upc_journal *journal, upc_fault *fault) UPC_RESULT;
 
 /* Judges the cell with these 52 octets, which arrived at this moment, on the connection that its header names, and
  * writes its answer. If the verdict is UPC_TAG, the octets become the tagged cell. It doesn't allocate. If it refuses,
  * the card is unchanged.
- * Faults: cell 1 WrongLength, then UPC_NO_CARD, then those of UPC_ARRIVE: NoConnection, then MomentTooLate, MomentBack,
- * JournalFull. */
+ * Faults: UPC_CELL_WRONG_LENGTH, then UPC_NO_CARD, then UPC_ARRIVE_NO_CONNECTION, UPC_ARRIVE_MOMENT_TOO_LATE,
+ * UPC_ARRIVE_MOMENT_BACK, UPC_ARRIVE_JOURNAL_FULL. */
 uint32_t upc_card_arrive(upc_card *card, uint8_t *octets, size_t length, uint64_t moment, upc_answer *answer,
-                         upc_fault *fault);
+                         upc_fault *fault) UPC_RESULT;
+
+#undef UPC_NONNULL
+#undef UPC_RESULT
+#undef UPC_SIZE
 
 #ifdef __cplusplus
 }

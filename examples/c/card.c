@@ -39,7 +39,7 @@ int main(void)
 		for (k = 0; k < 4; k++)
 			cell[k] = (uint8_t)(header >> (24 - 8 * k));
 		if (upc_card_arrive(&card, cell, sizeof cell, moment, &answer, &fault) != 0) {
-			printf("fault %" PRIu32 " %" PRIu32 "\n", fault.kind, fault.number);
+			printf("fault %s\n", upc_strerror(&fault));
 			continue;
 		}
 		printf("%s 1/100 p1 %" PRIu32, verdicts[answer.verdict], answer.value);

@@ -5,14 +5,15 @@
 
 static upc_fault fault;
 
-/* Prints the error of a call, a return value that isn't the error's number, and a write although the call failed. */
-static void tell(const char *what, uint32_t number, const void *lent, const void *before, size_t size)
+/* Prints the error of a call, a result that isn't the error's, and a write although the call failed. */
+static void tell(const char *what, uint32_t result, const void *lent, const void *before, size_t size)
 {
 	printf("%s: kind %u number %u", what, (unsigned)fault.kind, (unsigned)fault.number);
 	printf(" place %lu word %u code %04x", (unsigned long)fault.place, (unsigned)fault.word, (unsigned)fault.code);
-	if (number != fault.number)
-		printf(", and it returned %u", (unsigned)number);
-	if (fault.number != 0 && memcmp(lent, before, size) != 0)
+	printf(" %s", upc_strerror(&fault));
+	if (result != 256 * fault.kind + fault.number)
+		printf(", and it returned %u", (unsigned)result);
+	if (result != 0 && memcmp(lent, before, size) != 0)
 		printf(", and it wrote");
 	printf("\n");
 }
@@ -303,6 +304,7 @@ int main(void)
 	                                       "00610000000000030016000000000000"};
 	size_t k;
 
+	printf("version %u of the library, %d of the header\n", (unsigned)upc_version(), UPC_VERSION);
 	judge_all();
 	burst("no cells", 0, 20, 10);
 	burst("slower peak", 1, 10, 20);

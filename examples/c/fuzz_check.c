@@ -72,22 +72,24 @@ int main(int count, char **words)
 		uint8_t octets[8 * MOST], *program;
 		size_t length = fill(octets);
 		upc_fault fault;
-		uint32_t number;
+		uint32_t result;
 
 		program = (uint8_t *)malloc(length + 1);
 		ask(program != NULL, "no memory");
 		memcpy(program + 1, octets, length);
-		number = upc_check(program + 1, length, &fault);
-		ask(number == fault.number, "the number isn't the fault's");
-		ask((number == 0) == (fault.kind == UPC_FINE), "a kind without a number");
-		if (number == 0) {
+		result = upc_check(program + 1, length, &fault);
+		ask(result == 256 * fault.kind + fault.number, "the result isn't the fault's");
+		ask((result == 0) == (fault.kind == UPC_FINE) && (result == 0) == (fault.number == 0), "a kind without a number");
+		if (result == 0) {
 			accepted++;
 			list(program + 1, length);
 		} else {
-			ask((fault.kind == UPC_DECODE && number <= 2) || (fault.kind == UPC_VERIFY && number <= 8), "a fault of another kind");
+			ask(result == UPC_DECODE_RAGGED || result == UPC_DECODE_UNKNOWN_CODE ||
+			        (result >= UPC_VERIFY_EMPTY && result <= UPC_VERIFY_UNWRITTEN),
+			    "a fault of another kind");
 			ask(fault.place <= length / 8, "a place outside");
 			if (fault.kind == UPC_VERIFY)
-				refused[number]++;
+				refused[fault.number]++;
 		}
 		free(program);
 	} while (time(NULL) < end);

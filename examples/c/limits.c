@@ -13,16 +13,15 @@ static upc_fault fault;
 static void ask(int holds, const char *what)
 {
 	if (!holds) {
-		printf("otherwise: %s: kind %u number %u place %lu\n", what, (unsigned)fault.kind, (unsigned)fault.number,
-		       (unsigned long)fault.place);
+		printf("otherwise: %s: %s, place %lu\n", what, upc_strerror(&fault), (unsigned long)fault.place);
 		exit(1);
 	}
 }
 
-/* Expects that the last call failed with this error. */
-static void refused(const char *what, uint32_t kind, uint32_t number)
+/* Expects that a call failed with this error. */
+static void refused(const char *what, uint32_t result, uint32_t wanted)
 {
-	ask(fault.kind == kind && fault.number == number, what);
+	ask(result == wanted && 256 * fault.kind + fault.number == wanted, what);
 }
 
 static void *room_of(size_t size)
@@ -71,7 +70,8 @@ static void assemble(size_t length)
 /* A program of 4096 instructions takes 4096 steps, and none may have more. */
 static void run_longest(void)
 {
-	uint8_t *octets = (uint8_t *)room_of(8 * (INSTRUCTIONS + 1)), *text = (uint8_t *)room_of(8 * INSTRUCTIONS);
+	uint8_t *octets = (uint8_t *)room_of(8 * (INSTRUCTIONS + 1)), *text = (uint8_t *)room_of(16 * INSTRUCTIONS);
+	uint8_t *again = (uint8_t *)room_of(8 * INSTRUCTIONS);
 	uint8_t cell[UPC_CELL_OCTETS] = {0};
 	upc_program program = {0, 0};
 	uint32_t value = 0, steps = 0;
@@ -83,17 +83,20 @@ static void run_longest(void)
 		octets[8 * k + 7] = 1;
 	}
 	octets[8 * INSTRUCTIONS - 7] = 0x16; /* ret a */
+	octets[8 * INSTRUCTIONS - 1] = 0;
 	octets[8 * INSTRUCTIONS + 1] = 0x16;
 	ask(upc_program_new(octets, 8 * INSTRUCTIONS, &program, &fault) == 0, "4096 instructions");
 	ask(upc_program_run(&program, cell, sizeof cell, &value, &steps, &fault) == 0, "a run of 4096 instructions");
 	ask(value == INSTRUCTIONS - 1 && steps == INSTRUCTIONS, "the value of 4096 instructions");
 	upc_program_free(&program);
-	upc_program_new(octets, 8 * (INSTRUCTIONS + 1), &program, &fault);
-	refused("4097 instructions", UPC_VERIFY, 2);
-	upc_listing(octets, 8 * INSTRUCTIONS, text, 8 * INSTRUCTIONS, &count, &fault);
-	ask(fault.number == 0 && count == 7 * (INSTRUCTIONS - 1) + 6, "the listing of 4096 instructions");
+	refused("4097 instructions", upc_program_new(octets, 8 * (INSTRUCTIONS + 1), &program, &fault), UPC_VERIFY_TOO_LONG);
+	ask(upc_listing(octets, 8 * INSTRUCTIONS, text, 16 * INSTRUCTIONS, &count, &fault) == 0, "the listing of 4096 instructions");
+	ask(upc_assemble(text, count, again, 8 * INSTRUCTIONS, &count, &fault) == 0 && count == 8 * INSTRUCTIONS &&
+	        memcmp(again, octets, count) == 0,
+	    "the code that the listing means");
 	printf("a program of %d instructions took %u steps\n", (int)INSTRUCTIONS, (unsigned)steps);
 	free(octets);
+	free(again);
 	free(text);
 }
 
@@ -110,17 +113,13 @@ static void judge_largest(void)
 	levels.first = levels.second = 0;
 	ask(upc_judge(&it, &levels, 0, UPC_LAST_MOMENT, &verdict, &fault) == 0 && verdict == UPC_PASS, "the last moment");
 	ask(levels.first == UPC_LAST_MOMENT + UPC_MOST_TICKS && levels.second == levels.first, "the levels after the last moment");
-	upc_judge(&it, &levels, 0, UPC_LAST_MOMENT + 1, &verdict, &fault);
-	refused("one tick more", UPC_ARRIVE, 5);
+	refused("one tick more", upc_judge(&it, &levels, 0, UPC_LAST_MOMENT + 1, &verdict, &fault), UPC_ARRIVE_MOMENT_TOO_LATE);
 	levels.second = UPC_LAST_LEVEL + 1;
-	upc_judge(&it, &levels, 0, UPC_LAST_MOMENT, &verdict, &fault);
-	refused("one level more", UPC_CALL, UPC_LATE_LEVELS);
+	refused("one level more", upc_judge(&it, &levels, 0, UPC_LAST_MOMENT, &verdict, &fault), UPC_LATE_LEVELS);
 	it.sustained_limit++;
-	upc_contract_check(&it, &fault);
-	refused("one tick more in the limit", UPC_GCRA, 2);
+	refused("one tick more in the limit", upc_contract_check(&it, &fault), UPC_GCRA_TOO_LARGE);
 	ask(upc_burst_tolerance(2, UPC_MOST_TICKS, 0, &ticks, &fault) == 0 && ticks == UPC_MOST_TICKS, "the largest tolerance");
-	upc_burst_tolerance(2, UPC_MOST_TICKS + 1, 0, &ticks, &fault);
-	refused("one tick more in the tolerance", UPC_BURST, 3);
+	refused("one tick more in the tolerance", upc_burst_tolerance(2, UPC_MOST_TICKS + 1, 0, &ticks, &fault), UPC_BURST_TOO_LARGE);
 	printf("contracts, levels, moments and tolerances\n");
 }
 
@@ -146,8 +145,7 @@ static void make_cards(void)
 			shape.ports += k < 4 ? (uint64_t)-1 : 1;
 		else
 			shape.journal += k < 4 ? (uint64_t)-1 : 1;
-		upc_card_new(&shape, &card, &fault);
-		refused("a number beyond its limit", UPC_SHAPE, (uint32_t)(k % 4) + 1);
+		refused("a number beyond its limit", upc_card_new(&shape, &card, &fault), (uint32_t)(UPC_SHAPE_PROGRAMS + k % 4));
 	}
 	printf("cards of the smallest and the largest shape\n");
 }
@@ -166,14 +164,12 @@ static void load_all(void)
 		put_return(octets, k);
 		ask(upc_card_load(&card, octets, sizeof octets, &ids[k], &fault) == 0, "a program");
 	}
-	upc_card_load(&card, octets, sizeof octets, &other, &fault);
-	refused("one program more", UPC_DESK, 6);
+	refused("one program more", upc_card_load(&card, octets, sizeof octets, &other, &fault), UPC_DESK_PROGRAMS_FULL);
 	ask(upc_card_retire(&card, &ids[500], &fault) == 0, "retiring a program");
 	ask(upc_card_load(&card, octets, sizeof octets, &other, &fault) == 0 && other.slot == ids[500].slot &&
 	        other.generation == ids[500].generation + 1,
 	    "a program in its place");
-	upc_card_retire(&card, &ids[500], &fault);
-	refused("a retired name", UPC_DESK, 1);
+	refused("a retired name", upc_card_retire(&card, &ids[500], &fault), UPC_DESK_NO_PROGRAM);
 	upc_card_free(&card);
 	free(ids);
 	printf("%d programs\n", (int)PROGRAMS);
@@ -199,10 +195,8 @@ static void set_up_all(void)
 	    "a card of 4096 lines");
 	for (k = 0; k < LINES; k++)
 		ask(upc_card_setup(&card, (uint16_t)k, (uint16_t)(65535 - k), &id, four, UPC_MOST_CONTRACTS, &fault) == 0, "a connection");
-	upc_card_setup(&card, 0, 0, &id, four, 1, &fault);
-	refused("one connection more", UPC_DESK, 4);
-	upc_card_setup(&card, 4096, 0, &id, four, 1, &fault);
-	refused("one path more", UPC_CALL, UPC_LARGE_PATH);
+	refused("one connection more", upc_card_setup(&card, 0, 0, &id, four, 1, &fault), UPC_DESK_NO_LINE);
+	refused("one path more", upc_card_setup(&card, 4096, 0, &id, four, 1, &fault), UPC_LARGE_PATH);
 	for (k = 0; k < LINES; k++) {
 		uint32_t channel = 65535 - k, header = k << 20 | channel << 4;
 		uint8_t cell[UPC_CELL_OCTETS] = {(uint8_t)(header >> 24), (uint8_t)(header >> 16), (uint8_t)(header >> 8), (uint8_t)header};
@@ -238,11 +232,9 @@ static void fill_journal(void)
 	for (k = 0; k < JOURNAL; k++)
 		ask(upc_card_arrive(&card, cell, sizeof cell, k, &answer, &fault) == 0 && answer.verdict == (k % 2 ? UPC_DISCARD : UPC_PASS),
 		    "a cell of the journal");
-	upc_card_arrive(&card, cell, sizeof cell, k, &answer, &fault);
-	refused("one cell more", UPC_ARRIVE, 6);
+	refused("one cell more", upc_card_arrive(&card, cell, sizeof cell, k, &answer, &fault), UPC_ARRIVE_JOURNAL_FULL);
 	ask(upc_card_journal(&card, 255, 0, &cells, &fault) == 0 && cells == JOURNAL, "the number of cells");
-	upc_card_cut(&card, 255, 0, room, JOURNAL - 1, &journal, &fault);
-	refused("a room that lacks one entry", UPC_CALL, UPC_NO_ROOM);
+	refused("a room that lacks one entry", upc_card_cut(&card, 255, 0, room, JOURNAL - 1, &journal, &fault), UPC_NO_ROOM);
 	ask(fault.place == JOURNAL && upc_card_cut(&card, 255, 0, room, JOURNAL, &journal, &fault) == 0, "the cut");
 	ask(journal.cells == JOURNAL && journal.after.passed == JOURNAL / 2 && journal.after.discarded == JOURNAL / 2, "its counts");
 	for (k = 0; k < JOURNAL; k++)

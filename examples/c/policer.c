@@ -25,12 +25,11 @@ int main(void)
 		for (k = 0; k < 4; k++)
 			cell[k] = (uint8_t)(header >> (24 - 8 * k));
 		if (upc_cell_fields(cell, sizeof cell, UPC_UNI, &fields, &fault) != 0 ||
-		    upc_judge(&contract, &levels, fields.clp, moment, &verdict, &fault) != 0) {
-			printf("fault %" PRIu32 " %" PRIu32 "\n", fault.kind, fault.number);
+		    upc_judge(&contract, &levels, fields.clp, moment, &verdict, &fault) != 0 ||
+		    (verdict == UPC_TAG && upc_cell_tag(cell, sizeof cell, &fault) != 0)) {
+			printf("fault %s\n", upc_strerror(&fault));
 			continue;
 		}
-		if (verdict == UPC_TAG)
-			upc_cell_tag(cell, sizeof cell, &fault);
 		printf("%s %d/%d", verdicts[verdict], fields.vpi, fields.vci);
 		if (verdict != UPC_DISCARD)
 			printf(" %02x%02x%02x%02x", cell[0], cell[1], cell[2], cell[3]);

@@ -14,47 +14,33 @@ static uint32_t side;
 static upc_id names[MOST_NAMES];
 static unsigned long named;
 
-static const char *name_of(const upc_fault *fault)
-{
-	static const char *const verify[] = {"Empty", "TooLong", "BadScratch", "ZeroDivisor", "BadShift", "JumpOutside",
-	                                     "NoReturn", "Unwritten"};
-	static const char *const arrive[] = {"NoConnection", "Released", "Stale", "MomentBack", "MomentTooLate", "JournalFull"};
-	static const char *const desk[] = {"NoProgram", "NoConnection", "Taken", "NoLine", "InUse", "ProgramsFull", "Exhausted",
-	                                   "BadContracts"};
-	static const char *const shape[] = {"Programs", "Lines", "Ports", "Journal"};
-	static const char *const gcra[] = {"ZeroIncrement", "TooLarge"};
-	static const char *const decode[] = {"Ragged", "UnknownCode"};
-
-	switch (fault->kind) {
-	case UPC_VERIFY: return verify[fault->number - 1];
-	case UPC_ARRIVE: return arrive[fault->number - 1];
-	case UPC_DESK: return desk[fault->number - 1];
-	case UPC_SHAPE: return shape[fault->number - 1];
-	case UPC_GCRA: return gcra[fault->number - 1];
-	case UPC_DECODE: return decode[fault->number - 1];
-	default: return "WrongLength";
-	}
-}
-
 static void print_fault(const upc_fault *fault)
 {
-	static const char *const kinds[] = {"", "", "cell", "decode", "asm", "verify", "gcra", "", "arrive", "shape", "desk"};
-	uint32_t number = fault->number;
+	uint32_t result = 256 * fault->kind + fault->number;
 
 	if (fault->kind == UPC_CALL) { /* a number of a word is out of its limits, or an allocation failed */
-		if (number == UPC_NO_MEMORY)
+		if (result == UPC_NO_MEMORY)
 			exit(3);
 		printf("fault script 1 BadLine\n");
 		return;
 	}
-	printf("fault %s %" PRIu32 " %s", kinds[fault->kind], number, name_of(fault));
-	if (fault->kind == UPC_CELL || (fault->kind == UPC_ARRIVE && number == 4) ||
-	    (fault->kind == UPC_VERIFY && number > 2 && number != 7) || (fault->kind == UPC_DECODE && number == 2))
+	printf("fault %s", upc_strerror(fault));
+	switch (result) {
+	case UPC_CELL_WRONG_LENGTH:
+	case UPC_ARRIVE_MOMENT_BACK:
+	case UPC_VERIFY_BAD_SCRATCH:
+	case UPC_VERIFY_ZERO_DIVISOR:
+	case UPC_VERIFY_BAD_SHIFT:
+	case UPC_VERIFY_JUMP_OUTSIDE:
 		printf(" %lu", (unsigned long)fault->place);
-	if (fault->kind == UPC_VERIFY && number == 8)
-		printf(" %" PRIu32, fault->word);
-	if (fault->kind == UPC_DECODE && number == 2)
-		printf(" %04" PRIx32, fault->code);
+		break;
+	case UPC_VERIFY_UNWRITTEN:
+		printf(" %lu %" PRIu32, (unsigned long)fault->place, fault->word);
+		break;
+	case UPC_DECODE_UNKNOWN_CODE:
+		printf(" %lu %04" PRIx32, (unsigned long)fault->place, fault->code);
+		break;
+	}
 	printf("\n");
 }
 

@@ -1,6 +1,7 @@
-/* Measures the stack that each call takes: makes it on a thread whose stack was filled with a pattern, and looks how far down
- * the pattern is gone. With an argument it prints the octets of each call; otherwise only whether all take at most
- * UPC_STACK. Its inputs are large, and some make a call fail late. */
+/* Measures the stack that each call takes: makes it on a thread whose stack was filled with a pattern, and looks how far below
+ * the caller's frame the pattern is gone. With an argument it prints the octets of each call, of which some belong to the end
+ * of a thread (those of "nothing"); otherwise only whether all take at most UPC_STACK. Its inputs are large, and some make a
+ * call fail late. */
 #define _POSIX_C_SOURCE 200809L
 #include <pthread.h>
 #include <stdio.h>
@@ -136,13 +137,19 @@ typedef struct entry {
 	void (*call)(void);
 } entry;
 
+/* Where the stack of the call begins, at most. */
+static uint8_t *top;
+
 static void *start(void *given)
 {
+	uint8_t here;
+
+	top = (uint8_t *)((uintptr_t)&here + 64);
 	((entry *)given)->call();
 	return NULL;
 }
 
-/* The octets of its stack that a thread takes which makes this call. */
+/* The octets of stack that were written below the frame of the caller. */
 static size_t taken(entry *one)
 {
 	pthread_attr_t attributes;
@@ -159,14 +166,14 @@ static size_t taken(entry *one)
 	pthread_attr_destroy(&attributes);
 	while (untouched < AREA && area[untouched] == FILL)
 		untouched++;
+	untouched = (size_t)(top - area) - untouched;
 	free(area);
-	return AREA - untouched;
+	return untouched;
 }
 
 int main(int words, char **arguments)
 {
-	entry idle = {"nothing", nothing};
-	entry calls[] = {{"upc_contract_check", contract_check}, {"upc_judge", judge}, {"upc_burst_tolerance", tolerance},
+	entry calls[] = {{"nothing", nothing}, {"upc_contract_check", contract_check}, {"upc_judge", judge}, {"upc_burst_tolerance", tolerance},
 	                 {"upc_cell_fields", fields}, {"upc_cell_tag", tag}, {"upc_check", check},
 	                 {"upc_listing", list}, {"upc_assemble", assemble}, {"upc_assemble, no source", assemble_program},
 	                 {"upc_check, no program", check_unknown}, {"upc_program_new", new_program},
@@ -175,7 +182,7 @@ int main(int words, char **arguments)
 	                 {"upc_card_arrive", arrive}, {"upc_card_journal", journal}, {"upc_card_counts", counts},
 	                 {"upc_card_cut", cut}, {"upc_card_arrive", arrive}, {"upc_card_reload", reload},
 	                 {"upc_card_release", release}, {"upc_card_retire", retire}, {"upc_card_free", free_card}};
-	size_t least = taken(&idle), most = 0, k, it;
+	size_t most = 0, k, it;
 
 	/* The first half jumps over one instruction each, so that the listing has labels. */
 	for (k = 0; k < INSTRUCTIONS; k++) {
@@ -186,7 +193,6 @@ int main(int words, char **arguments)
 	program[8 * INSTRUCTIONS - 7] = 0x16;
 	for (k = 0; k < sizeof calls / sizeof *calls; k++) {
 		it = taken(&calls[k]);
-		it = it > least ? it - least : 0;
 		if (words > 1)
 			printf("%6lu %s: %u\n", (unsigned long)it, calls[k].name, (unsigned)number);
 		most = it > most ? it : most;

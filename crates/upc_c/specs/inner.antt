@@ -1,4 +1,5 @@
 -- Definitions that only proofs and the model of a type use.
+pub mod Numbered
 pub mod Hidden
 pub mod ReachedCore
 pub mod ToldLine

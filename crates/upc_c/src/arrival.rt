@@ -1,20 +1,21 @@
 //! Cells that arrive at a card that C has.
 
-ghost use Rattle.std.specs.Prelude.{◌≡◌, ◌≢◌, ◌⊎◌, ◌<◌, None, Some, Ok, IfOk, IfErr, OnErr};
+ghost use Rattle.std.specs.Prelude.{◌≡◌, ◌≢◌, ◌⊎◌, None, Some, Ok, IfOk, IfErr, OnErr};
 ghost use Rattle.card_core.specs.Arrival.{AnswersArrival};
 ghost use Rattle.card_core.specs.Sections.{answer_to, unjudged_answer};
 ghost use Rattle.card_core.specs.Steps.{cell_after};
 ghost use Rattle.card_core.specs.declared.answer.Answer.TheVariants.{NoMemory};
 ghost use Rattle.upc_c.specs.CardArrival.{ArrivesAtCard, IsArrivalFault, IsPoliced, RefusesCell, reason_of_answer};
 ghost use Rattle.upc_c.specs.CardHandle.{card_in, card_missing};
-ghost use Rattle.upc_c.specs.Faults.{no_fault, out_of_memory};
+ghost use Rattle.upc_c.specs.Faults.{call_result, no_fault, out_of_memory};
 ghost use Rattle.upc_c.specs.Judging.{number_of_verdict};
 ghost use Rattle.upc_c.specs.inner.ReachedCore.{IsReachedCore};
+ghost use Rattle.upc_c.specs.inner.Numbered.{IsNumbered};
 
 use crate::card::UpcCard;
 use crate::cell::cell_of;
 use crate::desk_fault::card_missing;
-use crate::fault::{NO_FAULT, OF_AN_ARRIVAL, UpcFault, fault_at, told};
+use crate::fault::{OF_AN_ARRIVAL, UpcFault, fault_at, fine, told};
 use crate::id::{UpcId, numbers_of};
 use crate::meter::number_of;
 use crate::stepping::{put_core, take_core};
@@ -47,7 +48,7 @@ pub struct UpcAnswer {
 /// Returns the error for C of a cell that isn't judged.
 fn told_unjudged(reason: Unjudged) -> UpcFault
     ensures told { reason_of_answer (unjudged_answer reason) ≡ Some result }
-    ensures numbered { 0 < result.number }
+    ensures numbered { IsNumbered result }
 {
     match reason {
         Unjudged::NoConnection => fault_at(OF_AN_ARRIVAL, 1, 0),
@@ -87,7 +88,7 @@ fn arrive_on(
         ⊎ RefusesCell card.old card.new cell.now moment fault) }
     ensures left { OnErr result (card_in card.new ≡ card_in card.old) }
     ensures memory { IfErr result (λ fault. fault ≢ out_of_memory) }
-    ensures numbered { IfErr result (λ fault. 0 < fault.number) }
+    ensures numbered { IfErr result IsNumbered }
 {
     let Some(mut core) = take_core(alloc, card) else {
         return Err(card_missing());
@@ -111,7 +112,7 @@ fn leave(octets: &mut [u8], cell: &Cell, verdict: Verdict)
 }
 
 /// Judges the cell of 52 octets that arrived at this moment, on the connection in its header, and writes the answer. If
-/// the verdict is Tag, the octets become the tagged cell. Returns the number of the error, or 0.
+/// the verdict is Tag, the octets become the tagged cell. Returns the result of the error, or 0.
 #[unsafe(no_mangle)]
 pub extern "C" fn upc_card_arrive(
     alloc: Global,
@@ -121,7 +122,7 @@ pub extern "C" fn upc_card_arrive(
     answer: &mut UpcAnswer,
     fault: &mut UpcFault,
 ) -> u32
-    ensures number { result ≡ fault.new.number }
+    ensures number { result ≡ call_result fault.new }
     ensures judged { result ≡ 0 → IsPoliced card.old card.new octets.old moment answer.new octets.new }
     ensures fine { result ≡ 0 → fault.new ≡ no_fault }
     ensures refused { result ≢ 0 → IsArrivalFault card.old card.new octets.old moment fault.new }
@@ -147,5 +148,5 @@ pub extern "C" fn upc_card_arrive(
         program: numbers_of(judgement.program),
         line: judgement.line,
     };
-    told(fault, NO_FAULT)
+    fine(fault)
 }

@@ -3,13 +3,13 @@
 ghost use Rattle.std.specs.Prelude.{◌≡◌, ◌≢◌};
 ghost use Rattle.leaky.specs.Tolerance.{tolerance_of};
 ghost use Rattle.upc_c.specs.Bursts.{HasTolerance, IsBurstFault};
-ghost use Rattle.upc_c.specs.Faults.{no_fault};
+ghost use Rattle.upc_c.specs.Faults.{no_fault, call_result};
 
-use crate::fault::{NO_FAULT, OF_A_BURST, UpcFault, fault_at, told};
+use crate::fault::{OF_A_BURST, UpcFault, fault_at, fine, told};
 use leaky::{BtFault, burst_tolerance};
 
 /// Writes the burst tolerance in ticks for a maximum burst size of `mbs` cells. `ts` is the increment of the
-/// sustainable cell rate, `tp` that of the peak cell rate. Returns the number of the error, or 0.
+/// sustainable cell rate, `tp` that of the peak cell rate. Returns the result of the error, or 0.
 #[unsafe(no_mangle)]
 pub extern "C" fn upc_burst_tolerance(
     mbs: u64,
@@ -18,7 +18,7 @@ pub extern "C" fn upc_burst_tolerance(
     ticks: &mut u64,
     fault: &mut UpcFault,
 ) -> u32
-    ensures number { result ≡ fault.new.number }
+    ensures number { result ≡ call_result fault.new }
     ensures tolerance { result ≡ 0 → HasTolerance mbs ts tp × (ticks.new ≡ tolerance_of mbs ts tp) }
     ensures fine { result ≡ 0 → fault.new ≡ no_fault }
     ensures refused { result ≢ 0 → IsBurstFault mbs ts tp fault.new }
@@ -27,7 +27,7 @@ pub extern "C" fn upc_burst_tolerance(
     match burst_tolerance(mbs, ts, tp) {
         Ok(tolerance) => {
             *ticks = tolerance;
-            told(fault, NO_FAULT)
+            fine(fault)
         }
         Err(BtFault::ZeroMbs) => told(fault, fault_at(OF_A_BURST, 1, 0)),
         Err(BtFault::PeakSlower) => told(fault, fault_at(OF_A_BURST, 2, 0)),

@@ -1,14 +1,15 @@
 //! Cards that C makes and frees.
 
-ghost use Rattle.std.specs.Prelude.{◌≡◌, ◌≢◌, ◌<◌, Some, None, IfOk, IfErr};
+ghost use Rattle.std.specs.Prelude.{◌≡◌, ◌≢◌, Some, None, IfOk, IfErr};
 ghost use Rattle.card_core.specs.Agreement.{CoreView};
 ghost use Rattle.upc_c.specs.CardHandle.{card_in, card_there};
 ghost use Rattle.upc_c.specs.CardMaking.{IsEmptyCard, IsNoCard, told_card};
-ghost use Rattle.upc_c.specs.Faults.{no_fault};
+ghost use Rattle.upc_c.specs.Faults.{call_result, no_fault};
 ghost use Rattle.upc_c.specs.inner.ReachedCore.{IsReachedCore};
+ghost use Rattle.upc_c.specs.inner.Numbered.{IsNumbered};
 
 use crate::card::UpcCard;
-use crate::fault::{NO_FAULT, OF_A_SHAPE, OF_THE_CALL, UpcFault, fault_at, told};
+use crate::fault::{OF_A_SHAPE, OF_THE_CALL, UpcFault, fault_at, fine, told};
 use crate::shape::{UpcShape, shape_of};
 use crate::stepping::{put_core, take_core};
 use crate::telling::out_of_memory;
@@ -18,7 +19,7 @@ use std::alloc::Global;
 /// Returns the error for C of a card that can't be made.
 fn told_card(found: CardFault) -> UpcFault
     ensures told { result ≡ told_card found }
-    ensures numbered { 0 < result.number }
+    ensures numbered { IsNumbered result }
 {
     match found {
         CardFault::Programs => fault_at(OF_A_SHAPE, 1, 0),
@@ -34,7 +35,7 @@ fn empty_core(alloc: Global, given: &UpcShape) -> Result<Box<Core>, UpcFault>
     ensures empty { IfOk result (λ core. IsEmptyCard given.now core.value) }
     ensures reached { IfOk result (λ core. IsReachedCore core.value) }
     ensures fault { IfErr result (IsNoCard given.now) }
-    ensures numbered { IfErr result (λ fault. 0 < fault.number) }
+    ensures numbered { IfErr result IsNumbered }
 {
     let shape = shape_of(given)?;
     match Core::new(alloc, shape) {
@@ -46,7 +47,7 @@ fn empty_core(alloc: Global, given: &UpcShape) -> Result<Box<Core>, UpcFault>
     }
 }
 
-/// Makes an empty card, if there is none. Returns the number of the error, or 0.
+/// Makes an empty card, if there is none. Returns the result of the error, or 0.
 #[unsafe(no_mangle)]
 pub extern "C" fn upc_card_new(
     alloc: Global,
@@ -54,7 +55,7 @@ pub extern "C" fn upc_card_new(
     card: &mut UpcCard,
     fault: &mut UpcFault,
 ) -> u32
-    ensures number { result ≡ fault.new.number }
+    ensures number { result ≡ call_result fault.new }
     ensures made { result ≡ 0 → (card_in card.old ≡ None)
         × ((core : CoreView) × IsEmptyCard shape.now core × (card_in card.new ≡ Some core)) }
     ensures fine { result ≡ 0 → fault.new ≡ no_fault }
@@ -68,7 +69,7 @@ pub extern "C" fn upc_card_new(
     match empty_core(alloc, shape) {
         Ok(core) => {
             put_core(card, core);
-            told(fault, NO_FAULT)
+            fine(fault)
         }
         Err(found) => told(fault, found),
     }

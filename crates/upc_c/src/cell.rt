@@ -1,12 +1,13 @@
 //! Cells: the fields of a header, and the tag.
 
-ghost use Rattle.std.specs.Prelude.{◌≡◌, ◌≢◌, ◌<◌, length, IfOk, IfErr};
+ghost use Rattle.std.specs.Prelude.{◌≡◌, ◌≢◌, length, IfOk, IfErr};
 ghost use Rattle.upc_cell.specs.Tagged.{tagged_form};
 ghost use Rattle.upc_cell.specs.declared.side.Side.{Side as TheSide};
 ghost use Rattle.upc_c.specs.CellHeader.{IsCellFault, IsFieldsFault, fields_at, side_number};
-ghost use Rattle.upc_c.specs.Faults.{no_fault};
+ghost use Rattle.upc_c.specs.Faults.{call_result, no_fault};
+ghost use Rattle.upc_c.specs.inner.Numbered.{IsNumbered};
 
-use crate::fault::{NO_FAULT, OF_A_CELL, OF_THE_CALL, UpcFault, fault_at, told};
+use crate::fault::{OF_A_CELL, OF_THE_CALL, UpcFault, fault_at, fine, told};
 use upc_cell::{Cell, CellFault, Side};
 
 /// The fields of a cell's header (ITU-T I.361).
@@ -31,7 +32,7 @@ pub(crate) fn cell_of(octets: &[u8]) -> Result<Cell, UpcFault>
     ensures length { IfOk result (λ _. length octets.now ≡ 52) }
     ensures cell { IfOk result (λ cell. cell ≡ octets.now) }
     ensures fault { IfErr result (IsCellFault octets.now) }
-    ensures numbered { IfErr result (λ fault. 0 < fault.number) }
+    ensures numbered { IfErr result IsNumbered }
 {
     match Cell::from_bytes(octets) {
         Ok(cell) => Ok(cell),
@@ -57,7 +58,7 @@ fn fields_of(cell: &Cell, side: Side) -> UpcFields
 }
 
 /// Reads the header of a cell of 52 octets, at the user network interface (`side` 0) or between nodes of the network
-/// (1). Returns the number of the error, or 0.
+/// (1). Returns the result of the error, or 0.
 #[unsafe(no_mangle)]
 pub extern "C" fn upc_cell_fields(
     octets: &[u8],
@@ -65,7 +66,7 @@ pub extern "C" fn upc_cell_fields(
     fields: &mut UpcFields,
     fault: &mut UpcFault,
 ) -> u32
-    ensures number { result ≡ fault.new.number }
+    ensures number { result ≡ call_result fault.new }
     ensures read { result ≡ 0 → (at : TheSide) × (side ≡ side_number at) × (length octets.now ≡ 52)
         × (fields.new ≡ fields_at at octets.now) }
     ensures fine { result ≡ 0 → fault.new ≡ no_fault }
@@ -75,21 +76,21 @@ pub extern "C" fn upc_cell_fields(
     match (cell_of(octets), side) {
         (Ok(cell), 0) => {
             *fields = fields_of(&cell, Side::Uni);
-            told(fault, NO_FAULT)
+            fine(fault)
         }
         (Ok(cell), 1) => {
             *fields = fields_of(&cell, Side::Nni);
-            told(fault, NO_FAULT)
+            fine(fault)
         }
         (Ok(_), _) => told(fault, fault_at(OF_THE_CALL, 5, 0)),
         (Err(found), _) => told(fault, found),
     }
 }
 
-/// Tags the cell of 52 octets: its cell loss priority becomes 1. Returns the number of the error, or 0.
+/// Tags the cell of 52 octets: its cell loss priority becomes 1. Returns the result of the error, or 0.
 #[unsafe(no_mangle)]
 pub extern "C" fn upc_cell_tag(octets: &mut [u8], fault: &mut UpcFault) -> u32
-    ensures number { result ≡ fault.new.number }
+    ensures number { result ≡ call_result fault.new }
     ensures tagged { result ≡ 0 → (length octets.old ≡ 52) × (octets.new ≡ tagged_form octets.old) }
     ensures fine { result ≡ 0 → fault.new ≡ no_fault }
     ensures refused { result ≢ 0 → IsCellFault octets.old fault.new }
@@ -98,7 +99,7 @@ pub extern "C" fn upc_cell_tag(octets: &mut [u8], fault: &mut UpcFault) -> u32
     match cell_of(octets) {
         Ok(cell) => {
             octets.copy_from_slice(cell.tagged().bytes());
-            told(fault, NO_FAULT)
+            fine(fault)
         }
         Err(found) => told(fault, found),
     }

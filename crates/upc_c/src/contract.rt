@@ -1,10 +1,11 @@
 //! Contracts, as C has them.
 
-ghost use Rattle.std.specs.Prelude.{◌≡◌, ◌≢◌, ◌<◌, IfOk, IfErr};
+ghost use Rattle.std.specs.Prelude.{◌≡◌, ◌≢◌, IfOk, IfErr};
 ghost use Rattle.upc_c.specs.GivenContract.{IsGivenContract, IsContractFault, IsGivenRate, IsRateFault, AreARate, AreAContract};
-ghost use Rattle.upc_c.specs.Faults.{no_fault};
+ghost use Rattle.upc_c.specs.Faults.{call_result, no_fault};
+ghost use Rattle.upc_c.specs.inner.Numbered.{IsNumbered};
 
-use crate::fault::{NO_FAULT, OF_A_RATE, OF_THE_CALL, UpcFault, fault_at, told};
+use crate::fault::{OF_A_RATE, OF_THE_CALL, UpcFault, fault_at, fine, told};
 use leaky::{Contract, Gcra, GcraFault};
 
 /// A traffic contract: its kind, and an increment and a limit in ticks for each of its two buckets.
@@ -29,7 +30,7 @@ fn rate_of(bucket: usize, increment: u64, limit: u64) -> Result<Gcra, UpcFault>
     ensures rate { IfOk result (IsGivenRate increment limit) }
     ensures numbers { IfOk result (λ _. AreARate increment limit) }
     ensures fault { IfErr result (IsRateFault bucket increment limit) }
-    ensures numbered { IfErr result (λ fault. 0 < fault.number) }
+    ensures numbered { IfErr result IsNumbered }
 {
     match Gcra::new(increment, limit) {
         Ok(gcra) => Ok(gcra),
@@ -44,7 +45,7 @@ pub(crate) fn contract_of(given: &UpcContract) -> Result<Contract, UpcFault>
     ensures contract { IfOk result (IsGivenContract given.now) }
     ensures numbers { IfOk result (λ _. AreAContract given.now) }
     ensures fault { IfErr result (IsContractFault given.now) }
-    ensures numbered { IfErr result (λ fault. 0 < fault.number) }
+    ensures numbered { IfErr result IsNumbered }
 {
     if given.kind == 0 || given.kind > 4 {
         return Err(fault_at(OF_THE_CALL, 3, 0));
@@ -61,16 +62,16 @@ pub(crate) fn contract_of(given: &UpcContract) -> Result<Contract, UpcFault>
     })
 }
 
-/// Checks whether the numbers are a contract. Returns the number of the error, or 0.
+/// Checks whether the numbers are a contract. Returns the result of the error, or 0.
 #[unsafe(no_mangle)]
 pub extern "C" fn upc_contract_check(contract: &UpcContract, fault: &mut UpcFault) -> u32
-    ensures number { result ≡ fault.new.number }
+    ensures number { result ≡ call_result fault.new }
     ensures contract { result ≡ 0 → AreAContract contract.now }
     ensures fine { result ≡ 0 → fault.new ≡ no_fault }
     ensures refused { result ≢ 0 → IsContractFault contract.now fault.new }
 {
     match contract_of(contract) {
-        Ok(_) => told(fault, NO_FAULT),
+        Ok(_) => fine(fault),
         Err(found) => told(fault, found),
     }
 }

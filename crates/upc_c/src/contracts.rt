@@ -1,7 +1,8 @@
 //! The contracts of a connection, as C gives them.
 
-ghost use Rattle.std.specs.Prelude.{◌≡◌, ◌<◌, ◌≤◌, length, IfOk, IfErr};
+ghost use Rattle.std.specs.Prelude.{◌≡◌, ◌≤◌, length, IfOk, IfErr};
 ghost use Rattle.upc_c.specs.CardDesk.{AreGivenContracts, IsContractsFault};
+ghost use Rattle.upc_c.specs.inner.Numbered.{IsNumbered};
 
 use crate::contract::{UpcContract, contract_of};
 use crate::fault::{OF_THE_CALL, UpcFault, fault_at};
@@ -16,7 +17,7 @@ pub(crate) fn contracts_of(given: &[UpcContract]) -> Result<ArrayVec<Contract, 4
     ensures few { IfOk result (λ _. length given.now ≤ 4) }
     ensures contracts { IfOk result (λ contracts. AreGivenContracts given.now contracts.items) }
     ensures fault { IfErr result (IsContractsFault given.now) }
-    ensures numbered { IfErr result (λ fault. 0 < fault.number) }
+    ensures numbered { IfErr result IsNumbered }
 {
     if given.len() > MOST_CONTRACTS {
         return Err(fault_at(OF_THE_CALL, 11, 0));

@@ -1,8 +1,9 @@
 //! The errors of the desk, as C gets them.
 
-ghost use Rattle.std.specs.Prelude.{◌≡◌, ◌<◌};
+ghost use Rattle.std.specs.Prelude.{◌≡◌};
 ghost use Rattle.upc_c.specs.CardDesk.{told_desk};
 ghost use Rattle.upc_c.specs.CardHandle.{card_missing};
+ghost use Rattle.upc_c.specs.inner.Numbered.{IsNumbered};
 
 use crate::fault::{OF_THE_CALL, OF_THE_DESK, UpcFault, fault_at};
 use crate::telling::out_of_memory;
@@ -18,7 +19,7 @@ pub(crate) fn card_missing() -> UpcFault
 /// Returns the error for C of a step that the desk refused.
 pub(crate) fn told_desk(found: DeskFault) -> UpcFault
     ensures told { result ≡ told_desk found }
-    ensures numbered { 0 < result.number }
+    ensures numbered { IsNumbered result }
 {
     let number = match found {
         DeskFault::NoProgram => 1,

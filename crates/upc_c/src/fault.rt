@@ -1,12 +1,13 @@
 //! Errors, as C gets them.
 
-ghost use Rattle.std.specs.Prelude.{◌≡◌};
-ghost use Rattle.upc_c.specs.Faults.{no_fault, plain_fault};
+ghost use Rattle.std.specs.Prelude.{◌≡◌, ◌≢◌};
+ghost use Rattle.upc_c.specs.Faults.{call_result, no_fault, plain_fault};
+ghost use Rattle.upc_c.specs.inner.Numbered.{IsNumbered};
 
 /// The error of a call, or all zeros if it has none.
 ///
-/// The kind and the number are those of an error in `docs/FORMATS.md`; the header lists the kinds. Fields that an error
-/// doesn't use are 0.
+/// The kind and the number are those of an error in `docs/FORMATS.md`; the header lists the kinds. A call with this error
+/// returns 256 times the kind, plus the number. Fields that an error doesn't use are 0.
 #[repr(C)]
 #[derive(Clone, Copy, Debug)]
 pub struct UpcFault {
@@ -47,7 +48,7 @@ pub(crate) const OF_A_SHAPE: u32 = 9;
 pub(crate) const OF_THE_DESK: u32 = 10;
 
 /// No error.
-pub(crate) const NO_FAULT: UpcFault = UpcFault {
+const NO_FAULT: UpcFault = UpcFault {
     kind: 0,
     number: 0,
     place: 0,
@@ -68,11 +69,23 @@ pub(crate) fn fault_at(kind: u32, number: u32, place: usize) -> UpcFault
     }
 }
 
-/// Writes the error for C and returns its number.
+/// Writes the error for C and returns its result: 256 times its kind, plus its number.
 pub(crate) fn told(fault: &mut UpcFault, found: UpcFault) -> u32
+    requires { IsNumbered found }
     ensures told { fault.new ≡ found }
-    ensures number { result ≡ found.number }
+    ensures number { result ≡ call_result fault.new }
+    ensures refused { result ≢ 0 }
 {
     *fault = found;
-    found.number
+    found.kind * 256 + found.number
+}
+
+/// Writes for C that there is no error, and returns 0.
+pub(crate) fn fine(fault: &mut UpcFault) -> u32
+    ensures fine { fault.new ≡ no_fault }
+    ensures number { result ≡ call_result fault.new }
+    ensures zero { result ≡ 0 }
+{
+    *fault = NO_FAULT;
+    0
 }

@@ -1,15 +1,16 @@
 //! The calls for a program that C has.
 
-ghost use Rattle.std.specs.Prelude.{◌≡◌, ◌≢◌, ◌<◌, List, length, Some, None, IfOk, IfErr};
+ghost use Rattle.std.specs.Prelude.{◌≡◌, ◌≢◌, List, length, Some, None, IfOk, IfErr};
 ghost use Rattle.bpf_code.specs.OctetSpelling.{SpellsCode};
 ghost use Rattle.bpf_code.specs.declared.instr.Instr.{Instr};
 ghost use Rattle.bpf_interp.specs.Value.{Value};
 ghost use Rattle.bpf_verify.specs.Accepted.{IsAccepted};
-ghost use Rattle.upc_c.specs.Faults.{no_fault};
+ghost use Rattle.upc_c.specs.Faults.{call_result, no_fault};
 ghost use Rattle.upc_c.specs.ProgramHandle.{IsNoProgram, IsRunFault, program_in, program_there};
+ghost use Rattle.upc_c.specs.inner.Numbered.{IsNumbered};
 
 use crate::cell::cell_of;
-use crate::fault::{NO_FAULT, OF_THE_CALL, UpcFault, fault_at, told};
+use crate::fault::{OF_THE_CALL, UpcFault, fault_at, fine, told};
 use crate::held::UpcProgram;
 use crate::hidden::Hidden;
 use crate::program::accepted;
@@ -24,7 +25,7 @@ fn program_of(alloc: Global, octets: &[u8]) -> Result<Box<Program>, UpcFault>
     ensures code { IfOk result (λ program. SpellsCode octets.now program.value) }
     ensures accepted { IfOk result (λ program. IsAccepted program.value) }
     ensures fault { IfErr result (IsNoProgram octets.now) }
-    ensures numbered { IfErr result (λ fault. 0 < fault.number) }
+    ensures numbered { IfErr result IsNumbered }
 {
     let program = accepted(alloc, octets)?;
     match Box::new(alloc, program) {
@@ -33,7 +34,7 @@ fn program_of(alloc: Global, octets: &[u8]) -> Result<Box<Program>, UpcFault>
     }
 }
 
-/// Makes the program that the octets spell, if there is none. Returns the number of the error, or 0.
+/// Makes the program that the octets spell, if there is none. Returns the result of the error, or 0.
 #[unsafe(no_mangle)]
 pub extern "C" fn upc_program_new(
     alloc: Global,
@@ -41,7 +42,7 @@ pub extern "C" fn upc_program_new(
     program: &mut UpcProgram,
     fault: &mut UpcFault,
 ) -> u32
-    ensures number { result ≡ fault.new.number }
+    ensures number { result ≡ call_result fault.new }
     ensures made { result ≡ 0 → (program_in program.old ≡ None)
         × ((code : List Instr) × SpellsCode octets.now code × IsAccepted code × (program_in program.new ≡ Some code)) }
     ensures fine { result ≡ 0 → fault.new ≡ no_fault }
@@ -58,7 +59,7 @@ pub extern "C" fn upc_program_new(
                 live: 1,
                 inner: Hidden::of(made),
             };
-            told(fault, NO_FAULT)
+            fine(fault)
         }
         Err(found) => told(fault, found),
     }
@@ -83,7 +84,7 @@ pub extern "C" fn upc_program_free(alloc: Global, program: &mut UpcProgram)
     drop(inner.into_box());
 }
 
-/// Runs the program on a cell of 52 octets. Returns the number of the error, or 0.
+/// Runs the program on a cell of 52 octets. Returns the result of the error, or 0.
 #[unsafe(no_mangle)]
 pub extern "C" fn upc_program_run(
     alloc: Global,
@@ -93,7 +94,7 @@ pub extern "C" fn upc_program_run(
     steps: &mut u32,
     fault: &mut UpcFault,
 ) -> u32
-    ensures number { result ≡ fault.new.number }
+    ensures number { result ≡ call_result fault.new }
     ensures ran { result ≡ 0 → (length octets.now ≡ 52) × ((code : List Instr) × (program_in program.old ≡ Some code)
         × IsAccepted code × Value code octets.now value.new steps.new) }
     ensures kept { program_in program.new ≡ program_in program.old }
@@ -124,5 +125,5 @@ pub extern "C" fn upc_program_run(
     };
     *value = outcome.value;
     *steps = outcome.steps;
-    told(fault, NO_FAULT)
+    fine(fault)
 }

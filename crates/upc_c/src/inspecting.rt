@@ -1,15 +1,16 @@
 //! Reads of a connection on a card, without a step.
 
-ghost use Rattle.std.specs.Prelude.{◌≡◌, ◌≢◌, ◌<◌, IfNone, IfSome, IfErr, IfOk};
+ghost use Rattle.std.specs.Prelude.{◌≡◌, ◌≢◌, IfNone, IfSome, IfErr, IfOk};
 ghost use Rattle.upc_c.specs.CardHandle.{card_in};
 ghost use Rattle.upc_c.specs.CardInspection.{HasCounted, HasInJournal, IsLookUpFault};
-ghost use Rattle.upc_c.specs.Faults.{no_fault};
+ghost use Rattle.upc_c.specs.Faults.{call_result, no_fault};
 ghost use Rattle.upc_c.specs.inner.ToldLine.{IsMissingIn, IsToldLine, IsToldOf};
+ghost use Rattle.upc_c.specs.inner.Numbered.{IsNumbered};
 
 use crate::card::UpcCard;
 use crate::counts::{UpcCounts, counts_of};
 use crate::desk_fault::{card_missing, told_desk};
-use crate::fault::{NO_FAULT, UpcFault, told};
+use crate::fault::{UpcFault, fine, told};
 use crate::setting_up::vc_on;
 use crate::stepping::{put_core, take_core};
 use card_core::{Core, DeskFault};
@@ -45,7 +46,7 @@ fn line_on(alloc: Global, card: &mut UpcCard, path: u16, channel: u16) -> Result
     ensures told { IfOk result (IsToldLine card.old path channel) }
     ensures fault { IfErr result (IsLookUpFault card.old path channel) }
     ensures kept { card_in card.new ≡ card_in card.old }
-    ensures numbered { IfErr result (λ fault. 0 < fault.number) }
+    ensures numbered { IfErr result IsNumbered }
 {
     let vc = match vc_on(alloc, card, path, channel) {
         Ok(vc) => vc,
@@ -63,7 +64,7 @@ fn line_on(alloc: Global, card: &mut UpcCard, path: u16, channel: u16) -> Result
 }
 
 /// Writes the number of cells in the journal of the connection on this path and channel. A cut or a release writes as
-/// many entries. Returns the number of the error, or 0.
+/// many entries. Returns the result of the error, or 0.
 #[unsafe(no_mangle)]
 pub extern "C" fn upc_card_journal(
     alloc: Global,
@@ -73,7 +74,7 @@ pub extern "C" fn upc_card_journal(
     cells: &mut usize,
     fault: &mut UpcFault,
 ) -> u32
-    ensures number { result ≡ fault.new.number }
+    ensures number { result ≡ call_result fault.new }
     ensures cells { result ≡ 0 → HasInJournal card.old path channel cells.new }
     ensures fine { result ≡ 0 → fault.new ≡ no_fault }
     ensures refused { result ≢ 0 → IsLookUpFault card.old path channel fault.new }
@@ -83,13 +84,13 @@ pub extern "C" fn upc_card_journal(
     match line_on(alloc, card, path, channel) {
         Ok(line) => {
             *cells = line.cells;
-            told(fault, NO_FAULT)
+            fine(fault)
         }
         Err(found) => told(fault, found),
     }
 }
 
-/// Writes the counts of the line that serves the connection on this path and channel. Returns the number of the error,
+/// Writes the counts of the line that serves the connection on this path and channel. Returns the result of the error,
 /// or 0.
 #[unsafe(no_mangle)]
 pub extern "C" fn upc_card_counts(
@@ -100,7 +101,7 @@ pub extern "C" fn upc_card_counts(
     counts: &mut UpcCounts,
     fault: &mut UpcFault,
 ) -> u32
-    ensures number { result ≡ fault.new.number }
+    ensures number { result ≡ call_result fault.new }
     ensures counts { result ≡ 0 → HasCounted card.old path channel counts.new }
     ensures fine { result ≡ 0 → fault.new ≡ no_fault }
     ensures refused { result ≢ 0 → IsLookUpFault card.old path channel fault.new }
@@ -110,7 +111,7 @@ pub extern "C" fn upc_card_counts(
     match line_on(alloc, card, path, channel) {
         Ok(line) => {
             *counts = counts_of(line.counts);
-            told(fault, NO_FAULT)
+            fine(fault)
         }
         Err(found) => told(fault, found),
     }

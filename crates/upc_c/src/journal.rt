@@ -1,21 +1,22 @@
 //! Journals of connections that C cuts or releases.
 
-ghost use Rattle.std.specs.Prelude.{◌≡◌, ◌≢◌, ◌⊎◌, ◌<◌, ◌≤◌, length, IfOk, IfErr, OnErr, IfSome, IfNone};
+ghost use Rattle.std.specs.Prelude.{◌≡◌, ◌≢◌, ◌⊎◌, ◌≤◌, length, IfOk, IfErr, OnErr, IfSome, IfNone};
 ghost use Rattle.card_core.specs.Agreement.{Follows};
 ghost use Rattle.card_core.specs.Kept.{RefusalKeeps};
 ghost use Rattle.card_core.specs.declared.step.Step.TheVariants.{Release, Cut};
 ghost use Rattle.upc_c.specs.CardDesk.{IsDeskFault};
 ghost use Rattle.upc_c.specs.CardHandle.{CardTakes, card_in};
 ghost use Rattle.upc_c.specs.CardJournal.{IsCut, IsHandedOut, IsJournalFault, IsReleased, told_journal};
-ghost use Rattle.upc_c.specs.Faults.{no_fault};
+ghost use Rattle.upc_c.specs.Faults.{call_result, no_fault};
 ghost use Rattle.upc_c.specs.inner.HandOut.{IsLongerIn, IsLongerOn, IsShortIn, replied, handing_reply, step_of};
 ghost use Rattle.upc_c.specs.inner.ReachedCore.{IsReachedCore};
+ghost use Rattle.upc_c.specs.inner.Numbered.{IsNumbered};
 
 use crate::card::UpcCard;
 use crate::counts::{UpcCounts, counts_of};
 use crate::desk_fault::{card_missing, told_desk};
 use crate::entry::{UpcEntry, write_entries};
-use crate::fault::{NO_FAULT, OF_THE_CALL, UpcFault, fault_at, told};
+use crate::fault::{OF_THE_CALL, UpcFault, fault_at, fine, told};
 use crate::inspecting::told_line;
 use crate::setting_up::vc_on;
 use crate::stepping::{put_core, take_core};
@@ -106,7 +107,7 @@ fn hand_out_on(
     ensures refused { IfErr result (λ fault.
         IsDeskFault card.old card.new (step_of when vc) fault ⊎ IsLongerOn card.old vc most fault) }
     ensures left { OnErr result (card_in card.new ≡ card_in card.old) }
-    ensures numbered { IfErr result (λ fault. 0 < fault.number) }
+    ensures numbered { IfErr result IsNumbered }
 {
     let Some(mut core) = take_core(alloc, card) else {
         return Err(card_missing());
@@ -139,7 +140,7 @@ fn hand_out_to(
     ensures left { OnErr result (card_in card.new ≡ card_in card.old) }
     ensures room_left { OnErr result (room.new ≡ room.old) }
     ensures journal_left { OnErr result (journal.new ≡ journal.old) }
-    ensures numbered { IfErr result (λ fault. 0 < fault.number) }
+    ensures numbered { IfErr result IsNumbered }
 {
     let vc = match vc_on(alloc, card, path, channel) {
         Ok(vc) => vc,
@@ -156,7 +157,7 @@ fn hand_out_to(
 }
 
 /// Releases the connection on this path and channel, writes the entries of its last journal to the front of the buffer,
-/// and writes the counts before and after them. Returns the number of the error, or 0.
+/// and writes the counts before and after them. Returns the result of the error, or 0.
 #[unsafe(no_mangle)]
 pub extern "C" fn upc_card_release(
     alloc: Global,
@@ -167,7 +168,7 @@ pub extern "C" fn upc_card_release(
     journal: &mut UpcJournal,
     fault: &mut UpcFault,
 ) -> u32
-    ensures number { result ≡ fault.new.number }
+    ensures number { result ≡ call_result fault.new }
     ensures released { result ≡ 0 → IsReleased card.old card.new path channel room.old room.new journal.new }
     ensures fine { result ≡ 0 → fault.new ≡ no_fault }
     ensures refused { result ≢ 0 → IsJournalFault card.old card.new path channel Release room.old fault.new }
@@ -176,13 +177,13 @@ pub extern "C" fn upc_card_release(
     ensures journal_left { result ≢ 0 → journal.new ≡ journal.old }
 {
     match hand_out_to(alloc, card, path, channel, HandOut::AtEnd, room, journal) {
-        Ok(()) => told(fault, NO_FAULT),
+        Ok(()) => fine(fault),
         Err(found) => told(fault, found),
     }
 }
 
 /// Cuts the journal of the connection on this path and channel, writes its entries to the front of the buffer, and
-/// writes the counts before and after them. The buckets and the last moment are unchanged. Returns the number of the
+/// writes the counts before and after them. The buckets and the last moment are unchanged. Returns the result of the
 /// error, or 0.
 #[unsafe(no_mangle)]
 pub extern "C" fn upc_card_cut(
@@ -194,7 +195,7 @@ pub extern "C" fn upc_card_cut(
     journal: &mut UpcJournal,
     fault: &mut UpcFault,
 ) -> u32
-    ensures number { result ≡ fault.new.number }
+    ensures number { result ≡ call_result fault.new }
     ensures cut { result ≡ 0 → IsCut card.old card.new path channel room.old room.new journal.new }
     ensures fine { result ≡ 0 → fault.new ≡ no_fault }
     ensures refused { result ≢ 0 → IsJournalFault card.old card.new path channel Cut room.old fault.new }
@@ -203,7 +204,7 @@ pub extern "C" fn upc_card_cut(
     ensures journal_left { result ≢ 0 → journal.new ≡ journal.old }
 {
     match hand_out_to(alloc, card, path, channel, HandOut::GoingOn, room, journal) {
-        Ok(()) => told(fault, NO_FAULT),
+        Ok(()) => fine(fault),
         Err(found) => told(fault, found),
     }
 }

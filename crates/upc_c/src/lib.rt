@@ -28,6 +28,7 @@ mod setting_up;
 mod shape;
 mod stepping;
 mod telling;
+mod version;
 
 pub use arrival::{UpcAnswer, upc_card_arrive};
 pub use burst::upc_burst_tolerance;
@@ -49,3 +50,4 @@ pub use program::{upc_assemble, upc_check, upc_listing};
 pub use renaming::{upc_card_reload, upc_card_retire};
 pub use setting_up::upc_card_setup;
 pub use shape::UpcShape;
+pub use version::upc_version;

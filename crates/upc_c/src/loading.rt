@@ -5,11 +5,12 @@ ghost use Rattle.card_core.specs.declared.reply.Reply.TheVariants.{Loaded};
 ghost use Rattle.card_core.specs.declared.step.Step.TheVariants.{Load};
 ghost use Rattle.upc_c.specs.CardDesk.{IsDeskFault, IsLoaded, IsLoadFault};
 ghost use Rattle.upc_c.specs.CardHandle.{CardTakes, card_in};
-ghost use Rattle.upc_c.specs.Faults.{no_fault, ragged};
+ghost use Rattle.upc_c.specs.Faults.{call_result, no_fault, ragged};
+ghost use Rattle.upc_c.specs.inner.Numbered.{IsNumbered};
 
 use crate::card::UpcCard;
 use crate::desk_fault::{card_missing, told_desk};
-use crate::fault::{NO_FAULT, UpcFault, told};
+use crate::fault::{UpcFault, fine, told};
 use crate::id::{UpcId, numbers_of};
 use crate::program::accepted;
 use crate::stepping::{put_core, take_core};
@@ -22,7 +23,7 @@ fn load_on(alloc: Global, card: &mut UpcCard, program: Program) -> Result<Id, Up
     ensures loaded { IfOk result (λ id. CardTakes card.old card.new (Load program) (Loaded id)) }
     ensures refused { IfErr result (IsDeskFault card.old card.new (Load program)) }
     ensures left { OnErr result (card_in card.new ≡ card_in card.old) }
-    ensures numbered { IfErr result (λ fault. 0 < fault.number) }
+    ensures numbered { IfErr result IsNumbered }
 {
     let Some(mut core) = take_core(alloc, card) else {
         return Err(card_missing());
@@ -38,7 +39,7 @@ fn load_on(alloc: Global, card: &mut UpcCard, program: Program) -> Result<Id, Up
     }
 }
 
-/// Loads the program that the octets spell, and writes its id, which no other program ever has. Returns the number of
+/// Loads the program that the octets spell, and writes its id, which no other program ever has. Returns the result of
 /// the error, or 0.
 #[unsafe(no_mangle)]
 pub extern "C" fn upc_card_load(
@@ -48,7 +49,7 @@ pub extern "C" fn upc_card_load(
     id: &mut UpcId,
     fault: &mut UpcFault,
 ) -> u32
-    ensures number { result ≡ fault.new.number }
+    ensures number { result ≡ call_result fault.new }
     ensures loaded { result ≡ 0 → IsLoaded card.old card.new octets.now id.new }
     ensures fine { result ≡ 0 → fault.new ≡ no_fault }
     ensures refused { result ≢ 0 → IsLoadFault card.old card.new octets.now fault.new }
@@ -63,7 +64,7 @@ pub extern "C" fn upc_card_load(
     match load_on(alloc, card, program) {
         Ok(loaded) => {
             *id = numbers_of(loaded);
-            told(fault, NO_FAULT)
+            fine(fault)
         }
         Err(found) => told(fault, found),
     }

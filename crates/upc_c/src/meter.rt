@@ -1,13 +1,14 @@
 //! A meter whose state the caller stores.
 
-ghost use Rattle.std.specs.Prelude.{◌≡◌, ◌≢◌, ◌^◌, ◌<◌, ◌≤◌, ◌==◌, not, IfOk, IfErr};
+ghost use Rattle.std.specs.Prelude.{◌≡◌, ◌≢◌, ◌^◌, ◌≤◌, ◌==◌, not, IfOk, IfErr};
 ghost use Rattle.leaky.specs.declared.contract.Contract.{Contract as TheContract};
 ghost use Rattle.upc_c.specs.GivenContract.{IsGivenContract, AreAContract};
-ghost use Rattle.upc_c.specs.Faults.{no_fault};
+ghost use Rattle.upc_c.specs.Faults.{call_result, no_fault};
 ghost use Rattle.upc_c.specs.Judging.{AreLevels, IsJudged, IsMeterFault, number_of_verdict};
+ghost use Rattle.upc_c.specs.inner.Numbered.{IsNumbered};
 
 use crate::contract::{UpcContract, contract_of};
-use crate::fault::{NO_FAULT, OF_AN_ARRIVAL, OF_THE_CALL, UpcFault, fault_at, told};
+use crate::fault::{OF_AN_ARRIVAL, OF_THE_CALL, UpcFault, fault_at, fine, told};
 use leaky::{Contract, LAST_MOMENT, Levels, MOST_TICKS, Verdict, judge};
 
 /// The greatest theoretical arrival time: 2^62 + 2^49.
@@ -45,7 +46,7 @@ fn judging(given: &UpcContract, levels: &UpcLevels, moment: u64) -> Result<Contr
     ensures moment { IfOk result (λ _. moment ≤ 2 ^ 62) }
     ensures numbers { IfOk result (λ _. AreAContract given.now) }
     ensures fault { IfErr result (IsMeterFault given.now levels.now moment) }
-    ensures numbered { IfErr result (λ fault. 0 < fault.number) }
+    ensures numbered { IfErr result IsNumbered }
 {
     let contract = contract_of(given)?;
     if levels.first > LAST_LEVEL || levels.second > LAST_LEVEL {
@@ -77,7 +78,7 @@ fn judged(contract: &Contract, levels: &mut UpcLevels, clp: bool, moment: u64) -
 }
 
 /// Judges a cell of cell loss priority 0, or 1 if `clp` is any other number, at a moment of at most 2^62 ticks, and
-/// updates the levels. Returns the number of the error, or 0.
+/// updates the levels. Returns the result of the error, or 0.
 #[unsafe(no_mangle)]
 pub extern "C" fn upc_judge(
     contract: &UpcContract,
@@ -87,7 +88,7 @@ pub extern "C" fn upc_judge(
     verdict: &mut u32,
     fault: &mut UpcFault,
 ) -> u32
-    ensures number { result ≡ fault.new.number }
+    ensures number { result ≡ call_result fault.new }
     ensures judged { result ≡ 0 → (it : TheContract) × IsGivenContract contract.now it
         × AreLevels levels.old × (moment ≤ 2 ^ 62)
         × IsJudged it levels.old (not (clp == 0)) moment verdict.new levels.new }
@@ -99,7 +100,7 @@ pub extern "C" fn upc_judge(
     match judging(contract, levels, moment) {
         Ok(found) => {
             *verdict = judged(&found, levels, clp != 0, moment);
-            told(fault, NO_FAULT)
+            fine(fault)
         }
         Err(found) => told(fault, found),
     }

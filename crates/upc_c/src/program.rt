@@ -3,10 +3,11 @@
 ghost use Rattle.std.specs.Prelude.{◌≡◌, ◌≢◌, ◌⊎◌, ◌<◌, ◌%◌, ℕ, List, length, IfOk, IfErr, IsErr};
 ghost use Rattle.bpf_code.specs.OctetSpelling.{SpellsCode};
 ghost use Rattle.bpf_verify.specs.Accepted.{IsAccepted};
-ghost use Rattle.upc_c.specs.Faults.{no_fault, out_of_memory, ragged};
+ghost use Rattle.upc_c.specs.Faults.{call_result, no_fault, out_of_memory, ragged};
 ghost use Rattle.upc_c.specs.Programs.{IsAsmRefusal, IsAssembled, IsCheckRefusal, IsDecodeRefusal, IsListRefusal, IsListed, IsBufferFault, IsProgram, IsWritten};
+ghost use Rattle.upc_c.specs.inner.Numbered.{IsNumbered};
 
-use crate::fault::{NO_FAULT, UpcFault, told};
+use crate::fault::{UpcFault, fine, told};
 use crate::room::write_to;
 use crate::telling::{out_of_memory, told_asm, told_decode, told_list, told_verify};
 use bpf_asm::{assemble, listing};
@@ -20,7 +21,7 @@ pub(crate) fn code_of(alloc: Global, octets: &[u8]) -> Result<Vec<Instr>, UpcFau
     ensures fault { IfErr result (IsDecodeRefusal octets.now) }
     ensures ragged { 0 < length octets.now % 8 → IfErr result (λ fault. fault ≡ ragged) }
     ensures whole { 0 < length octets.now % 8 → IsErr result }
-    ensures numbered { IfErr result (λ fault. 0 < fault.number) }
+    ensures numbered { IfErr result IsNumbered }
 {
     match decode(alloc, octets) {
         Ok(code) => Ok(code),
@@ -35,7 +36,7 @@ pub(crate) fn accepted(alloc: Global, octets: &[u8]) -> Result<Program, UpcFault
     ensures fault { IfErr result (λ fault. IsDecodeRefusal octets.now fault ⊎ IsCheckRefusal octets.now fault) }
     ensures ragged { 0 < length octets.now % 8 → IfErr result (λ fault. fault ≡ ragged) }
     ensures whole { 0 < length octets.now % 8 → IsErr result }
-    ensures numbered { IfErr result (λ fault. 0 < fault.number) }
+    ensures numbered { IfErr result IsNumbered }
 {
     let code = code_of(alloc, octets)?;
     match verify(code) {
@@ -50,7 +51,7 @@ fn checked(alloc: Global, octets: &[u8]) -> Result<(), UpcFault>
     ensures fault { IfErr result (λ fault. IsDecodeRefusal octets.now fault ⊎ IsCheckRefusal octets.now fault) }
     ensures ragged { 0 < length octets.now % 8 → IfErr result (λ fault. fault ≡ ragged) }
     ensures whole { 0 < length octets.now % 8 → IsErr result }
-    ensures numbered { IfErr result (λ fault. 0 < fault.number) }
+    ensures numbered { IfErr result IsNumbered }
 {
     let _program = accepted(alloc, octets)?;
     Ok(())
@@ -60,7 +61,7 @@ fn checked(alloc: Global, octets: &[u8]) -> Result<(), UpcFault>
 fn assembled(alloc: Global, source: &[u8]) -> Result<Vec<u8>, UpcFault>
     ensures octets { IfOk result (λ octets. IsAssembled source.now octets.items) }
     ensures fault { IfErr result (λ fault. IsAsmRefusal source.now fault ⊎ (fault ≡ out_of_memory)) }
-    ensures numbered { IfErr result (λ fault. 0 < fault.number) }
+    ensures numbered { IfErr result IsNumbered }
 {
     let code = match assemble(alloc, source) {
         Ok(code) => code,
@@ -78,7 +79,7 @@ fn listed(alloc: Global, octets: &[u8]) -> Result<Vec<u8>, UpcFault>
     ensures fault { IfErr result (λ fault. IsDecodeRefusal octets.now fault ⊎ IsListRefusal octets.now fault) }
     ensures ragged { 0 < length octets.now % 8 → IfErr result (λ fault. fault ≡ ragged) }
     ensures whole { 0 < length octets.now % 8 → IsErr result }
-    ensures numbered { IfErr result (λ fault. 0 < fault.number) }
+    ensures numbered { IfErr result IsNumbered }
 {
     let code = code_of(alloc, octets)?;
     match listing(alloc, &code) {
@@ -87,22 +88,22 @@ fn listed(alloc: Global, octets: &[u8]) -> Result<Vec<u8>, UpcFault>
     }
 }
 
-/// Checks whether the octets spell a program. Returns the number of the error, or 0.
+/// Checks whether the octets spell a program. Returns the result of the error, or 0.
 #[unsafe(no_mangle)]
 pub extern "C" fn upc_check(alloc: Global, program: &[u8], fault: &mut UpcFault) -> u32
-    ensures number { result ≡ fault.new.number }
+    ensures number { result ≡ call_result fault.new }
     ensures accepted { result ≡ 0 → IsProgram program.now }
     ensures fine { result ≡ 0 → fault.new ≡ no_fault }
     ensures refused { result ≢ 0 → IsDecodeRefusal program.now fault.new ⊎ IsCheckRefusal program.now fault.new }
     ensures ragged { 0 < length program.now % 8 → fault.new ≡ ragged }
 {
     match checked(alloc, program) {
-        Ok(()) => told(fault, NO_FAULT),
+        Ok(()) => fine(fault),
         Err(found) => told(fault, found),
     }
 }
 
-/// Writes the octets of the code that the source means to the buffer, and their number. Returns the number of the
+/// Writes the octets of the code that the source means to the buffer, and their number. Returns the result of the
 /// error, or 0.
 #[unsafe(no_mangle)]
 pub extern "C" fn upc_assemble(
@@ -112,7 +113,7 @@ pub extern "C" fn upc_assemble(
     count: &mut usize,
     fault: &mut UpcFault,
 ) -> u32
-    ensures number { result ≡ fault.new.number }
+    ensures number { result ≡ call_result fault.new }
     ensures assembled { result ≡ 0 → (octets : List ℕ) × IsAssembled source.now octets
         × IsWritten octets room.old room.new count.new }
     ensures fine { result ≡ 0 → fault.new ≡ no_fault }
@@ -127,7 +128,7 @@ pub extern "C" fn upc_assemble(
     }
 }
 
-/// Writes the listing of the code that the octets spell to the buffer, and the number of its octets. Returns the number
+/// Writes the listing of the code that the octets spell to the buffer, and the number of its octets. Returns the result
 /// of the error, or 0.
 #[unsafe(no_mangle)]
 pub extern "C" fn upc_listing(
@@ -137,7 +138,7 @@ pub extern "C" fn upc_listing(
     count: &mut usize,
     fault: &mut UpcFault,
 ) -> u32
-    ensures number { result ≡ fault.new.number }
+    ensures number { result ≡ call_result fault.new }
     ensures listed { result ≡ 0 → (text : List ℕ) × IsListed program.now text
         × IsWritten text room.old room.new count.new }
     ensures fine { result ≡ 0 → fault.new ≡ no_fault }

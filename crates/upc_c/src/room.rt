@@ -1,14 +1,14 @@
 //! Buffers of C.
 
 ghost use Rattle.std.specs.Prelude.{◌≡◌, ◌≢◌, ◌<◌, ◌++◌, drop, length, IfOk, IfErr};
-ghost use Rattle.upc_c.specs.Faults.{no_fault};
+ghost use Rattle.upc_c.specs.Faults.{no_fault, call_result};
 ghost use Rattle.upc_c.specs.Programs.{IsBufferFault, IsWritten};
 
-use crate::fault::{NO_FAULT, OF_THE_CALL, UpcFault, fault_at, told};
+use crate::fault::{OF_THE_CALL, UpcFault, fault_at, fine, told};
 
 /// Writes a text to the front of the buffer and the number of its octets to `count`, if it fits.
 pub(crate) fn write_to(room: &mut [u8], count: &mut usize, text: &[u8], fault: &mut UpcFault) -> u32
-    ensures number { result ≡ fault.new.number }
+    ensures number { result ≡ call_result fault.new }
     ensures written { result ≡ 0 → IsWritten text.now room.old room.new count.new }
     ensures fine { result ≡ 0 → fault.new ≡ no_fault }
     ensures refused { result ≢ 0 → IsBufferFault text.now room.old fault.new }
@@ -20,5 +20,5 @@ pub(crate) fn write_to(room: &mut [u8], count: &mut usize, text: &[u8], fault: &
     }
     room[..text.len()].copy_from_slice(text);
     *count = text.len();
-    told(fault, NO_FAULT)
+    fine(fault)
 }

@@ -1,17 +1,18 @@
 //! Connections that C sets up on a card.
 
-ghost use Rattle.std.specs.Prelude.{◌≡◌, ◌≢◌, ◌⊎◌, ◌<◌, None, IfOk, IfErr};
+ghost use Rattle.std.specs.Prelude.{◌≡◌, ◌≢◌, ◌⊎◌, None, IfOk, IfErr};
 ghost use Rattle.card_core.specs.declared.reply.Reply.TheVariants.{SetUp};
 ghost use Rattle.card_core.specs.declared.step.Step.TheVariants.{Setup};
 ghost use Rattle.upc_c.specs.CardDesk.{HasNoPath, IsDeskFault, IsSetUp, IsSetupFault, IsVc, path_too_large};
 ghost use Rattle.upc_c.specs.CardHandle.{CardTakes, card_in, card_missing};
-ghost use Rattle.upc_c.specs.Faults.{no_fault, out_of_memory};
+ghost use Rattle.upc_c.specs.Faults.{call_result, no_fault, out_of_memory};
+ghost use Rattle.upc_c.specs.inner.Numbered.{IsNumbered};
 
 use crate::card::UpcCard;
 use crate::contract::UpcContract;
 use crate::contracts::contracts_of;
 use crate::desk_fault::{card_missing, told_desk};
-use crate::fault::{NO_FAULT, OF_THE_CALL, UpcFault, fault_at, told};
+use crate::fault::{OF_THE_CALL, UpcFault, fault_at, fine, told};
 use crate::id::{UpcId, id_of};
 use crate::stepping::{put_core, shape_on, take_core};
 use card_core::Ask;
@@ -30,7 +31,7 @@ pub(crate) fn vc_on(
     ensures fault { IfErr result (λ fault. ((card_in card.old ≡ None) × (fault ≡ card_missing))
         ⊎ (HasNoPath card.old path × (fault ≡ path_too_large))) }
     ensures kept { card_in card.new ≡ card_in card.old }
-    ensures numbered { IfErr result (λ fault. 0 < fault.number) }
+    ensures numbered { IfErr result IsNumbered }
 {
     let Some(shape) = shape_on(alloc, card) else {
         return Err(card_missing());
@@ -46,7 +47,7 @@ fn setup_on(alloc: Global, card: &mut UpcCard, ask: Ask) -> Result<Owner, UpcFau
     ensures set { IfOk result (λ owner. CardTakes card.old card.new (Setup ask) (SetUp owner)) }
     ensures refused { IfErr result (IsDeskFault card.old card.new (Setup ask)) }
     ensures left { IfErr result (λ fault. fault ≢ out_of_memory → card_in card.new ≡ card_in card.old) }
-    ensures numbered { IfErr result (λ fault. 0 < fault.number) }
+    ensures numbered { IfErr result IsNumbered }
 {
     let Some(mut core) = take_core(alloc, card) else {
         return Err(card_missing());
@@ -60,7 +61,7 @@ fn setup_on(alloc: Global, card: &mut UpcCard, ask: Ask) -> Result<Owner, UpcFau
 }
 
 /// Sets up a connection on this path and channel, with one to four contracts. The program names one of them for each
-/// cell, by its number from 1. Returns the number of the error, or 0.
+/// cell, by its number from 1. Returns the result of the error, or 0.
 #[unsafe(no_mangle)]
 pub extern "C" fn upc_card_setup(
     alloc: Global,
@@ -71,7 +72,7 @@ pub extern "C" fn upc_card_setup(
     contracts: &[UpcContract],
     fault: &mut UpcFault,
 ) -> u32
-    ensures number { result ≡ fault.new.number }
+    ensures number { result ≡ call_result fault.new }
     ensures set { result ≡ 0 → IsSetUp card.old card.new path channel program.now contracts.now }
     ensures fine { result ≡ 0 → fault.new ≡ no_fault }
     ensures refused { result ≢ 0
@@ -92,7 +93,7 @@ pub extern "C" fn upc_card_setup(
         contracts,
     };
     match setup_on(alloc, card, ask) {
-        Ok(_) => told(fault, NO_FAULT),
+        Ok(_) => fine(fault),
         Err(found) => told(fault, found),
     }
 }

@@ -1,8 +1,9 @@
 //! The errors of the libraries below, as C gets them.
 
-ghost use Rattle.std.specs.Prelude.{◌≡◌, ◌<◌};
+ghost use Rattle.std.specs.Prelude.{◌≡◌};
 ghost use Rattle.upc_c.specs.Telling.{told_asm, told_decode, told_list, told_verify};
 ghost use Rattle.upc_c.specs.Faults.{out_of_memory};
+ghost use Rattle.upc_c.specs.inner.Numbered.{IsNumbered};
 
 use crate::fault::{OF_ASSEMBLY, OF_DECODING, OF_THE_CALL, OF_THE_CHECK, UpcFault, fault_at};
 use bpf_asm::{AsmFault, AsmKind, ListFault};
@@ -19,7 +20,7 @@ pub(crate) fn out_of_memory() -> UpcFault
 /// Returns the error for C of octets that are no code.
 pub(crate) fn told_decode(found: DecodeFault) -> UpcFault
     ensures told { result ≡ told_decode found }
-    ensures numbered { 0 < result.number }
+    ensures numbered { IsNumbered result }
 {
     match found {
         DecodeFault::Ragged => fault_at(OF_DECODING, 1, 0),
@@ -34,7 +35,7 @@ pub(crate) fn told_decode(found: DecodeFault) -> UpcFault
 /// Returns the error for C of a source that means no code.
 pub(crate) fn told_asm(found: AsmFault) -> UpcFault
     ensures told { result ≡ told_asm found }
-    ensures numbered { 0 < result.number }
+    ensures numbered { IsNumbered result }
 {
     let number = match found.kind {
         AsmKind::BadLine => 1,
@@ -52,7 +53,7 @@ pub(crate) fn told_asm(found: AsmFault) -> UpcFault
 /// Returns the error for C of a code that is no program.
 pub(crate) fn told_verify(found: Fault) -> UpcFault
     ensures told { result ≡ told_verify found }
-    ensures numbered { 0 < result.number }
+    ensures numbered { IsNumbered result }
 {
     match found {
         Fault::Empty => fault_at(OF_THE_CHECK, 1, 0),
@@ -72,7 +73,7 @@ pub(crate) fn told_verify(found: Fault) -> UpcFault
 /// Returns the error for C of a code without a listing.
 pub(crate) fn told_list(found: ListFault) -> UpcFault
     ensures told { result ≡ told_list found }
-    ensures numbered { 0 < result.number }
+    ensures numbered { IsNumbered result }
 {
     match found {
         ListFault::JumpOutside(at) => fault_at(OF_THE_CHECK, 6, at),
