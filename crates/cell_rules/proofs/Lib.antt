@@ -1,0 +1,4 @@
+pub mod Bits
+pub mod Spans
+pub mod Means
+pub mod Follows

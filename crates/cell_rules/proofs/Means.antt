@@ -1,0 +1,108 @@
+-- The test on the numbers in a packet that a test of cells becomes holds of the same cells.
+use Rattle.std.proofs.Common.{◌≡◌, ℕ, ◌-◌, ◌*◌, ◌/◌, ◌^◌, ◌<◌, ◌==◌, Bool, not, ◌&&◌, ◌||◌, nat_le, List, [], ◌∷◌, map, Option, Some, refl, ap, ◌∙◌, arith, bit_and}
+use Rattle.std.proofs.lemmas.Bool.{agree_below_at}
+use Rattle.std.proofs.lemmas.Nat.{pow_pos, mod_below}
+use Rattle.byteorder.specs.Endian.{big_number}
+use Rattle.bpf_code.specs.declared.instr.Size.{Size}
+use Rattle.bpf_interp.specs.Packet.{octets_loaded}
+use Rattle.std.proofs.Common.{drop}
+use Rattle.match_code.specs.PlainTests.{kept_bits, number_of, is_among, holds}
+use Rattle.match_code.specs.declared.part.Part.{Part}
+use Rattle.match_code.specs.declared.part.Span.{Span}
+use Rattle.match_code.specs.declared.plain_test.PlainTest.{PlainTest}
+use Rattle.match_code.specs.declared.plain_test.PlainTest as plain
+use Rattle.upc_cell.specs.Header.{header_number, pti_of}
+use Rattle.upc_cell.specs.declared.side.Side.{Side}
+use Rattle.cell_rules.specs.Fields.{IsCell, number_in, is_so}
+use Rattle.cell_rules.specs.Tests.{is_met}
+use Rattle.cell_rules.specs.declared.field.Field.{Field}
+use Rattle.cell_rules.specs.declared.field.Field.TheVariants.{Gfc, Vpi, Vci, Pti, Clp, Octets}
+use Rattle.cell_rules.specs.declared.relation.Relation.{Relation}
+use Rattle.cell_rules.specs.declared.relation.Relation.TheVariants.{Equal, Unequal, Less, AtMost, Greater, AtLeast, In}
+use Rattle.cell_rules.specs.declared.test.Test.{Test, Any, Oam, User, Compare, Not', And', Or'}
+use Rattle.cell_rules.specs.inner.PlainOf.{IsPartOf, IsAmongOf, IsNotOf, IsBothOf, IsEitherOf, IsCompareOf, IsPlainOf, most_of, unit_of, placed_span, only, below, up_to}
+use Rattle.cell_rules.proofs.Bits.{IsInHeader, gfc_in, vpi_in, vci_in, pti_in, clp_in, number_le, number_placed}
+use Rattle.cell_rules.proofs.Spans.{among_placed, among_there, only_is, below_is, up_to_is, above_is, at_least_is}
+
+module _ (side : Side) (cell : List ℕ) (is : IsCell cell) where
+  -- ---- a field in spans
+  header_means : (field : Field) (s w : ℕ) → IsInHeader side field s w → (mask : Option ℕ) (part : Part) (spans : List Span) → IsPartOf side field mask part
+      → is_among (map (placed_span (most_of side field) (unit_of field)) spans) (number_of part cell) ≡ is_among spans (kept_bits mask (number_in side field cell))
+  header_means field s w h mask part spans of =
+      let number = kept_bits mask (number_in side field cell) in
+      ap (λ n. is_among (map (placed_span (most_of side field) (unit_of field)) spans) n) (number_placed side field s w h mask cell is part of)
+      ∙ (ap (λ (m : Option ℕ). is_among (map (placed_span m (unit_of field)) spans) (number * 2 ^ s)) h.most
+      ∙ (ap (λ u. is_among (map (placed_span (Some (2 ^ w - 1)) u) spans) (number * 2 ^ s)) h.unit
+      ∙ among_placed (2 ^ w - 1) (2 ^ s) number (pow_pos s) (number_le side field s w h mask cell is) h.fits spans))
+
+  octets_mean : (field : Field) (mask : Option ℕ) (part : Part) (spans : List Span) (size : Size) (at : ℕ) → part.size ≡ size → part.at ≡ at → part.mask ≡ mask
+      → is_among spans (number_of part cell) ≡ is_among spans (kept_bits mask (big_number (octets_loaded size) (drop at cell)))
+  octets_mean field mask part spans size at p q r =
+      ap (λ n. is_among spans n)
+      (ap (λ (z : Size). kept_bits part.mask (big_number (octets_loaded z) (drop part.at cell))) p
+      ∙ (ap (λ n. kept_bits part.mask (big_number (octets_loaded size) (drop n cell))) q
+      ∙ ap (λ (m : Option ℕ). kept_bits m (big_number (octets_loaded size) (drop at cell))) r))
+
+  field_means : (field : Field) (mask : Option ℕ) (part : Part) (spans : List Span) → IsPartOf side field mask part
+      → is_among (map (placed_span (most_of side field) (unit_of field)) spans) (number_of part cell) ≡ is_among spans (kept_bits mask (number_in side field cell))
+  field_means Gfc mask part spans of = header_means Gfc 28 4 (gfc_in side) mask part spans of
+  field_means Vpi mask part spans of = header_means Vpi 20 (vpi_in side).0 (vpi_in side).1 mask part spans of
+  field_means Vci mask part spans of = header_means Vci 4 16 (vci_in side) mask part spans of
+  field_means Pti mask part spans of = header_means Pti 1 3 (pti_in side) mask part spans of
+  field_means Clp mask part spans of = header_means Clp 0 1 (clp_in side) mask part spans of
+  field_means (Octets octets) mask part spans of =
+      among_there 1 (number_of part cell) spans ∙ octets_mean (Octets octets) mask part spans octets.size octets.at of.size_is of.at_is of.mask_is
+
+  among_means : (field : Field) (mask : Option ℕ) (spans : List Span) (test : PlainTest) → IsAmongOf side field mask spans test → holds test cell ≡ is_among spans (kept_bits mask (number_in side field cell))
+  among_means field mask spans (plain.Among part first others) of =
+      ap (λ (ss : List Span). is_among ss (number_of part cell)) of.1 ∙ field_means field mask part spans of.0
+  among_means field mask spans _ of = absurd of
+
+  -- ---- not, both, either
+  not_means : (Is : PlainTest → Type 0) (b : Bool) → ((t : PlainTest) → Is t → holds t cell ≡ b) → (test : PlainTest) → IsNotOf Is test → holds test cell ≡ not b
+  not_means Is b each (plain.Not' p test) of = ap not (each test of)
+  not_means Is b each _ of = absurd of
+
+  both_mean : (Is IsOther : PlainTest → Type 0) (b c : Bool) → ((t : PlainTest) → Is t → holds t cell ≡ b) → ((t : PlainTest) → IsOther t → holds t cell ≡ c) → (test : PlainTest) → IsBothOf Is IsOther test → holds test cell ≡ (b && c)
+  both_mean Is IsOther b c each every (plain.Both' p one q other) of = ap (λ x. x && holds other cell) (each one of.0) ∙ ap (λ x. b && x) (every other of.1)
+  both_mean Is IsOther b c each every _ of = absurd of
+
+  either_means : (Is IsOther : PlainTest → Type 0) (b c : Bool) → ((t : PlainTest) → Is t → holds t cell ≡ b) → ((t : PlainTest) → IsOther t → holds t cell ≡ c) → (test : PlainTest) → IsEitherOf Is IsOther test → holds test cell ≡ (b || c)
+  either_means Is IsOther b c each every (plain.Either' p one q other) of = ap (λ x. x || holds other cell) (each one of.0) ∙ ap (λ x. b || x) (every other of.1)
+  either_means Is IsOther b c each every _ of = absurd of
+
+  -- ---- comparisons
+  compare_means : (field : Field) (mask : Option ℕ) (relation : Relation) (test : PlainTest) → IsCompareOf side field mask relation test → holds test cell ≡ is_so relation (kept_bits mask (number_in side field cell))
+  compare_means field mask (Equal k) test of = among_means field mask (only k ∷ []) test of ∙ only_is k (kept_bits mask (number_in side field cell))
+  compare_means field mask (Unequal k) test of =
+      not_means (IsAmongOf side field mask (only k ∷ [])) (is_among (only k ∷ []) (kept_bits mask (number_in side field cell))) (among_means field mask (only k ∷ [])) test of
+      ∙ ap not (only_is k (kept_bits mask (number_in side field cell)))
+  compare_means field mask (Less k) test of = among_means field mask (below k ∷ []) test of ∙ below_is k (kept_bits mask (number_in side field cell))
+  compare_means field mask (AtMost k) test of = among_means field mask (up_to k ∷ []) test of ∙ up_to_is k (kept_bits mask (number_in side field cell))
+  compare_means field mask (Greater k) test of =
+      not_means (IsAmongOf side field mask (up_to k ∷ [])) (is_among (up_to k ∷ []) (kept_bits mask (number_in side field cell))) (among_means field mask (up_to k ∷ [])) test of
+      ∙ (ap not (up_to_is k (kept_bits mask (number_in side field cell))) ∙ above_is k (kept_bits mask (number_in side field cell)))
+  compare_means field mask (AtLeast k) test of =
+      not_means (IsAmongOf side field mask (below k ∷ [])) (is_among (below k ∷ []) (kept_bits mask (number_in side field cell))) (among_means field mask (below k ∷ [])) test of
+      ∙ (ap not (below_is k (kept_bits mask (number_in side field cell))) ∙ at_least_is k (kept_bits mask (number_in side field cell)))
+  compare_means field mask (In first others) test of = among_means field mask (first ∷ others.items) test of
+
+  -- ---- the payload types of OAM cells and of user data
+  pti_below : pti_of cell < 8
+  pti_below = mod_below (header_number cell / 2) 8 (omega arith)
+
+  oam_is : (bit_and (pti_of cell) 6 == 4) ≡ ((pti_of cell == 4) || (pti_of cell == 5))
+  oam_is = agree_below_at (λ n. bit_and n 6 == 4) (λ n. (n == 4) || (n == 5)) 8 (pti_of cell) refl pti_below
+
+  user_is : (bit_and (pti_of cell) 4 == 0) ≡ nat_le (pti_of cell) 3
+  user_is = agree_below_at (λ n. bit_and n 4 == 0) (λ n. nat_le n 3) 8 (pti_of cell) refl pti_below
+
+  -- ---- tests
+  pub plain_means : (of : Test) (test : PlainTest) → IsPlainOf side of test → holds test cell ≡ is_met side of cell
+  plain_means Any test so = ap (λ (t : PlainTest). holds t cell) so
+  plain_means Oam test so = among_means Pti (Some 6) (only 4 ∷ []) test so ∙ (only_is 4 (bit_and (pti_of cell) 6) ∙ oam_is)
+  plain_means User test so = among_means Pti (Some 4) (only 0 ∷ []) test so ∙ (only_is 0 (bit_and (pti_of cell) 4) ∙ user_is)
+  plain_means (Compare field mask relation) test so = compare_means field mask relation test so
+  plain_means (Not' p of) test so = not_means (IsPlainOf side of) (is_met side of cell) (plain_means of) test so
+  plain_means (And' p one q other) test so = both_mean (IsPlainOf side one) (IsPlainOf side other) (is_met side one cell) (is_met side other cell) (plain_means one) (plain_means other) test so
+  plain_means (Or' p one q other) test so = either_means (IsPlainOf side one) (IsPlainOf side other) (is_met side one cell) (is_met side other cell) (plain_means one) (plain_means other) test so

@@ -1,0 +1,5 @@
+pub mod Fields
+pub mod Tests
+pub mod Rules
+pub mod Promise
+pub mod inner

@@ -1,0 +1,25 @@
+-- The value of rules on a cell.
+use Rattle.std.specs.Prelude.{ℕ, zero, suc, if◌then◌else◌, List, [], ◌∷◌}
+use Rattle.upc_cell.specs.declared.side.Side.{Side}
+use Rattle.cell_rules.specs.Tests.{is_met}
+use Rattle.cell_rules.specs.declared.rules.RuleLine.{RuleLine}
+use Rattle.cell_rules.specs.declared.rules.RuleLine.TheVariants.{Rule, Block, End}
+use Rattle.cell_rules.specs.declared.rules.Rules.{Rules}
+
+-- The value of lines on a cell, after this many blocks whose test doesn't hold were entered and not yet left. A rule whose
+-- test holds gives its value. Where the test of a block doesn't hold, its lines up to its end are passed over. Where no
+-- rule gives a value, it is the one for all other cells.
+abbrev pub value_in : Side → List RuleLine → ℕ → ℕ → List ℕ → ℕ
+value_in side [] skipped otherwise cell = otherwise
+value_in side (Rule test value ∷ rest) zero otherwise cell =
+    if is_met side test cell then value else value_in side rest zero otherwise cell
+value_in side (Block test ∷ rest) zero otherwise cell =
+    if is_met side test cell then value_in side rest zero otherwise cell else value_in side rest 1 otherwise cell
+value_in side (End ∷ rest) zero otherwise cell = value_in side rest zero otherwise cell
+value_in side (Rule test value ∷ rest) (suc skipped) otherwise cell = value_in side rest (suc skipped) otherwise cell
+value_in side (Block test ∷ rest) (suc skipped) otherwise cell = value_in side rest (suc (suc skipped)) otherwise cell
+value_in side (End ∷ rest) (suc skipped) otherwise cell = value_in side rest skipped otherwise cell
+
+-- The value of rules on a cell.
+abbrev pub value_of_rules : Rules → List ℕ → ℕ
+value_of_rules rules cell = value_in rules.side rules.lines.items 0 rules.otherwise cell

@@ -1,0 +1,136 @@
+-- The test on the numbers in a packet that a test of cells becomes. A field of the header is compared where it is in the
+-- word of the header: the bits of the word that the field has are kept, and the numbers are multiplied in place of a shift.
+use Rattle.std.specs.Prelude.{◌≡◌, ℕ, ◌-◌, ◌*◌, ◌%◌, ◌^◌, ◌==◌, min, nat_le, bit_and, if◌then◌else◌, List, [], ◌∷◌, map, Option, Some, None}
+use Rattle.bpf_code.specs.declared.instr.Size.{Size}
+use Rattle.bpf_code.specs.declared.instr.Size.TheVariants.{Word}
+use Rattle.match_code.specs.declared.lines.Line.{Line}
+use Rattle.match_code.specs.declared.lines.Line.TheVariants as line
+use Rattle.match_code.specs.declared.part.Part.{Part}
+use Rattle.match_code.specs.declared.part.Span.{Span}
+use Rattle.match_code.specs.declared.plain_test.PlainTest.{PlainTest}
+use Rattle.match_code.specs.declared.plain_test.PlainTest as plain
+use Rattle.upc_cell.specs.Side.{last_vpi}
+use Rattle.upc_cell.specs.declared.side.Side.{Side}
+use Rattle.cell_rules.specs.declared.field.Field.{Field}
+use Rattle.cell_rules.specs.declared.field.Field.TheVariants.{Gfc, Vpi, Vci, Pti, Clp, Octets}
+use Rattle.cell_rules.specs.declared.relation.Relation.{Relation}
+use Rattle.cell_rules.specs.declared.relation.Relation.TheVariants.{Equal, Unequal, Less, AtMost, Greater, AtLeast, In}
+use Rattle.cell_rules.specs.declared.rules.RuleLine.{RuleLine}
+use Rattle.cell_rules.specs.declared.rules.RuleLine.TheVariants.{Rule, Block, End}
+use Rattle.cell_rules.specs.declared.test.Test.{Test, Any, Oam, User, Compare, Not', And', Or'}
+
+-- The largest number of a field of the header.
+abbrev pub most_of : Side → Field → Option ℕ
+most_of side Gfc = Some 15
+most_of side Vpi = Some (last_vpi side)
+most_of side Vci = Some 65535
+most_of side Pti = Some 7
+most_of side Clp = Some 1
+most_of side (Octets octets) = None
+
+-- What a field's lowest bit counts in the word of the header.
+abbrev pub unit_of : Field → ℕ
+unit_of Gfc = 268435456
+unit_of Vpi = 1048576
+unit_of Vci = 16
+unit_of Pti = 2
+unit_of Clp = 1
+unit_of (Octets octets) = 1
+
+-- A number in its place in the word, modulo 2^32.
+abbrev pub in_place : ℕ → ℕ → ℕ
+in_place unit number = (number * unit) % 2 ^ 32
+
+-- The mask of a number in its place.
+abbrev pub placed_mask : Option ℕ → ℕ → Option ℕ → Option ℕ
+placed_mask None unit mask = mask
+placed_mask (Some most) unit None = Some (in_place unit most)
+placed_mask (Some most) unit (Some mask) = Some (in_place unit (bit_and mask most))
+
+-- A span in its place. What the field can't have is cut off; if nothing is left, the span is empty.
+abbrev pub placed_span : Option ℕ → ℕ → Span → Span
+placed_span None unit span = span
+placed_span (Some most) unit span =
+    if nat_le span.low most then record { low = in_place unit span.low; high = in_place unit (min span.high most) } else record { low = 1; high = 0 }
+
+-- The octets that a field is in.
+abbrev pub size_of : Field → Size
+size_of (Octets octets) = octets.size
+size_of _ = Word
+
+-- The offset of the first of them.
+abbrev pub at_of : Field → ℕ
+at_of (Octets octets) = octets.at
+at_of _ = 0
+
+-- The part is the field, with a mask if there is one.
+pub record IsPartOf (side : Side) (field : Field) (mask : Option ℕ) (part : Part) : Type 0 where
+  pub size_is : part.size ≡ size_of field
+  pub at_is : part.at ≡ at_of field
+  pub mask_is : part.mask ≡ placed_mask (most_of side field) (unit_of field) mask
+
+-- The test is that the field is in one of these spans.
+abbrev pub IsAmongOf : Side → Field → Option ℕ → List Span → PlainTest → Type 0
+IsAmongOf side field mask spans (plain.Among part first others) =
+    IsPartOf side field mask part × (first ∷ others.items ≡ map (placed_span (most_of side field) (unit_of field)) spans)
+IsAmongOf side field mask spans _ = ⊥
+
+-- The span of one number.
+abbrev pub only : ℕ → Span
+only k = record { low = k; high = k }
+
+-- The span of the numbers less than one.
+abbrev pub below : ℕ → Span
+below k = if k == 0 then record { low = 1; high = 0 } else record { low = 0; high = k - 1 }
+
+-- The span of the numbers up to one.
+abbrev pub up_to : ℕ → Span
+up_to k = record { low = 0; high = k }
+
+-- The test is that another doesn't hold.
+abbrev pub IsNotOf : (PlainTest → Type 0) → PlainTest → Type 0
+IsNotOf Is (plain.Not' p test) = Is test
+IsNotOf Is _ = ⊥
+
+-- The test is that two others hold.
+abbrev pub IsBothOf : (PlainTest → Type 0) → (PlainTest → Type 0) → PlainTest → Type 0
+IsBothOf Is IsOther (plain.Both' p one q other) = Is one × IsOther other
+IsBothOf Is IsOther _ = ⊥
+
+-- The test is that one of two others holds.
+abbrev pub IsEitherOf : (PlainTest → Type 0) → (PlainTest → Type 0) → PlainTest → Type 0
+IsEitherOf Is IsOther (plain.Either' p one q other) = Is one × IsOther other
+IsEitherOf Is IsOther _ = ⊥
+
+-- The test of a field that is compared.
+abbrev pub IsCompareOf : Side → Field → Option ℕ → Relation → PlainTest → Type 0
+IsCompareOf side field mask (Equal k) test = IsAmongOf side field mask (only k ∷ []) test
+IsCompareOf side field mask (Unequal k) test = IsNotOf (IsAmongOf side field mask (only k ∷ [])) test
+IsCompareOf side field mask (Less k) test = IsAmongOf side field mask (below k ∷ []) test
+IsCompareOf side field mask (AtMost k) test = IsAmongOf side field mask (up_to k ∷ []) test
+IsCompareOf side field mask (Greater k) test = IsNotOf (IsAmongOf side field mask (up_to k ∷ [])) test
+IsCompareOf side field mask (AtLeast k) test = IsNotOf (IsAmongOf side field mask (below k ∷ [])) test
+IsCompareOf side field mask (In first others) test = IsAmongOf side field mask (first ∷ others.items) test
+
+-- The test that a test of cells becomes.
+abbrev pub IsPlainOf : Side → Test → PlainTest → Type 0
+IsPlainOf side Any test = test ≡ plain.Always
+IsPlainOf side Oam test = IsAmongOf side Pti (Some 6) (only 4 ∷ []) test
+IsPlainOf side User test = IsAmongOf side Pti (Some 4) (only 0 ∷ []) test
+IsPlainOf side (Compare field mask relation) test = IsCompareOf side field mask relation test
+IsPlainOf side (Not' p of) test = IsNotOf (IsPlainOf side of) test
+IsPlainOf side (And' p one q other) test = IsBothOf (IsPlainOf side one) (IsPlainOf side other) test
+IsPlainOf side (Or' p one q other) test = IsEitherOf (IsPlainOf side one) (IsPlainOf side other) test
+
+-- The line that a line of rules becomes.
+abbrev pub IsLineOf : Side → RuleLine → Line → Type 0
+IsLineOf side (Rule test value) (line.Rule plain other) = IsPlainOf side test plain × (other ≡ value)
+IsLineOf side (Block test) (line.Block plain) = IsPlainOf side test plain
+IsLineOf side End line.End = Unit {0}
+IsLineOf side _ _ = ⊥
+
+-- The lines that lines of rules become.
+abbrev pub AreLinesOf : Side → List RuleLine → List Line → Type 0
+AreLinesOf side [] [] = Unit {0}
+AreLinesOf side (one ∷ more) (other ∷ others) = IsLineOf side one other × AreLinesOf side more others
+AreLinesOf side _ _ = ⊥

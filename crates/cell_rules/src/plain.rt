@@ -1,0 +1,252 @@
+//! The tests on the numbers in a packet that tests of cells become.
+
+ghost use Rattle.std.specs.Prelude.{◌≡◌, Some, [], ◌∷◌, map, IfOk};
+ghost use Rattle.cell_rules.specs.declared.field.Field.TheVariants.{Pti};
+ghost use Rattle.cell_rules.specs.inner.PlainOf.{IsAmongOf, IsCompareOf, IsLineOf, IsPartOf, IsPlainOf, below, in_place, most_of, only, placed_mask, placed_span, unit_of};
+
+use crate::field::Field;
+use crate::relation::Relation;
+use crate::rules::RuleLine;
+use crate::test::Test;
+use bpf_code::Size;
+use match_code::{Line, Part, PlainTest, Span};
+use std::alloc::{AllocError, Global};
+use upc_cell::Side;
+
+/// The largest number of a field of the header.
+fn most_of(side: Side, field: Field) -> Option<u32>
+    ensures { result ≡ most_of side field }
+{
+    match field {
+        Field::Gfc => Some(15),
+        Field::Vpi => Some(u32::from(side.last_vpi())),
+        Field::Vci => Some(65535),
+        Field::Pti => Some(7),
+        Field::Clp => Some(1),
+        Field::Octets(_) => None,
+    }
+}
+
+/// What a field's lowest bit counts in the word of the header.
+fn unit_of(field: Field) -> u32
+    ensures { result ≡ unit_of field }
+{
+    match field {
+        Field::Gfc => 1 << 28,
+        Field::Vpi => 1 << 20,
+        Field::Vci => 1 << 4,
+        Field::Pti => 1 << 1,
+        Field::Clp | Field::Octets(_) => 1,
+    }
+}
+
+/// A number in its place in the word, modulo 2^32.
+fn in_place(unit: u32, number: u32) -> u32
+    ensures { result ≡ in_place unit number }
+{
+    number.wrapping_mul(unit)
+}
+
+/// The mask of a number in its place.
+fn placed_mask(most: Option<u32>, unit: u32, mask: Option<u32>) -> Option<u32>
+    ensures { result ≡ placed_mask most unit mask }
+{
+    match most {
+        None => mask,
+        Some(most) => match mask {
+            None => Some(in_place(unit, most)),
+            Some(mask) => Some(in_place(unit, mask & most)),
+        },
+    }
+}
+
+/// A span in its place.
+fn placed_span(most: Option<u32>, unit: u32, span: Span) -> Span
+    ensures { result ≡ placed_span most unit span }
+{
+    match most {
+        None => span,
+        Some(most) => {
+            if span.low <= most {
+                Span {
+                    low: in_place(unit, span.low),
+                    high: in_place(unit, span.high.min(most)),
+                }
+            } else {
+                Span { low: 1, high: 0 }
+            }
+        }
+    }
+}
+
+/// The part that a field is, with a mask if there is one.
+fn part_of(side: Side, field: Field, mask: Option<u32>) -> Part
+    ensures { IsPartOf side field mask result }
+{
+    let mask = placed_mask(most_of(side, field), unit_of(field), mask);
+    match field {
+        Field::Octets(octets) => Part {
+            size: octets.size,
+            at: octets.at,
+            mask,
+        },
+        _ => Part {
+            size: Size::Word,
+            at: 0,
+            mask,
+        },
+    }
+}
+
+/// Spans in their places.
+fn placed_spans(
+    alloc: Global,
+    most: Option<u32>,
+    unit: u32,
+    spans: &[Span],
+) -> Result<Vec<Span>, AllocError>
+    ensures { IfOk result (λ placed. placed.items ≡ map (placed_span most unit) spans.now) }
+{
+    let mut placed = Vec::new(alloc);
+    for span in spans {
+        placed.push(placed_span(most, unit, *span))?;
+    }
+    Ok(placed)
+}
+
+/// The test that a field is in one of these spans.
+fn among(
+    alloc: Global,
+    side: Side,
+    field: Field,
+    mask: Option<u32>,
+    first: Span,
+    others: &[Span],
+) -> Result<PlainTest, AllocError>
+    ensures { IfOk result (IsAmongOf side field mask (first ∷ others.now)) }
+{
+    let most = most_of(side, field);
+    let unit = unit_of(field);
+    let others = placed_spans(alloc, most, unit, others)?;
+    Ok(PlainTest::Among {
+        part: part_of(side, field, mask),
+        first: placed_span(most, unit, first),
+        others,
+    })
+}
+
+/// The test that a field is in this span.
+fn within(
+    alloc: Global,
+    side: Side,
+    field: Field,
+    mask: Option<u32>,
+    span: Span,
+) -> Result<PlainTest, AllocError>
+    ensures { IfOk result (IsAmongOf side field mask (span ∷ [])) }
+{
+    among(alloc, side, field, mask, span, &[])
+}
+
+/// The span of one number.
+fn only(k: u32) -> Span
+    ensures { result ≡ only k }
+{
+    Span { low: k, high: k }
+}
+
+/// The span of the numbers less than one.
+fn below(k: u32) -> Span
+    ensures { result ≡ below k }
+{
+    if k == 0 {
+        Span { low: 1, high: 0 }
+    } else {
+        Span {
+            low: 0,
+            high: k - 1,
+        }
+    }
+}
+
+/// The test of a field that is compared.
+fn compared(
+    alloc: Global,
+    side: Side,
+    field: Field,
+    mask: Option<u32>,
+    relation: &Relation,
+) -> Result<PlainTest, AllocError>
+    ensures { IfOk result (IsCompareOf side field mask relation.now) }
+{
+    match relation {
+        Relation::Equal(k) => within(alloc, side, field, mask, only(*k)),
+        Relation::Unequal(k) => {
+            let equal = within(alloc, side, field, mask, only(*k))?;
+            Ok(PlainTest::Not(Box::new(alloc, equal)?))
+        }
+        Relation::Less(k) => within(alloc, side, field, mask, below(*k)),
+        Relation::AtMost(k) => within(alloc, side, field, mask, Span { low: 0, high: *k }),
+        Relation::Greater(k) => {
+            let at_most = within(alloc, side, field, mask, Span { low: 0, high: *k })?;
+            Ok(PlainTest::Not(Box::new(alloc, at_most)?))
+        }
+        Relation::AtLeast(k) => {
+            let less = within(alloc, side, field, mask, below(*k))?;
+            Ok(PlainTest::Not(Box::new(alloc, less)?))
+        }
+        Relation::In { first, others } => among(alloc, side, field, mask, *first, others),
+    }
+}
+
+/// The test that a test of cells becomes.
+fn plain_of(alloc: Global, side: Side, test: &Test) -> Result<PlainTest, AllocError>
+    ensures { IfOk result (IsPlainOf side test.now) }
+{
+    match test {
+        Test::Any => Ok(PlainTest::Always),
+        Test::Oam => within(alloc, side, Field::Pti, Some(6), only(4)),
+        Test::User => within(alloc, side, Field::Pti, Some(4), only(0)),
+        Test::Compare {
+            field,
+            mask,
+            relation,
+        } => compared(alloc, side, *field, *mask, relation),
+        Test::Not(test) => {
+            let plain = plain_of(alloc, side, test)?;
+            Ok(PlainTest::Not(Box::new(alloc, plain)?))
+        }
+        Test::And(one, other) => {
+            let one = plain_of(alloc, side, one)?;
+            let other = plain_of(alloc, side, other)?;
+            let one = Box::new(alloc, one)?;
+            Ok(PlainTest::Both(one, Box::new(alloc, other)?))
+        }
+        Test::Or(one, other) => {
+            let one = plain_of(alloc, side, one)?;
+            let other = plain_of(alloc, side, other)?;
+            let one = Box::new(alloc, one)?;
+            Ok(PlainTest::Either(one, Box::new(alloc, other)?))
+        }
+    }
+}
+
+/// The line that a line of rules becomes.
+pub(crate) fn line_of(alloc: Global, side: Side, line: &RuleLine) -> Result<Line, AllocError>
+    ensures { IfOk result (IsLineOf side line.now) }
+{
+    match line {
+        RuleLine::Rule { test, value } => {
+            let test = plain_of(alloc, side, test)?;
+            Ok(Line::Rule {
+                test,
+                value: *value,
+            })
+        }
+        RuleLine::Block { test } => {
+            let test = plain_of(alloc, side, test)?;
+            Ok(Line::Block { test })
+        }
+        RuleLine::End => Ok(Line::End),
+    }
+}

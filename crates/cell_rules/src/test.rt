@@ -1,0 +1,30 @@
+//! Tests of cells.
+
+use crate::field::Field;
+use crate::relation::Relation;
+
+/// A test of a cell.
+#[derive(Debug, Drop)]
+pub enum Test {
+    /// Holds of every cell.
+    Any,
+    /// An OAM cell of a virtual channel: the payload type is 4 or 5.
+    Oam,
+    /// A cell of user data: the payload type is 0 to 3.
+    User,
+    /// A number of the cell, of which a mask may keep some bits, compared.
+    Compare {
+        /// The number.
+        field: Field,
+        /// The bits that count, if not all do.
+        mask: Option<u32>,
+        /// What it is compared with.
+        relation: Relation,
+    },
+    /// The test doesn't hold.
+    Not(Box<Test>),
+    /// Both tests hold.
+    And(Box<Test>, Box<Test>),
+    /// One of the tests holds.
+    Or(Box<Test>, Box<Test>),
+}
