@@ -46,9 +46,9 @@ def missing(pages):
         for number, line in enumerate(text_of(file).split("\n"), 1):
             for path in PATH.findall(line):
                 named = path.rstrip("./*-+")
-                # What follows may be a variable of the script, as in crates/$crate.
+                # What follows may be a variable of the script, as in crates/$crate, or a pattern.
                 after = line.partition(path)[2][:1]
-                if named and after not in ("$", "{") and not is_there(named):
+                if named and after not in ("$", "{", "\\") and not is_there(named):
                     yield f"{file}:{number}: no file {named}"
 
 
