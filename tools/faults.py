@@ -5,8 +5,8 @@
     tools/faults.py --check   says whether they are what it would write, and whether the crate's kinds are the header's
     tools/faults.py --c       prints upc_strerror and upc_kind_name as C
 
-The result of a call is 256 times the kind of its error, plus its number. Both files mark what is made by two comments, `made
-by tools/faults.py` and `end`.
+The result of a call is 256 times the kind of its error, plus its number. Both files mark what is made by two comments,
+`made by tools/faults.py` and `end of faults`.
 """
 import os
 import re
@@ -16,11 +16,15 @@ ROOT = os.path.dirname(os.path.dirname(os.path.realpath(__file__)))
 FORMATS, HEADER, PAGE = (f"{ROOT}/{it}" for it in ("docs/FORMATS.md", "include/upc.h", "docs/upc.3"))
 # The kinds in the order of their numbers, from 2, by the words of fault lines. Kind 1 is the call itself.
 KINDS = ["cell", "decode", "asm", "verify", "gcra", "burst", "arrive", "shape", "desk"]
+# The crate's constants of these kinds, from 1.
+OF = "THE_CALL A_CELL DECODING ASSEMBLY THE_CHECK A_RATE A_BURST AN_ARRIVAL A_SHAPE THE_DESK".split()
 # Burst tolerances have no fault line: their errors are printed by the crate.
 BURST = f"{ROOT}/crates/leaky/src/tolerance.rt"
 # What no call reports: the law cards_report_no_other_fault, and NoMemory, which is an error of the call.
 NEVER = {("arrive", 2), ("arrive", 3), ("desk", 9), ("desk", 11)}
 LINE = re.compile(r"`(?:fault (\w+) )?(\d+) ([A-Z]\w+)[^`]*`")
+# A place for what is made, between two comments.
+MADE = re.compile(r"(made by tools/faults\.py[^\n]*\n).*?(^[^\n]*\bend of faults\b)", re.S | re.M)
 CALL = re.compile(r"^\| (\d+) \| `UPC_(\w+)` \| (.*) \|$", re.M)
 
 
@@ -68,7 +72,8 @@ def in_page():
 def in_c():
     """The two functions that name errors and kinds."""
     kinds = [(0, "fine"), (1, "call")] + [(at + 2, kind) for at, kind in enumerate(KINDS)]
-    names = "\n".join(f'\tcase {value}: return "{kind} {value % 256} {name}";' for value, _, kind, name in faults())
+    rows = [f'\tcase {constant}: return "{kind} {value % 256} {name}";' for value, constant, kind, name in faults()]
+    names = "\n".join(rows)
     words = "\n".join(f'\tcase {number}: return "{kind}";' for number, kind in kinds)
     return f"""#include "upc.h"
 
@@ -97,7 +102,7 @@ const char *upc_kind_name(uint32_t kind)
 def marked(path, made):
     """The text of a file, and the text with what is made in the place that it marks."""
     old = text(path)
-    return old, re.sub(r"(made by tools/faults\.py[^\n]*\n).*?(^[^\n]*\bend of faults\b)", lambda it: it[1] + made + it[2], old, flags=re.S | re.M)
+    return old, MADE.sub(lambda it: it[1] + made + it[2], old)
 
 
 def wrong_constants():
@@ -107,11 +112,12 @@ def wrong_constants():
     for value, constant, _, _ in faults():
         if declared.get(constant) != str(value):
             yield f"include/upc.h has {constant} = {declared.get(constant)}, and not {value}"
-    of = dict(zip(["THE_CALL", "A_CELL", "DECODING", "ASSEMBLY", "THE_CHECK", "A_RATE", "A_BURST", "AN_ARRIVAL", "A_SHAPE", "THE_DESK"], ["call", *KINDS]))
+    of = dict(zip(OF, ["call", *KINDS]))
     inside = dict(re.findall(r"const OF_(\w+): u32 = (\d+);", crate))
     for name, kind in of.items():
         if inside.get(name) != declared.get(f"UPC_{kind.upper()}") or name not in inside:
-            yield f"kind {kind} is {inside.get(name)} in the crate, and {declared.get('UPC_' + kind.upper())} in include/upc.h"
+            wanted = declared.get(f"UPC_{kind.upper()}")
+            yield f"kind {kind} is {inside.get(name)} in the crate, and {wanted} in include/upc.h"
 
 
 def main(words):

@@ -1,7 +1,7 @@
 #!/usr/bin/env python3
 """Compares the structs of include/upc.h with those of crates/upc_c.
 
-    tools/layouts.py   prints a C file that compiles only if the header's structs have the sizes and offsets of the crate's
+    tools/layouts.py   prints a C file that compiles only if the structs have the same sizes and offsets
 
 Sizes and offsets are computed from the crate's sources by the rules of `#[repr(C)]` for a 64-bit machine. A struct or a
 member that only one side has is an error of this script, which then prints what is missing and returns 1.
