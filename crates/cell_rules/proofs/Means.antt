@@ -6,6 +6,7 @@ use Rattle.byteorder.specs.Endian.{big_number}
 use Rattle.bpf_code.specs.declared.instr.Size.{Size}
 use Rattle.bpf_interp.specs.Packet.{octets_loaded}
 use Rattle.std.proofs.Common.{drop}
+use Rattle.match_code.proofs.Public.{both_holds}
 use Rattle.match_code.specs.PlainTests.{kept_bits, number_of, is_among, holds}
 use Rattle.match_code.specs.declared.part.Part.{Part}
 use Rattle.match_code.specs.declared.part.Span.{Span}
@@ -20,7 +21,7 @@ use Rattle.cell_rules.specs.declared.field.Field.TheVariants.{Gfc, Vpi, Vci, Pti
 use Rattle.cell_rules.specs.declared.relation.Relation.{Relation}
 use Rattle.cell_rules.specs.declared.relation.Relation.TheVariants.{Equal, Unequal, Less, AtMost, Greater, AtLeast, In}
 use Rattle.cell_rules.specs.declared.test.Test.{Test, Any, Oam, User, Compare, Not', And', Or'}
-use Rattle.cell_rules.specs.inner.PlainOf.{IsPartOf, IsAmongOf, IsNotOf, IsBothOf, IsEitherOf, IsCompareOf, IsPlainOf, most_of, unit_of, placed_span, only, below, up_to}
+use Rattle.cell_rules.specs.inner.PlainOf.{IsPartOf, IsAmongOf, IsNotOf, AreBothOf, IsEitherOf, IsCompareOf, IsPlainOf, most_of, unit_of, placed_span, only, below, up_to}
 use Rattle.cell_rules.proofs.Bits.{IsInHeader, gfc_in, vpi_in, vci_in, pti_in, clp_in, number_le, number_placed}
 use Rattle.cell_rules.proofs.Spans.{among_placed, among_there, only_is, below_is, up_to_is, above_is, at_least_is}
 
@@ -63,9 +64,9 @@ module _ (side : Side) (cell : List ℕ) (is : IsCell cell) where
   not_means Is b each (plain.Not' p test) of = ap not (each test of)
   not_means Is b each _ of = absurd of
 
-  both_mean : (Is IsOther : PlainTest → Type 0) (b c : Bool) → ((t : PlainTest) → Is t → holds t cell ≡ b) → ((t : PlainTest) → IsOther t → holds t cell ≡ c) → (test : PlainTest) → IsBothOf Is IsOther test → holds test cell ≡ (b && c)
-  both_mean Is IsOther b c each every (plain.Both' p one q other) of = ap (λ x. x && holds other cell) (each one of.0) ∙ ap (λ x. b && x) (every other of.1)
-  both_mean Is IsOther b c each every _ of = absurd of
+  both_mean : (Is IsOther : PlainTest → Type 0) (b c : Bool) → ((t : PlainTest) → Is t → holds t cell ≡ b) → ((t : PlainTest) → IsOther t → holds t cell ≡ c) → (test : PlainTest) → AreBothOf Is IsOther test → holds test cell ≡ (b && c)
+  both_mean Is IsOther b c each every test of =
+      both_holds of.0 of.1 test cell of.4 ∙ (ap (λ x. x && holds of.1 cell) (each of.0 of.2) ∙ ap (λ x. b && x) (every of.1 of.3))
 
   either_means : (Is IsOther : PlainTest → Type 0) (b c : Bool) → ((t : PlainTest) → Is t → holds t cell ≡ b) → ((t : PlainTest) → IsOther t → holds t cell ≡ c) → (test : PlainTest) → IsEitherOf Is IsOther test → holds test cell ≡ (b || c)
   either_means Is IsOther b c each every (plain.Either' p one q other) of = ap (λ x. x || holds other cell) (each one of.0) ∙ ap (λ x. b || x) (every other of.1)

@@ -9,7 +9,7 @@ use crate::relation::Relation;
 use crate::rules::RuleLine;
 use crate::test::Test;
 use bpf_code::Size;
-use match_code::{Line, Part, PlainTest, Span};
+use match_code::{Line, Part, PlainTest, Span, both};
 use std::alloc::{AllocError, Global};
 use upc_cell::Side;
 
@@ -219,8 +219,8 @@ fn plain_of(alloc: Global, side: Side, test: &Test) -> Result<PlainTest, AllocEr
         Test::And(one, other) => {
             let one = plain_of(alloc, side, one)?;
             let other = plain_of(alloc, side, other)?;
-            let one = Box::new(alloc, one)?;
-            Ok(PlainTest::Both(one, Box::new(alloc, other)?))
+            let joined = both(alloc, one, other)?;
+            Ok(joined)
         }
         Test::Or(one, other) => {
             let one = plain_of(alloc, side, one)?;

@@ -4,7 +4,9 @@ pub mod Growing
 pub mod Branches
 pub mod Spans
 pub mod Loads
+pub mod JoinedSingles
 pub mod Tests
 pub mod LinesFit
 pub mod LinesAccepted
 pub mod Coding
+pub mod Public

@@ -26,7 +26,7 @@ mask_is None (Some other) e = absurd cc
 mask_is (Some one) None e = absurd cc
 mask_is (Some one) (Some other) e = ap Some (eqb-true one other e)
 
-octets_are : (one other : Part) (packet : List ℕ) → is_same_load one other ≡ true → big_number (octets_loaded one.size) (drop one.at packet) ≡ big_number (octets_loaded other.size) (drop other.at packet)
+pub octets_are : (one other : Part) (packet : List ℕ) → is_same_load one other ≡ true → big_number (octets_loaded one.size) (drop one.at packet) ≡ big_number (octets_loaded other.size) (drop other.at packet)
 octets_are one other packet e =
     let parts = and_parts (octets_loaded one.size == octets_loaded other.size) (one.at == other.at) e in
     let many = eqb-true (octets_loaded one.size) (octets_loaded other.size) parts.0 in

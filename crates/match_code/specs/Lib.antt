@@ -1,4 +1,5 @@
 pub mod Labels
+pub mod Neighbours
 pub mod Lines
 pub mod PlainTests
 pub mod Promise

@@ -34,7 +34,7 @@ fn is_same_mask(one: Option<u32>, other: Option<u32>) -> bool
 }
 
 /// Whether two parts are of the same octets.
-fn is_same_load(one: Part, other: Part) -> bool
+pub(crate) fn is_same_load(one: Part, other: Part) -> bool
     ensures { result ≡ is_same_load one other }
 {
     octets_of(one.size) == octets_of(other.size) && one.at == other.at

@@ -5,11 +5,13 @@ mod draft;
 mod fault;
 mod leaves;
 mod lines;
+mod neighbours;
 mod part;
 mod plain_test;
 mod tests_code;
 
 pub use fault::CodeFault;
 pub use lines::{Line, generate};
+pub use neighbours::both;
 pub use part::{Part, Span};
 pub use plain_test::PlainTest;

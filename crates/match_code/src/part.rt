@@ -35,3 +35,14 @@ pub(crate) struct Left {
     /// Where it isn't.
     pub unmet: Option<Part>,
 }
+
+/// A comparison of masked bits with one span.
+#[derive(Clone, Copy)]
+pub(crate) struct Single {
+    /// The octets.
+    pub part: Part,
+    /// The mask of the bits.
+    pub mask: u32,
+    /// The span.
+    pub span: Span,
+}

@@ -3,6 +3,7 @@
 use Rattle.std.specs.Prelude.{◌≡◌, ℕ, ◌-◌, ◌*◌, ◌%◌, ◌^◌, ◌==◌, min, nat_le, bit_and, if◌then◌else◌, List, [], ◌∷◌, map, Option, Some, None}
 use Rattle.bpf_code.specs.declared.instr.Size.{Size}
 use Rattle.bpf_code.specs.declared.instr.Size.TheVariants.{Word}
+use Rattle.match_code.specs.Neighbours.{IsBothOf}
 use Rattle.match_code.specs.declared.lines.Line.{Line}
 use Rattle.match_code.specs.declared.lines.Line.TheVariants as line
 use Rattle.match_code.specs.declared.part.Part.{Part}
@@ -92,10 +93,9 @@ abbrev pub IsNotOf : (PlainTest → Type 0) → PlainTest → Type 0
 IsNotOf Is (plain.Not' p test) = Is test
 IsNotOf Is _ = ⊥
 
--- The test is that two others hold.
-abbrev pub IsBothOf : (PlainTest → Type 0) → (PlainTest → Type 0) → PlainTest → Type 0
-IsBothOf Is IsOther (plain.Both' p one q other) = Is one × IsOther other
-IsBothOf Is IsOther _ = ⊥
+-- The test is that two others hold, which is one comparison if they are of neighbouring bits.
+abbrev pub AreBothOf : (PlainTest → Type 0) → (PlainTest → Type 0) → PlainTest → Type 0
+AreBothOf Is IsOther test = (one other : PlainTest) × Is one × IsOther other × IsBothOf one other test
 
 -- The test is that one of two others holds.
 abbrev pub IsEitherOf : (PlainTest → Type 0) → (PlainTest → Type 0) → PlainTest → Type 0
@@ -119,7 +119,7 @@ IsPlainOf side Oam test = IsAmongOf side Pti (Some 6) (only 4 ∷ []) test
 IsPlainOf side User test = IsAmongOf side Pti (Some 4) (only 0 ∷ []) test
 IsPlainOf side (Compare field mask relation) test = IsCompareOf side field mask relation test
 IsPlainOf side (Not' p of) test = IsNotOf (IsPlainOf side of) test
-IsPlainOf side (And' p one q other) test = IsBothOf (IsPlainOf side one) (IsPlainOf side other) test
+IsPlainOf side (And' p one q other) test = AreBothOf (IsPlainOf side one) (IsPlainOf side other) test
 IsPlainOf side (Or' p one q other) test = IsEitherOf (IsPlainOf side one) (IsPlainOf side other) test
 
 -- The line that a line of rules becomes.

@@ -1,0 +1,70 @@
+-- Two comparisons of neighbouring bits as one.
+use Rattle.std.specs.Prelude.{◌≡◌, ℕ, ◌*◌, ◌%◌, ◌^◌, ◌==◌, Bool, ◌&&◌, nat_lt, bit_or, if◌then◌else◌, List, [], ◌∷◌, Option, Some, None}
+use Rattle.std.specs.Option.{MatchOption}
+use Rattle.std.specs.Int.{trailing_zeros, w32}
+use Rattle.match_code.specs.TestCode.{is_same_load}
+use Rattle.match_code.specs.declared.part.Part.{Part}
+use Rattle.match_code.specs.declared.part.Single.{Single}
+use Rattle.match_code.specs.declared.part.Span.{Span}
+use Rattle.match_code.specs.declared.plain_test.PlainTest.{PlainTest, Among, Both'}
+
+-- The comparison of masked bits of a part with the only span.
+abbrev pub single_in : Part → Option ℕ → Span → List Span → Option Single
+single_in part None first others = None
+single_in part (Some mask) first (second ∷ more) = None
+single_in part (Some mask) first [] = Some (record { part = part; mask = mask; span = first })
+
+-- The comparison of masked bits with one span that a test is, if it is one.
+abbrev pub single_of : PlainTest → Option Single
+single_of (Among part first others) = single_in part part.mask first others.items
+single_of _ = None
+
+-- What the lowest bit of a mask counts.
+abbrev pub above_unit : ℕ → ℕ
+above_unit mask = (1 * 2 ^ (trailing_zeros w32 mask % 32)) % 2 ^ 32
+
+-- Whether the first has one number, and its bits are above those of the second in the same octets.
+abbrev pub are_neighbours : Single → Single → Bool
+are_neighbours high low =
+    is_same_load high.part low.part
+    && ((high.span.low == high.span.high)
+    && ((high.mask % above_unit high.mask == 0)
+    && ((high.span.low % above_unit high.mask == 0)
+    && (nat_lt low.mask (above_unit high.mask)
+    && (nat_lt low.span.low (above_unit high.mask)
+    && nat_lt low.span.high (above_unit high.mask))))))
+
+-- The comparison that the comparisons of neighbours are together.
+abbrev pub joined_by : Single → Single → Single
+joined_by high low = record {
+  part = high.part;
+  mask = bit_or high.mask low.mask;
+  span = record { low = bit_or high.span.low low.span.low; high = bit_or high.span.low low.span.high };
+}
+
+-- The one comparison that two are together, if they are neighbours.
+abbrev pub joined_singles : Option Single → Option Single → Option Single
+joined_singles None other = None
+joined_singles (Some one) None = None
+joined_singles (Some one) (Some other) =
+    if are_neighbours one other then Some (joined_by one other) else (
+    if are_neighbours other one then Some (joined_by other one) else None)
+
+-- The one comparison that two tests are together, if they are neighbours.
+abbrev pub joined_single : PlainTest → PlainTest → Option Single
+joined_single one other = joined_singles (single_of one) (single_of other)
+
+-- The test is this comparison.
+abbrev pub IsSingle : Single → PlainTest → Type 0
+IsSingle single (Among part first others) =
+    (part.size ≡ single.part.size) × (part.at ≡ single.part.at) × (part.mask ≡ Some single.mask) × (first ≡ single.span) × (others.items ≡ [])
+IsSingle single _ = ⊥
+
+-- The test has these two as its parts.
+abbrev pub HasBoth : PlainTest → PlainTest → PlainTest → Type 0
+HasBoth one other (Both' p first q second) = (first ≡ one) × (second ≡ other)
+HasBoth one other _ = ⊥
+
+-- The test is that both tests hold: one comparison if they are neighbours.
+abbrev pub IsBothOf : PlainTest → PlainTest → PlainTest → Type 0
+IsBothOf one other test = MatchOption (joined_single one other) (HasBoth one other test) (λ single. IsSingle single test)

@@ -1,0 +1,110 @@
+//! Two comparisons of neighbouring bits as one.
+
+ghost use Rattle.std.specs.Prelude.{◌≡◌, IfOk};
+ghost use Rattle.match_code.specs.Neighbours.{IsBothOf, above_unit, are_neighbours, joined_by, joined_single, single_of};
+
+use crate::leaves::is_same_load;
+use crate::part::{Part, Single, Span};
+use crate::plain_test::PlainTest;
+use std::alloc::{AllocError, Global};
+
+/// The comparison of masked bits with one span that a test is, if it is one.
+fn single_of(test: &PlainTest) -> Option<Single>
+    ensures { result ≡ single_of test.now }
+{
+    match test {
+        PlainTest::Among {
+            part,
+            first,
+            others,
+        } => match part.mask {
+            None => None,
+            Some(mask) => {
+                if others.is_empty() {
+                    Some(Single {
+                        part: *part,
+                        mask,
+                        span: *first,
+                    })
+                } else {
+                    None
+                }
+            }
+        },
+        _ => None,
+    }
+}
+
+/// What the lowest bit of a mask counts.
+fn above_unit(mask: u32) -> u32
+    ensures { result ≡ above_unit mask }
+{
+    1u32 << (mask.trailing_zeros() % 32)
+}
+
+/// Whether the first has one number, and its bits are above those of the second in the same octets.
+fn are_neighbours(high: Single, low: Single) -> bool
+    ensures { result ≡ are_neighbours high low }
+{
+    let unit = above_unit(high.mask);
+    is_same_load(high.part, low.part)
+        && high.span.low == high.span.high
+        && high.mask % unit == 0
+        && high.span.low % unit == 0
+        && low.mask < unit
+        && low.span.low < unit
+        && low.span.high < unit
+}
+
+/// The comparison that the comparisons of neighbours are together.
+fn joined_by(high: Single, low: Single) -> Single
+    ensures { result ≡ joined_by high low }
+{
+    Single {
+        part: high.part,
+        mask: high.mask | low.mask,
+        span: Span {
+            low: high.span.low | low.span.low,
+            high: high.span.low | low.span.high,
+        },
+    }
+}
+
+/// The one comparison that two tests are together, if they are neighbours.
+fn joined_single(one: &PlainTest, other: &PlainTest) -> Option<Single>
+    ensures { result ≡ joined_single one.now other.now }
+{
+    match (single_of(one), single_of(other)) {
+        (Some(one), Some(other)) => {
+            if are_neighbours(one, other) {
+                Some(joined_by(one, other))
+            } else if are_neighbours(other, one) {
+                Some(joined_by(other, one))
+            } else {
+                None
+            }
+        }
+        _ => None,
+    }
+}
+
+/// The test that both tests hold. Comparisons of neighbouring bits, as those of a path and of a channel, become one.
+pub fn both(alloc: Global, one: PlainTest, other: PlainTest) -> Result<PlainTest, AllocError>
+    ensures { IfOk result (IsBothOf one other) }
+{
+    match joined_single(&one, &other) {
+        Some(single) => Ok(PlainTest::Among {
+            part: Part {
+                size: single.part.size,
+                at: single.part.at,
+                mask: Some(single.mask),
+            },
+            first: single.span,
+            others: Vec::new(alloc),
+        }),
+        None => {
+            let one = Box::new(alloc, one)?;
+            Ok(PlainTest::Both(one, Box::new(alloc, other)?))
+        }
+    }
+}
