@@ -29,6 +29,7 @@ pub trait CommandLine {
 }
 
 /// The words of this process.
+#[derive(Drop)]
 pub struct OfProcess<'a, E: Env>(pub &'a E);
 
 impl<E: Env> CommandLine for OfProcess<'_, E> {
@@ -42,6 +43,7 @@ impl<E: Env> CommandLine for OfProcess<'_, E> {
 }
 
 /// Words in memory.
+#[derive(Drop)]
 pub struct InMemory<'a>(pub &'a [&'a [u8]]);
 
 impl CommandLine for InMemory<'_> {
