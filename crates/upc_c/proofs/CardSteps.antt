@@ -1,5 +1,5 @@
 -- Steps of a card that other steps have led to.
-use Rattle.std.proofs.Common.{◌≡◌, ◌⊎◌, inl, inr, Bool, true, false, not, List, [], ◌∷◌, ◌++◌, Option, Some, None, refl, sym, ap, ◌∙◌, subst}
+use Rattle.std.proofs.Common.{◌≡◌, ◌⊎◌, inl, inr, Bool, true, false, not, List, [], ◌∷◌, ◌++◌, Option, Some, None, sym, ap, ◌∙◌, subst}
 use Rattle.std.specs.List.{list_all}
 use Rattle.std.specs.Option.{MatchOption, option_map}
 use Rattle.std.specs.Prelude.{slice_get}
@@ -9,7 +9,6 @@ use Rattle.card_core.specs.Refusals.{load_fault, missing_fault, reload_fault, re
 use Rattle.card_core.specs.Steps.{FindsNoMemory, IsRefused, Succeeds, WorldStep}
 use Rattle.card_core.specs.World.{World, PortState, is_outside}
 use Rattle.card_core.specs.declared.fault.DeskFault.{DeskFault}
-use Rattle.card_core.specs.declared.fault.DeskFault.TheVariants.{NoMemory}
 use Rattle.card_core.specs.declared.reply.Reply.{Reply}
 use Rattle.card_core.specs.declared.reply.Reply.TheVariants.{NotLoaded, NotSetUp, Refused}
 use Rattle.card_core.specs.declared.step.Step.{Step}

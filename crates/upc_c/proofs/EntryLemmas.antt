@@ -1,5 +1,5 @@
 -- The entries of a journal, written to the buffer one by one.
-use Rattle.std.proofs.Common.{◌≡◌, ℕ, ◌+◌, ◌<◌, ◌≤◌, List, [], ◌∷◌, ◌++◌, length, take, drop, map, set, get_or, refl, sym, ap, ◌∙◌, subst, arith, take-append-drop, take_all, length-set, drop-set-lt, le_of_eq}
+use Rattle.std.proofs.Common.{◌≡◌, ℕ, ◌+◌, ◌<◌, ◌≤◌, List, [], ◌∷◌, ◌++◌, length, take, drop, map, set, get_or, sym, ap, ◌∙◌, subst, arith, take-append-drop, take_all, length-set, drop-set-lt, le_of_eq}
 use Rattle.std.proofs.lemmas.Grind.{drop_more_same}
 use Rattle.std.proofs.lemmas.List.{map-append, take_more, take_more_set}
 use Rattle.line_record.specs.declared.entry.Entry.{Entry}

@@ -1,10 +1,10 @@
 -- A card reports no faults but those that are listed: its core was reached by a log, and no port has a cell.
-use Rattle.std.proofs.Common.{◌≡◌, ◌⊎◌, inl, inr, ℕ, ◌^◌, ◌==◌, Bool, true, false, cond, not, List, ◌∷◌, length, Option, Some, None, is_none, is_some, nat_lt, nat_le, refl, sym, ap, ◌∙◌, subst, arith}
+use Rattle.std.proofs.Common.{◌≡◌, ◌⊎◌, inl, inr, ℕ, ◌^◌, ◌==◌, Bool, true, false, cond, not, List, length, Option, Some, None, is_none, is_some, nat_lt, nat_le, refl, sym, ap, ◌∙◌, subst, arith}
 use Rattle.std.proofs.lemmas.Bool.Decides.{nat_tests}
 use Rattle.std.specs.Option.{MatchOption, option_map}
 use Rattle.std.specs.Prelude.{slice_get}
 use mathlib.Core.Logic.{∥∥₁_elim}
-use Rattle.card_core.specs.Agreement.{CoreView, Follows}
+use Rattle.card_core.specs.Agreement.{CoreView}
 use Rattle.card_core.specs.Arrival.{AnswersArrival}
 use Rattle.card_core.specs.Log.{Run}
 use Rattle.card_core.specs.Refusals.{refusal, enter_refusal, pick_refusal, judge_refusal, picking_refusal, cell_refusal, load_fault, retire_fault, setup_fault, reload_fault, missing_fault}
@@ -23,7 +23,7 @@ use Rattle.gen_arena.specs.declared.id.Id.{Id}
 use Rattle.line_record.specs.History.{last_moment}
 use Rattle.upc_cell.specs.Connection.{vc_of}
 use Rattle.upc_cell.specs.declared.vc.Vc.{Vc}
-use Rattle.upc_c.specs.CardArrival.{RefusesCell, reason_of_answer}
+use Rattle.upc_c.specs.CardArrival.{reason_of_answer}
 use Rattle.upc_c.specs.CardDesk.{RefusesStep, reason_of}
 use Rattle.upc_c.specs.ListedFaults.{ReportsNoOthers, may_answer, may_refuse}
 use Rattle.upc_c.specs.declared.card.UpcCard.{UpcCard}

@@ -1,5 +1,5 @@
 -- The two steps that return a connection's journal.
-use Rattle.std.specs.Prelude.{◌≡◌, ◌⊎◌, ◌<◌, ◌≤◌, ℕ, Result, length, None, Some}
+use Rattle.std.specs.Prelude.{◌≡◌, ◌<◌, ◌≤◌, ℕ, Result, length, Some}
 use Rattle.card_core.specs.Agreement.{CoreView, CoreAgrees}
 use Rattle.card_core.specs.DeskReplies.{release_reply, cut_reply}
 use Rattle.card_core.specs.World.{World, Connection, connection_in, kept_cells}

@@ -1,5 +1,5 @@
 -- The card is unchanged up to the step.
-use Rattle.std.proofs.Common.{◌≡◌, List, subst}
+use Rattle.std.proofs.Common.{List, subst}
 use Rattle.line_record.specs.declared.entry.Entry.{Entry}
 use Rattle.upc_c.specs.CardJournal.{AreWritten}
 use Rattle.upc_c.proofs.HandingOut.{journal-fault-from}

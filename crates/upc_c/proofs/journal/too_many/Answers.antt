@@ -1,5 +1,5 @@
 use Rattle.std.proofs.Common.{◌<◌, ◌≤◌, arith}
-use Rattle.upc_c.proofs.LineLemmas.{longer-told, short-missing, short-told}
+use Rattle.upc_c.proofs.LineLemmas.{longer-told, short-told}
 use Rattle.upc_c.proofs.journal.too_many.Goals as goal
 
 pub returns-then-line-most-clause-fits : goal.returns-then-line-most-clause-fits

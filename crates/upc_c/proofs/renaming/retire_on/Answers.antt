@@ -1,5 +1,5 @@
 -- The log with this step; a refusal is one of this step.
-use Rattle.std.proofs.Common.{Err, ap, refl}
+use Rattle.std.proofs.Common.{ap, refl}
 use Rattle.card_core.specs.DeskReplies.{retire_reply}
 use Rattle.upc_c.specs.CardDesk.{reason_of}
 use Rattle.upc_c.proofs.CardSteps.{reached-by, refuses-by}
