@@ -49,6 +49,11 @@ fn constant(alloc: Global, value: u32) -> Result<Program, AllocError> {
     }
 }
 
+/// Whether this is the program that returns this value for every cell.
+fn returns(program: &Program, value: u32) -> bool {
+    matches!(program.code(), [Instr::RetK(constant)] if *constant == value)
+}
+
 /// The connection of every cell in this file.
 fn vc() -> Vc {
     Vc { vpi: 0, vci: 0 }
@@ -70,6 +75,14 @@ impl Loading<'_> {
     }
 }
 
+/// Whether these are the steps of `Loading`.
+fn are_loads(steps: &[Step]) -> bool {
+    match steps {
+        [Step::Load(first), Step::Load(second)] => returns(first, 1) && returns(second, 2),
+        _ => false,
+    }
+}
+
 impl Call for Loading<'_> {
     fn make(&mut self) -> Attempt {
         let Ok(steps) = self.steps() else {
@@ -77,13 +90,13 @@ impl Call for Loading<'_> {
         };
         let replies = match self.core.run(self.alloc, steps) {
             Ok(replies) => replies,
-            Err(steps) => return refused_if(steps.len() == 2),
+            Err(steps) => return refused_if(are_loads(&steps)),
         };
         let [Reply::Loaded(first), Reply::Loaded(second)] = replies.as_slice() else {
             return Attempt::Otherwise;
         };
         self.ids = Some((*first, *second));
-        Attempt::Ample
+        ample_if(first.slot != second.slot && first.generation == 1 && second.generation == 1)
     }
 }
 
@@ -106,6 +119,20 @@ impl SettingUp<'_> {
         };
         Ok(vec![in self.alloc; Step::Setup(ask)]?)
     }
+
+    /// Whether this is the request that was made.
+    fn is_wanted(&self, ask: &Ask) -> bool {
+        let same = matches!(ask.contracts.as_slice(), [one] if *one == Contract::default());
+        same && ask.vc == vc() && ask.program == self.program
+    }
+
+    /// Whether this is the step that was made.
+    fn is_setup(&self, steps: &[Step]) -> bool {
+        match steps {
+            [Step::Setup(ask)] => self.is_wanted(ask),
+            _ => false,
+        }
+    }
 }
 
 impl Call for SettingUp<'_> {
@@ -115,11 +142,11 @@ impl Call for SettingUp<'_> {
         };
         let replies = match self.core.run(self.alloc, steps) {
             Ok(replies) => replies,
-            Err(steps) => return refused_if(steps.len() == 1),
+            Err(steps) => return refused_if(self.is_setup(&steps)),
         };
         match replies.as_slice() {
-            [Reply::SetUp(owner)] => ample_if(owner.vc == vc()),
-            [Reply::NotSetUp(DeskFault::NoMemory, ask)] => refused_if(ask.contracts.len() == 1),
+            [Reply::SetUp(owner)] => ample_if(owner.vc == vc() && owner.incarnation == 1),
+            [Reply::NotSetUp(DeskFault::NoMemory, ask)] => refused_if(self.is_wanted(ask)),
             _ => Attempt::Otherwise,
         }
     }
@@ -154,21 +181,48 @@ impl Policing<'_> {
         ]?)
     }
 
+    /// Whether these are the steps that were made.
+    fn are_own(&self, steps: &[Step]) -> bool {
+        let [
+            Step::Enter {
+                port: 0,
+                cell,
+                moment: 0,
+            },
+            Step::Pick { port: 0 },
+            Step::Load(in_vain),
+            Step::Reload { vc: of, program },
+            Step::Judge { port: 0 },
+            Step::Retire(retired),
+            Step::Load(again),
+            Step::Retire(once_more),
+        ] = steps
+        else {
+            return false;
+        };
+        let desk = *of == vc() && *program == self.second;
+        let loads = returns(in_vain, 3) && returns(again, 4);
+        let retires = *retired == self.first && *once_more == self.first;
+        *cell == Cell::from([0; 52]) && desk && loads && retires
+    }
+
     fn is_answered_by(&self, replies: &[Reply]) -> bool {
         let [
             Reply::Entered,
             Reply::Picked,
-            Reply::NotLoaded(DeskFault::Busy, _),
+            Reply::NotLoaded(DeskFault::Busy, in_vain),
             Reply::Reloaded(before),
             Reply::Answered(Answer::Judged { program, .. }),
-            Reply::Retired(_),
+            Reply::Retired(retired),
             Reply::Loaded(id),
             Reply::Refused(DeskFault::NoProgram),
         ] = replies
         else {
             return false;
         };
-        *before == self.first
+        returns(in_vain, 3)
+            && returns(retired, 1)
+            && *before == self.first
             && *program == self.first
             && id.slot == self.first.slot
             && id.generation == 2
@@ -182,7 +236,7 @@ impl Call for Policing<'_> {
         };
         match self.core.run(self.alloc, steps) {
             Ok(replies) => ample_if(self.is_answered_by(&replies)),
-            Err(steps) => refused_if(steps.len() == 8),
+            Err(steps) => refused_if(self.are_own(&steps)),
         }
     }
 }
