@@ -1,5 +1,5 @@
 -- The words of a command line, shown one after another.
-use Rattle.std.proofs.Common.{◌≡◌, ◌∙◌, ℕ, zero, suc, ◌+◌, ◌-◌, ◌<◌, ◌≤◌, Bool, true, false, if◌then◌else◌, List, [], ◌∷◌, ◌++◌, Option, Some, None, length, take, drop, map, refl, sym, ap, ap₂, arith, append-nil}
+use Rattle.std.proofs.Common.{◌≡◌, ◌∙◌, ℕ, zero, suc, ◌+◌, ◌-◌, ◌<◌, ◌≤◌, Bool, true, false, if◌then◌else◌, List, [], ◌∷◌, ◌++◌, Option, Some, None, length, take, drop, map, refl, sym, ap, arith, append-nil}
 use Rattle.std.specs.Prelude.{encode_utf8_all, slice_get, slice_index_or, nat_lt}
 use Rattle.std.specs.Borrow.{Bor}
 use Rattle.std.specs.Char.{encode_utf8}

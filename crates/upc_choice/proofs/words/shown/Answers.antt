@@ -1,8 +1,7 @@
 -- Each character is shown, in order.
-use Rattle.std.proofs.Common.{◌≡◌, ◌∙◌, ◌++◌, ap, ap₂, map, sym}
+use Rattle.std.proofs.Common.{◌∙◌, ◌++◌, ap, ap₂, map, sym}
 use Rattle.std.specs.Prelude.{chars, encode_utf8_all}
 use Rattle.std.specs.Char.{encode_utf8}
-use Rattle.std.specs.String.{string_bytes}
 use Rattle.std.proofs.lemmas.Iterator.{YieldsList-from_chars}
 use Rattle.std.proofs.lemmas.Iterator.Consumers.{YieldsList-end}
 use Rattle.std.proofs.lemmas.List.{map-id}

@@ -1,5 +1,5 @@
 -- Each word is shown, in order, up to the last.
-use Rattle.std.proofs.Common.{◌≡◌, ◌∙◌, ◌+◌, ◌++◌, ◌∷◌, [], Some, map, option_map, sym, ap, subst}
+use Rattle.std.proofs.Common.{◌∙◌, ◌+◌, ◌∷◌, [], map, option_map, sym, ap, subst}
 use Rattle.std.specs.String.{string_bytes}
 use Rattle.std.proofs.lemmas.List.{map-append}
 use Rattle.upc_choice.proofs.WordLemmas.{ReadsOn, begins, ends, goes-on, never-far}

@@ -1,5 +1,5 @@
 -- The word in memory is copied whole.
-use Rattle.std.proofs.Common.{◌≡◌, ◌∙◌, ◌++◌, [], Some, List, ℕ, length, take, drop, ap, sym, slice_index_or}
+use Rattle.std.proofs.Common.{◌∙◌, ◌++◌, [], Some, length, take, drop, ap, sym, slice_index_or}
 use Rattle.std.proofs.Math.Seq.{take-append_seam}
 use Rattle.upc_choice.proofs.WordLemmas.{word-there}
 use Rattle.upc_choice.proofs.command_line.InMemoryCommandLine.word.Goals as goal
