@@ -1,7 +1,10 @@
 -- The answers of a running card, as contracts state them.
-use Rattle.std.specs.Prelude.{◌≡◌, ◌<◌, ◌^◌, ◌≤◌, ℕ, ⊤, List}
+use Rattle.std.specs.Prelude.{◌≡◌, ◌<◌, ◌^◌, ◌≤◌, ℕ, ⊤, List, Some}
 use Rattle.bpf_code.specs.declared.instr.Instr.{Instr}
 use Rattle.bpf_verify.specs.Accepted.{IsAccepted}
+use Rattle.gen_arena.specs.declared.id.Id.{Id}
+use Rattle.gen_arena.specs.Live.{live_value}
+use Rattle.gen_arena.specs.Slot.{Slot}
 use Rattle.leaky.specs.declared.verdict.Verdict.TheVariants.{Refuse}
 use Rattle.line_record.specs.History.{IsNoNumber}
 use Rattle.card_core.specs.declared.answer.Answer.{Answer}
@@ -11,21 +14,21 @@ use Rattle.card_core.specs.declared.fault.DeskFault.TheVariants.{NoProgram, NoCo
 use Rattle.card_core.specs.Sections.{JudgedView}
 use Rattle.card_core.specs.Steps.{Gives, cell_after}
 
--- Some accepted code has this value for the cell.
-pub record IsGiven (cell : List ℕ) (value : ℕ) : Type 0 where
+-- The program with this id is accepted, and has this value for the cell.
+pub record IsGivenBy (store : List (Slot (List Instr))) (program : Id) (cell : List ℕ) (value : ℕ) : Type 0 where
   pub code : List Instr
+  pub live : live_value store program ≡ Some code
   pub accepted : IsAccepted code
   pub gives : Gives code cell value
 
 -- A judged cell that arrived at this moment: the moment is in the answer and is at most 2^62. The cell leaves tagged if
--- the verdict is Tag, otherwise unchanged. If the value is no contract's number, the verdict is Refuse. Some accepted
--- code has this value for the cell.
+-- the verdict is Tag, otherwise unchanged. If the value is no contract's number, the verdict is Refuse. Where the value
+-- comes from isn't part of this: the programs are behind a lock.
 pub record IsJudgedAnswer (cell : List ℕ) (moment : ℕ) (judged : JudgedView) : Type 0 where
   pub same_moment : judged.moment ≡ moment
   pub in_time : moment ≤ 2 ^ 62
   pub leaves : judged.cell ≡ cell_after judged.verdict cell
   pub unnamed : IsNoNumber judged.value → judged.verdict ≡ Refuse
-  pub given : IsGiven cell judged.value
 
 -- If the answer is MomentTooLate, the moment is above 2^62. If it is MomentBack, the moment is before the one in the
 -- answer.

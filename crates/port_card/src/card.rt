@@ -14,7 +14,7 @@ use line_record::{Line, MOST_ENTRIES, Seating};
 use std::alloc::Global;
 use std::marker::Model;
 use std::sync::{Mutex, RwLock, Wait};
-use upc_cell::{Cell, Vc};
+use upc_cell::{Cell, Side, Vc};
 
 /// A card that ports and a desk use at the same time, each from its own thread.
 ///
@@ -48,7 +48,8 @@ impl<S: Ledgers> Card<S> {
     ghost use Rattle.card_core.specs.Sections.{told};
     ghost use Rattle.port_card.specs.Names.{AreFor};
     ghost use Rattle.port_card.specs.Seats.{AreNewSeats, seat_after};
-    ghost use Rattle.port_card.specs.Answers.{IsJudgedAnswer, BlamesRightly};
+    ghost use Rattle.gen_arena.specs.Live.{live_value};
+    ghost use Rattle.port_card.specs.Answers.{IsGivenBy, IsJudgedAnswer, BlamesRightly};
 
     /// Makes a card of this shape, without programs and connections. Returns it with one seat for each port, in the
     /// order of the ports, and its only desk.
@@ -102,6 +103,14 @@ impl<S: Ledgers> Card<S> {
         Ok((card, seats, Desk::new()))
     }
 
+    /// Returns the side of the card's cells.
+    #[inline]
+    pub fn side(&self) -> Side
+        ensures { result ≡ self.now.side }
+    {
+        self.shape.side
+    }
+
     /// Answers a cell that arrives at the port of this seat at `moment`, in ticks. Doesn't allocate.
     ///
     /// The read lock of the programs is held from the look-up to the end. The directory's lock is held only for the
@@ -128,17 +137,46 @@ impl<S: Ledgers> Card<S> {
         ensures memory { result ≢ Answer.NoMemory }
     {
         let store = self.store.read(rt);
-        let vc = cell.vc_at(self.shape.side);
+        let vc = cell.vc_at(self.side());
         let Some(seating) = self.find(rt, vc) else {
             return Answer::NoConnection;
         };
-        let Some(named) = name(&store, seating.program, cell) else {
+        self.judge_seated(rt, &store, &seating, seat, cell, moment, gate)
+    }
+
+    /// Answers a cell of the connection with this seating, while the caller holds the read lock of these programs.
+    fn judge_seated<G: Gate, R: Wait>(
+        &self,
+        rt: &R,
+        store: &Store,
+        seating: &Seating,
+        seat: &mut PortSeat<S>,
+        cell: &Cell,
+        moment: u64,
+        gate: &G,
+    ) -> Answer
+        requires { seating.now.line < self.now.lines }
+
+        // The value is what the connection's program, as it was looked up, gives for the cell.
+        ensures program { IfSome (told result) (λ judged. judged.program ≡ seating.now.program) }
+        ensures given { IfSome (told result) (λ judged. IsGivenBy store.now judged.program cell.now judged.value) }
+        ensures stale { live_value store.now seating.now.program ≡ None → result ≡ Answer.Stale }
+
+        // As `arrive`.
+        ensures tallied { seat.new ≡ seat_after seat.old (told result) }
+        ensures there { IfSome (told result) (λ judged. judged.line ≡ seating.now.line) }
+        ensures told { IfSome (told result) (IsJudgedAnswer cell.now moment) }
+        ensures blames { BlamesRightly moment result }
+        ensures memory { result ≢ Answer.NoMemory }
+    {
+        let Some(named) = name(store, seating.program, cell) else {
             return Answer::Stale;
         };
         gate.between(seat.port());
+        let vc = cell.vc_at(self.side());
         let mut counted_line = self.counted_lines[usize::from(seating.line)].lock(rt);
         let mut books = self.books.lock(rt);
-        counted_line.judge(&mut books, seat, vc, &seating, &named, moment)
+        counted_line.judge(&mut books, seat, vc, seating, &named, moment)
     }
 
     /// Returns the seating of the connection, if there is one. The directory's lock is free again when this returns.
