@@ -1,5 +1,11 @@
 pub mod ReadingText
-pub mod PortsTexts
 pub mod InOrderLemmas
-pub mod FirstLinesLemmas
+pub mod DeskLemmas
+pub mod ToldLemmas
+pub mod DealtLemmas
+pub mod AtOnceLemmas
+pub mod FirstLemmas
+pub mod CutLemmas
+pub mod CardTexts
+pub mod PortsTexts
 pub mod Public

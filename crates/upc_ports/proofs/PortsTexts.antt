@@ -1,5 +1,5 @@
 -- The text of `ports`, from the text of the reading and that of the run.
-use Rattle.std.proofs.Common.{◌≡◌, ℕ, List, [], ◌++◌, Some, None, inl, inr, refl, ap, subst, append-nil, ◌∙◌}
+use Rattle.std.proofs.Common.{◌≡◌, ℕ, List, [], ◌∷◌, ◌++◌, Some, None, codes, inl, inr, refl, ap, subst, append-nil, ◌∙◌, arith}
 use Rattle.std.specs.Prelude.{Result, Ok, Err, IfOk}
 use Rattle.text_io.specs.Devices.{Adds, TakesEnough}
 use Rattle.text_io.specs.Lines.{lines_of}
@@ -8,18 +8,34 @@ use Rattle.text_io.specs.declared.ending.Done.{Done}
 use Rattle.text_io.specs.declared.ending.Done.TheVariants.{Whole, Ended}
 use Rattle.text_io.proofs.Public.{some-text}
 use Rattle.upc_ports.specs.ClosingText.{closing_text}
-use Rattle.upc_ports.specs.PortsText.{IsClosedText, IsPortsText, IsReadingText, reading_rules, unread}
+use Rattle.card_core.specs.declared.shape.Shape.{Shape}
+use Rattle.upc_ports.specs.PortsText.{IsCardText, IsClosedText, IsPortsText, IsReadingText, reading_rules, unread}
+use Rattle.upc_ports.specs.inner.Script.{HoldsLines, OfLines}
 use Rattle.upc_ports.specs.inner.ReadingLaws.{reading-total}
 use Rattle.upc_ports.proofs.ReadingText.{reading-silent}
 
--- Any answers may come before the totals.
-closed-behind : (answers : List ℕ) → IsClosedText (answers ++ closing_text [] None) Whole
-closed-behind answers = record { answers = answers; lines = []; uneven = None; cut = refl; ends = refl }
-
 -- Each end of a run has a text.
 pub some-closed : (done : Done) → (text : List ℕ) × IsClosedText text done
-some-closed Whole = (closing_text [] None, record { answers = []; lines = []; uneven = None; cut = refl; ends = refl })
-some-closed Ended = (closing_text [] (Some 0), record { answers = []; lines = []; uneven = Some 0; cut = refl; ends = refl })
+some-closed Whole = (
+  codes "ready\n" ++ [] ++ closing_text [] None,
+  record {
+    shape = unread.shape;
+    lines = [];
+    card = record { answers = []; each = ([], (refl, refl)); closed = []; uneven = None; within = tt; whole = refl; ends = refl };
+  },
+)
+some-closed Ended = (
+  codes "ready\n" ++ [] ++ closing_text [] (Some 0),
+  record {
+    shape = unread.shape;
+    lines = [];
+    card = record { answers = []; each = ([], (refl, refl)); closed = []; uneven = Some 0; within = omega arith; whole = refl; ends = refl };
+  },
+)
+
+first-empty : (xs ys : List ℕ) → xs ++ ys ≡ [] → xs ≡ []
+first-empty [] ys none = refl
+first-empty (x ∷ xs) ys none = let no : ◌≡◌ {A = List ℕ} (x ∷ (xs ++ ys)) [] = none in cc
 
 read : (octets text : List ℕ) → IsReadingText octets text Whole → IsReadingText octets [] Whole
 read octets text told = subst (λ (t : List ℕ). IsReadingText octets t Whole) (reading-silent octets text told) told
@@ -42,11 +58,19 @@ pub ended-left : (most : ℕ) (before after : List ℕ) → TakesEnough (λ octe
     → TakesEnough (λ octets. (text : List ℕ) × IsPortsText octets text Ended) most before after
 ended-left most before after (needed, ahead, cut, short, (text, told)) = (needed, ahead, cut, short, (text, inl (refl, told)))
 
+-- A reading that goes on to its end has printed nothing.
+broken-whole : (octets held new text more : List ℕ) → new ≡ held ++ text → IsReadingText octets (text ++ more) Whole → Adds (IsFront (IsPortsText octets)) held new
+broken-whole octets held new text more is told =
+    let none : text ++ more ≡ [] = reading-silent octets (text ++ more) told in
+    let empty : text ≡ [] = first-empty text more none in
+    let closed = some-closed Whole in
+    ([], is ∙ ap (λ (t : List ℕ). held ++ t) empty, (closed.0, Whole, inr (read octets (text ++ more) told, closed.1)))
+
 -- The reading failed after a prefix of its text.
 pub broken-front : (octets held new : List ℕ) → Adds (IsFront (IsReadingText octets)) held new → Adds (IsFront (IsPortsText octets)) held new
 broken-front octets held new (text, is, (more, Ended, told)) = (text, is, (more, Ended, inl (refl, told)))
 broken-front octets held new (text, is, (more, Whole, told)) =
-    (text, is, (closing_text [] None, Whole, inr (read octets (text ++ more) told, closed-behind text)))
+    broken-whole octets held new text more is told
 
 -- The script was read as a whole, which printed nothing, and then its run printed this text.
 after-reading : (octets held mid new closed : List ℕ) → Adds (λ text. IsReadingText octets text Whole) held mid → new ≡ mid ++ closed
@@ -55,6 +79,11 @@ after-reading octets held mid new closed (text, is, told) gives = (
   gives ∙ ap (λ (t : List ℕ). t ++ closed) (is ∙ ap (λ (t : List ℕ). held ++ t) (reading-silent octets text told) ∙ append-nil held),
   read octets text told,
 )
+
+-- The text of the stored lines is a text of some card.
+pub card-closed : (shape : Shape) (kept mid new : List ℕ) (done : Done) → HoldsLines kept
+    → Adds (λ text. OfLines kept (λ lines. IsCardText shape lines text done)) mid new → Adds (λ text. IsClosedText text done) mid new
+card-closed shape kept mid new done (lines, are) (text, adds, card) = (text, adds, record { shape = shape; lines = lines; card = card lines are })
 
 pub ran-text : (octets held mid new : List ℕ) (done : Done) → Adds (λ text. IsReadingText octets text Whole) held mid
     → Adds (λ text. IsClosedText text done) mid new → Adds (λ text. IsPortsText octets text done) held new

@@ -1,6 +1,6 @@
 -- The text of `upc ports`. The whole script is read before any of it runs: its first line with words opens a card, and
 -- each later one is stored. If the script can't run, the whole text is one fault line.
-use Rattle.std.specs.Prelude.{◌≡◌, ◌⊎◌, ℕ, Bool, true, false, List, [], ◌∷◌, ◌++◌, Option, Some, MatchOption, MatchBool}
+use Rattle.std.specs.Prelude.{◌≡◌, ◌<◌, ◌⊎◌, ℕ, Bool, true, false, List, [], ◌∷◌, ◌++◌, codes, Option, Some, IfSome, MatchOption, MatchBool}
 use Rattle.line_record.specs.Line.{LineView}
 use Rattle.card_core.specs.Shapes.{shape_fault}
 use Rattle.card_core.specs.declared.shape.Shape.{Shape}
@@ -15,6 +15,7 @@ use Rattle.upc_words.specs.FaultLines.{too_long}
 use Rattle.upc_card_lines.specs.CardFaults.{no_card, shape_fault_line}
 use Rattle.upc_card_lines.specs.CardLine.{card_line_shape}
 use Rattle.upc_ports.specs.ClosingText.{closing_text, done_of}
+use Rattle.upc_ports.specs.ScriptAnswers.{AnswersScript}
 
 -- The state of the reading of a script.
 pub record ScriptReading : Type 0 where
@@ -61,18 +62,28 @@ reading_rules = record { steps = ReadSteps; closes = λ reading. ReadCloses read
 abbrev pub IsReadingText : List ℕ → List ℕ → Done → Type 0
 IsReadingText octets text done = Prints reading_rules 0 unread (lines_of octets) text done
 
--- The text of a script that ran: any text for the answers to its lines, then the closing text of its card. This
--- definition doesn't specify the answers.
-pub record IsClosedText (text : List ℕ) (done : Done) : Type 0 where
+-- The text of a card of this shape whose script has these later lines with words, and how the run ends. The text is the
+-- answer to the line that opened the card, one answer for each later line, in the script's order, and the totals of the
+-- closed card or its first uneven line. Only which of its possible answers a line gets is left open: cells and desk lines
+-- run at the same time, and their order isn't fixed.
+pub record IsCardText (shape : Shape) (lines : List (List ℕ)) (text : List ℕ) (done : Done) : Type 0 where
   pub answers : List ℕ
-  pub lines : List LineView
+  pub each : AnswersScript shape.side lines answers
+  pub closed : List LineView
   pub uneven : Option ℕ
-  pub cut : text ≡ answers ++ closing_text lines uneven
+  pub within : IfSome uneven (λ number. number < shape.lines)
+  pub whole : text ≡ codes "ready\n" ++ answers ++ closing_text closed uneven
   pub ends : done ≡ done_of uneven
 
--- The text for the octets of a whole script, as far as it is specified, and how the run ends. A script that can't run
--- has the text of its reading and ends early. A script that runs has many possible texts, since cells and desk lines
--- run at the same time and the order isn't fixed.
+-- The text of a script that ran.
+pub record IsClosedText (text : List ℕ) (done : Done) : Type 0 where
+  pub shape : Shape
+  pub lines : List (List ℕ)
+  pub card : IsCardText shape lines text done
+
+-- The text for the octets of a whole script, and how the run ends. A script that can't run has the text of its reading
+-- and ends early. A script that runs has the text of some card and some lines: that these are the ones that were read is
+-- the contract of the parts, since what is left of a machine after a run has no clause.
 abbrev pub IsPortsText : List ℕ → List ℕ → Done → Type 0
 IsPortsText octets text done =
     ((done ≡ Ended) × IsReadingText octets text Ended) ⊎ (IsReadingText octets [] Whole × IsClosedText text done)

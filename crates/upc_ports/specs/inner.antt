@@ -2,4 +2,8 @@
 pub mod ReadingLaws
 pub mod FirstLines
 pub mod Told
+pub mod Arrivals
+pub mod DeskTexts
+pub mod AtOnce
 pub mod InOrder
+pub mod Script

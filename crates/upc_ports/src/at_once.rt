@@ -1,68 +1,178 @@
 //! The ports and the desk of a card, which run at the same time, each port on a thread of its own.
 
+ghost use Rattle.std.specs.Prelude.{◌≡◌, ◌≤◌, [], IfOk, length, map, vec_len, vec_capacity};
+ghost use Rattle.std.specs.List.{AllZip};
+ghost use Rattle.upc_ports.specs.inner.AtOnce.{KeepsPromise};
+ghost use Rattle.upc_ports.specs.inner.Arrivals.{AnswersPort};
+ghost use Rattle.upc_ports.specs.inner.DeskTexts.{TellsEach};
+
 use crate::busy_ports::BusyPort;
-use crate::script_desk::ScriptDesk;
-use crate::told::{ToldCell, told_cell};
+use crate::port_arrivals::arrive_from_each;
+use crate::script_desk::{ScriptDesk, answer_each};
 use port_card::{Card, Gate, Ledgers, PortSeat};
 use std::alloc::{AllocError, Global};
 use std::sync::Wait;
-use std::thread::{self, Threads};
+use std::thread::{self, Promise, PromisedHandle, Scope, Threads};
 use upc_cell::Side;
-use upc_dealing::{CellLine, read_cell_line};
 
-/// Lets the cell of a line arrive, and returns what is stored of it and its answer. Returns None for a line without a
-/// cell; a port gets no such line.
-fn arrive_from<S: Ledgers, G: Gate, R: Wait>(
-    rt: &R,
-    alloc: Global,
-    card: &Card<S>,
-    seat: &mut PortSeat<S>,
+/// The seat of a port, and the lines of its cells.
+#[derive(Drop)]
+struct PortJob<'a, 'l, S: Ledgers> {
+    seat: PortSeat<S>,
+    lines: &'a [&'l [u8]],
+}
+
+/// What the thread of a port promises: the answers to these lines, on a card of this side.
+#[derive(Clone, Copy)]
+pub struct AnswersTo<'a, 'l> {
     side: Side,
-    line: &[u8],
-    gate: &G,
-) -> Result<Option<ToldCell>, AllocError> {
-    match read_cell_line(alloc, side, line)? {
-        CellLine::Comes(moment, cell) => {
-            let answer = card.arrive(rt, seat, &cell, moment, gate);
-            Ok(Some(told_cell(&cell, &answer)))
+    lines: &'a [&'l [u8]],
+}
+
+impl<'a, 'l, S: Ledgers> Promise<Result<BusyPort<S>, AllocError>> for AnswersTo<'a, 'l> {
+    ghost use Rattle.std.specs.Prelude.{IfOk};
+    ghost use Rattle.upc_ports.specs.inner.AtOnce.{KeepsPromise};
+
+    ghost kept_by = { λ promise result. IfOk result (λ port. KeepsPromise promise port.arrivals.items) };
+}
+
+/// A port's thread.
+type Running<'a, 'l, S> = PromisedHandle<Result<BusyPort<S>, AllocError>, AnswersTo<'a, 'l>>;
+
+/// What has run: the ports with the answers to their cells, the texts of the desk, and the desk.
+#[derive(Drop)]
+pub struct AtOnce<S: Ledgers> {
+    pub ports: Vec<BusyPort<S>>,
+    pub told: Vec<Vec<u8>>,
+    pub desk: ScriptDesk<S>,
+}
+
+/// Gives each seat the lines of its cells.
+fn jobs_of<'a, 'l, S: Ledgers>(
+    alloc: Global,
+    seats: Vec<PortSeat<S>>,
+    arrivals: &'a [Vec<&'l [u8]>],
+) -> Result<Vec<PortJob<'a, 'l, S>>, AllocError>
+    requires { length seats.items ≡ length arrivals.now }
+    ensures { IfOk result (λ jobs. map (λ job. map (λ line. line.now) job.lines.now) jobs.items
+        ≡ map (λ own. map (λ line. line.now) own.items) arrivals.now) }
+{
+    let mut jobs = Vec::with_capacity(alloc, arrivals.len())?;
+    let mut seats = seats.into_iter();
+    for own in arrivals {
+        let Some(seat) = seats.next() else {
+            unreachable!()
+        };
+        jobs.push(PortJob {
+            seat,
+            lines: own.as_slice(),
+        })?;
+    }
+    Ok(jobs)
+}
+
+/// Starts a thread for each job, into a list that has room for them. Returns the threads, or, if one can't be started,
+/// those before it.
+fn start_ports<
+    's,
+    'e: 's,
+    'l: 'e,
+    S: Ledgers + Send + Sync,
+    G: Gate + Sync,
+    R: Threads + Wait + Sync,
+>(
+    scope: &'s Scope<'s, &'e ()>,
+    rt: &'e R,
+    alloc: Global,
+    card: &'e Card<S>,
+    side: Side,
+    gate: &'e G,
+    jobs: Vec<PortJob<'e, 'l, S>>,
+    running: Vec<Running<'e, 'l, S>>,
+) -> Result<Vec<Running<'e, 'l, S>>, Vec<Running<'e, 'l, S>>>
+    requires empty { running.items ≡ [] }
+    requires room { vec_len jobs ≤ vec_capacity running }
+    ensures { IfOk result (λ running. map (λ thread. thread.promise) running.items
+        ≡ map (λ job. record { side = side; lines = job.lines }) jobs.entry.items) }
+{
+    let mut running = running;
+    for job in jobs {
+        let PortJob { seat, lines } = job;
+        let promise = AnswersTo { side, lines };
+        match scope.spawn_with(promise, move || {
+            arrive_from_each(rt, alloc, card, seat, side, lines, gate)
+        }) {
+            Ok(thread) => running.push_reserved(thread),
+            Err(_) => return Err(running),
         }
-        CellLine::IsFaulty(_) => Ok(None),
+    }
+    Ok(running)
+}
+
+/// Waits for each thread, and returns its port, into a list that has room for them.
+fn join_ports<'e, 'l, S: Ledgers, R: Threads>(
+    rt: &R,
+    running: Vec<Running<'e, 'l, S>>,
+    ended: Vec<BusyPort<S>>,
+) -> Result<Vec<BusyPort<S>>, AllocError>
+    requires empty { ended.items ≡ [] }
+    requires room { vec_len running ≤ vec_capacity ended }
+    ensures { IfOk result (λ ports. AllZip KeepsPromise (map (λ thread. thread.promise) running.entry.items)
+        (map (λ port. port.arrivals.items) ports.items)) }
+{
+    let mut ended = ended;
+    let mut whole = true;
+    for thread in running {
+        match thread.join(rt) {
+            Ok(port) => ended.push_reserved(port),
+            Err(_) => whole = false,
+        }
+    }
+    if whole { Ok(ended) } else { Err(AllocError) }
+}
+
+/// Waits for each thread, and drops its port. There is nothing to say of what is dropped.
+fn end_ports<'e, 'l, S: Ledgers, R: Threads>(rt: &R, running: Vec<Running<'e, 'l, S>>) {
+    for thread in running {
+        let _ = thread.join(rt);
     }
 }
 
-/// Lets the cells of a port's lines arrive, one by one.
-fn at_port<S: Ledgers, G: Gate, R: Wait>(
-    rt: &R,
-    alloc: Global,
-    card: &Card<S>,
-    mut seat: PortSeat<S>,
-    side: Side,
-    lines: Vec<&[u8]>,
-    gate: &G,
-) -> Result<BusyPort<S>, AllocError> {
-    let mut arrivals = Vec::with_capacity(alloc, lines.len())?;
-    for line in &lines {
-        if let Some(told) = arrive_from(rt, alloc, card, &mut seat, side, line, gate)? {
-            arrivals.push(told)?;
-        }
-    }
-    Ok(BusyPort { seat, arrivals })
-}
-
-/// Answers the desk's lines, one by one. Each has a text of its own.
-fn at_desk<S: Ledgers, R: Wait>(
-    rt: &R,
-    card: &Card<S>,
-    desk: &mut ScriptDesk<S>,
+/// Runs the ports and the desk in this scope. The desk runs on this thread.
+fn run_in<'s, 'e: 's, 'l: 'e, S: Ledgers + Send + Sync, G: Gate + Sync, R: Threads + Wait + Sync>(
+    scope: &'s Scope<'s, &'e ()>,
+    rt: &'e R,
+    card: &'e Card<S>,
+    gate: &'e G,
+    jobs: Vec<PortJob<'e, 'l, S>>,
+    desk: ScriptDesk<S>,
     lines: &[&[u8]],
-) -> Result<Vec<Vec<u8>>, AllocError> {
-    let mut told = Vec::new(desk.alloc);
-    for line in lines {
-        let mut text = Vec::new(desk.alloc);
-        desk.answer(rt, card, line, &mut text)?;
-        told.push(text)?;
+) -> Result<AtOnce<S>, AllocError>
+    ensures ports { IfOk result (λ done. AllZip (AnswersPort card.now.side) (map (λ job. map (λ line. line.now) job.lines.now) jobs.entry.items)
+        (map (λ port. port.arrivals.items) done.ports.items)) }
+    ensures desk { IfOk result (λ done. TellsEach card.now.side (map (λ line. line.now) lines.now)
+        desk.names (map (λ text. text.items) done.told.items) done.desk.names) }
+{
+    let mut desk = desk;
+    let alloc = desk.alloc;
+    let running = Vec::with_capacity(alloc, jobs.len())?;
+    let ended = Vec::with_capacity(alloc, jobs.len())?;
+    let side = card.side();
+    match start_ports(scope, rt, alloc, card, side, gate, jobs, running) {
+        Ok(running) => {
+            let told = answer_each(rt, card, &mut desk, lines);
+            let ports = join_ports(rt, running, ended)?;
+            Ok(AtOnce {
+                ports,
+                told: told?,
+                desk,
+            })
+        }
+        Err(running) => {
+            end_ports(rt, running);
+            Err(AllocError)
+        }
     }
-    Ok(told)
 }
 
 /// Runs each port on a thread of its own, with the lines of its cells, and the desk on this thread. Returns the ports
@@ -72,49 +182,24 @@ fn at_desk<S: Ledgers, R: Wait>(
 ///
 /// `AllocError` if an allocation fails, including that for the start of a thread. All threads that were started have
 /// ended by then.
-pub fn run_at_once<S: Ledgers + Send + Sync, G: Gate + Sync, R: Threads + Wait + Sync>(
+pub fn run_at_once<'l, S: Ledgers + Send + Sync, G: Gate + Sync, R: Threads + Wait + Sync>(
     rt: &R,
     alloc: Global,
     card: &Card<S>,
     gate: &G,
     seats: Vec<PortSeat<S>>,
-    arrivals: Vec<Vec<&[u8]>>,
-    desk: &mut ScriptDesk<S>,
+    arrivals: &[Vec<&'l [u8]>],
+    desk: ScriptDesk<S>,
     lines: &[&[u8]],
-) -> Result<(Vec<BusyPort<S>>, Vec<Vec<u8>>), AllocError> {
-    let side = desk.side;
+) -> Result<AtOnce<S>, AllocError>
+    requires { length seats.items ≡ length arrivals.now }
+    ensures ports { IfOk result (λ done. AllZip (AnswersPort card.now.side) (map (λ own. map (λ line. line.now) own.items) arrivals.now)
+        (map (λ port. port.arrivals.items) done.ports.items)) }
+    ensures desk { IfOk result (λ done. TellsEach card.now.side (map (λ line. line.now) lines.now)
+        desk.names (map (λ text. text.items) done.told.items) done.desk.names) }
+{
+    let jobs = jobs_of(alloc, seats, arrivals)?;
     thread::scope(thread::scope_env(), rt, |scope| {
-        let mut running = Vec::new(alloc);
-        let mut whole = true;
-        for (seat, own) in seats.into_iter().zip(arrivals) {
-            match scope.spawn(move || at_port(rt, alloc, card, seat, side, own, gate)) {
-                Ok(handle) => {
-                    if running.push(handle).is_err() {
-                        whole = false;
-                    }
-                }
-                Err(_) => whole = false,
-            }
-        }
-        let told = if whole {
-            at_desk(rt, card, desk, lines)
-        } else {
-            Err(AllocError)
-        };
-        let mut ended = Vec::new(alloc);
-        for handle in running {
-            match handle.join(rt) {
-                Ok(port) => {
-                    if ended.push(port).is_err() {
-                        whole = false;
-                    }
-                }
-                Err(_) => whole = false,
-            }
-        }
-        match told {
-            Ok(told) if whole => Ok((ended, told)),
-            _ => Err(AllocError),
-        }
+        run_in(scope, rt, card, gate, jobs, desk, lines)
     })
 }

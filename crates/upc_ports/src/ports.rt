@@ -1,16 +1,16 @@
 //! `upc ports`: a script whose cells arrive at ports that are threads of their own.
 
-ghost use Rattle.std.specs.Prelude.{◌≡◌, ◌≢◌, ◌<◌, IfOk, OnErr, ℕ, List, Err, length};
+ghost use Rattle.std.specs.Prelude.{◌≡◌, ◌≢◌, ◌<◌, [], Err, IfOk, IfSome, OnErr, OnOk, length};
 ghost use Rattle.text_io.specs.Devices.{Adds};
 ghost use Rattle.text_io.specs.Failures.{write_failures};
 ghost use Rattle.text_io.specs.Printing.{IsFront};
 ghost use Rattle.text_io.specs.Serving.{IsServed};
 ghost use Rattle.port_card.specs.Names.{AreFor};
-ghost use Rattle.upc_ports.specs.PortsText.{IsClosedText, IsPortsText};
-ghost use Rattle.upc_dealing.specs.Dealing.{AreLinesOf};
-ghost use Rattle.upc_ports.specs.inner.FirstLines.{from_first_cell};
+ghost use Rattle.upc_ports.specs.PortsText.{IsCardText, IsClosedText, IsPortsText};
+ghost use Rattle.upc_ports.specs.ScriptAnswers.{AnswersScript};
+ghost use Rattle.upc_ports.specs.inner.Script.{AnswersCard, AnswersFirst, AnswersLater, HoldsLines, OfLines};
 
-use crate::at_once::run_at_once;
+use crate::at_once::{AtOnce, run_at_once};
 use crate::busy_ports::seats_of;
 use crate::closing_lines::{add_closing, done_after};
 use crate::in_order::add_in_order;
@@ -34,8 +34,9 @@ fn answer_first<'a, S: Ledgers, R: Wait>(
     lines: &'a [u8],
     answers: &mut Vec<u8>,
 ) -> Result<&'a [u8], AllocError>
-    ensures { IfOk result (λ later. (each : List (List ℕ)) → AreLinesOf lines.now each
-        → AreLinesOf later.now (from_first_cell each)) }
+    ensures { IfOk result (λ later. Adds
+        (λ text. OfLines lines.now (λ each. AnswersFirst card.now.side each later.now desk.old.names desk.new.names text))
+        answers.old.items answers.new.items) }
 {
     let mut rest = lines;
     while let Some((line, later)) = first_line(rest) {
@@ -48,28 +49,61 @@ fn answer_first<'a, S: Ledgers, R: Wait>(
     Ok(rest)
 }
 
-/// Answers the lines of a script on a card, and returns the seats.
-fn answer_lines_on<S: Ledgers + Send + Sync, G: Gate + Sync, R: Threads + Wait + Sync>(
+/// Answers the lines from the first cell line on, and returns the seats.
+fn answer_later<S: Ledgers + Send + Sync, G: Gate + Sync, R: Threads + Wait + Sync>(
     rt: &R,
-    alloc: Global,
     card: &Card<S>,
     seats: Vec<PortSeat<S>>,
-    desk: &mut ScriptDesk<S>,
+    desk: ScriptDesk<S>,
     lines: &[u8],
     gate: &G,
     answers: &mut Vec<u8>,
 ) -> Result<Vec<PortSeat<S>>, AllocError>
     requires { 0 < length seats.items }
+    ensures { OnOk result (Adds
+        (λ text. OfLines lines.now (λ each. AnswersLater card.now.side each desk.names text))
+        answers.old.items answers.new.items) }
 {
-    let later = answer_first(rt, card, desk, lines, answers)?;
+    let alloc = desk.alloc;
+    let side = card.side();
     let Deal {
         order,
         desk: desk_lines,
         arrivals,
-    } = deal_lines(alloc, desk.side, later, seats.len())?;
-    let (ports, told) = run_at_once(rt, alloc, card, gate, seats, arrivals, desk, &desk_lines)?;
-    add_in_order(desk.side, &order, &ports, &told, &desk.names, answers)?;
+    } = deal_lines(alloc, side, lines, seats.len())?;
+    let AtOnce { ports, told, desk } = run_at_once(
+        rt,
+        alloc,
+        card,
+        gate,
+        seats,
+        &arrivals,
+        desk,
+        &desk_lines,
+    )?;
+    add_in_order(side, &order, &ports, &told, &desk.names, answers)?;
     seats_of(alloc, ports)
+}
+
+/// Answers the lines of a script on a card, and returns the seats.
+fn answer_lines_on<S: Ledgers + Send + Sync, G: Gate + Sync, R: Threads + Wait + Sync>(
+    rt: &R,
+    card: &Card<S>,
+    seats: Vec<PortSeat<S>>,
+    desk: ScriptDesk<S>,
+    lines: &[u8],
+    gate: &G,
+    answers: &mut Vec<u8>,
+) -> Result<Vec<PortSeat<S>>, AllocError>
+    requires some { 0 < length seats.items }
+    requires unnamed { desk.names ≡ [] }
+    ensures { OnOk result (Adds
+        (λ text. OfLines lines.now (λ each. AnswersScript card.now.side each text))
+        answers.old.items answers.new.items) }
+{
+    let mut desk = desk;
+    let later = answer_first(rt, card, &mut desk, lines, answers)?;
+    answer_later(rt, card, seats, desk, later, gate, answers)
 }
 
 /// Answers a whole script, and closes its card.
@@ -84,18 +118,21 @@ fn answer_script<S: Ledgers + Send + Sync, G: Gate + Sync, R: Threads + Wait + S
 ) -> Result<Closing, AllocError>
     requires names { blanks ≡ S.names }
     requires for_shape { AreFor shape S.names }
+    ensures answers { OnOk result (Adds
+        (λ text. OfLines lines.now (λ each. AnswersCard shape.side each text))
+        answers.old.items answers.new.items) }
+    ensures within { IfOk result (λ closing. IfSome closing.uneven (λ number. number < shape.lines)) }
 {
     let Ok((card, seats, desk)) = Card::<S>::new(alloc, shape, blanks) else {
         return Err(AllocError);
     };
-    let mut desk = ScriptDesk {
+    let desk = ScriptDesk {
         desk,
         names: Names::new(alloc, shape.programs as usize)?,
         alloc,
-        side: shape.side,
     };
     add_ready(answers)?;
-    let seats = answer_lines_on(rt, alloc, &card, seats, &mut desk, lines, gate, answers)?;
+    let seats = answer_lines_on(rt, &card, seats, desk, lines, gate, answers)?;
     match card.close(alloc, seats) {
         Ok(closing) => Ok(closing),
         Err(_) => Err(AllocError),
@@ -109,22 +146,19 @@ fn answer_alone<G: Gate + Sync, R: Threads + Wait + Sync>(
     shape: Shape,
     lines: &[u8],
     gate: &G,
-) -> Result<(Vec<u8>, Closing), AllocError> {
-    let mut answers = Vec::new(alloc);
+    answers: &mut Vec<u8>,
+) -> Result<Closing, AllocError>
+    ensures answers { OnOk result (Adds
+        (λ text. OfLines lines.now (λ each. AnswersCard shape.side each text))
+        answers.old.items answers.new.items) }
+    ensures within { IfOk result (λ closing. IfSome closing.uneven (λ number. number < shape.lines)) }
+{
     let blanks = Blanks::new(shape.lines, shape.ports);
-    let closing = answer_script::<Brand, G, R>(
-        rt,
-        alloc,
-        shape,
-        blanks,
-        lines,
-        gate,
-        &mut answers,
-    )?;
-    Ok((answers, closing))
+    answer_script::<Brand, G, R>(rt, alloc, shape, blanks, lines, gate, answers)
 }
 
 /// Runs a script that was read, and returns its text.
+#[tactic(auto, using(crate::proofs::CutLemmas::lines_ended))]
 fn run_lines<G: Gate + Sync, R: Threads + Wait + Sync, O: Output>(
     rt: &R,
     alloc: Global,
@@ -132,15 +166,18 @@ fn run_lines<G: Gate + Sync, R: Threads + Wait + Sync, O: Output>(
     output: &mut O,
     gate: &G,
 ) -> Result<Done, RunFault>
-    ensures text { O.is_known → IfOk result (λ done.
-        Adds (λ text. IsClosedText text done) (O.held output.old) (O.held output.new)) }
+    ensures text { O.is_known → IfOk result (λ done. Adds
+        (λ text. OfLines script.now.lines.items (λ lines. IsCardText script.now.shape lines text done))
+        (O.held output.old) (O.held output.new)) }
+    ensures holds { HoldsLines script.now.lines.items }
     ensures front { O.is_known → OnErr result
         (Adds (IsFront IsClosedText) (O.held output.old) (O.held output.new)) }
     ensures fault { result ≢ Err RunFault.ReadFailed }
     ensures writing { O.failures output.new ≡ write_failures result (O.failures output.old) }
 {
-    let Ok((mut answers, closing)) = answer_alone(rt, alloc, script.shape, &script.lines, gate)
-    else {
+    let mut answers = Vec::new(alloc);
+    let shape = script.shape;
+    let Ok(closing) = answer_alone(rt, alloc, shape, &script.lines, gate, &mut answers) else {
         return Err(RunFault::NoMemory);
     };
     if add_closing(&mut answers, &closing).is_err() {
@@ -180,7 +217,7 @@ pub fn run_ports_with<G: Gate + Sync, R: Threads + Wait + Sync, I: Input, O: Out
     output: &mut O,
     gate: &G,
 ) -> Result<Done, RunFault>
-    // The text leaves open the answers to the lines.
+    // One answer for each line; which of its possible answers is left open.
     ensures { IsServed IsPortsText I.Input input.old input.new O.Output output.old output.new result }
 {
     let mut script = Script::new(alloc);

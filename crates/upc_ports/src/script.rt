@@ -1,11 +1,13 @@
 //! The script of `upc ports`, which is read as a whole before any of it runs.
 
-ghost use Rattle.std.specs.Prelude.{◌≡◌};
+ghost use Rattle.std.specs.Prelude.{◌≡◌, true};
 ghost use Rattle.text_io.specs.Words.{is_silent, words_of};
 ghost use Rattle.upc_ports.specs.PortsText.{unread};
+ghost use Rattle.upc_ports.specs.inner.Script.{is_ended};
 
 use card_core::Shape;
 use std::alloc::{AllocError, Global};
+use std::mem::replace;
 use text_io::{Done, Machine, Turn};
 use upc_card_lines::{add_no_card, add_shape_fault, read_card};
 use upc_cell::Side;
@@ -32,6 +34,7 @@ pub struct Script {
     pub shape: Shape,
     /// The later lines with words, each ended with a line feed.
     pub lines: Vec<u8>,
+    ghost whole: { is_ended lines.items ≡ true },
 }
 
 impl Script {
@@ -65,13 +68,17 @@ impl Machine for Script {
 
     ghost rules = { reading_rules };
 
+    #[tactic(auto, using(crate::proofs::CutLemmas::one_line_more))]
     fn answer(&mut self, line: &[u8], answers: &mut Vec<u8>) -> Result<Turn, AllocError> {
         if is_silent(line) {
             return Ok(Turn::GoesOn);
         }
         if self.is_open {
-            self.lines.extend_from_slice(line)?;
-            self.lines.push(b'\n')?;
+            let none = Vec::new(*self.lines.allocator());
+            let mut lines = replace(&mut self.lines, none);
+            lines.extend_from_slice(line)?;
+            lines.push(b'\n')?;
+            self.lines = lines;
             return Ok(Turn::GoesOn);
         }
         let Some(shape) = read_card(line) else {

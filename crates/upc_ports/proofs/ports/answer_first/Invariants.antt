@@ -1,11 +1,13 @@
--- No line so far is a cell line.
-use Rattle.std.proofs.Common.{ℕ, List, length}
-use Rattle.upc_dealing.specs.Dealing.{AreLinesOf}
-use Rattle.upc_ports.proofs.FirstLinesLemmas.{IsBefore}
+-- The lines so far were answered, and none of them is a cell line.
+use Rattle.std.proofs.Common.{length}
+use Rattle.text_io.specs.Devices.{Adds}
+use Rattle.upc_ports.specs.inner.Script.{OfLines}
+use Rattle.upc_ports.proofs.FirstLemmas.{IsFirst}
 use Rattle.upc_ports.proofs.ports.answer_first.Given as goal
 
 abbrev pub invariant-loop-line : goal.invariant-loop-line
-invariant-loop-line g l = (whole : List (List ℕ)) → AreLinesOf l.lines whole → IsBefore whole l.rest
+invariant-loop-line g l =
+    Adds (λ text. OfLines l.lines (λ whole. IsFirst l.card.side whole l.rest l.fn.desk.names l.desk.names text)) l.fn.answers.items l.answers.items
 
 abbrev pub decreases-loop-line : goal.decreases-loop-line
 decreases-loop-line g l = length l.rest

@@ -7,7 +7,7 @@ use Rattle.text_io.specs.Limits.{most_ahead}
 use Rattle.text_io.specs.declared.ending.Done.{Done}
 use Rattle.text_io.specs.declared.ending.Done.TheVariants.{Whole}
 use Rattle.upc_ports.specs.PortsText.{IsReadingText, unread}
-use Rattle.upc_ports.proofs.PortsTexts.{broken-front, ended-left, ended-text, of_any, ran-front, ran-left, ran-text}
+use Rattle.upc_ports.proofs.PortsTexts.{broken-front, card-closed, ended-left, ended-text, of_any, ran-front, ran-left, ran-text}
 use Rattle.upc_ports.proofs.ports.run_ports_with.Goals as goal
 
 pub returns-in-Ok-Whole : goal.returns-in-Ok-Whole
@@ -22,7 +22,8 @@ returns-in-Ok-Whole g c =
     (c.in-Ok-Whole.ensures.text known holds unread tt (sym c.new-script.ensures)) in
     record {
       text = λ known holds. IfOk-weaker c.run_lines.result _ _
-          (λ done ran. ran-text octets held mid new done (reading known holds) ran) (c.run_lines.ensures.text holds);
+          (λ done ran. ran-text octets held mid new done (reading known holds)
+          (card-closed _ _ mid new done c.run_lines.ensures.holds ran)) (c.run_lines.ensures.text holds);
       front = λ known holds.
           on_err_weaker c.run_lines.result (ran-front octets held mid new (reading known holds)) (c.run_lines.ensures.front holds);
       left = λ known.

@@ -1,0 +1,74 @@
+-- The text of a card.
+use Rattle.std.proofs.Common.{◌≡◌, ℕ, ◌<◌, List, [], ◌++◌, length, codes, Option, Some, None, IfSome, Bool, true, false, Result, Ok, Err, IfOk, OnOk, OnErr, is_err, refl, ap, sym, subst, ◌∙◌}
+use Rattle.std.proofs.lemmas.Option.{slice_get_within}
+use Rattle.line_record.specs.Line.{LineView}
+use Rattle.line_record.specs.declared.tally.Tally.{Tally}
+use Rattle.card_core.specs.declared.shape.Shape.{Shape}
+use Rattle.port_card.specs.Closing.{IsFirstUneven}
+use Rattle.text_io.specs.Devices.{Adds, IsPart}
+use Rattle.text_io.specs.Printing.{IsFront}
+use Rattle.text_io.specs.declared.ending.Done.{Done}
+use Rattle.text_io.specs.declared.ending.RunFault.{RunFault}
+use Rattle.upc_ports.specs.ClosingText.{closing_text, done_of}
+use Rattle.upc_ports.specs.PortsText.{IsCardText, IsClosedText}
+use Rattle.upc_ports.specs.inner.Script.{AnswersCard, HoldsLines, OfLines}
+
+-- A line that is uneven is one of the card's.
+pub uneven-within : (lines : List LineView) (otherwise : ℕ → Tally) (uneven : Option ℕ) (all : ℕ) → length lines ≡ all → IsFirstUneven lines otherwise uneven
+    → IfSome uneven (λ number. number < all)
+uneven-within lines otherwise None all sized first = tt
+uneven-within lines otherwise (Some number) all sized first =
+    subst (λ n. number < n) sized (slice_get_within lines number first.0.line first.0.there)
+
+-- The answers of a card and its closing text.
+pub card-text : (shape : Shape) (octets held held' start answers last : List ℕ) (closed : List LineView) (uneven : Option ℕ) (done : Done)
+    → Adds (λ text. OfLines octets (λ each. AnswersCard shape.side each text)) start answers → start ≡ [] → IfSome uneven (λ number. number < shape.lines)
+    → last ≡ answers ++ closing_text closed uneven → held' ≡ held ++ last → done ≡ done_of uneven
+    → Adds (λ text. OfLines octets (λ lines. IsCardText shape lines text done)) held held'
+card-text shape octets held held' start answers last closed uneven done (text, adds, card) empty within more given ends =
+    let closing = closing_text closed uneven in
+    let whole : last ≡ text ++ closing = more ∙ ap (λ (t : List ℕ). t ++ closing) (adds ∙ ap (λ (t : List ℕ). t ++ text) empty) in (
+      last,
+      given,
+      λ lines are.
+          let here = card lines are in
+          record {
+            answers = here.0;
+            each = here.2;
+            closed = closed;
+            uneven = uneven;
+            within = within;
+            whole = whole ∙ ap (λ (t : List ℕ). t ++ closing) here.1;
+            ends = ends;
+          },
+    )
+
+-- The text was given, or a prefix of it.
+pub last-given : (shape : Shape) (octets held held' start answers last : List ℕ) (closed : List LineView) (uneven : Option ℕ) (end : Done) (result : Result Done RunFault)
+    → Adds (λ text. OfLines octets (λ each. AnswersCard shape.side each text)) start answers → start ≡ [] → IfSome uneven (λ number. number < shape.lines)
+    → last ≡ answers ++ closing_text closed uneven → OnOk result (held' ≡ held ++ last) → IfOk result (λ done. done ≡ end) → end ≡ done_of uneven
+    → IfOk result (λ done. Adds (λ text. OfLines octets (λ lines. IsCardText shape lines text done)) held held')
+last-given shape octets held held' start answers last closed uneven end (Ok done) card empty within more given same ends =
+    card-text shape octets held held' start answers last closed uneven done card empty within more given (same ∙ ends)
+last-given shape octets held held' start answers last closed uneven end (Err fault) card empty within more given same ends = tt
+
+front-of : (shape : Shape) (octets held held' start answers last : List ℕ) (closed : List LineView) (uneven : Option ℕ) → HoldsLines octets
+    → Adds (λ text. OfLines octets (λ each. AnswersCard shape.side each text)) start answers → start ≡ [] → IfSome uneven (λ number. number < shape.lines)
+    → last ≡ answers ++ closing_text closed uneven → IsPart held held' last → Adds (IsFront IsClosedText) held held'
+unfolding card-text
+front-of shape octets held held' start answers last closed uneven holds card empty within more (given, left, parts, adds) =
+    let whole = card-text shape octets [] last start answers last closed uneven (done_of uneven) card empty within more refl refl in
+    let closes : IsClosedText last (done_of uneven) = record { shape = shape; lines = holds.0; card = whole.2 holds.0 holds.1 } in
+    (given, adds, (left, done_of uneven, subst (λ (t : List ℕ). IsClosedText t (done_of uneven)) parts closes))
+
+pub last-front : (shape : Shape) (octets held held' start answers last : List ℕ) (closed : List LineView) (uneven : Option ℕ) (result : Result Done RunFault) → HoldsLines octets
+    → Adds (λ text. OfLines octets (λ each. AnswersCard shape.side each text)) start answers → start ≡ [] → IfSome uneven (λ number. number < shape.lines)
+    → last ≡ answers ++ closing_text closed uneven → OnErr result (IsPart held held' last) → OnErr result (Adds (IsFront IsClosedText) held held')
+last-front shape octets held held' start answers last closed uneven (Ok done) holds card empty within more part = tt
+last-front shape octets held held' start answers last closed uneven (Err fault) holds card empty within more part =
+    front-of shape octets held held' start answers last closed uneven holds card empty within more part
+
+-- What an Ok ensures, of a result that is no Err.
+pub ok-of : {T E X : Type 0} (result : Result T E) → is_err result ≡ false → OnOk result X → X
+ok-of (Ok value) is here = here
+ok-of (Err fault) is here = let no : true ≡ false = is in cc

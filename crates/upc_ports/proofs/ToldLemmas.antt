@@ -1,0 +1,175 @@
+-- The text of a stored answer is one that the line of its cell may have.
+use Rattle.std.proofs.Common.{◌≡◌, ℕ, ◌+◌, ◌<◌, ◌≤◌, ◌==◌, ◌≢◌, Bool, true, false, List, [], ◌∷◌, ◌++◌, All, length, get_or, map, take, Option, Some, None, IfSome, option_to_list, Ok, Err, refl, ap, sym, subst, ◌∙◌, arith}
+use Rattle.std.specs.Prelude.{MatchBool, MatchOption}
+use Rattle.std.specs.List.{AllZip}
+use Rattle.std.proofs.lemmas.Bool.Decides.{nat_tests}
+use Rattle.std.proofs.lemmas.List.{map-append, take_more}
+use Rattle.std.proofs.lemmas.List.Elements.{All-pop}
+use Rattle.std.proofs.lemmas.Slice.Zip.{all_zipped_more}
+use Rattle.gen_arena.specs.declared.id.Id.{Id}
+use Rattle.leaky.specs.declared.verdict.Verdict.{Verdict}
+use Rattle.leaky.specs.declared.verdict.Verdict.TheVariants.{Pass, Tag, Discard, Refuse}
+use Rattle.upc_cell.specs.Connection.{vc_of}
+use Rattle.upc_cell.specs.declared.side.Side.{Side}
+use Rattle.upc_cell.specs.declared.side.Side.TheVariants.{Uni, Nni}
+use Rattle.upc_cell.specs.declared.vc.Vc.{Vc}
+use Rattle.card_core.specs.Sections.{told}
+use Rattle.card_core.specs.Steps.{cell_after}
+use Rattle.card_core.specs.declared.answer.Answer.{Answer}
+use Rattle.card_core.specs.declared.answer.Answer.TheVariants.{Judged, NoConnection, Released, Stale, MomentTooLate, MomentBack, JournalFull, NoMemory}
+use Rattle.port_card.specs.Answers.{IsJudgedAnswer}
+use Rattle.text_io.specs.Words.{words_of}
+use Rattle.upc_words.specs.FaultLines.{bad_hex, bad_line, wrong_length}
+use Rattle.upc_words.specs.Hexadecimal.{octets_of_digits, cell_of_octets}
+use Rattle.upc_card_lines.specs.Replies.{answer_text}
+use Rattle.upc_script.specs.ProgramNames.{number_of_program}
+use Rattle.upc_script.specs.ReplyTexts.{judging_text, verdict_text}
+use Rattle.upc_script.specs.ScriptCommands.{Command, cell, command_of}
+use Rattle.upc_ports.specs.LineAnswers.{MayAnswerCommand, MayAnswerLine, Polices, PolicesOctets, Refuses}
+use Rattle.upc_dealing.specs.declared.cell_line.CellLineFault.{CellLineFault}
+use Rattle.upc_dealing.specs.declared.cell_line.CellLineFault.TheVariants.{BadLine, BadHex, WrongLength}
+use Rattle.upc_dealing.specs.declared.cell_line.CellLine.TheVariants.{IsFaulty}
+use Rattle.upc_ports.specs.declared.told.ToldCell.{ToldCell}
+use Rattle.upc_ports.specs.inner.Arrivals.{AnswersPort, HasCell, IsToldFrom, IsToldOf}
+use Rattle.upc_dealing.specs.CellLine.{IsCellLine, fault_text}
+use Rattle.upc_dealing.specs.Dealing.{is_cell_line}
+use Rattle.upc_ports.specs.inner.InOrder.{TellsCell}
+use Rattle.upc_ports.specs.inner.Told.{answer_kept, answered_cell, header_of, ruled, shown_cell}
+use Rattle.upc_ports.proofs.DeskLemmas.{bad-cell}
+
+-- The header decides the connection.
+same-vc : (side : Side) (octets : List ℕ) → vc_of side (shown_cell (header_of octets)) ≡ vc_of side octets
+same-vc Uni octets = refl
+same-vc Nni octets = refl
+
+-- The line of a judged cell shows only its header.
+same-verdict : (verdict : Verdict) (judging : List ℕ) (a b c d : ℕ) (rest : List ℕ)
+    → verdict_text verdict judging (cell_after verdict (shown_cell (header_of (a ∷ b ∷ c ∷ d ∷ rest)))) ≡ verdict_text verdict judging (cell_after verdict (a ∷ b ∷ c ∷ d ∷ rest))
+same-verdict Pass judging a b c d rest = refl
+same-verdict Tag judging a b c d rest = refl
+same-verdict Discard judging a b c d rest = refl
+same-verdict Refuse judging a b c d rest = refl
+
+same-judged : (octets : List ℕ) → length octets ≡ 52 → (verdict : Verdict) (judging : List ℕ)
+    → verdict_text verdict judging (cell_after verdict (shown_cell (header_of octets))) ≡ verdict_text verdict judging (cell_after verdict octets)
+same-judged [] whole verdict judging = absurd (omega (arith, whole))
+same-judged (a ∷ []) whole verdict judging = absurd (omega (arith, whole))
+same-judged (a ∷ b ∷ []) whole verdict judging = absurd (omega (arith, whole))
+same-judged (a ∷ b ∷ c ∷ []) whole verdict judging = absurd (omega (arith, whole))
+same-judged (a ∷ b ∷ c ∷ d ∷ rest) whole verdict judging = same-verdict verdict judging a b c d rest
+
+same-answer : (all : List Id) (vc : Vc) (octets : List ℕ) (moment : ℕ) → length octets ≡ 52 → (answer : Answer) → IfSome (told answer) (IsJudgedAnswer octets moment)
+    → answer_text all vc (answer_kept (shown_cell (header_of octets)) (ruled answer)) ≡ answer_text all vc answer
+same-answer all vc octets moment whole (Judged line number when value program verdict leaving) judged =
+    let judging = judging_text vc (number_of_program all program) value in
+    ap (λ (t : List ℕ). Some t) (same-judged octets whole verdict judging ∙ ap (λ (l : List ℕ). verdict_text verdict judging l) (sym judged.leaves))
+same-answer all vc octets moment whole NoConnection judged = refl
+same-answer all vc octets moment whole Released judged = refl
+same-answer all vc octets moment whole Stale judged = refl
+same-answer all vc octets moment whole MomentTooLate judged = refl
+same-answer all vc octets moment whole (MomentBack last) judged = refl
+same-answer all vc octets moment whole JournalFull judged = refl
+same-answer all vc octets moment whole NoMemory judged = refl
+
+-- A line whose command is a cell of 52 octets.
+polices-line : (side : Side) (all names : List Id) (words : List (List ℕ)) (moment : ℕ) (digits octets here : List ℕ) (text : List ℕ)
+    → command_of side words ≡ Some (cell moment digits) → octets_of_digits digits ≡ Some octets → cell_of_octets octets ≡ here → length here ≡ 52
+    → Polices side all here moment text → MayAnswerLine side all words names text names
+polices-line side all names words moment digits octets here text is spelled same whole polices =
+    let at : PolicesOctets side all here moment text =
+    subst (λ n. MatchBool (n == 52) (Polices side all here moment text) (text ≡ wrong_length (length here))) (sym whole) polices in
+    let of_octets : PolicesOctets side all (cell_of_octets octets) moment text =
+    subst (λ (xs : List ℕ). PolicesOctets side all xs moment text) (sym same) at in
+    let of_digits = subst (λ (found : Option (List ℕ)). MatchOption found (text ≡ bad_hex) (λ xs. PolicesOctets side all (cell_of_octets xs) moment text)) (sym spelled) of_octets in
+    subst (λ (found : Option Command). MatchOption found (Refuses bad_line names text names) (λ command. MayAnswerCommand side all command names text names))
+    (sym is) (of_digits, refl)
+
+pub told-answered : (side : Side) (all names : List Id) (line : List ℕ) (one : ToldCell) (text : List ℕ) → IsToldOf side line one
+    → TellsCell side all (Some one) text → MayAnswerLine side all (words_of line) names text names
+told-answered side all names line one text is tells =
+    let digits = is.brings.0 in
+    let word = is.brings.2 in
+    let shown = shown_cell (header_of is.cell) in
+    let tells' : answer_text all (vc_of side shown) (answer_kept shown (ruled is.answer)) ≡ Some text =
+    subst (λ (t : ToldCell). answer_text all (vc_of side (shown_cell t.header)) (answer_kept (shown_cell t.header) t.told) ≡ Some text) is.kept tells in
+    polices-line side all names (words_of line) is.moment digits word.0 is.cell text is.brings.1 word.1 word.2 word.3
+    (record {
+      answer = is.answer;
+      possible = is.possible;
+      told = sym (same-answer all (vc_of side is.cell) is.cell is.moment word.3 is.answer is.possible.judged)
+          ∙ ap (λ (vc : Vc). answer_text all vc (answer_kept shown (ruled is.answer))) (sym (same-vc side is.cell)) ∙ tells';
+    })
+
+-- A line whose command is a cell of another number of octets.
+wrong-answered : (side : Side) (all names : List Id) (words : List (List ℕ)) (moment : ℕ) (digits octets : List ℕ) (count : ℕ)
+    → command_of side words ≡ Some (cell moment digits) → octets_of_digits digits ≡ Some octets → length (cell_of_octets octets) ≡ count → count ≢ 52
+    → MayAnswerLine side all words names (wrong_length count) names
+wrong-answered side all names words moment digits octets count is spelled counted other =
+    let here = cell_of_octets octets in
+    let differs : (length here == 52) ≡ false = grind (arith, nat_tests, counted, other) in
+    let at : PolicesOctets side all here moment (wrong_length count) =
+    subst (λ whole. MatchBool whole (Polices side all here moment (wrong_length count)) (wrong_length count ≡ wrong_length (length here))) (sym differs) (ap wrong_length (sym counted)) in
+    let of_digits = subst (λ (found : Option (List ℕ)). MatchOption found (wrong_length count ≡ bad_hex) (λ xs. PolicesOctets side all (cell_of_octets xs) moment (wrong_length count))) (sym spelled) at in
+    subst (λ (found : Option Command). MatchOption found (Refuses bad_line names (wrong_length count) names) (λ command. MayAnswerCommand side all command names (wrong_length count) names))
+    (sym is) (of_digits, refl)
+
+-- A cell line without a cell.
+pub fault-answered : (side : Side) (all names : List Id) (line : List ℕ) (fault : CellLineFault) → is_cell_line (words_of line) ≡ true
+    → IsCellLine (command_of side (words_of line)) (IsFaulty fault) → MayAnswerLine side all (words_of line) names (fault_text fault) names
+fault-answered side all names line BadLine is found =
+    subst (λ (command : Option Command). MatchOption command (Refuses bad_line names bad_line names) (λ c. MayAnswerCommand side all c names bad_line names))
+    (sym (bad-cell side (words_of line) is found)) (refl, refl)
+fault-answered side all names line BadHex is found =
+    let spelled = subst (λ (octets : Option (List ℕ)). MatchOption octets (bad_hex ≡ bad_hex) (λ xs. PolicesOctets side all (cell_of_octets xs) found.0 bad_hex)) (sym found.1.2) refl in
+    subst (λ (command : Option Command). MatchOption command (Refuses bad_line names bad_hex names) (λ c. MayAnswerCommand side all c names bad_hex names))
+    (sym found.1.1) (spelled, refl)
+fault-answered side all names line (WrongLength count) is found =
+    wrong-answered side all names (words_of line) found.0 found.1.0 found.1.2.0 count found.1.1 found.1.2.1 found.1.2.2 found.1.2.3
+
+-- One more line of a port, with its stored answer or without a cell.
+pub port-more : (side : Side) (xs : List (List ℕ)) (arrivals : List ToldCell) (line : List ℕ) (one : ToldCell) → AnswersPort side xs arrivals → IsToldOf side line one
+    → AnswersPort side (xs ++ line ∷ []) (arrivals ++ one ∷ [])
+port-more side xs arrivals line one answers is = λ all.
+    let parts = All-pop (HasCell side) (xs ++ line ∷ []) xs (Some line) refl all in
+    all_zipped_more (IsToldOf side) xs arrivals line one (answers parts.0) is
+
+pub port-skips : (side : Side) (xs : List (List ℕ)) (arrivals : List ToldCell) (line : List ℕ) → (HasCell side line → ⊥)
+    → AnswersPort side (xs ++ line ∷ []) arrivals
+port-skips side xs arrivals line none = λ all.
+    let parts = All-pop (HasCell side) (xs ++ line ∷ []) xs (Some line) refl all in absurd (none parts.1)
+
+pub port-next : {X : Type 0} (v : X → List ℕ) (side : Side) (xs : List X) (k : ℕ) (d : X) (arrivals arrivals' : List ToldCell) (one : ToldCell) → k < length xs
+    → arrivals' ≡ arrivals ++ one ∷ [] → AnswersPort side (map v (take k xs)) arrivals → IsToldOf side (v (get_or xs k d)) one
+    → AnswersPort side (map v (take (k + 1) xs)) arrivals'
+port-next v side xs k d arrivals arrivals' one within pushed answers is =
+    let x = get_or xs k d in
+    let lines : map v (take (k + 1) xs) ≡ map v (take k xs) ++ v x ∷ [] = ap (map v) (take_more xs k d within) ∙ map-append v (take k xs) (x ∷ []) in
+    subst (λ (zs : List (List ℕ)). AnswersPort side zs arrivals') (sym lines)
+    (subst (AnswersPort side (map v (take k xs) ++ v x ∷ [])) (sym pushed) (port-more side (map v (take k xs)) arrivals (v x) one answers is))
+
+pub port-same : {X : Type 0} (v : X → List ℕ) (side : Side) (xs : List X) (k : ℕ) (d : X) (arrivals : List ToldCell) → k < length xs
+    → (HasCell side (v (get_or xs k d)) → ⊥) → AnswersPort side (map v (take (k + 1) xs)) arrivals
+port-same v side xs k d arrivals within none =
+    let x = get_or xs k d in
+    let lines : map v (take (k + 1) xs) ≡ map v (take k xs) ++ v x ∷ [] = ap (map v) (take_more xs k d within) ∙ map-append v (take k xs) (x ∷ []) in
+    subst (λ (zs : List (List ℕ)). AnswersPort side zs arrivals) (sym lines) (port-skips side (map v (take k xs)) arrivals (v x) none)
+
+-- A line with an error has no cell.
+pub faulty-no_cell : (side : Side) (line : List ℕ) (fault : CellLineFault) → IsCellLine (command_of side (words_of line)) (IsFaulty fault) → HasCell side line → ⊥
+faulty-no_cell side line BadLine never (moment, here, brings) = never moment brings.0 brings.1
+faulty-no_cell side line BadHex found (moment, here, brings) =
+    let both : Some (cell moment brings.0) ≡ Some (cell found.0 found.1.0) = sym brings.1 ∙ found.1.1 in
+    let same : brings.0 ≡ found.1.0 = cc in
+    let no : None ≡ Some brings.2.0 = sym found.1.2 ∙ ap octets_of_digits (sym same) ∙ brings.2.1 in cc
+faulty-no_cell side line (WrongLength count) found (moment, here, brings) =
+    let both : Some (cell moment brings.0) ≡ Some (cell found.0 found.1.0) = sym brings.1 ∙ found.1.1 in
+    let same : brings.0 ≡ found.1.0 = cc in
+    let octets : Some brings.2.0 ≡ Some found.1.2.0 = sym brings.2.1 ∙ ap octets_of_digits same ∙ found.1.2.1 in
+    let equal : brings.2.0 ≡ found.1.2.0 = cc in
+    found.1.2.3 (sym found.1.2.2 ∙ ap (λ (xs : List ℕ). length (cell_of_octets xs)) (sym equal) ∙ ap length brings.2.2 ∙ brings.2.3)
+
+pub port-step : {X : Type 0} (v : X → List ℕ) (side : Side) (xs : List X) (k : ℕ) (d : X) (arrivals arrivals' : List ToldCell) (found : Option ToldCell) → k < length xs
+    → arrivals' ≡ arrivals ++ option_to_list found → AnswersPort side (map v (take k xs)) arrivals → IsToldFrom side (v (get_or xs k d)) found
+    → AnswersPort side (map v (take (k + 1) xs)) arrivals'
+port-step v side xs k d arrivals arrivals' None within pushed answers is = port-same v side xs k d arrivals' within is
+port-step v side xs k d arrivals arrivals' (Some one) within pushed answers is = port-next v side xs k d arrivals arrivals' one within pushed answers is

@@ -1,0 +1,10 @@
+-- A function carries out each command.
+use Rattle.std.proofs.Common.{OnOk, subst, sym}
+use Rattle.upc_script.specs.CommandSeen.{command_seen}
+use Rattle.upc_ports.specs.inner.DeskTexts.{AddsReply, MayObeySeen}
+use Rattle.upc_ports.proofs.script_desk.ScriptDesk.obey.Goals as goal
+
+pub returns-in-Setup : goal.returns-in-Setup
+returns-in-Setup g c =
+    subst (λ command. OnOk c.ask.result (AddsReply (MayObeySeen (command_seen command)) c.args.self.now.names c.ask.new.self.names c.args.answers.now.items c.ask.new.answers.items))
+    (sym c.in-Setup.is) c.ask.ensures

@@ -1,0 +1,18 @@
+-- The connection's journal is the answer, or the desk refuses.
+use Rattle.std.proofs.Common.{refl}
+use Rattle.std.proofs.lemmas.Result.{on_ok_weaker}
+use Rattle.card_core.specs.declared.reply.Reply.TheVariants.{Refused, Released}
+use Rattle.upc_script.specs.ScriptCommands.{release}
+use Rattle.upc_ports.proofs.DeskLemmas.{adds-some, replied}
+use Rattle.upc_ports.proofs.script_desk.ScriptDesk.release.Goals as goal
+
+pub returns-in-Err : goal.returns-in-Err
+returns-in-Err g c =
+    on_ok_weaker c.add_desk_fault.result (λ added.
+    let told = adds-some _ _ _ added in
+    replied (release c.args.vc) (Refused c.in-Err.fault) c.args.self.now.names told.0 _ _ c.in-Err.ensures.refused refl told.2 told.1) c.add_desk_fault.ensures
+
+pub returns : goal.returns
+returns g c =
+    on_ok_weaker c.add_released.result (λ added.
+    replied (release c.args.vc) (Released c.in-Ok.piece) c.args.self.now.names _ _ _ (c.in-Ok.ensures.piece, c.in-Ok.ensures.run) refl refl added) c.add_released.ensures

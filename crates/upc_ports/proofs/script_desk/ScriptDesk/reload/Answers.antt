@@ -1,0 +1,24 @@
+-- The connection has another program, or the desk refuses.
+use Rattle.std.proofs.Common.{refl, sym, ◌∙◌}
+use Rattle.std.proofs.lemmas.Result.{on_ok_weaker}
+use Rattle.card_core.specs.declared.reply.Reply.TheVariants.{Refused, Reloaded}
+use Rattle.upc_script.specs.ScriptCommands.{reload}
+use Rattle.upc_ports.proofs.DeskLemmas.{adds-some, named-reply, replied}
+use Rattle.upc_ports.proofs.script_desk.ScriptDesk.reload.Goals as goal
+
+pub returns-in-Err : goal.returns-in-Err
+returns-in-Err g c =
+    let command = reload c.args.vc c.args.number in
+    let names = c.args.self.now.names in
+    on_ok_weaker c.add_desk_fault.result (λ added.
+    let told = adds-some _ _ _ added in
+    named-reply command c.args.number c.in-Some.program names names _ _ (sym c.named.ensures ∙ c.in-Some.is)
+    (replied command (Refused c.in-Err.fault) names told.0 _ _ c.in-Err.ensures refl told.2 told.1)) c.add_desk_fault.ensures
+
+pub returns : goal.returns
+returns g c =
+    let command = reload c.args.vc c.args.number in
+    let names = c.args.self.now.names in
+    on_ok_weaker c.add_reloaded.result (λ added.
+    named-reply command c.args.number c.in-Some.program names names _ _ (sym c.named.ensures ∙ c.in-Some.is)
+    (replied command (Reloaded c.in-Some.program) names _ _ _ tt refl refl added)) c.add_reloaded.ensures

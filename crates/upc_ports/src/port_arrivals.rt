@@ -1,0 +1,67 @@
+//! The cells of a port, which arrive on the port's own thread.
+
+ghost use Rattle.std.specs.Prelude.{◌≡◌, ◌++◌, IfOk, OnOk, map, option_to_list};
+ghost use Rattle.upc_ports.specs.inner.Arrivals.{AnswersPort, IsToldFrom};
+
+use crate::busy_ports::BusyPort;
+use crate::told::{ToldCell, told_cell};
+use port_card::{Card, Gate, Ledgers, PortSeat};
+use std::alloc::{AllocError, Global};
+use std::sync::Wait;
+use upc_cell::Side;
+use upc_dealing::{CellLine, read_cell_line};
+
+/// Lets the cell of a line arrive, and returns what is stored of it and its answer. Returns None only for a line without
+/// a cell; a port gets no such line.
+fn arrive_from<S: Ledgers, G: Gate, R: Wait>(
+    rt: &R,
+    alloc: Global,
+    card: &Card<S>,
+    seat: &mut PortSeat<S>,
+    side: Side,
+    line: &[u8],
+    gate: &G,
+) -> Result<Option<ToldCell>, AllocError>
+    ensures { IfOk result (IsToldFrom side line.now) }
+{
+    match read_cell_line(alloc, side, line)? {
+        CellLine::Comes(moment, cell) => {
+            let answer = card.arrive(rt, seat, &cell, moment, gate);
+            Ok(Some(told_cell(&cell, &answer)))
+        }
+        CellLine::IsFaulty(_) => Ok(None),
+    }
+}
+
+/// Adds what is stored of a line.
+fn add_told(arrivals: &mut Vec<ToldCell>, told: Option<ToldCell>) -> Result<(), AllocError>
+    ensures { OnOk result (arrivals.new.items ≡ arrivals.old.items ++ option_to_list told) }
+{
+    match told {
+        Some(told) => {
+            arrivals.push(told)?;
+            Ok(())
+        }
+        None => Ok(()),
+    }
+}
+
+/// Lets the cells of a port's lines arrive, one by one.
+pub fn arrive_from_each<S: Ledgers, G: Gate, R: Wait>(
+    rt: &R,
+    alloc: Global,
+    card: &Card<S>,
+    mut seat: PortSeat<S>,
+    side: Side,
+    lines: &[&[u8]],
+    gate: &G,
+) -> Result<BusyPort<S>, AllocError>
+    ensures { IfOk result (λ port. AnswersPort side (map (λ line. line.now) lines.now) port.arrivals.items) }
+{
+    let mut arrivals = Vec::with_capacity(alloc, lines.len())?;
+    for line in lines {
+        let told = arrive_from(rt, alloc, card, &mut seat, side, line, gate)?;
+        add_told(&mut arrivals, told)?;
+    }
+    Ok(BusyPort { seat, arrivals })
+}
