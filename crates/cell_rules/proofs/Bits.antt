@@ -13,7 +13,7 @@ use Rattle.upc_cell.specs.declared.side.Side.TheVariants.{Uni, Nni}
 use Rattle.cell_rules.specs.Fields.{IsCell, number_in}
 use Rattle.cell_rules.specs.declared.field.Field.{Field}
 use Rattle.cell_rules.specs.declared.field.Field.TheVariants.{Gfc, Vpi, Vci, Pti, Clp}
-use Rattle.cell_rules.specs.inner.PlainOf.{IsPartOf, at_of, in_place, most_of, placed_mask, size_of, unit_of}
+use Rattle.cell_rules.specs.PlainOf.{IsPartOf, at_of, in_place, most_of, placed_mask, size_of, unit_of}
 
 -- ---- bits
 
@@ -106,7 +106,7 @@ module _ (side : Side) (field : Field) (s w : ℕ) (in_header : IsInHeader side 
   number_le =
       let le = kept_le mask (number_in side field cell) in
       let e = in_header.number cell is in
-      let below = mod_below (header_number cell / 2 ^ s) (2 ^ w) (pow_pos w) in
+      let span_below = mod_below (header_number cell / 2 ^ s) (2 ^ w) (pow_pos w) in
       omega arith
 
   -- The part is the number in its place.

@@ -21,7 +21,7 @@ use Rattle.cell_rules.specs.declared.field.Field.TheVariants.{Gfc, Vpi, Vci, Pti
 use Rattle.cell_rules.specs.declared.relation.Relation.{Relation}
 use Rattle.cell_rules.specs.declared.relation.Relation.TheVariants.{Equal, Unequal, Less, AtMost, Greater, AtLeast, In}
 use Rattle.cell_rules.specs.declared.test.Test.{Test, Any, Oam, User, Compare, Not', And', Or'}
-use Rattle.cell_rules.specs.inner.PlainOf.{IsPartOf, IsAmongOf, IsNotOf, AreBothOf, IsEitherOf, IsCompareOf, IsPlainOf, most_of, unit_of, placed_span, only, below, up_to}
+use Rattle.cell_rules.specs.PlainOf.{IsPartOf, IsAmongOf, IsNotOf, AreBothOf, IsEitherOf, IsCompareOf, IsPlainOf, most_of, unit_of, placed_span, span_of_one, span_below, span_up_to}
 use Rattle.cell_rules.proofs.Bits.{IsInHeader, gfc_in, vpi_in, vci_in, pti_in, clp_in, number_le, number_placed}
 use Rattle.cell_rules.proofs.Spans.{among_placed, among_there, only_is, below_is, up_to_is, above_is, at_least_is}
 
@@ -74,17 +74,17 @@ module _ (side : Side) (cell : List ℕ) (is : IsCell cell) where
 
   -- ---- comparisons
   compare_means : (field : Field) (mask : Option ℕ) (relation : Relation) (test : PlainTest) → IsCompareOf side field mask relation test → holds test cell ≡ is_so relation (kept_bits mask (number_in side field cell))
-  compare_means field mask (Equal k) test of = among_means field mask (only k ∷ []) test of ∙ only_is k (kept_bits mask (number_in side field cell))
+  compare_means field mask (Equal k) test of = among_means field mask (span_of_one k ∷ []) test of ∙ only_is k (kept_bits mask (number_in side field cell))
   compare_means field mask (Unequal k) test of =
-      not_means (IsAmongOf side field mask (only k ∷ [])) (is_among (only k ∷ []) (kept_bits mask (number_in side field cell))) (among_means field mask (only k ∷ [])) test of
+      not_means (IsAmongOf side field mask (span_of_one k ∷ [])) (is_among (span_of_one k ∷ []) (kept_bits mask (number_in side field cell))) (among_means field mask (span_of_one k ∷ [])) test of
       ∙ ap not (only_is k (kept_bits mask (number_in side field cell)))
-  compare_means field mask (Less k) test of = among_means field mask (below k ∷ []) test of ∙ below_is k (kept_bits mask (number_in side field cell))
-  compare_means field mask (AtMost k) test of = among_means field mask (up_to k ∷ []) test of ∙ up_to_is k (kept_bits mask (number_in side field cell))
+  compare_means field mask (Less k) test of = among_means field mask (span_below k ∷ []) test of ∙ below_is k (kept_bits mask (number_in side field cell))
+  compare_means field mask (AtMost k) test of = among_means field mask (span_up_to k ∷ []) test of ∙ up_to_is k (kept_bits mask (number_in side field cell))
   compare_means field mask (Greater k) test of =
-      not_means (IsAmongOf side field mask (up_to k ∷ [])) (is_among (up_to k ∷ []) (kept_bits mask (number_in side field cell))) (among_means field mask (up_to k ∷ [])) test of
+      not_means (IsAmongOf side field mask (span_up_to k ∷ [])) (is_among (span_up_to k ∷ []) (kept_bits mask (number_in side field cell))) (among_means field mask (span_up_to k ∷ [])) test of
       ∙ (ap not (up_to_is k (kept_bits mask (number_in side field cell))) ∙ above_is k (kept_bits mask (number_in side field cell)))
   compare_means field mask (AtLeast k) test of =
-      not_means (IsAmongOf side field mask (below k ∷ [])) (is_among (below k ∷ []) (kept_bits mask (number_in side field cell))) (among_means field mask (below k ∷ [])) test of
+      not_means (IsAmongOf side field mask (span_below k ∷ [])) (is_among (span_below k ∷ []) (kept_bits mask (number_in side field cell))) (among_means field mask (span_below k ∷ [])) test of
       ∙ (ap not (below_is k (kept_bits mask (number_in side field cell))) ∙ at_least_is k (kept_bits mask (number_in side field cell)))
   compare_means field mask (In first others) test of = among_means field mask (first ∷ others.items) test of
 
@@ -101,8 +101,8 @@ module _ (side : Side) (cell : List ℕ) (is : IsCell cell) where
   -- ---- tests
   pub plain_means : (of : Test) (test : PlainTest) → IsPlainOf side of test → holds test cell ≡ is_met side of cell
   plain_means Any test so = ap (λ (t : PlainTest). holds t cell) so
-  plain_means Oam test so = among_means Pti (Some 6) (only 4 ∷ []) test so ∙ (only_is 4 (bit_and (pti_of cell) 6) ∙ oam_is)
-  plain_means User test so = among_means Pti (Some 4) (only 0 ∷ []) test so ∙ (only_is 0 (bit_and (pti_of cell) 4) ∙ user_is)
+  plain_means Oam test so = among_means Pti (Some 6) (span_of_one 4 ∷ []) test so ∙ (only_is 4 (bit_and (pti_of cell) 6) ∙ oam_is)
+  plain_means User test so = among_means Pti (Some 4) (span_of_one 0 ∷ []) test so ∙ (only_is 0 (bit_and (pti_of cell) 4) ∙ user_is)
   plain_means (Compare field mask relation) test so = compare_means field mask relation test so
   plain_means (Not' p of) test so = not_means (IsPlainOf side of) (is_met side of cell) (plain_means of) test so
   plain_means (And' p one q other) test so = both_mean (IsPlainOf side one) (IsPlainOf side other) (is_met side one cell) (is_met side other cell) (plain_means one) (plain_means other) test so

@@ -5,7 +5,7 @@ use Rattle.std.proofs.lemmas.Bool.Decides.{nat_tests}
 use Rattle.std.proofs.Math.Nat.{mul-le-mul_right, le_of_mul-le-mul_right}
 use Rattle.match_code.specs.PlainTests.{is_in, is_among}
 use Rattle.match_code.specs.declared.part.Span.{Span}
-use Rattle.cell_rules.specs.inner.PlainOf.{in_place, placed_span, only, below, up_to}
+use Rattle.cell_rules.specs.PlainOf.{in_place, placed_span, span_of_one, span_below, span_up_to}
 
 -- Tests that are true of the same are the same.
 bool_same : (x y : Bool) → (x ≡ true → y ≡ true) → (y ≡ true → x ≡ true) → x ≡ y
@@ -60,17 +60,17 @@ among_there unit number (span ∷ more) = ap (λ b. is_in span number || b) (amo
 
 -- ---- comparisons
 
-pub only_is : (k number : ℕ) → is_among (only k ∷ []) number ≡ (number == k)
+pub only_is : (k number : ℕ) → is_among (span_of_one k ∷ []) number ≡ (number == k)
 only_is k number = grind (arith, nat_tests)
 
 below_by : (b : Bool) (k number : ℕ) → (k == 0) ≡ b → is_among ((if b then record { low = 1; high = 0 } else record { low = 0; high = k - 1 }) ∷ []) number ≡ nat_lt number k
 below_by true k number e = let none = eqb-true k 0 e in grind (arith, nat_tests)
 below_by false k number e = grind (arith, nat_tests)
 
-pub below_is : (k number : ℕ) → is_among (below k ∷ []) number ≡ nat_lt number k
+pub below_is : (k number : ℕ) → is_among (span_below k ∷ []) number ≡ nat_lt number k
 below_is k number = below_by (k == 0) k number refl
 
-pub up_to_is : (k number : ℕ) → is_among (up_to k ∷ []) number ≡ nat_le number k
+pub up_to_is : (k number : ℕ) → is_among (span_up_to k ∷ []) number ≡ nat_le number k
 up_to_is k number = grind (arith, nat_tests)
 
 pub above_is : (k number : ℕ) → not (nat_le number k) ≡ nat_lt k number

@@ -2,4 +2,4 @@ pub mod Fields
 pub mod Tests
 pub mod Rules
 pub mod Promise
-pub mod inner
+pub mod PlainOf

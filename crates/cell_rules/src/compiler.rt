@@ -5,7 +5,7 @@ ghost use Rattle.bpf_verify.specs.Accepted.{IsAccepted};
 ghost use Rattle.match_code.specs.LineCode.{lines_code};
 ghost use Rattle.match_code.specs.declared.lines.Line.{Line};
 ghost use Rattle.cell_rules.specs.Promise.{FollowsRules};
-ghost use Rattle.cell_rules.specs.inner.PlainOf.{AreLinesOf};
+ghost use Rattle.cell_rules.specs.PlainOf.{ArePlainLines};
 
 use crate::plain::line_of;
 use crate::rules::{RuleLine, Rules};
@@ -16,7 +16,7 @@ use upc_cell::Side;
 
 /// The lines that lines of rules become.
 fn lines_of(alloc: Global, side: Side, lines: &[RuleLine]) -> Result<Vec<Line>, AllocError>
-    ensures { IfOk result (λ plain. AreLinesOf side lines.now plain.items) }
+    ensures { IfOk result (λ plain. ArePlainLines side lines.now plain.items) }
 {
     let mut plain = Vec::new(alloc);
     for line in lines {
@@ -30,14 +30,14 @@ fn lines_of(alloc: Global, side: Side, lines: &[RuleLine]) -> Result<Vec<Line>, 
 /// # Errors
 ///
 /// `TooLong` exactly if the code that is defined for the rules has more than 4096 instructions: the code of the lines
-/// that they become (`AreLinesOf`, `lines_code`). `NoMemory` if an allocation failed.
+/// that they become (`ArePlainLines`, `lines_code`). `NoMemory` if an allocation failed.
 pub fn compile(alloc: Global, rules: &Rules) -> Result<Vec<Instr>, CodeFault>
     ensures accepted { IfOk result (λ code. IsAccepted code.items) }
     ensures value { IfOk result (λ code. FollowsRules rules.now code.items) }
-    ensures code { IfOk result (λ code. (lines : List Line) × AreLinesOf rules.now.side rules.now.lines.items lines
+    ensures code { IfOk result (λ code. (lines : List Line) × ArePlainLines rules.now.side rules.now.lines.items lines
         × (code.items ≡ lines_code lines rules.now.otherwise)) }
     ensures too_long { result ≡ Err CodeFault.TooLong → (lines : List Line)
-        × AreLinesOf rules.now.side rules.now.lines.items lines × (4096 < length (lines_code lines rules.now.otherwise)) }
+        × ArePlainLines rules.now.side rules.now.lines.items lines × (4096 < length (lines_code lines rules.now.otherwise)) }
 {
     match lines_of(alloc, rules.side, &rules.lines) {
         Ok(lines) => generate(alloc, &lines, rules.otherwise),

@@ -2,7 +2,7 @@
 
 ghost use Rattle.std.specs.Prelude.{◌≡◌, Some, [], ◌∷◌, map, IfOk};
 ghost use Rattle.cell_rules.specs.declared.field.Field.TheVariants.{Pti};
-ghost use Rattle.cell_rules.specs.inner.PlainOf.{IsAmongOf, IsCompareOf, IsLineOf, IsPartOf, IsPlainOf, below, in_place, most_of, only, placed_mask, placed_span, unit_of};
+ghost use Rattle.cell_rules.specs.PlainOf.{IsAmongOf, IsCompareOf, IsPlainLine, IsPartOf, IsPlainOf, span_below, in_place, most_of, span_of_one, placed_mask, placed_span, unit_of};
 
 use crate::field::Field;
 use crate::relation::Relation;
@@ -149,15 +149,15 @@ fn within(
 }
 
 /// The span of one number.
-fn only(k: u32) -> Span
-    ensures { result ≡ only k }
+fn span_of_one(k: u32) -> Span
+    ensures { result ≡ span_of_one k }
 {
     Span { low: k, high: k }
 }
 
 /// The span of the numbers less than one.
-fn below(k: u32) -> Span
-    ensures { result ≡ below k }
+fn span_below(k: u32) -> Span
+    ensures { result ≡ span_below k }
 {
     if k == 0 {
         Span { low: 1, high: 0 }
@@ -180,19 +180,19 @@ fn compared(
     ensures { IfOk result (IsCompareOf side field mask relation.now) }
 {
     match relation {
-        Relation::Equal(k) => within(alloc, side, field, mask, only(*k)),
+        Relation::Equal(k) => within(alloc, side, field, mask, span_of_one(*k)),
         Relation::Unequal(k) => {
-            let equal = within(alloc, side, field, mask, only(*k))?;
+            let equal = within(alloc, side, field, mask, span_of_one(*k))?;
             Ok(PlainTest::Not(Box::new(alloc, equal)?))
         }
-        Relation::Less(k) => within(alloc, side, field, mask, below(*k)),
+        Relation::Less(k) => within(alloc, side, field, mask, span_below(*k)),
         Relation::AtMost(k) => within(alloc, side, field, mask, Span { low: 0, high: *k }),
         Relation::Greater(k) => {
             let at_most = within(alloc, side, field, mask, Span { low: 0, high: *k })?;
             Ok(PlainTest::Not(Box::new(alloc, at_most)?))
         }
         Relation::AtLeast(k) => {
-            let less = within(alloc, side, field, mask, below(*k))?;
+            let less = within(alloc, side, field, mask, span_below(*k))?;
             Ok(PlainTest::Not(Box::new(alloc, less)?))
         }
         Relation::In { first, others } => among(alloc, side, field, mask, *first, others),
@@ -205,8 +205,8 @@ fn plain_of(alloc: Global, side: Side, test: &Test) -> Result<PlainTest, AllocEr
 {
     match test {
         Test::Any => Ok(PlainTest::Always),
-        Test::Oam => within(alloc, side, Field::Pti, Some(6), only(4)),
-        Test::User => within(alloc, side, Field::Pti, Some(4), only(0)),
+        Test::Oam => within(alloc, side, Field::Pti, Some(6), span_of_one(4)),
+        Test::User => within(alloc, side, Field::Pti, Some(4), span_of_one(0)),
         Test::Compare {
             field,
             mask,
@@ -233,7 +233,7 @@ fn plain_of(alloc: Global, side: Side, test: &Test) -> Result<PlainTest, AllocEr
 
 /// The line that a line of rules becomes.
 pub(crate) fn line_of(alloc: Global, side: Side, line: &RuleLine) -> Result<Line, AllocError>
-    ensures { IfOk result (IsLineOf side line.now) }
+    ensures { IfOk result (IsPlainLine side line.now) }
 {
     match line {
         RuleLine::Rule { test, value } => {

@@ -5,7 +5,8 @@ use Rattle.bpf_code.specs.declared.instr.Instr.{Instr}
 use Rattle.bpf_code.specs.declared.instr.Instr.TheVariants.{Jump, Branch}
 use Rattle.bpf_code.specs.declared.instr.Test.{Test}
 use Rattle.bpf_interp.specs.Tests.{test_of}
-use Rattle.match_code.specs.Labels.{suffix_at, near_code, near_label, branched}
+use Rattle.match_code.specs.Labels.{near_code, near_label, branched}
+use Rattle.match_code.specs.inner.Suffixes.{suffix_at}
 use Rattle.match_code.proofs.Suffixes.{Gives, gives_branch, gives_jump, gives_whole}
 use Rattle.match_code.proofs.Growing.{Extends, IsLabel, IsSoundBefore, IsWell, extends_self, extends_more, extends_one, gives_kept, label_front, label_kept}
 

@@ -5,7 +5,8 @@ use Rattle.std.specs.List.{slice_get}
 use Rattle.std.proofs.lemmas.Bool.{eq-eqb, ne_eqb}
 use Rattle.bpf_code.specs.declared.instr.Instr.{Instr}
 use Rattle.bpf_code.specs.declared.instr.Instr.TheVariants.{Jump, RetK}
-use Rattle.match_code.specs.LineCode.{Coded, held_at, left_after, line_code, lines_coded, begun, lines_code}
+use Rattle.match_code.specs.LineCode.{Coded, left_after, line_code, lines_coded, begun, lines_code}
+use Rattle.match_code.specs.inner.Held.{held_at}
 use Rattle.match_code.specs.declared.lines.Line.{Line}
 use Rattle.match_code.specs.declared.part.Part.{Part}
 

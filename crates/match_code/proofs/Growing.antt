@@ -4,7 +4,8 @@ use Rattle.bpf_code.specs.declared.instr.By.TheVariants.{Imm}
 use Rattle.bpf_code.specs.declared.instr.Instr.{Instr}
 use Rattle.bpf_code.specs.declared.instr.Instr.TheVariants.{LoadAbs, Alu, Jump, Branch, RetK}
 use Rattle.bpf_code.specs.declared.instr.Op.TheVariants.{And}
-use Rattle.match_code.specs.Labels.{Tested, suffix_at}
+use Rattle.match_code.specs.Labels.{Tested}
+use Rattle.match_code.specs.inner.Suffixes.{suffix_at}
 use Rattle.match_code.proofs.Suffixes.{Gives, suffix_kept}
 
 -- The instruction is one that tests need, and its jumps lead into the code of this length behind it.

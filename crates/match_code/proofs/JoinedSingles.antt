@@ -133,7 +133,7 @@ joined_number high low j n apart =
     let first : bit_or high.span.low low.span.low ≡ k * unit + low.span.low = ap (λ m. bit_or m low.span.low) number_is ∙ or_shifted k j low.span.low apart.least in
     let last : bit_or high.span.low low.span.high ≡ k * unit + low.span.high = ap (λ m. bit_or m low.span.high) number_is ∙ or_shifted k j low.span.high apart.most in
     let tests = digits_tests unit k x rest low.span.low low.span.high (pow_pos j) less apart.least apart.most in
-    let joined : is_in (joined_by high low).span (bit_and n (bit_or high.mask low.mask)) ≡ (nat_le (k * unit + low.span.low) (x * unit + rest) && nat_le (x * unit + rest) (k * unit + low.span.high)) =
+    let left_at_join : is_in (joined_by high low).span (bit_and n (bit_or high.mask low.mask)) ≡ (nat_le (k * unit + low.span.low) (x * unit + rest) && nat_le (x * unit + rest) (k * unit + low.span.high)) =
     ap (λ m. nat_le (bit_or high.span.low low.span.low) m && nat_le m (bit_or high.span.low low.span.high)) all
     ∙ (ap (λ a. nat_le a (x * unit + rest) && nat_le (x * unit + rest) (bit_or high.span.low low.span.high)) first
     ∙ ap (λ b. nat_le (k * unit + low.span.low) (x * unit + rest) && nat_le (x * unit + rest) b) last) in
@@ -142,7 +142,7 @@ joined_number high low j n apart =
     ∙ (ap (λ b. nat_le high.span.low (x * unit) && nat_le (x * unit) b) (sym apart.one)
     ∙ ap (λ a. nat_le a (x * unit) && nat_le (x * unit) a) number_is) in
     let inside : is_in_single low n ≡ (nat_le low.span.low rest && nat_le rest low.span.high) = ap (λ m. nat_le low.span.low m && nat_le m low.span.high) lower in
-    joined ∙ (tests ∙ sym (ap (λ b. b && is_in_single low n) exact ∙ ap (λ b. (nat_le (k * unit) (x * unit) && nat_le (x * unit) (k * unit)) && b) inside))
+    left_at_join ∙ (tests ∙ sym (ap (λ b. b && is_in_single low n) exact ∙ ap (λ b. (nat_le (k * unit) (x * unit) && nat_le (x * unit) (k * unit)) && b) inside))
 
 -- ---- from the tests of the code
 
@@ -249,7 +249,7 @@ has_both one other (Both' p first q second) packet has =
     ap (λ (t : PlainTest). holds t packet && holds second packet) has.0 ∙ ap (λ (t : PlainTest). holds one packet && holds t packet) has.1
 has_both one other _ packet has = absurd has
 
-made_by : (one other test : PlainTest) (packet : List ℕ) (joined : Option Single) → joined_single one other ≡ joined → MatchOption joined (HasBoth one other test) (λ single. IsSingle single test)
+made_by : (one other test : PlainTest) (packet : List ℕ) (left_at_join : Option Single) → joined_single one other ≡ left_at_join → MatchOption left_at_join (HasBoth one other test) (λ single. IsSingle single test)
     → holds test packet ≡ (holds one packet && holds other packet)
 made_by one other test packet None e is = has_both one other test packet is
 made_by one other test packet (Some single) e is =

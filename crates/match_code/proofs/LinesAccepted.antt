@@ -10,7 +10,7 @@ use Rattle.bpf_code.specs.declared.instr.Instr.TheVariants.{LoadAbs, Alu, Jump, 
 use Rattle.bpf_code.specs.declared.instr.Op.TheVariants.{And}
 use Rattle.bpf_verify.specs.Accepted.{IsAccepted}
 use Rattle.match_code.specs.LineCode.{lines_code}
-use Rattle.match_code.specs.Labels.{suffix_at}
+use Rattle.match_code.specs.inner.Suffixes.{suffix_at}
 use Rattle.match_code.specs.declared.lines.Line.{Line}
 use Rattle.match_code.proofs.Growing.{AreSound, IsSoundBefore}
 use Rattle.match_code.proofs.LinesFit.{lines_whole}

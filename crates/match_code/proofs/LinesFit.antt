@@ -4,12 +4,12 @@ use Rattle.std.proofs.lemmas.Bool.{eqb-true}
 use Rattle.bpf_code.specs.declared.instr.Instr.{Instr}
 use Rattle.bpf_code.specs.declared.instr.Instr.TheVariants.{Jump, RetK}
 use Rattle.bpf_interp.proofs.Public.{Value-unique}
-use Rattle.match_code.specs.Labels.{suffix_at}
-use Rattle.match_code.specs.Lines.{value_from, value_of}
+use Rattle.match_code.specs.inner.Suffixes.{suffix_at}
+use Rattle.match_code.specs.Lines.{value_from, value_of_lines}
 use Rattle.match_code.specs.LineCode.{Coded, first_after, later_after, line_code, lines_coded, lines_code}
 use Rattle.match_code.specs.PlainTests.{holds}
 use Rattle.match_code.specs.Promise.{Classifies}
-use Rattle.match_code.specs.TestCode.{left_by, test_code}
+use Rattle.match_code.specs.TestCode.{known_after, test_code}
 use Rattle.match_code.specs.declared.lines.Line.{Line}
 use Rattle.match_code.specs.declared.lines.Line.TheVariants.{Rule, Block, End}
 use Rattle.match_code.specs.declared.part.Part.{Part}
@@ -60,7 +60,7 @@ module _ (rest : List Line) (otherwise : ℕ) (test : PlainTest) (held : Option 
   rule_on true packet code met unmet b value later one other h p q = p
   rule_on false packet code met unmet b value later one other h p q = q h
 
-  rule_fit : (value : ℕ) (d : Coded) → IsFit rest (left_by test held).unmet otherwise d → IsFit (Rule test value ∷ rest) held otherwise (line_code (Rule test value) held d)
+  rule_fit : (value : ℕ) (d : Coded) → IsFit rest (known_after test held).unmet otherwise d → IsFit (Rule test value ∷ rest) held otherwise (line_code (Rule test value) held d)
   unfolding line_code
   rule_fit value d f =
       let code = RetK value ∷ d.code in
@@ -83,7 +83,7 @@ module _ (rest : List Line) (otherwise : ℕ) (test : PlainTest) (held : Option 
             let r = test_right packet whole test held code met d.entry met_is unmet_is in
             let x = holds test packet in
             r.gives a (if x then value else value_from rest 0 otherwise packet) h (λ b hb.
-            rule_on x packet code met d.entry b value (value_from rest 0 otherwise packet) (left_by test held).met (left_by test held).unmet hb
+            rule_on x packet code met d.entry b value (value_from rest 0 otherwise packet) (known_after test held).met (known_after test held).unmet hb
             (gives_whole packet code b value (gives_return packet d.code b value))
             (λ known. gives_kept packet d.code code d.entry b (value_from rest 0 otherwise packet) e f.entry_is (f.gives packet b whole known)));
         skips = λ packet k a whole. gives_kept packet d.code t.code (label_after d.after k) a (value_from rest (suc k) otherwise packet) all (f.after_is k) (f.skips packet k a whole);
@@ -96,7 +96,7 @@ module _ (rest : List Line) (otherwise : ℕ) (test : PlainTest) (held : Option 
   block_on true packet code met unmet b inside past one other h p q = p h
   block_on false packet code met unmet b inside past one other h p q = q
 
-  block_fit : (d : Coded) → IsFit rest (left_by test held).met otherwise d → IsFit (Block test ∷ rest) held otherwise (line_code (Block test) held d)
+  block_fit : (d : Coded) → IsFit rest (known_after test held).met otherwise d → IsFit (Block test ∷ rest) held otherwise (line_code (Block test) held d)
   unfolding line_code
   block_fit d f =
       let unmet = first_after d.after in
@@ -115,7 +115,7 @@ module _ (rest : List Line) (otherwise : ℕ) (test : PlainTest) (held : Option 
             let r = test_right packet whole test held d.code d.entry unmet f.entry_is unmet_is in
             let x = holds test packet in
             r.gives a (if x then value_from rest 0 otherwise packet else value_from rest 1 otherwise packet) h (λ b hb.
-            block_on x packet d.code d.entry unmet b (value_from rest 0 otherwise packet) (value_from rest 1 otherwise packet) (left_by test held).met (left_by test held).unmet hb
+            block_on x packet d.code d.entry unmet b (value_from rest 0 otherwise packet) (value_from rest 1 otherwise packet) (known_after test held).met (known_after test held).unmet hb
             (λ known. f.gives packet b whole known)
             (subst (λ (label : ℕ). Gives packet (suffix_at d.code label) b (value_from rest 1 otherwise packet)) (first_is d.after) (f.skips packet 0 b whole)));
         skips = λ packet k a whole.
@@ -149,9 +149,9 @@ pub lines_fit : (lines : List Line) (held : Option Part) (otherwise : ℕ) → I
 unfolding lines_coded
 lines_fit [] held otherwise = none_fit held otherwise
 lines_fit (Rule test value ∷ rest) held otherwise =
-    rule_fit rest otherwise test held value (lines_coded rest (left_by test held).unmet otherwise) (lines_fit rest (left_by test held).unmet otherwise)
+    rule_fit rest otherwise test held value (lines_coded rest (known_after test held).unmet otherwise) (lines_fit rest (known_after test held).unmet otherwise)
 lines_fit (Block test ∷ rest) held otherwise =
-    block_fit rest otherwise test held (lines_coded rest (left_by test held).met otherwise) (lines_fit rest (left_by test held).met otherwise)
+    block_fit rest otherwise test held (lines_coded rest (known_after test held).met otherwise) (lines_fit rest (known_after test held).met otherwise)
 lines_fit (End ∷ rest) held otherwise = end_fit rest otherwise (lines_coded rest None otherwise) (lines_fit rest None otherwise) held
 
 -- ---- from the first instruction on
@@ -160,7 +160,7 @@ pub record IsWhole (lines : List Line) (otherwise : ℕ) (code : List Instr) : T
   pub sound : AreSound code
   pub last : suffix_at code 1 ≡ RetK otherwise ∷ []
   pub some : 1 ≤ length code
-  pub gives : (packet : List ℕ) (a : ℕ) → length packet ≡ 52 → Gives packet code a (value_of lines otherwise packet)
+  pub gives : (packet : List ℕ) (a : ℕ) → length packet ≡ 52 → Gives packet code a (value_of_lines lines otherwise packet)
 
 begun_whole : (b : Bool) (lines : List Line) (otherwise : ℕ) (d : Coded) → IsFit lines None otherwise d → (b ≡ true → d.entry ≡ length d.code)
     → IsWhole lines otherwise (if b then d.code else Jump (length d.code - d.entry) ∷ d.code)
@@ -172,7 +172,7 @@ begun_whole true lines otherwise d f e =
       last = f.last;
       some = omega arith;
       gives = λ packet a whole.
-          gives_from_whole packet d.code a (value_of lines otherwise packet) (subst (λ (label : ℕ). Gives packet (suffix_at d.code label) a (value_of lines otherwise packet)) front (f.gives packet a whole tt));
+          gives_from_whole packet d.code a (value_of_lines lines otherwise packet) (subst (λ (label : ℕ). Gives packet (suffix_at d.code label) a (value_of_lines lines otherwise packet)) front (f.gives packet a whole tt));
     }
 begun_whole false lines otherwise d f e =
     let first = f.entry_is.positive in
@@ -184,7 +184,7 @@ begun_whole false lines otherwise d f e =
       sound = more.sound f.sound;
       last = subst (λ (s : List Instr). s ≡ RetK otherwise ∷ []) (sym (more.kept 1 one)) f.last;
       some = omega arith;
-      gives = λ packet a whole. gives_jump packet (length d.code - d.entry) d.code a (value_of lines otherwise packet) (f.gives packet a whole tt);
+      gives = λ packet a whole. gives_jump packet (length d.code - d.entry) d.code a (value_of_lines lines otherwise packet) (f.gives packet a whole tt);
     }
 
 pub lines_whole : (lines : List Line) (otherwise : ℕ) → IsWhole lines otherwise (lines_code lines otherwise)
@@ -203,6 +203,6 @@ lines_classify lines otherwise =
       only = λ packet value steps whole there.
           let given = w.gives packet 0 whole in
           let found = given.ends code 0 0 [] refl in
-          let same = Value-unique code packet value (value_of lines otherwise packet) steps found.0 there found.1 in
+          let same = Value-unique code packet value (value_of_lines lines otherwise packet) steps found.0 there found.1 in
           same.0;
     }

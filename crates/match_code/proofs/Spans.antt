@@ -4,7 +4,8 @@ use Rattle.std.proofs.lemmas.Bool.{eqb-true}
 use Rattle.std.proofs.lemmas.Bool.Decides.{nat_tests}
 use Rattle.bpf_code.specs.declared.instr.Instr.{Instr}
 use Rattle.bpf_code.specs.declared.instr.Test.TheVariants.{Eq, Gt, Ge}
-use Rattle.match_code.specs.Labels.{Tested, suffix_at, branched}
+use Rattle.match_code.specs.Labels.{Tested, branched}
+use Rattle.match_code.specs.inner.Suffixes.{suffix_at}
 use Rattle.match_code.specs.PlainTests.{is_in, is_among}
 use Rattle.match_code.specs.TestCode.{turned, with_lower, span_code, spans_from, spans_code}
 use Rattle.match_code.specs.declared.part.Span.{Span}

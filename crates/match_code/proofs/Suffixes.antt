@@ -10,7 +10,7 @@ use Rattle.bpf_interp.specs.State.{At, Ended}
 use Rattle.bpf_interp.specs.Step.{Does}
 use Rattle.bpf_interp.specs.Tests.{test_of}
 use Rattle.bpf_interp.specs.Value.{EndsIn}
-use Rattle.match_code.specs.Labels.{suffix_at}
+use Rattle.match_code.specs.inner.Suffixes.{suffix_at}
 
 -- From the suffix, with this in A, the machine ends with the value.
 pub record Gives (packet : List ℕ) (suffix : List Instr) (a value : ℕ) : Type 0 where

@@ -2,9 +2,10 @@
 use Rattle.std.proofs.Common.{◌≡◌, ℕ, Bool, true, false, not, ◌&&◌, ◌||◌, if◌then◌else◌, List, ◌∷◌, length, Option, Some, refl, subst, arith}
 use Rattle.bpf_code.specs.declared.instr.Instr.{Instr}
 use Rattle.bpf_code.specs.declared.instr.Test.TheVariants.{Set}
-use Rattle.match_code.specs.Labels.{Tested, suffix_at, branched}
+use Rattle.match_code.specs.Labels.{Tested, branched}
+use Rattle.match_code.specs.inner.Suffixes.{suffix_at}
 use Rattle.match_code.specs.PlainTests.{number_of, is_among, holds}
-use Rattle.match_code.specs.TestCode.{turned, spans_code, joined, left_by, loaded, with_load, both_ways, either_way, test_code}
+use Rattle.match_code.specs.TestCode.{turned, spans_code, left_at_join, known_after, loaded, with_load, both_ways, either_way, test_code}
 use Rattle.match_code.specs.declared.part.Left.{Left}
 use Rattle.match_code.specs.declared.part.Part.{Part}
 use Rattle.match_code.specs.declared.plain_test.PlainTest.{PlainTest, Always, Among, Has, Not', Both', Either'}
@@ -83,7 +84,7 @@ module _ (code : List Instr) (met unmet : ℕ) (second first : Tested) (v : IsWe
   both_right : (packet : List ℕ) (held : Option Part) (x y : Bool) (one other : Left)
       → IsRight packet one.met y (if y then other.met else other.unmet) code met unmet second
       → IsRight packet held x (if x then one.met else one.unmet) second.code second.ways.entry second.ways.unmet first
-      → IsRight packet held (x && y) (if x && y then other.met else joined one.unmet other.unmet) code met unmet (both_ways second first)
+      → IsRight packet held (x && y) (if x && y then other.met else left_at_join one.unmet other.unmet) code met unmet (both_ways second first)
   both_right packet held true true one other r s = record {
     gives = λ a value h on. s.gives a value h (λ b hb. r.gives b value hb on);
   }
@@ -97,7 +98,7 @@ module _ (code : List Instr) (met unmet : ℕ) (second first : Tested) (v : IsWe
   either_right : (packet : List ℕ) (held : Option Part) (x y : Bool) (one other : Left)
       → IsRight packet one.unmet y (if y then other.met else other.unmet) code met unmet second
       → IsRight packet held x (if x then one.met else one.unmet) second.code second.ways.met second.ways.entry first
-      → IsRight packet held (x || y) (if x || y then joined one.met other.met else other.unmet) code met unmet (either_way second first)
+      → IsRight packet held (x || y) (if x || y then left_at_join one.met other.met else other.unmet) code met unmet (either_way second first)
   either_right packet held false true one other r s = record {
     gives = λ a value h on. s.gives a value h (λ b hb. r.gives b value hb (λ c hc. on c (joined_right one.met other.met packet c hc)));
   }
@@ -126,19 +127,19 @@ test_well (Has part bits) held code met unmet p q =
     with_load_well held part code met unmet (branched Set bits code met unmet) (branched_well Set bits code met unmet p q)
 test_well (Not' at test) held code met unmet p q = turned_well code unmet met (test_code test held code unmet met) (test_well test held code unmet met q p)
 test_well (Both' at one to other) held code met unmet p q =
-    let second = test_code other (left_by one held).met code met unmet in
-    let v = test_well other (left_by one held).met code met unmet p q in
+    let second = test_code other (known_after one held).met code met unmet in
+    let v = test_well other (known_after one held).met code met unmet p q in
     both_well code met unmet second (test_code one held second.code second.ways.entry second.ways.unmet) v
     (test_well one held second.code second.ways.entry second.ways.unmet v.entry v.unmet_is)
 test_well (Either' at one to other) held code met unmet p q =
-    let second = test_code other (left_by one held).unmet code met unmet in
-    let v = test_well other (left_by one held).unmet code met unmet p q in
+    let second = test_code other (known_after one held).unmet code met unmet in
+    let v = test_well other (known_after one held).unmet code met unmet p q in
     either_well code met unmet second (test_code one held second.code second.ways.met second.ways.entry) v
     (test_well one held second.code second.ways.met second.ways.entry v.met_is v.entry)
 
 module _ (packet : List ℕ) (whole : length packet ≡ 52) where
   pub test_right : (test : PlainTest) (held : Option Part) (code : List Instr) (met unmet : ℕ) → IsLabel code met → IsLabel code unmet
-      → IsRight packet held (holds test packet) (if holds test packet then (left_by test held).met else (left_by test held).unmet) code met unmet (test_code test held code met unmet)
+      → IsRight packet held (holds test packet) (if holds test packet then (known_after test held).met else (known_after test held).unmet) code met unmet (test_code test held code met unmet)
   unfolding test_code
   test_right Always held code met unmet p q = record { gives = λ a value h on. on a h }
   test_right (Among part first others) held code met unmet p q =
@@ -151,16 +152,16 @@ module _ (packet : List ℕ) (whole : length packet ≡ 52) where
       (branched_front Set bits code met unmet p q) (λ value given. branched_gives Set bits code met unmet p q packet (number_of part packet) value given)
       (if holds (Has part bits) packet then Some part else Some part) (held_either (holds (Has part bits) packet) part packet)
   test_right (Not' at test) held code met unmet p q =
-      turned_right packet held (holds test packet) (left_by test held).met (left_by test held).unmet code met unmet (test_code test held code unmet met) (test_right test held code unmet met q p)
+      turned_right packet held (holds test packet) (known_after test held).met (known_after test held).unmet code met unmet (test_code test held code unmet met) (test_right test held code unmet met q p)
   test_right (Both' at one to other) held code met unmet p q =
-      let second = test_code other (left_by one held).met code met unmet in
-      let v = test_well other (left_by one held).met code met unmet p q in
-      both_right code met unmet second (test_code one held second.code second.ways.entry second.ways.unmet) v packet held (holds one packet) (holds other packet) (left_by one held) (left_by other (left_by one held).met)
-      (test_right other (left_by one held).met code met unmet p q)
+      let second = test_code other (known_after one held).met code met unmet in
+      let v = test_well other (known_after one held).met code met unmet p q in
+      both_right code met unmet second (test_code one held second.code second.ways.entry second.ways.unmet) v packet held (holds one packet) (holds other packet) (known_after one held) (known_after other (known_after one held).met)
+      (test_right other (known_after one held).met code met unmet p q)
       (test_right one held second.code second.ways.entry second.ways.unmet v.entry v.unmet_is)
   test_right (Either' at one to other) held code met unmet p q =
-      let second = test_code other (left_by one held).unmet code met unmet in
-      let v = test_well other (left_by one held).unmet code met unmet p q in
-      either_right code met unmet second (test_code one held second.code second.ways.met second.ways.entry) v packet held (holds one packet) (holds other packet) (left_by one held) (left_by other (left_by one held).unmet)
-      (test_right other (left_by one held).unmet code met unmet p q)
+      let second = test_code other (known_after one held).unmet code met unmet in
+      let v = test_well other (known_after one held).unmet code met unmet p q in
+      either_right code met unmet second (test_code one held second.code second.ways.met second.ways.entry) v packet held (holds one packet) (holds other packet) (known_after one held) (known_after other (known_after one held).unmet)
+      (test_right other (known_after one held).unmet code met unmet p q)
       (test_right one held second.code second.ways.met second.ways.entry v.met_is v.entry)

@@ -1,15 +1,11 @@
 -- Labels, and instructions that jump to them. Code is made from its end to its front, so a label is the number of
 -- instructions from its instruction to the end: what is put in front changes no label.
-use Rattle.std.specs.Prelude.{ℕ, suc, ◌-◌, nat_le, if◌then◌else◌, List, ◌∷◌, length, drop}
+use Rattle.std.specs.Prelude.{ℕ, suc, ◌-◌, nat_le, if◌then◌else◌, List, ◌∷◌, length}
 use Rattle.bpf_code.specs.declared.instr.By.TheVariants.{Imm}
 use Rattle.bpf_code.specs.declared.instr.Instr.{Instr}
 use Rattle.bpf_code.specs.declared.instr.Instr.TheVariants.{Jump, Branch}
 use Rattle.bpf_code.specs.declared.instr.Test.{Test}
 use Rattle.match_code.specs.declared.draft.Ways.{Ways}
-
--- The instructions from a label to the end.
-abbrev pub suffix_at : List Instr → ℕ → List Instr
-suffix_at code label = drop (length code - label) code
 
 -- A code, with the label where a test begins in it, and labels that lead on as the labels of its two sides do, and may
 -- be nearer.

@@ -1,24 +1,18 @@
 -- The code of lines.
-use Rattle.std.specs.Prelude.{ℕ, zero, suc, ◌-◌, ◌==◌, if◌then◌else◌, List, [], ◌∷◌, length, Option, None}
+use Rattle.std.specs.Prelude.{ℕ, suc, ◌-◌, ◌==◌, if◌then◌else◌, List, [], ◌∷◌, length, Option, None}
 use Rattle.bpf_code.specs.declared.instr.Instr.{Instr}
 use Rattle.bpf_code.specs.declared.instr.Instr.TheVariants.{Jump, RetK}
 use Rattle.match_code.specs.Labels.{Tested}
-use Rattle.match_code.specs.TestCode.{left_by, test_code}
+use Rattle.match_code.specs.TestCode.{known_after, test_code}
 use Rattle.match_code.specs.declared.lines.Line.{Line}
 use Rattle.match_code.specs.declared.lines.Line.TheVariants.{Rule, Block, End}
 use Rattle.match_code.specs.declared.part.Part.{Part}
 
 -- What is known of A at the line after this one, if it is reached from this one.
 abbrev pub left_after : Line → Option Part → Option Part
-left_after (Rule test value) held = (left_by test held).unmet
-left_after (Block test) held = (left_by test held).met
+left_after (Rule test value) held = (known_after test held).unmet
+left_after (Block test) held = (known_after test held).met
 left_after End held = None
-
--- What is known of A at the line of this number, counted from 0.
-unfoldable pub held_at : List Line → Option Part → ℕ → Option Part
-held_at lines held zero = held
-held_at [] held (suc at) = held
-held_at (line ∷ lines) held (suc at) = held_at lines (left_after line held) at
 
 -- A code, the label where lines begin in it, and the labels after the ends of the blocks that those lines leave, that of
 -- the first end first.

@@ -19,5 +19,5 @@ value_from (Block test ∷ rest) (suc skipped) otherwise packet = value_from res
 value_from (End ∷ rest) (suc skipped) otherwise packet = value_from rest skipped otherwise packet
 
 -- The value of lines on a packet.
-abbrev pub value_of : List Line → ℕ → List ℕ → ℕ
-value_of lines otherwise packet = value_from lines 0 otherwise packet
+abbrev pub value_of_lines : List Line → ℕ → List ℕ → ℕ
+value_of_lines lines otherwise packet = value_from lines 0 otherwise packet

@@ -6,7 +6,8 @@ use Rattle.match_code.specs.TestCode.{is_same_load}
 use Rattle.match_code.specs.declared.part.Part.{Part}
 use Rattle.match_code.specs.declared.part.Single.{Single}
 use Rattle.match_code.specs.declared.part.Span.{Span}
-use Rattle.match_code.specs.declared.plain_test.PlainTest.{PlainTest, Among, Both'}
+use Rattle.match_code.specs.declared.plain_test.PlainTest.{PlainTest}
+use Rattle.match_code.specs.declared.plain_test.PlainTest as plain
 
 -- The comparison of masked bits of a part with the only span.
 abbrev pub single_in : Part → Option ℕ → Span → List Span → Option Single
@@ -16,7 +17,7 @@ single_in part (Some mask) first [] = Some (record { part = part; mask = mask; s
 
 -- The comparison of masked bits with one span that a test is, if it is one.
 abbrev pub single_of : PlainTest → Option Single
-single_of (Among part first others) = single_in part part.mask first others.items
+single_of (plain.Among part first others) = single_in part part.mask first others.items
 single_of _ = None
 
 -- What the lowest bit of a mask counts.
@@ -56,13 +57,13 @@ joined_single one other = joined_singles (single_of one) (single_of other)
 
 -- The test is this comparison.
 abbrev pub IsSingle : Single → PlainTest → Type 0
-IsSingle single (Among part first others) =
+IsSingle single (plain.Among part first others) =
     (part.size ≡ single.part.size) × (part.at ≡ single.part.at) × (part.mask ≡ Some single.mask) × (first ≡ single.span) × (others.items ≡ [])
 IsSingle single _ = ⊥
 
 -- The test has these two as its parts.
 abbrev pub HasBoth : PlainTest → PlainTest → PlainTest → Type 0
-HasBoth one other (Both' p first q second) = (first ≡ one) × (second ≡ other)
+HasBoth one other (plain.Both' p first q second) = (first ≡ one) × (second ≡ other)
 HasBoth one other _ = ⊥
 
 -- The test is that both tests hold: one comparison if they are neighbours.

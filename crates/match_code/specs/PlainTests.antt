@@ -4,7 +4,8 @@ use Rattle.byteorder.specs.Endian.{big_number}
 use Rattle.bpf_interp.specs.Packet.{octets_loaded}
 use Rattle.match_code.specs.declared.part.Part.{Part}
 use Rattle.match_code.specs.declared.part.Span.{Span}
-use Rattle.match_code.specs.declared.plain_test.PlainTest.{PlainTest, Always, Among, Has, Not', Both', Either'}
+use Rattle.match_code.specs.declared.plain_test.PlainTest.{PlainTest}
+use Rattle.match_code.specs.declared.plain_test.PlainTest as plain
 
 -- The bits of a number that a mask keeps.
 abbrev pub kept_bits : Option ℕ → ℕ → ℕ
@@ -26,9 +27,9 @@ is_among (span ∷ more) number = is_in span number || is_among more number
 
 -- Whether the test holds of a packet.
 abbrev pub holds : PlainTest → List ℕ → Bool
-holds Always packet = true
-holds (Among part first others) packet = is_among (first ∷ others.items) (number_of part packet)
-holds (Has part bits) packet = nat_lt 0 (bit_and (number_of part packet) bits)
-holds (Not' p test) packet = not (holds test packet)
-holds (Both' p one q other) packet = holds one packet && holds other packet
-holds (Either' p one q other) packet = holds one packet || holds other packet
+holds plain.Always packet = true
+holds (plain.Among part first others) packet = is_among (first ∷ others.items) (number_of part packet)
+holds (plain.Has part bits) packet = nat_lt 0 (bit_and (number_of part packet) bits)
+holds (plain.Not' p test) packet = not (holds test packet)
+holds (plain.Both' p one q other) packet = holds one packet && holds other packet
+holds (plain.Either' p one q other) packet = holds one packet || holds other packet

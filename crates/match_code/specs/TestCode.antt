@@ -10,7 +10,8 @@ use Rattle.match_code.specs.Labels.{Tested, branched}
 use Rattle.match_code.specs.declared.part.Left.{Left}
 use Rattle.match_code.specs.declared.part.Part.{Part}
 use Rattle.match_code.specs.declared.part.Span.{Span}
-use Rattle.match_code.specs.declared.plain_test.PlainTest.{PlainTest, Always, Among, Has, Not', Both', Either'}
+use Rattle.match_code.specs.declared.plain_test.PlainTest.{PlainTest}
+use Rattle.match_code.specs.declared.plain_test.PlainTest as plain
 
 -- Whether two masks are the same.
 abbrev pub is_same_mask : Option ℕ → Option ℕ → Bool
@@ -38,21 +39,21 @@ is_loaded None part = false
 is_loaded (Some held) part = is_same_load held part && is_same_mask held.mask None
 
 -- What is known of A where two ways join that leave this in it.
-abbrev pub joined : Option Part → Option Part → Option Part
-joined None other = None
-joined (Some one) None = None
-joined (Some one) (Some other) = if is_same_part one other then Some one else None
+abbrev pub left_at_join : Option Part → Option Part → Option Part
+left_at_join None other = None
+left_at_join (Some one) None = None
+left_at_join (Some one) (Some other) = if is_same_part one other then Some one else None
 
 -- What is known of A after a test.
-abbrev pub left_by : PlainTest → Option Part → Left
-left_by Always held = record { met = held; unmet = held }
-left_by (Among part first others) held = record { met = Some part; unmet = Some part }
-left_by (Has part bits) held = record { met = Some part; unmet = Some part }
-left_by (Not' p test) held = record { met = (left_by test held).unmet; unmet = (left_by test held).met }
-left_by (Both' p one q other) held =
-    record { met = (left_by other (left_by one held).met).met; unmet = joined (left_by one held).unmet (left_by other (left_by one held).met).unmet }
-left_by (Either' p one q other) held =
-    record { met = joined (left_by one held).met (left_by other (left_by one held).unmet).met; unmet = (left_by other (left_by one held).unmet).unmet }
+abbrev pub known_after : PlainTest → Option Part → Left
+known_after plain.Always held = record { met = held; unmet = held }
+known_after (plain.Among part first others) held = record { met = Some part; unmet = Some part }
+known_after (plain.Has part bits) held = record { met = Some part; unmet = Some part }
+known_after (plain.Not' p test) held = record { met = (known_after test held).unmet; unmet = (known_after test held).met }
+known_after (plain.Both' p one q other) held =
+    record { met = (known_after other (known_after one held).met).met; unmet = left_at_join (known_after one held).unmet (known_after other (known_after one held).met).unmet }
+known_after (plain.Either' p one q other) held =
+    record { met = left_at_join (known_after one held).met (known_after other (known_after one held).unmet).met; unmet = (known_after other (known_after one held).unmet).unmet }
 
 -- The mask of a part put in front of code.
 abbrev pub masked : Option ℕ → List Instr → List Instr
@@ -131,14 +132,14 @@ either_way other one = record {
 -- The code of a test put in front of code, where A holds this if anything is known of it, with the labels of its two
 -- sides.
 unfoldable pub test_code : PlainTest → Option Part → List Instr → ℕ → ℕ → Tested
-test_code Always held code met unmet = record { code = code; ways = record { entry = met; met = met; unmet = unmet } }
-test_code (Among part first others) held code met unmet =
+test_code plain.Always held code met unmet = record { code = code; ways = record { entry = met; met = met; unmet = unmet } }
+test_code (plain.Among part first others) held code met unmet =
     with_load held part (spans_code (first ∷ others.items) code met unmet)
-test_code (Has part bits) held code met unmet = with_load held part (branched Set bits code met unmet)
-test_code (Not' p test) held code met unmet = turned (test_code test held code unmet met)
-test_code (Both' p one q other) held code met unmet =
-    let second = test_code other (left_by one held).met code met unmet in
+test_code (plain.Has part bits) held code met unmet = with_load held part (branched Set bits code met unmet)
+test_code (plain.Not' p test) held code met unmet = turned (test_code test held code unmet met)
+test_code (plain.Both' p one q other) held code met unmet =
+    let second = test_code other (known_after one held).met code met unmet in
     both_ways second (test_code one held second.code second.ways.entry second.ways.unmet)
-test_code (Either' p one q other) held code met unmet =
-    let second = test_code other (left_by one held).unmet code met unmet in
+test_code (plain.Either' p one q other) held code met unmet =
+    let second = test_code other (known_after one held).unmet code met unmet in
     either_way second (test_code one held second.code second.ways.met second.ways.entry)

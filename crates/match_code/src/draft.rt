@@ -33,9 +33,9 @@ impl Model for Draft {
     ghost invariant = { λ d. length d.reversed.items < 2 ^ 32 };
 }
 
-/// The labels of a test: where it begins, and where its two sides lead.
+/// The labels of a test, which definitions of the generated code name: where it begins, and where its two sides lead.
 #[derive(Clone, Copy)]
-pub(crate) struct Ways {
+pub struct Ways {
     /// Where the test begins.
     pub entry: usize,
     /// Where a packet goes that meets the test.

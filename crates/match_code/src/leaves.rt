@@ -3,7 +3,7 @@
 ghost use Rattle.std.specs.Prelude.{◌≡◌, IfOk, OnOk, ◌∷◌};
 ghost use Rattle.bpf_interp.specs.Packet.{octets_loaded};
 ghost use Rattle.match_code.specs.Labels.{Tested};
-ghost use Rattle.match_code.specs.TestCode.{is_same_mask, is_same_load, is_same_part, is_held, is_loaded, joined, loaded, masked, span_code, spans_code, spans_from};
+ghost use Rattle.match_code.specs.TestCode.{is_same_mask, is_same_load, is_same_part, is_held, is_loaded, left_at_join, loaded, masked, span_code, spans_code, spans_from};
 ghost use Rattle.match_code.specs.inner.Making.{IsMade};
 
 use crate::draft::{Draft, Ways};
@@ -68,8 +68,8 @@ fn is_loaded(held: Option<Part>, part: Part) -> bool
 }
 
 /// What is known of A where two ways join that leave this in it.
-pub(crate) fn joined(one: Option<Part>, other: Option<Part>) -> Option<Part>
-    ensures { result ≡ joined one other }
+pub(crate) fn left_at_join(one: Option<Part>, other: Option<Part>) -> Option<Part>
+    ensures { result ≡ left_at_join one other }
 {
     match (one, other) {
         (Some(one), Some(other)) => {

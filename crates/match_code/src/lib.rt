@@ -10,8 +10,9 @@ mod part;
 mod plain_test;
 mod tests_code;
 
+pub use draft::Ways;
 pub use fault::CodeFault;
 pub use lines::{Line, generate};
 pub use neighbours::both;
-pub use part::{Part, Span};
+pub use part::{Left, Part, Single, Span};
 pub use plain_test::PlainTest;

@@ -1,7 +1,8 @@
 //! Lines, and their code.
 
 ghost use Rattle.std.specs.Prelude.{◌≡◌, ◌<◌, ◌≤◌, ℕ, [], ◌∷◌, length, Err, IfOk, OnOk, None, Some, slice_get};
-ghost use Rattle.match_code.specs.LineCode.{Coded, held_at, left_after, first_after, later_after, line_code, lines_coded, begun, lines_code};
+ghost use Rattle.match_code.specs.LineCode.{Coded, left_after, first_after, later_after, line_code, lines_coded, begun, lines_code};
+ghost use Rattle.match_code.specs.inner.Held.{held_at};
 ghost use Rattle.match_code.specs.Promise.{Classifies};
 ghost use Rattle.match_code.specs.inner.Coding.{coded_of};
 ghost use Rattle.bpf_verify.specs.Accepted.{IsAccepted};
@@ -10,7 +11,7 @@ use crate::draft::Draft;
 use crate::fault::CodeFault;
 use crate::part::Part;
 use crate::plain_test::PlainTest;
-use crate::tests_code::{left_by, put_test};
+use crate::tests_code::{known_after, put_test};
 use bpf_code::Instr;
 use bpf_verify::MOST_INSTRUCTIONS;
 use std::alloc::{AllocError, Global};
@@ -132,8 +133,8 @@ fn left_after(line: &Line, held: Option<Part>) -> Option<Part>
     ensures { result ≡ left_after line.now held }
 {
     match line {
-        Line::Rule { test, .. } => left_by(test, held).unmet,
-        Line::Block { test } => left_by(test, held).met,
+        Line::Rule { test, .. } => known_after(test, held).unmet,
+        Line::Block { test } => known_after(test, held).met,
         Line::End => None,
     }
 }

@@ -27,18 +27,18 @@ pub struct Span {
     pub high: u32,
 }
 
-/// What is known of A after a test: the part that it holds, if any is known.
+/// What is known of A after a test, which definitions of the generated code name: the part that it holds, if any is known.
 #[derive(Clone, Copy)]
-pub(crate) struct Left {
+pub struct Left {
     /// Where the test is met.
     pub met: Option<Part>,
     /// Where it isn't.
     pub unmet: Option<Part>,
 }
 
-/// A comparison of masked bits with one span.
+/// A comparison of masked bits with one span, which definitions of the generated code name.
 #[derive(Clone, Copy)]
-pub(crate) struct Single {
+pub struct Single {
     /// The octets.
     pub part: Part,
     /// The mask of the bits.

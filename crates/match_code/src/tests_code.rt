@@ -1,19 +1,19 @@
 //! The code of tests.
 
 ghost use Rattle.std.specs.Prelude.{◌≡◌, IfOk};
-ghost use Rattle.match_code.specs.TestCode.{left_by, test_code};
+ghost use Rattle.match_code.specs.TestCode.{known_after, test_code};
 ghost use Rattle.match_code.specs.inner.Making.{IsMade};
 
 use crate::draft::{Draft, Ways};
-use crate::leaves::{joined, put_load, put_spans};
+use crate::leaves::{left_at_join, put_load, put_spans};
 use crate::part::{Left, Part};
 use crate::plain_test::PlainTest;
 use bpf_code::Test;
 use std::alloc::AllocError;
 
 /// What is known of A after a test, where it held this before if anything is known.
-pub(crate) fn left_by(test: &PlainTest, held: Option<Part>) -> Left
-    ensures { result ≡ left_by test.now held }
+pub(crate) fn known_after(test: &PlainTest, held: Option<Part>) -> Left
+    ensures { result ≡ known_after test.now held }
 {
     match test {
         PlainTest::Always => Left {
@@ -29,25 +29,25 @@ pub(crate) fn left_by(test: &PlainTest, held: Option<Part>) -> Left
             unmet: Some(*part),
         },
         PlainTest::Not(test) => {
-            let left = left_by(test, held);
+            let left = known_after(test, held);
             Left {
                 met: left.unmet,
                 unmet: left.met,
             }
         }
         PlainTest::Both(one, other) => {
-            let first = left_by(one, held);
-            let second = left_by(other, first.met);
+            let first = known_after(one, held);
+            let second = known_after(other, first.met);
             Left {
                 met: second.met,
-                unmet: joined(first.unmet, second.unmet),
+                unmet: left_at_join(first.unmet, second.unmet),
             }
         }
         PlainTest::Either(one, other) => {
-            let first = left_by(one, held);
-            let second = left_by(other, first.unmet);
+            let first = known_after(one, held);
+            let second = known_after(other, first.unmet);
             Left {
-                met: joined(first.met, second.met),
+                met: left_at_join(first.met, second.met),
                 unmet: second.unmet,
             }
         }
@@ -102,7 +102,7 @@ pub(crate) fn put_test(
             })
         }
         PlainTest::Both(one, other) => {
-            let after = left_by(one, held).met;
+            let after = known_after(one, held).met;
             let second = put_test(draft, other, after, met, unmet)?;
             let first = put_test(draft, one, held, second.entry, second.unmet)?;
             Ok(Ways {
@@ -112,7 +112,7 @@ pub(crate) fn put_test(
             })
         }
         PlainTest::Either(one, other) => {
-            let after = left_by(one, held).unmet;
+            let after = known_after(one, held).unmet;
             let second = put_test(draft, other, after, met, unmet)?;
             let first = put_test(draft, one, held, second.met, second.entry)?;
             Ok(Ways {

@@ -1,7 +1,7 @@
 use Rattle.std.proofs.Common.{subst, sym, List}
 use Rattle.match_code.specs.declared.lines.Line.{Line}
 use Rattle.cell_rules.specs.declared.rules.RuleLine.{RuleLine}
-use Rattle.cell_rules.specs.inner.PlainOf.{AreLinesOf}
+use Rattle.cell_rules.specs.PlainOf.{ArePlainLines}
 use Rattle.cell_rules.proofs.Follows.{follows, if_ok}
 use Rattle.cell_rules.proofs.compiler.compile.Goals as goal
 
@@ -9,8 +9,8 @@ pub returns-in-Ok : goal.returns-in-Ok
 returns-in-Ok c =
     let rules = c.args.rules.now in
     let lines = c.deref-in-Ok.result.now in
-    let there = subst (λ (r : List RuleLine). AreLinesOf rules.side r c.in-Ok.lines.items) c.deref.ensures.value c.in-Ok.ensures in
-    let are = subst (λ (l : List Line). AreLinesOf rules.side rules.lines.items l) (sym c.deref-in-Ok.ensures.value) there in
+    let there = subst (λ (r : List RuleLine). ArePlainLines rules.side r c.in-Ok.lines.items) c.deref.ensures.value c.in-Ok.ensures in
+    let are = subst (λ (l : List Line). ArePlainLines rules.side rules.lines.items l) (sym c.deref-in-Ok.ensures.value) there in
     record {
       accepted = c.generate.ensures.accepted;
       value = if_ok c.generate.result _ _ (λ code h. follows rules lines code.items are h) c.generate.ensures.value;

@@ -1,5 +1,5 @@
 use Rattle.std.proofs.Common.{◌≡◌, map, take}
-use Rattle.cell_rules.specs.inner.PlainOf.{placed_span}
+use Rattle.cell_rules.specs.PlainOf.{placed_span}
 use Rattle.cell_rules.proofs.plain.placed_spans.Given as goal
 
 abbrev pub invariant-loop-span : goal.invariant-loop-span

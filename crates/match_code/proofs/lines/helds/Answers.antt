@@ -1,6 +1,6 @@
 use Rattle.std.proofs.Common.{◌≡◌, ℕ, length, None, Option, List, Some, arith, ◌+◌, ◌∙◌, ◌<◌, ap, sym, subst}
 use Rattle.std.specs.List.{slice_get}
-use Rattle.match_code.specs.LineCode.{held_at}
+use Rattle.match_code.specs.inner.Held.{held_at}
 use Rattle.match_code.specs.declared.part.Part.{Part}
 use Rattle.match_code.proofs.Coding.{held_first, held_next, pushed}
 use Rattle.std.proofs.lemmas.List.{length_push}

@@ -1,6 +1,6 @@
 use Rattle.std.proofs.Common.{◌≡◌, ◌<◌, ℕ, length, None, Some}
 use Rattle.std.specs.List.{slice_get}
-use Rattle.match_code.specs.LineCode.{held_at}
+use Rattle.match_code.specs.inner.Held.{held_at}
 use Rattle.match_code.proofs.lines.helds.Given as goal
 
 abbrev pub invariant-loop-line : goal.invariant-loop-line

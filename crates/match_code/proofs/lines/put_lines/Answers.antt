@@ -1,6 +1,6 @@
 use Rattle.std.proofs.Common.{◌≡◌, length, drop, None, arith, ◌-◌, ◌+◌, ◌<◌, ◌∙◌}
 use Rattle.std.proofs.lemmas.List.{drop_all}
-use Rattle.match_code.specs.LineCode.{held_at}
+use Rattle.match_code.specs.inner.Held.{held_at}
 use Rattle.match_code.specs.inner.Coding.{coded_of}
 use Rattle.match_code.proofs.Coding.{lines_none, lines_put, lines_all, read_at}
 use Rattle.match_code.proofs.lines.put_lines.Goals as goal

@@ -1,5 +1,6 @@
 use Rattle.std.proofs.Common.{◌≡◌, ◌≤◌, length, drop, None}
-use Rattle.match_code.specs.LineCode.{held_at, lines_coded}
+use Rattle.match_code.specs.LineCode.{lines_coded}
+use Rattle.match_code.specs.inner.Held.{held_at}
 use Rattle.match_code.specs.inner.Coding.{coded_of}
 use Rattle.match_code.proofs.lines.put_lines.Given as goal
 

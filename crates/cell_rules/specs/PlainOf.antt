@@ -18,7 +18,8 @@ use Rattle.cell_rules.specs.declared.relation.Relation.{Relation}
 use Rattle.cell_rules.specs.declared.relation.Relation.TheVariants.{Equal, Unequal, Less, AtMost, Greater, AtLeast, In}
 use Rattle.cell_rules.specs.declared.rules.RuleLine.{RuleLine}
 use Rattle.cell_rules.specs.declared.rules.RuleLine.TheVariants.{Rule, Block, End}
-use Rattle.cell_rules.specs.declared.test.Test.{Test, Any, Oam, User, Compare, Not', And', Or'}
+use Rattle.cell_rules.specs.declared.test.Test.{Test}
+use Rattle.cell_rules.specs.declared.test.Test as asked
 
 -- The largest number of a field of the header.
 abbrev pub most_of : Side → Field → Option ℕ
@@ -77,16 +78,16 @@ IsAmongOf side field mask spans (plain.Among part first others) =
 IsAmongOf side field mask spans _ = ⊥
 
 -- The span of one number.
-abbrev pub only : ℕ → Span
-only k = record { low = k; high = k }
+abbrev pub span_of_one : ℕ → Span
+span_of_one k = record { low = k; high = k }
 
 -- The span of the numbers less than one.
-abbrev pub below : ℕ → Span
-below k = if k == 0 then record { low = 1; high = 0 } else record { low = 0; high = k - 1 }
+abbrev pub span_below : ℕ → Span
+span_below k = if k == 0 then record { low = 1; high = 0 } else record { low = 0; high = k - 1 }
 
 -- The span of the numbers up to one.
-abbrev pub up_to : ℕ → Span
-up_to k = record { low = 0; high = k }
+abbrev pub span_up_to : ℕ → Span
+span_up_to k = record { low = 0; high = k }
 
 -- The test is that another doesn't hold.
 abbrev pub IsNotOf : (PlainTest → Type 0) → PlainTest → Type 0
@@ -104,33 +105,33 @@ IsEitherOf Is IsOther _ = ⊥
 
 -- The test of a field that is compared.
 abbrev pub IsCompareOf : Side → Field → Option ℕ → Relation → PlainTest → Type 0
-IsCompareOf side field mask (Equal k) test = IsAmongOf side field mask (only k ∷ []) test
-IsCompareOf side field mask (Unequal k) test = IsNotOf (IsAmongOf side field mask (only k ∷ [])) test
-IsCompareOf side field mask (Less k) test = IsAmongOf side field mask (below k ∷ []) test
-IsCompareOf side field mask (AtMost k) test = IsAmongOf side field mask (up_to k ∷ []) test
-IsCompareOf side field mask (Greater k) test = IsNotOf (IsAmongOf side field mask (up_to k ∷ [])) test
-IsCompareOf side field mask (AtLeast k) test = IsNotOf (IsAmongOf side field mask (below k ∷ [])) test
+IsCompareOf side field mask (Equal k) test = IsAmongOf side field mask (span_of_one k ∷ []) test
+IsCompareOf side field mask (Unequal k) test = IsNotOf (IsAmongOf side field mask (span_of_one k ∷ [])) test
+IsCompareOf side field mask (Less k) test = IsAmongOf side field mask (span_below k ∷ []) test
+IsCompareOf side field mask (AtMost k) test = IsAmongOf side field mask (span_up_to k ∷ []) test
+IsCompareOf side field mask (Greater k) test = IsNotOf (IsAmongOf side field mask (span_up_to k ∷ [])) test
+IsCompareOf side field mask (AtLeast k) test = IsNotOf (IsAmongOf side field mask (span_below k ∷ [])) test
 IsCompareOf side field mask (In first others) test = IsAmongOf side field mask (first ∷ others.items) test
 
 -- The test that a test of cells becomes.
 abbrev pub IsPlainOf : Side → Test → PlainTest → Type 0
-IsPlainOf side Any test = test ≡ plain.Always
-IsPlainOf side Oam test = IsAmongOf side Pti (Some 6) (only 4 ∷ []) test
-IsPlainOf side User test = IsAmongOf side Pti (Some 4) (only 0 ∷ []) test
-IsPlainOf side (Compare field mask relation) test = IsCompareOf side field mask relation test
-IsPlainOf side (Not' p of) test = IsNotOf (IsPlainOf side of) test
-IsPlainOf side (And' p one q other) test = AreBothOf (IsPlainOf side one) (IsPlainOf side other) test
-IsPlainOf side (Or' p one q other) test = IsEitherOf (IsPlainOf side one) (IsPlainOf side other) test
+IsPlainOf side asked.Any test = test ≡ plain.Always
+IsPlainOf side asked.Oam test = IsAmongOf side Pti (Some 6) (span_of_one 4 ∷ []) test
+IsPlainOf side asked.User test = IsAmongOf side Pti (Some 4) (span_of_one 0 ∷ []) test
+IsPlainOf side (asked.Compare field mask relation) test = IsCompareOf side field mask relation test
+IsPlainOf side (asked.Not' p of) test = IsNotOf (IsPlainOf side of) test
+IsPlainOf side (asked.And' p one q other) test = AreBothOf (IsPlainOf side one) (IsPlainOf side other) test
+IsPlainOf side (asked.Or' p one q other) test = IsEitherOf (IsPlainOf side one) (IsPlainOf side other) test
 
 -- The line that a line of rules becomes.
-abbrev pub IsLineOf : Side → RuleLine → Line → Type 0
-IsLineOf side (Rule test value) (line.Rule plain other) = IsPlainOf side test plain × (other ≡ value)
-IsLineOf side (Block test) (line.Block plain) = IsPlainOf side test plain
-IsLineOf side End line.End = Unit {0}
-IsLineOf side _ _ = ⊥
+abbrev pub IsPlainLine : Side → RuleLine → Line → Type 0
+IsPlainLine side (Rule test value) (line.Rule plain other) = IsPlainOf side test plain × (other ≡ value)
+IsPlainLine side (Block test) (line.Block plain) = IsPlainOf side test plain
+IsPlainLine side End line.End = Unit {0}
+IsPlainLine side _ _ = ⊥
 
 -- The lines that lines of rules become.
-abbrev pub AreLinesOf : Side → List RuleLine → List Line → Type 0
-AreLinesOf side [] [] = Unit {0}
-AreLinesOf side (one ∷ more) (other ∷ others) = IsLineOf side one other × AreLinesOf side more others
-AreLinesOf side _ _ = ⊥
+abbrev pub ArePlainLines : Side → List RuleLine → List Line → Type 0
+ArePlainLines side [] [] = Unit {0}
+ArePlainLines side (one ∷ more) (other ∷ others) = IsPlainLine side one other × ArePlainLines side more others
+ArePlainLines side _ _ = ⊥

@@ -1,0 +1,72 @@
+//! The faults of texts of rules.
+
+use std::alloc::{AllocError, AllocFailed};
+use thiserror::Error;
+
+/// The kind of a fault.
+#[derive(Clone, Copy, Debug, PartialEq, Eq, Error)]
+pub enum RuleKind {
+    /// What is here doesn't fit the grammar.
+    #[error("1 BadLine")]
+    BadLine,
+    /// A word begins with a digit but is no number of at most 4294967295.
+    #[error("2 BadNumber")]
+    BadNumber,
+    /// The field can't have the number, or the range is empty, or a value is the number 0.
+    #[error("3 TooLarge")]
+    TooLarge,
+    /// The octets aren't all in the cell.
+    #[error("4 OutsideCell")]
+    OutsideCell,
+    /// A line comes after `otherwise`.
+    #[error("5 AfterOtherwise")]
+    AfterOtherwise,
+    /// A parenthesis or a block lacks its other end.
+    #[error("6 Unbalanced")]
+    Unbalanced,
+    /// Blocks and parentheses are nested more than 64 deep.
+    #[error("7 TooDeep")]
+    TooDeep,
+    /// The code has more than 4096 instructions, or a test has more than 4096 comparisons.
+    #[error("8 TooLong")]
+    TooLong,
+    /// An allocation failed.
+    #[error("9 NoMemory")]
+    NoMemory,
+}
+
+impl From<AllocError> for RuleKind {
+    ghost use Rattle.std.specs.Prelude.{◌≡◌};
+    ghost use Rattle.rules_text.specs.declared.fault.RuleKind.TheVariants.{NoMemory};
+
+    ghost from_gives = { λ e kind. kind ≡ NoMemory };
+
+    /// Returns the fault of a failed allocation.
+    fn from(_: AllocError) -> RuleKind {
+        RuleKind::NoMemory
+    }
+}
+
+impl<T: Drop> From<AllocFailed<T>> for RuleKind {
+    ghost use Rattle.std.specs.Prelude.{◌≡◌};
+    ghost use Rattle.rules_text.specs.declared.fault.RuleKind.TheVariants.{NoMemory};
+
+    ghost from_gives = { λ e kind. kind ≡ NoMemory };
+
+    /// Returns the fault of a failed allocation.
+    fn from(_: AllocFailed<T>) -> RuleKind {
+        RuleKind::NoMemory
+    }
+}
+
+/// The fault of a text of rules.
+#[derive(Clone, Copy, Debug, PartialEq, Eq, Error)]
+#[error("{kind} {line} {column}")]
+pub struct RuleFault {
+    /// The line, counted from 1; 0 if the fault has no place.
+    pub line: usize,
+    /// The column of its octet, counted from 1; 0 if the fault has no place.
+    pub column: usize,
+    /// The kind of the fault.
+    pub kind: RuleKind,
+}

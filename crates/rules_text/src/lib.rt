@@ -1,0 +1,15 @@
+//! The text of rules: its reader, and the compiler from text to code.
+#![tactic(auto)]
+
+mod compiler;
+mod fault;
+mod group;
+mod lexer;
+mod line_reader;
+mod numbers;
+mod reader;
+mod subject;
+
+pub use compiler::compile_text;
+pub use fault::{RuleFault, RuleKind};
+pub use reader::read_rules;
