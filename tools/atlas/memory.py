@@ -11,8 +11,8 @@ ERROR = re.compile(r"\b(?:\w+::)*(?:NoMemory|OutOfMemory)\b|\bAllocError\b")
 PATTERN = re.compile(r"[\s,)}.]*(?:=>|\|(?!\|)|if\b)")
 # What stands between a cause and the error that it makes.
 WRAPPED = r"(?:return\s+)?(?:\w+\((?:\w+, )*)?(?:Err\()?\(?\s*(?:\w+::)*(?:\w+\()?$"
-# A block that would be larger than any memory: no call is made for it.
-TOO_LARGE = re.compile(r"^!may_hold::<[\w<>]+>\(\w+\)$")
+# What would be larger than any memory, so no call is made for it: a block of more than 2^63 octets, and 2^32 instructions.
+TOO_LARGE = re.compile(r"^!may_hold::<[\w<>]+>\(\w+\)$|^self\.reversed\.len\(\) >= ROOM$")
 OPERATOR = re.compile(r"\|\||&&|==|!=|<=|>=|[^-=]> |(?<!\w)!| < | [+*/%-] ")
 # A run of code on one level: no brace, no statement's end, no other `let`.
 RUN = r"((?:(?!\blet\b)[^;{}])*?)"
