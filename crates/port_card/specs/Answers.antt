@@ -1,10 +1,5 @@
 -- The answers of a running card, as contracts state them.
-use Rattle.std.specs.Prelude.{◌≡◌, ◌<◌, ◌^◌, ◌≤◌, ℕ, ⊤, List, Some}
-use Rattle.bpf_code.specs.declared.instr.Instr.{Instr}
-use Rattle.bpf_verify.specs.Accepted.{IsAccepted}
-use Rattle.gen_arena.specs.declared.id.Id.{Id}
-use Rattle.gen_arena.specs.Live.{live_value}
-use Rattle.gen_arena.specs.Slot.{Slot}
+use Rattle.std.specs.Prelude.{◌≡◌, ◌<◌, ◌^◌, ◌≤◌, ℕ, ⊤, List}
 use Rattle.leaky.specs.declared.verdict.Verdict.TheVariants.{Refuse}
 use Rattle.line_record.specs.History.{IsNoNumber}
 use Rattle.card_core.specs.declared.answer.Answer.{Answer}
@@ -12,14 +7,7 @@ use Rattle.card_core.specs.declared.answer.Answer.TheVariants.{MomentTooLate, Mo
 use Rattle.card_core.specs.declared.fault.DeskFault.{DeskFault}
 use Rattle.card_core.specs.declared.fault.DeskFault.TheVariants.{NoProgram, NoConnection, Taken, BadContracts, NoLine, InUse, Exhausted, Stale, NoMemory}
 use Rattle.card_core.specs.Sections.{JudgedView}
-use Rattle.card_core.specs.Steps.{Gives, cell_after}
-
--- The program with this id is accepted, and has this value for the cell.
-pub record IsGivenBy (store : List (Slot (List Instr))) (program : Id) (cell : List ℕ) (value : ℕ) : Type 0 where
-  pub code : List Instr
-  pub live : live_value store program ≡ Some code
-  pub accepted : IsAccepted code
-  pub gives : Gives code cell value
+use Rattle.card_core.specs.Steps.{cell_after}
 
 -- A judged cell that arrived at this moment: the moment is in the answer and is at most 2^62. The cell leaves tagged if
 -- the verdict is Tag, otherwise unchanged. If the value is no contract's number, the verdict is Refuse. Where the value

@@ -49,7 +49,8 @@ impl<S: Ledgers> Card<S> {
     ghost use Rattle.port_card.specs.Names.{AreFor};
     ghost use Rattle.port_card.specs.Seats.{AreNewSeats, seat_after};
     ghost use Rattle.gen_arena.specs.Live.{live_value};
-    ghost use Rattle.port_card.specs.Answers.{IsGivenBy, IsJudgedAnswer, BlamesRightly};
+    ghost use Rattle.port_card.specs.Answers.{IsJudgedAnswer, BlamesRightly};
+    ghost use Rattle.port_card.specs.inner.Given.{IsGivenBy};
 
     /// Makes a card of this shape, without programs and connections. Returns it with one seat for each port, in the
     /// order of the ports, and its only desk.

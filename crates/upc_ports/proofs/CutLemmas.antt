@@ -4,7 +4,7 @@ use Rattle.std.specs.Prelude.{slice_index}
 use Rattle.std.proofs.lemmas.Bool.Decides.{nat_tests}
 use Rattle.std.proofs.lemmas.List.Elements.{All-cons, All-head, All-nil, All-tail}
 use Rattle.upc_dealing.specs.Dealing.{AreLinesOf, IsOneLine, text_of}
-use Rattle.upc_ports.specs.inner.Script.{HoldsLines, is_ended}
+use Rattle.upc_ports.specs.inner.Script.{HoldsLines, ends_with_feed}
 
 -- Octets that a line feed ends are the text of lines.
 empty-line : (k : ℕ) → k < length {A = ℕ} [] → slice_index [] k ≢ 10
@@ -52,19 +52,19 @@ lines-split octets (inl none) = subst HoldsLines (sym none) ([], record { text =
 lines-split octets (inr (front, is)) = subst HoldsLines (sym is) (ended-lines front)
 
 -- Octets that are ended are empty, or a line feed is their last.
-ended-split : (octets : List ℕ) → is_ended octets ≡ true → (octets ≡ []) ⊎ ((front : List ℕ) × (octets ≡ front ++ 10 ∷ []))
+ended-split : (octets : List ℕ) → ends_with_feed octets ≡ true → (octets ≡ []) ⊎ ((front : List ℕ) × (octets ≡ front ++ 10 ∷ []))
 ended-split [] is = inl refl
 ended-split (octet ∷ []) is = let ten : octet ≡ 10 = grind (arith, nat_tests, is) in inr ([], ap (λ c. c ∷ []) ten)
 ended-split (octet ∷ next ∷ octets) is = ended-more octet next octets (ended-split (next ∷ octets) is)
 
-pub lines_ended : (octets : List ℕ) → is_ended octets ≡ true → HoldsLines octets
+pub lines_ended : (octets : List ℕ) → ends_with_feed octets ≡ true → HoldsLines octets
 lines_ended octets is = lines-split octets (ended-split octets is)
 
 -- A line that was stored is ended.
-ended-push : (octets : List ℕ) → is_ended (octets ++ 10 ∷ []) ≡ true
+ended-push : (octets : List ℕ) → ends_with_feed (octets ++ 10 ∷ []) ≡ true
 ended-push [] = refl
 ended-push (octet ∷ []) = refl
 ended-push (octet ∷ next ∷ octets) = ended-push (next ∷ octets)
 
-pub one_line_more : (mid new : List ℕ) → new ≡ mid ++ 10 ∷ [] → is_ended new ≡ true
-one_line_more mid new grown = ap is_ended grown ∙ ended-push mid
+pub one_line_more : (mid new : List ℕ) → new ≡ mid ++ 10 ∷ [] → ends_with_feed new ≡ true
+one_line_more mid new grown = ap ends_with_feed grown ∙ ended-push mid

@@ -19,7 +19,7 @@ use Rattle.upc_dealing.specs.declared.cell_line.CellLine.TheVariants.{Comes, IsF
 use Rattle.upc_dealing.specs.declared.dealing.Answerer.{Answerer}
 use Rattle.upc_dealing.specs.declared.dealing.Answerer.TheVariants.{Port, Desk, Fault}
 use Rattle.upc_ports.specs.declared.told.ToldCell.{ToldCell}
-use Rattle.upc_ports.specs.inner.Arrivals.{AnswersPort, HasCell, IsToldOf}
+use Rattle.upc_ports.specs.inner.Arrivals.{AnswersPort, HasCell, IsStoredOf}
 use Rattle.upc_dealing.specs.CellLine.{IsCellLine}
 use Rattle.upc_dealing.specs.Dealing.{is_cell_line, port_of, Dealt, none_dealt, DealsAll, DealsCell, DealsCellLine, DealsDeskLine, DealsFound, DealsLine}
 use Rattle.upc_ports.specs.inner.DeskTexts.{TellsEach, MayObeyLine}
@@ -152,20 +152,20 @@ get-behind : (own more : List (List ℕ)) (line : List ℕ) → slice_get ((own 
 get-behind [] more line = refl
 get-behind (x ∷ own) more line = get-behind own more line
 
-told-at : (side : Side) (found : Option ToldCell) (line : List ℕ) → IsSomeAnd found (IsToldOf side line) → (one : ToldCell) × (found ≡ Some one) × IsToldOf side line one
+told-at : (side : Side) (found : Option ToldCell) (line : List ℕ) → IsSomeAnd found (IsStoredOf side line) → (one : ToldCell) × (found ≡ Some one) × IsStoredOf side line one
 told-at side None line is = absurd is
 told-at side (Some one) line is = (one, refl, is)
 
 port-at : (side : Side) (found : Option (List ToldCell)) (own : List (List ℕ)) (k : ℕ) (line : List ℕ) → All (HasCell side) own → slice_get own k ≡ Some line
-    → IsSomeAnd found (AnswersPort side own) → (one : ToldCell) × (cell_at found k ≡ Some one) × IsToldOf side line one
+    → IsSomeAnd found (AnswersPort side own) → (one : ToldCell) × (cell_at found k ≡ Some one) × IsStoredOf side line one
 port-at side None own k line have there answers = absurd answers
 port-at side (Some arrivals) own k line have there answers =
-    let at = AllZip-left (IsToldOf side) own arrivals (answers have) k in
-    told-at side (slice_get arrivals k) line (subst (λ (here : Option (List ℕ)). MatchOption here (Unit {0}) (λ x. IsSomeAnd (slice_get arrivals k) (IsToldOf side x))) there at)
+    let at = AllZip-left (IsStoredOf side) own arrivals (answers have) k in
+    told-at side (slice_get arrivals k) line (subst (λ (here : Option (List ℕ)). MatchOption here (Unit {0}) (λ x. IsSomeAnd (slice_get arrivals k) (IsStoredOf side x))) there at)
 
 told-port : (side : Side) (ports : List (List (List ℕ))) (told : List (List ToldCell)) (n k : ℕ) (own : List (List ℕ)) (line : List ℕ)
     → HaveCells side ports → AllZip (AnswersPort side) ports told → slice_get ports n ≡ Some own → slice_get own k ≡ Some line
-    → (one : ToldCell) × (cell_at (slice_get told n) k ≡ Some one) × IsToldOf side line one
+    → (one : ToldCell) × (cell_at (slice_get told n) k ≡ Some one) × IsStoredOf side line one
 told-port side ports told n k own line have answers there at =
     let both = AllZip-left (AnswersPort side) ports told answers n in
     port-at side (slice_get told n) own k line (own-cells side ports n own there have) at

@@ -22,13 +22,13 @@ use Rattle.upc_script.specs.Rates.{first_wanted_fault}
 use Rattle.upc_script.specs.declared.script_words.Wanted.{Wanted}
 use Rattle.upc_script.specs.ScriptCommands.{Command, load, retire, setup, reload, release, cut, cell, command_of, cell_of_words, load_of, retire_of, setup_of, reload_of, release_of, cut_of, seat_of, setup_with, reload_with, only_vc, contracts_of}
 use Rattle.upc_script.specs.ScriptWords.{number_of_digits, program_of}
-use Rattle.upc_ports.specs.LineAnswers.{MayAnswerCommand, MayAnswerLine, MayObey, MayReply, Refuses, Replies, RepliesToNamed, RepliesToOctets, id_loaded}
+use Rattle.upc_ports.specs.LineAnswers.{MayAnswerCommand, MayAnswerLine, MayObey, MayReply, Refuses, Replies, RepliesToNamed, RepliesToOctets, loaded_id}
 use Rattle.upc_ports.specs.ScriptAnswers.{AnswersEach}
 use Rattle.upc_dealing.specs.Dealing.{is_cell_line}
 use Rattle.upc_ports.specs.inner.DeskTexts.{AddsReply, MayObeyLine, TellsEach}
 
 -- A reply that loads no program.
-pub replied : (command : Command) (reply : Reply) (names : List Id) (text old new : List ℕ) → MayReply command reply → id_loaded reply ≡ []
+pub replied : (command : Command) (reply : Reply) (names : List Id) (text old new : List ℕ) → MayReply command reply → loaded_id reply ≡ []
     → reply_text command (length names) reply ≡ Some text → new ≡ old ++ text → AddsReply (Replies command) names names old new
 replied command reply names text old new possible none told added = (
   text,

@@ -25,12 +25,12 @@ use Rattle.upc_card_lines.specs.Replies.{answer_text}
 use Rattle.upc_script.specs.ProgramNames.{number_of_program}
 use Rattle.upc_script.specs.ReplyTexts.{judging_text, verdict_text}
 use Rattle.upc_script.specs.ScriptCommands.{Command, cell, command_of}
-use Rattle.upc_ports.specs.LineAnswers.{MayAnswerCommand, MayAnswerLine, Polices, PolicesOctets, Refuses}
+use Rattle.upc_ports.specs.LineAnswers.{MayAnswerCommand, MayAnswerLine, MayAnswerCell, MayAnswerOctets, Refuses}
 use Rattle.upc_dealing.specs.declared.cell_line.CellLineFault.{CellLineFault}
 use Rattle.upc_dealing.specs.declared.cell_line.CellLineFault.TheVariants.{BadLine, BadHex, WrongLength}
 use Rattle.upc_dealing.specs.declared.cell_line.CellLine.TheVariants.{IsFaulty}
 use Rattle.upc_ports.specs.declared.told.ToldCell.{ToldCell}
-use Rattle.upc_ports.specs.inner.Arrivals.{AnswersPort, HasCell, IsToldFrom, IsToldOf}
+use Rattle.upc_ports.specs.inner.Arrivals.{AnswersPort, HasCell, IsToldFrom, IsStoredOf}
 use Rattle.upc_dealing.specs.CellLine.{IsCellLine, fault_text}
 use Rattle.upc_dealing.specs.Dealing.{is_cell_line}
 use Rattle.upc_ports.specs.inner.InOrder.{TellsCell}
@@ -74,17 +74,17 @@ same-answer all vc octets moment whole NoMemory judged = refl
 -- A line whose command is a cell of 52 octets.
 polices-line : (side : Side) (all names : List Id) (words : List (List ℕ)) (moment : ℕ) (digits octets here : List ℕ) (text : List ℕ)
     → command_of side words ≡ Some (cell moment digits) → octets_of_digits digits ≡ Some octets → cell_of_octets octets ≡ here → length here ≡ 52
-    → Polices side all here moment text → MayAnswerLine side all words names text names
+    → MayAnswerCell side all here moment text → MayAnswerLine side all words names text names
 polices-line side all names words moment digits octets here text is spelled same whole polices =
-    let at : PolicesOctets side all here moment text =
-    subst (λ n. MatchBool (n == 52) (Polices side all here moment text) (text ≡ wrong_length (length here))) (sym whole) polices in
-    let of_octets : PolicesOctets side all (cell_of_octets octets) moment text =
-    subst (λ (xs : List ℕ). PolicesOctets side all xs moment text) (sym same) at in
-    let of_digits = subst (λ (found : Option (List ℕ)). MatchOption found (text ≡ bad_hex) (λ xs. PolicesOctets side all (cell_of_octets xs) moment text)) (sym spelled) of_octets in
+    let at : MayAnswerOctets side all here moment text =
+    subst (λ n. MatchBool (n == 52) (MayAnswerCell side all here moment text) (text ≡ wrong_length (length here))) (sym whole) polices in
+    let of_octets : MayAnswerOctets side all (cell_of_octets octets) moment text =
+    subst (λ (xs : List ℕ). MayAnswerOctets side all xs moment text) (sym same) at in
+    let of_digits = subst (λ (found : Option (List ℕ)). MatchOption found (text ≡ bad_hex) (λ xs. MayAnswerOctets side all (cell_of_octets xs) moment text)) (sym spelled) of_octets in
     subst (λ (found : Option Command). MatchOption found (Refuses bad_line names text names) (λ command. MayAnswerCommand side all command names text names))
     (sym is) (of_digits, refl)
 
-pub told-answered : (side : Side) (all names : List Id) (line : List ℕ) (one : ToldCell) (text : List ℕ) → IsToldOf side line one
+pub told-answered : (side : Side) (all names : List Id) (line : List ℕ) (one : ToldCell) (text : List ℕ) → IsStoredOf side line one
     → TellsCell side all (Some one) text → MayAnswerLine side all (words_of line) names text names
 told-answered side all names line one text is tells =
     let digits = is.brings.0 in
@@ -107,9 +107,9 @@ wrong-answered : (side : Side) (all names : List Id) (words : List (List ℕ)) (
 wrong-answered side all names words moment digits octets count is spelled counted other =
     let here = cell_of_octets octets in
     let differs : (length here == 52) ≡ false = grind (arith, nat_tests, counted, other) in
-    let at : PolicesOctets side all here moment (wrong_length count) =
-    subst (λ whole. MatchBool whole (Polices side all here moment (wrong_length count)) (wrong_length count ≡ wrong_length (length here))) (sym differs) (ap wrong_length (sym counted)) in
-    let of_digits = subst (λ (found : Option (List ℕ)). MatchOption found (wrong_length count ≡ bad_hex) (λ xs. PolicesOctets side all (cell_of_octets xs) moment (wrong_length count))) (sym spelled) at in
+    let at : MayAnswerOctets side all here moment (wrong_length count) =
+    subst (λ whole. MatchBool whole (MayAnswerCell side all here moment (wrong_length count)) (wrong_length count ≡ wrong_length (length here))) (sym differs) (ap wrong_length (sym counted)) in
+    let of_digits = subst (λ (found : Option (List ℕ)). MatchOption found (wrong_length count ≡ bad_hex) (λ xs. MayAnswerOctets side all (cell_of_octets xs) moment (wrong_length count))) (sym spelled) at in
     subst (λ (found : Option Command). MatchOption found (Refuses bad_line names (wrong_length count) names) (λ command. MayAnswerCommand side all command names (wrong_length count) names))
     (sym is) (of_digits, refl)
 
@@ -120,18 +120,18 @@ fault-answered side all names line BadLine is found =
     subst (λ (command : Option Command). MatchOption command (Refuses bad_line names bad_line names) (λ c. MayAnswerCommand side all c names bad_line names))
     (sym (bad-cell side (words_of line) is found)) (refl, refl)
 fault-answered side all names line BadHex is found =
-    let spelled = subst (λ (octets : Option (List ℕ)). MatchOption octets (bad_hex ≡ bad_hex) (λ xs. PolicesOctets side all (cell_of_octets xs) found.0 bad_hex)) (sym found.1.2) refl in
+    let spelled = subst (λ (octets : Option (List ℕ)). MatchOption octets (bad_hex ≡ bad_hex) (λ xs. MayAnswerOctets side all (cell_of_octets xs) found.0 bad_hex)) (sym found.1.2) refl in
     subst (λ (command : Option Command). MatchOption command (Refuses bad_line names bad_hex names) (λ c. MayAnswerCommand side all c names bad_hex names))
     (sym found.1.1) (spelled, refl)
 fault-answered side all names line (WrongLength count) is found =
     wrong-answered side all names (words_of line) found.0 found.1.0 found.1.2.0 count found.1.1 found.1.2.1 found.1.2.2 found.1.2.3
 
 -- One more line of a port, with its stored answer or without a cell.
-pub port-more : (side : Side) (xs : List (List ℕ)) (arrivals : List ToldCell) (line : List ℕ) (one : ToldCell) → AnswersPort side xs arrivals → IsToldOf side line one
+pub port-more : (side : Side) (xs : List (List ℕ)) (arrivals : List ToldCell) (line : List ℕ) (one : ToldCell) → AnswersPort side xs arrivals → IsStoredOf side line one
     → AnswersPort side (xs ++ line ∷ []) (arrivals ++ one ∷ [])
 port-more side xs arrivals line one answers is = λ all.
     let parts = All-pop (HasCell side) (xs ++ line ∷ []) xs (Some line) refl all in
-    all_zipped_more (IsToldOf side) xs arrivals line one (answers parts.0) is
+    all_zipped_more (IsStoredOf side) xs arrivals line one (answers parts.0) is
 
 pub port-skips : (side : Side) (xs : List (List ℕ)) (arrivals : List ToldCell) (line : List ℕ) → (HasCell side line → ⊥)
     → AnswersPort side (xs ++ line ∷ []) arrivals
@@ -139,7 +139,7 @@ port-skips side xs arrivals line none = λ all.
     let parts = All-pop (HasCell side) (xs ++ line ∷ []) xs (Some line) refl all in absurd (none parts.1)
 
 pub port-next : {X : Type 0} (v : X → List ℕ) (side : Side) (xs : List X) (k : ℕ) (d : X) (arrivals arrivals' : List ToldCell) (one : ToldCell) → k < length xs
-    → arrivals' ≡ arrivals ++ one ∷ [] → AnswersPort side (map v (take k xs)) arrivals → IsToldOf side (v (get_or xs k d)) one
+    → arrivals' ≡ arrivals ++ one ∷ [] → AnswersPort side (map v (take k xs)) arrivals → IsStoredOf side (v (get_or xs k d)) one
     → AnswersPort side (map v (take (k + 1) xs)) arrivals'
 port-next v side xs k d arrivals arrivals' one within pushed answers is =
     let x = get_or xs k d in

@@ -40,9 +40,9 @@ MayReply (cut vc) (reply.Refused fault) = IsOfCut fault
 MayReply _ _ = ⊥
 
 -- The id of a program that this reply loaded, if there is one.
-abbrev pub id_loaded : Reply → List Id
-id_loaded (reply.Loaded id) = id ∷ []
-id_loaded _ = []
+abbrev pub loaded_id : Reply → List Id
+loaded_id (reply.Loaded id) = id ∷ []
+loaded_id _ = []
 
 -- The answer is this fault, and no program is loaded.
 abbrev pub Refuses : List ℕ → List Id → List ℕ → List Id → Type 0
@@ -52,7 +52,7 @@ Refuses fault names text names' = (text ≡ fault) × (names' ≡ names)
 pub record Replies (command : Command) (names : List Id) (text : List ℕ) (names' : List Id) : Type 0 where
   pub reply : Reply
   pub possible : MayReply command reply
-  pub named : names' ≡ names ++ id_loaded reply
+  pub named : names' ≡ names ++ loaded_id reply
   pub told : reply_text command (length names) reply ≡ Some text
 
 -- The program is loaded or refused by the desk, or the answer is the fault line of its octets.
@@ -91,24 +91,24 @@ pub record MayAnswer (octets : List ℕ) (moment : ℕ) (answer : Answer) : Type
 
 -- The text is the line of an answer that the cell may have, on the connection of its own header. `all` are the ids of
 -- all programs that the script loads; a judged cell's program has a name only if it is one of these.
-pub record Polices (side : Side) (all : List Id) (octets : List ℕ) (moment : ℕ) (text : List ℕ) : Type 0 where
+pub record MayAnswerCell (side : Side) (all : List Id) (octets : List ℕ) (moment : ℕ) (text : List ℕ) : Type 0 where
   pub answer : Answer
   pub possible : MayAnswer octets moment answer
   pub told : answer_text all (vc_of side octets) answer ≡ Some text
 
 -- A cell has 52 octets; any other number is an error.
-abbrev pub PolicesOctets : Side → List Id → List ℕ → ℕ → List ℕ → Type 0
-PolicesOctets side all octets moment text =
-    MatchBool (length octets == 52) (Polices side all octets moment text) (text ≡ wrong_length (length octets))
+abbrev pub MayAnswerOctets : Side → List Id → List ℕ → ℕ → List ℕ → Type 0
+MayAnswerOctets side all octets moment text =
+    MatchBool (length octets == 52) (MayAnswerCell side all octets moment text) (text ≡ wrong_length (length octets))
 
 -- The answers to a cell line.
-abbrev pub PolicesDigits : Side → List Id → ℕ → List ℕ → List ℕ → Type 0
-PolicesDigits side all moment digits text =
-    MatchOption (octets_of_digits digits) (text ≡ bad_hex) (λ octets. PolicesOctets side all (cell_of_octets octets) moment text)
+abbrev pub MayAnswerDigits : Side → List Id → ℕ → List ℕ → List ℕ → Type 0
+MayAnswerDigits side all moment digits text =
+    MatchOption (octets_of_digits digits) (text ≡ bad_hex) (λ octets. MayAnswerOctets side all (cell_of_octets octets) moment text)
 
 -- The answers to a command. A cell loads no program.
 abbrev pub MayAnswerCommand : Side → List Id → Command → List Id → List ℕ → List Id → Type 0
-MayAnswerCommand side all (cell moment digits) names text names' = PolicesDigits side all moment digits text × (names' ≡ names)
+MayAnswerCommand side all (cell moment digits) names text names' = MayAnswerDigits side all moment digits text × (names' ≡ names)
 MayAnswerCommand side all command names text names' = MayObey command names text names'
 
 -- The answers to a line with these words. If they are no command, the answer is BadLine.

@@ -3,7 +3,7 @@
 ghost use Rattle.std.specs.Prelude.{◌≡◌, true};
 ghost use Rattle.text_io.specs.Words.{is_silent, words_of};
 ghost use Rattle.upc_ports.specs.PortsText.{unread};
-ghost use Rattle.upc_ports.specs.inner.Script.{is_ended};
+ghost use Rattle.upc_ports.specs.inner.Script.{ends_with_feed};
 
 use card_core::Shape;
 use std::alloc::{AllocError, Global};
@@ -34,7 +34,7 @@ pub struct Script {
     pub shape: Shape,
     /// The later lines with words, each ended with a line feed.
     pub lines: Vec<u8>,
-    ghost whole: { is_ended lines.items ≡ true },
+    ghost whole: { ends_with_feed lines.items ≡ true },
 }
 
 impl Script {

@@ -20,7 +20,7 @@ abbrev pub HasCell : Side → List ℕ → Type 0
 HasCell side line = (moment : ℕ) × (cell : List ℕ) × BringsCell side line moment cell
 
 -- The stored answer is one that the line's cell may have.
-pub record IsToldOf (side : Side) (line : List ℕ) (told : ToldCell) : Type 0 where
+pub record IsStoredOf (side : Side) (line : List ℕ) (told : ToldCell) : Type 0 where
   pub moment : ℕ
   pub cell : List ℕ
   pub brings : BringsCell side line moment cell
@@ -31,8 +31,8 @@ pub record IsToldOf (side : Side) (line : List ℕ) (told : ToldCell) : Type 0 w
 -- What is stored of a line: nothing only if it has no cell.
 abbrev pub IsToldFrom : Side → List ℕ → Option ToldCell → Type 0
 IsToldFrom side line None = HasCell side line → ⊥
-IsToldFrom side line (Some told) = IsToldOf side line told
+IsToldFrom side line (Some told) = IsStoredOf side line told
 
 -- The lines of a port, and one stored answer for each, in order. Each line that was assigned to a port has a cell.
 abbrev pub AnswersPort : Side → List (List ℕ) → List ToldCell → Type 0
-AnswersPort side lines arrivals = All (HasCell side) lines → AllZip (IsToldOf side) lines arrivals
+AnswersPort side lines arrivals = All (HasCell side) lines → AllZip (IsStoredOf side) lines arrivals

@@ -15,10 +15,10 @@ abbrev pub HoldsLines : List ℕ → Type 0
 HoldsLines octets = (lines : List (List ℕ)) × AreLinesOf octets lines
 
 -- The last octet, if there is one, is a line feed.
-abbrev pub is_ended : List ℕ → Bool
-is_ended [] = true
-is_ended (octet ∷ []) = octet == 10
-is_ended (octet ∷ next ∷ octets) = is_ended (next ∷ octets)
+abbrev pub ends_with_feed : List ℕ → Bool
+ends_with_feed [] = true
+ends_with_feed (octet ∷ []) = octet == 10
+ends_with_feed (octet ∷ next ∷ octets) = ends_with_feed (next ∷ octets)
 
 -- The text answers the lines before the first cell line, whatever programs are loaded afterwards. The octets `later` are
 -- the lines from there on.
