@@ -1,0 +1,125 @@
+"""Random texts of rules, and cells at the bounds of what they compare."""
+MOSTS = {"gfc": 15, "vpi": 255, "vci": 65535, "pti": 7, "clp": 1}
+SHIFTS = {"gfc": 28, "vpi": 20, "vci": 4, "pti": 1, "clp": 0}
+SIGNS = ("=", "!=", "<", "<=", ">", ">=")
+
+
+def number(source, most):
+    """Returns a number up to this, often near a bound."""
+    edges = [0, 1, 2, most - 1, most, most // 2, 32, 127]
+    value = source.choice(edges) if source.random() < 0.6 else source.randint(0, most)
+    return max(0, min(value, most))
+
+
+def spelled(source, value):
+    """Returns a spelling of a number."""
+    return source.choice([str(value), str(value), hex(value), "0" + str(value)])
+
+
+def field(source):
+    """Returns a field and its largest number."""
+    if source.random() < 0.7:
+        name = source.choice(list(MOSTS))
+        return name, MOSTS[name]
+    name, size = source.choice([("octet", 1), ("half", 2), ("word", 4)])
+    return f"{name} {source.choice([0, 1, 3, 4, 52 - size, source.randint(0, 52 - size)])}", 2 ** (8 * size) - 1
+
+
+def compared(source):
+    """Returns a comparison."""
+    name, most = field(source)
+    mask = f" & {spelled(source, number(source, most))}" if source.random() < 0.25 else ""
+    if source.random() < 0.5:
+        return f"{name}{mask} {source.choice(SIGNS)} {spelled(source, number(source, most))}"
+    ranges = []
+    for _ in range(source.choice([1, 1, 2, 4])):
+        low, high = sorted([number(source, most), number(source, most)])
+        ranges.append(spelled(source, low) if source.random() < 0.5 else f"{spelled(source, low)}..{spelled(source, high)}")
+    return f"{name}{mask} {', '.join(ranges)}"
+
+
+def test(source, depth):
+    """Returns a test."""
+    kind = source.random()
+    if depth == 0 or kind < 0.45:
+        return compared(source) if source.random() < 0.85 else source.choice(["any", "oam", "user"])
+    if kind < 0.7:
+        return f"{test(source, depth - 1)} and {test(source, depth - 1)}"
+    if kind < 0.85:
+        return f"{test(source, depth - 1)} or {test(source, depth - 1)}"
+    return f"not ({test(source, depth - 1)})" if kind < 0.95 else f"({test(source, depth - 1)})"
+
+
+def lines(source, count, depth):
+    """Returns lines."""
+    made = []
+    for _ in range(count):
+        if depth and source.random() < 0.25:
+            made.append(f"{test(source, 2)} {{")
+            made += lines(source, source.randint(0, 4), depth - 1)
+            made.append("}")
+        else:
+            made.append(f"{test(source, source.choice([0, 1, 2, 3]))} -> {source.choice(['refuse', '1', '2', '3', '4294967295'])}")
+        if source.random() < 0.1:
+            made.append(source.choice(["", "# remark", "   \t"]))
+    return made
+
+
+def mutated(source, text):
+    """Returns the text with a small change."""
+    at = source.randrange(len(text) + 1)
+    piece = source.choice(["", " ", "(", ")", "{", "}", "->", "..", "x", "9", "0x", "&", ",", "\n", "not ", "otherwise", "-", "99999999999", "gfc"])
+    return text[:at] + piece + text[at + source.choice([0, 0, 1, 2]):]
+
+
+def text_of(source):
+    """Returns a text, a third of the time with a small change."""
+    made = []
+    if source.random() < 0.1:
+        made.append(source.choice(["side nni", "side uni"]))
+    made += lines(source, source.choice([1, 2, 5, 12, 60]), 3)
+    if source.random() < 0.5:
+        made.append(f"otherwise -> {source.choice(['refuse', '7'])}")
+    text = source.choice(["\n", "\n", "\r\n"]).join(made) + source.choice(["", "\n"])
+    if source.random() < 0.35:
+        text = mutated(source, text)
+    return text.encode()
+
+
+def comparisons(parts):
+    """Returns the comparisons of a test or of lines."""
+    found = []
+    for part in parts:
+        if isinstance(part, tuple):
+            if part and part[0] in ("compare", "among"):
+                found.append(part)
+            else:
+                found += comparisons(part)
+    return found
+
+
+def cells_for(reader, source):
+    """Returns cells at the bounds of the comparisons, and random ones."""
+    made = []
+    found = comparisons(reader.rules)
+    for _ in range(120):
+        cell = bytearray(source.choice([bytes(52), bytes([255] * 52), source.randbytes(52)]))
+        for part in source.sample(found, min(len(found), source.choice([0, 1, 2, 4]))):
+            bounds = [part[4]] if part[0] == "compare" else [bound for pair in part[3] for bound in pair]
+            value = max(0, source.choice(bounds) + source.choice([-1, 0, 0, 1]))
+            place(cell, part[1], value, reader.nni)
+        made.append(bytes(cell))
+    return made
+
+
+def place(cell, name, value, nni):
+    """Puts a number into a field of the cell."""
+    if name[0] == "octets":
+        size, at = name[1], name[2]
+        cell[at:at + size] = (value % 2 ** (8 * size)).to_bytes(size, "big")
+        return
+    most = 4095 if nni and name[0] == "vpi" else MOSTS[name[0]]
+    header = int.from_bytes(cell[:4], "big")
+    shift = SHIFTS[name[0]]
+    header = header & ~(most << shift) | (value & most) << shift
+    cell[:4] = (header & 0xFFFFFFFF).to_bytes(4, "big")

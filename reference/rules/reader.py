@@ -1,0 +1,304 @@
+"""Reads a text of rules as docs/RULES.md has it."""
+import re
+
+TOKEN = re.compile(rb"[A-Za-z0-9_]+|->|\.\.|!=|<=|>=|.", re.DOTALL)
+NAMES = ("BadLine", "BadNumber", "TooLarge", "OutsideCell", "AfterOtherwise", "Unbalanced", "TooDeep", "TooLong", "NoMemory")
+SIZES = {b"octet": 1, b"half": 2, b"word": 4}
+MOST_DEEP = 64
+MOST_COMPARISONS = 4096
+
+
+class Fault(Exception):
+    """The fault of a text: its name, line and column."""
+
+    def __init__(self, name, line, column):
+        super().__init__(name)
+        self.name, self.line, self.column = name, line, column
+
+    def shown(self):
+        """Returns the fault line."""
+        return f"fault rules {NAMES.index(self.name) + 1} {self.name} {self.line} {self.column}\n"
+
+
+def tokens_of(line):
+    """Returns the tokens of a line, each with its column from 1, and the column after the last."""
+    found, at = [], 0
+    while at < len(line):
+        if line[at] in b" \t":
+            at += 1
+            continue
+        if line[at] == ord("#"):
+            break
+        token = TOKEN.match(line, at).group()
+        found.append((token, at + 1))
+        at += len(token)
+    after = found[-1][1] + len(found[-1][0]) if found else 1
+    return found, after
+
+
+def number_of(token):
+    """Returns the number that a token spells, or None."""
+    if re.fullmatch(rb"0[xX][0-9a-fA-F]+", token):
+        value = int(token, 16)
+    elif re.fullmatch(rb"[0-9]+", token):
+        value = int(token)
+    else:
+        return None
+    return value if value < 2**32 else None
+
+
+class Line:
+    """A line that is read from left to right."""
+
+    def __init__(self, reader, line, number):
+        self.reader, self.number = reader, number
+        self.tokens, self.after = tokens_of(line)
+        self.at = 0
+        self.comparisons = 0
+        self.open = []
+
+    def fault(self, name, column=None):
+        """Stops at the present token, or at the end of the line."""
+        if column is None:
+            column = self.tokens[self.at][1] if self.at < len(self.tokens) else self.after
+        raise Fault(name, self.number, column)
+
+    def peek(self):
+        """Returns the present token, None at the end of the line."""
+        return self.tokens[self.at][0] if self.at < len(self.tokens) else None
+
+    def take(self):
+        """Returns the present token and goes on."""
+        token = self.peek()
+        if token is None:
+            self.fault("BadLine")
+        self.at += 1
+        return token
+
+    def read_number(self, most):
+        """Reads a number of at most this."""
+        token = self.peek()
+        if token is None:
+            self.fault("BadLine")
+        if not token[:1].isdigit():
+            self.fault("BadLine")
+        value = number_of(token)
+        if value is None:
+            self.fault("BadNumber")
+        if value > most:
+            self.fault("TooLarge")
+        self.at += 1
+        return value
+
+    def count(self, column=None):
+        """Counts a comparison."""
+        if self.comparisons >= MOST_COMPARISONS:
+            self.fault("TooLong", column)
+        self.comparisons += 1
+
+    def test(self):
+        """Reads a test."""
+        either = self.part()
+        while self.peek() == b"or":
+            self.at += 1
+            either = ("or", either, self.part())
+        return either
+
+    def part(self):
+        """Reads what `and` puts together."""
+        both = self.unit()
+        while self.peek() == b"and":
+            self.at += 1
+            both = ("and", both, self.unit())
+        return both
+
+    def unit(self):
+        """Reads a test without `and` and `or` around it."""
+        token = self.peek()
+        if token == b"not":
+            self.at += 1
+            return ("not", self.unit())
+        if token == b"(":
+            if self.reader.depth() + len(self.open) >= MOST_DEEP:
+                self.fault("TooDeep")
+            self.open.append(self.tokens[self.at][1])
+            self.at += 1
+            inner = self.test()
+            if self.peek() in (b"->", b"{"):
+                self.fault("Unbalanced", self.open[0])
+            if self.peek() != b")":
+                self.fault("BadLine")
+            self.open.pop()
+            self.at += 1
+            return inner
+        if token in (b"any", b"oam", b"user"):
+            self.count()
+            self.at += 1
+            return (token.decode(),)
+        return self.compared()
+
+    def compared(self):
+        """Reads a field and what it is compared with."""
+        field, most = self.field()
+        mask = None
+        if self.peek() == b"&":
+            self.at += 1
+            mask = self.read_number(most)
+        token = self.peek()
+        if token in (b"=", b"!=", b"<", b"<=", b">", b">="):
+            self.at += 1
+            column = self.tokens[self.at][1] if self.at < len(self.tokens) else None
+            value = self.read_number(most)
+            self.count(column)
+            return ("compare", field, mask, token.decode(), value)
+        return ("among", field, mask, self.list(most))
+
+    def list(self, most):
+        """Reads numbers and ranges. All but a range are counted where the next token shows that they are none."""
+        ranges = []
+        while True:
+            low = self.read_number(most)
+            if self.peek() == b"..":
+                self.at += 1
+                column = self.tokens[self.at][1] if self.at < len(self.tokens) else None
+                high = self.read_number(most)
+                if high < low:
+                    self.fault("TooLarge", column)
+                self.count(column)
+            else:
+                high = low
+                if self.peek() is None:
+                    self.fault("BadLine")
+                self.count()
+            ranges.append((low, high))
+            if self.peek() is None:
+                self.fault("BadLine")
+            if self.peek() != b",":
+                self.count()
+                return ranges
+            self.at += 1
+
+    def field(self):
+        """Reads a field, and returns it with its largest number."""
+        nni = self.reader.nni
+        token = self.peek()
+        if token is None:
+            self.fault("BadLine")
+        if token in SIZES:
+            self.at += 1
+            size = SIZES[token]
+            at = self.read_number(2**32)
+            if at + size > 52:
+                self.at -= 1
+                self.fault("OutsideCell")
+            return ("octets", size, at), 2 ** (8 * size) - 1
+        most = {b"gfc": 15, b"vpi": 4095 if nni else 255, b"vci": 65535, b"pti": 7, b"clp": 1}
+        if token == b"gfc" and nni:
+            self.fault("BadLine")
+        if token not in most:
+            self.fault("BadNumber" if token[:1].isdigit() and number_of(token) is None else "BadLine")
+        self.at += 1
+        return (token.decode(),), most[token]
+
+    def value(self):
+        """Reads the value of a rule."""
+        if self.peek() == b"refuse":
+            self.at += 1
+            return 0
+        value = self.read_number(2**32)
+        if value == 0:
+            self.at -= 1
+            self.fault("TooLarge")
+        return value
+
+    def end(self):
+        """Reads the end of the line."""
+        if self.peek() is not None:
+            self.fault("BadLine")
+
+
+class Reader:
+    """Reads lines. `heads` has the places of the open blocks."""
+
+    def __init__(self):
+        self.nni, self.begun, self.closed = False, False, False
+        self.rules, self.otherwise, self.heads = [], 0, []
+
+    def depth(self):
+        """Returns how many blocks are open."""
+        return len(self.heads)
+
+    def read_line(self, octets, number):
+        """Reads a line of this number."""
+        line = Line(self, octets, number)
+        token = line.peek()
+        if token is None:
+            return
+        if self.closed:
+            line.fault("AfterOtherwise")
+        first = line.tokens[0][1]
+        if token == b"otherwise":
+            if self.heads:
+                line.fault("BadLine")
+            line.take()
+            if line.peek() != b"->":
+                line.fault("BadLine")
+            line.take()
+            value = line.value()
+            line.end()
+            self.otherwise, self.closed = value, True
+        elif token == b"side":
+            line.take()
+            if line.peek() not in (b"uni", b"nni"):
+                line.fault("BadLine")
+            nni = line.take() == b"nni"
+            line.end()
+            if self.begun:
+                line.fault("BadLine", first)
+            self.nni = nni
+        elif token == b"}":
+            if not self.heads:
+                line.fault("Unbalanced")
+            line.take()
+            line.end()
+            self.heads.pop()
+            self.rules.append(("end",))
+        else:
+            self.read_rule(line, first)
+        self.begun = True
+
+    def read_rule(self, line, first):
+        """Reads a rule or the head of a block."""
+        test = line.test()
+        token = line.peek()
+        if token == b"->":
+            line.take()
+            value = line.value()
+            line.end()
+            self.rules.append(("rule", test, value, line.number))
+        elif token == b"{":
+            if self.depth() >= MOST_DEEP:
+                line.fault("TooDeep")
+            line.take()
+            line.end()
+            self.rules.append(("block", test))
+            self.heads.append((line.number, first))
+        elif token == b")":
+            line.fault("Unbalanced")
+        else:
+            line.fault("BadLine")
+
+
+def read_rules(text):
+    """Returns the reader of a text, or raises its first fault."""
+    reader = Reader()
+    lines = text.split(b"\n")
+    last = lines.pop()
+    lines = [line[:-1] if line.endswith(b"\r") else line for line in lines]
+    if last:
+        lines.append(last)
+    for number, line in enumerate(lines, 1):
+        reader.read_line(line, number)
+    if reader.heads:
+        raise Fault("Unbalanced", *reader.heads[0])
+    return reader
