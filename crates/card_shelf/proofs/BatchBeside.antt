@@ -1,6 +1,5 @@
 -- A card stays beside a shelf through a batch of arrivals that both police, and both tell the same.
-use Rattle.std.proofs.Common.{◌≡◌, ℕ, ◌+◌, ◌*◌, ◌≤◌, ◌<◌, ◌^◌, List, [], ◌∷◌, ◌++◌, length, map, Some, refl, sym, ap, ◌∙◌, subst, arith}
-use Rattle.std.specs.Prelude.{slice_get}
+use Rattle.std.proofs.Common.{◌≡◌, ℕ, ◌+◌, ◌*◌, ◌≤◌, ◌<◌, List, [], ◌∷◌, length, map, refl, sym, ap, ◌∙◌, arith}
 use Rattle.std.proofs.lemmas.List.{length-append, length-map}
 use Rattle.std.proofs.lemmas.Option.{same_Some, slice_get_within}
 use Rattle.upc_cell.specs.declared.side.Side.{Side}
@@ -17,7 +16,7 @@ use Rattle.card_shelf.specs.Logs.{GoesOnBy}
 use Rattle.card_shelf.specs.OneCard.{LoggedCard, LoggedShelf, IsBeside, HaveTimeFor, codes_in, AreToldAlike}
 use Rattle.card_shelf.specs.Own.{own_arrivals, own_told}
 use Rattle.card_shelf.specs.Policing.{PolicesAll}
-use Rattle.card_shelf.proofs.Beside.{AllOn, all-on, KeepsCodes}
+use Rattle.card_shelf.proofs.Beside.{all-on, KeepsCodes}
 use Rattle.card_shelf.proofs.GoingOn.{ways-short}
 use Rattle.card_shelf.proofs.Lists.{there, map-there, same-lists}
 use Rattle.card_shelf.proofs.OwnLemmas.{Told, own-few}

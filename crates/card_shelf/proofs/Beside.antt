@@ -1,7 +1,7 @@
 -- A shelf that polices arrivals stays beside one card that answers them.
-use Rattle.std.proofs.Common.{◌≡◌, ◌≢◌, ◌⊎◌, ℕ, ◌+◌, ◌*◌, ◌≤◌, ◌<◌, ◌^◌, Bool, true, false, List, [], ◌∷◌, ◌++◌, length, Some, refl, sym, ap, ◌∙◌, subst, inl, inr, arith, length-set}
+use Rattle.std.proofs.Common.{◌≡◌, ◌≢◌, ◌⊎◌, ℕ, ◌+◌, ◌*◌, ◌≤◌, ◌<◌, ◌^◌, true, false, List, [], ◌∷◌, ◌++◌, length, Some, refl, sym, ap, ◌∙◌, subst, inl, inr, arith, length-set}
 use Rattle.std.specs.Prelude.{slice_get, slice_set}
-use Rattle.std.proofs.lemmas.List.{length-append, append_assoc}
+use Rattle.std.proofs.lemmas.List.{length-append}
 use Rattle.std.proofs.lemmas.Option.{same_Some, slice_get_within}
 use Rattle.upc_cell.specs.declared.side.Side.{Side}
 use Rattle.upc_cell.specs.declared.vc.Vc.{Vc}
@@ -16,10 +16,10 @@ use Rattle.card_isolation.specs.Isolation.{account_of}
 use Rattle.card_isolation.specs.Outcome.{outcome_of}
 use Rattle.card_shelf.specs.declared.arrival.Arrival.{Arrival}
 use Rattle.card_shelf.specs.Dealing.{card_of, card_for}
-use Rattle.card_shelf.specs.Logs.{IsWayOf, AreWaysOf, GoesOnBy}
+use Rattle.card_shelf.specs.Logs.{IsWayOf, GoesOnBy}
 use Rattle.card_shelf.specs.Own.{ServesAll, own_arrivals, own_told}
 use Rattle.card_shelf.specs.Policing.{ServesArrival, Polices, PolicesAll}
-use Rattle.card_shelf.specs.OneCard.{IsLogOf, IsBeside, HaveTimeFor, codes_in, AreAlike, IsToldAlike, AreToldAlike, ShelvesTellAsOneCard}
+use Rattle.card_shelf.specs.OneCard.{IsBeside, codes_in, AreAlike, IsToldAlike, AreToldAlike, ShelvesTellAsOneCard}
 use Rattle.gen_arena.proofs.Public.{slice_get-set}
 use Rattle.card_shelf.proofs.BesideStep.{steps-beside}
 use Rattle.card_shelf.proofs.BothGo.{both-go}

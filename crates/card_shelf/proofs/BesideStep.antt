@@ -1,10 +1,9 @@
 -- A card stays beside a shelf through what one card of the shelf and that card do for one connection.
-use Rattle.std.proofs.Common.{◌≡◌, ℕ, ◌<◌, Bool, true, false, List, ◌++◌, length, Some, refl, sym, ap, ◌∙◌, subst, inl, inr, length-set}
+use Rattle.std.proofs.Common.{◌≡◌, ℕ, Bool, true, false, List, ◌++◌, length, Some, refl, sym, ap, ◌∙◌, subst, inl, inr, length-set}
 use Rattle.std.specs.Prelude.{slice_get, slice_set}
 use Rattle.upc_cell.specs.declared.vc.Vc.{Vc}
 use Rattle.upc_cell.specs.Connection.{is_same_vc}
 use Rattle.upc_cell.proofs.Public.{vc_same}
-use Rattle.card_core.specs.declared.shape.Shape.{Shape}
 use Rattle.card_core.specs.Agreement.{CoreView}
 use Rattle.card_core.specs.Log.{Event}
 use Rattle.card_isolation.specs.Isolation.{account_of}

@@ -1,5 +1,5 @@
 -- A card stays beside a shelf through each call that both grant.
-use Rattle.card_shelf.specs.Calls.{Call, police, load, retire, serve}
+use Rattle.card_shelf.specs.Calls.{police, load, retire, serve}
 use Rattle.card_shelf.specs.Life.{CallsKeepACardBeside}
 use Rattle.card_shelf.proofs.BatchBeside.{police-keeps}
 use Rattle.card_shelf.proofs.ProgramsBeside.{load-keeps, retire-keeps}

@@ -10,7 +10,7 @@ use Rattle.card_core.specs.declared.reply.Reply.TheVariants.{Entered, Picked, An
 use Rattle.card_core.specs.declared.shape.Shape.{Shape}
 use Rattle.card_core.specs.declared.step.Step.TheVariants.{Enter, Pick, Judge}
 use Rattle.card_shelf.specs.declared.arrival.Arrival.{Arrival}
-use Rattle.card_shelf.specs.Logs.{IsWayOf, AreWaysOf, GoesOnBy, CardsGoOnByTheirArrivals, WaysAreShort}
+use Rattle.card_shelf.specs.Logs.{IsWayOf, GoesOnBy, CardsGoOnByTheirArrivals, WaysAreShort}
 use Rattle.card_shelf.proofs.OwnLemmas.{Told}
 
 -- Runs join.

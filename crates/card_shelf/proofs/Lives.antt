@@ -1,16 +1,15 @@
 -- A shelf tells what one card tells, over its whole life.
-use Rattle.std.proofs.Common.{◌≡◌, ℕ, zero, suc, ◌+◌, ◌≤◌, ◌^◌, List, [], ◌∷◌, length, map, Some, refl, sym, ap, ◌∙◌, subst, arith}
+use Rattle.std.proofs.Common.{◌≡◌, ℕ, ◌+◌, ◌≤◌, List, [], ◌∷◌, length, map, Some, refl, ap, ◌∙◌, subst, arith}
 use Rattle.std.specs.Prelude.{slice_get}
 use Rattle.std.proofs.lemmas.List.{length-map}
-use Rattle.upc_cell.specs.declared.side.Side.{Side}
 use Rattle.card_core.specs.Agreement.{CoreView}
 use Rattle.card_core.specs.Log.{Event}
 use Rattle.card_core.specs.World.{Loading, opening_world}
 use Rattle.card_core.specs.declared.shape.Shape.{Shape}
 use Rattle.card_isolation.specs.Isolation.{account_of}
 use Rattle.card_isolation.specs.Outcome.{Outcome}
-use Rattle.card_shelf.specs.Calls.{Call, CardState, ShelfState}
-use Rattle.card_shelf.specs.Life.{CardGrantsAll, ShelfGrantsAll, TakeTheSameCalls, ShelvesAnswerAsOneCard, most_events, most_events_of, card_state_of, shelf_state_of}
+use Rattle.card_shelf.specs.Calls.{Call}
+use Rattle.card_shelf.specs.Life.{CardGrantsAll, ShelfGrantsAll, ShelvesAnswerAsOneCard, most_events, most_events_of, card_state_of, shelf_state_of}
 use Rattle.card_shelf.specs.OneCard.{LoggedCard, LoggedShelf, IsLogOf, IsBeside, HaveTimeFor, codes_in}
 use Rattle.card_shelf.proofs.CallsBeside.{calls-keep}
 use Rattle.card_shelf.proofs.Lists.{map-there}

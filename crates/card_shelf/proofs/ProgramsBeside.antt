@@ -1,20 +1,19 @@
 -- A card stays beside a shelf if both load a program, or both retire one.
-use Rattle.std.proofs.Common.{◌≡◌, ℕ, zero, suc, ◌+◌, ◌≤◌, ◌<◌, ◌^◌, List, [], ◌∷◌, ◌++◌, length, map, Option, Some, None, refl, sym, ap, ◌∙◌, subst, arith}
-use Rattle.std.specs.Prelude.{slice_get, option_map}
+use Rattle.std.proofs.Common.{◌≡◌, ℕ, zero, suc, ◌+◌, List, [], ◌∷◌, ◌++◌, length, map, Some, None, refl, sym, ap, ◌∙◌, subst, arith}
+use Rattle.std.specs.Prelude.{slice_get}
 use Rattle.std.proofs.lemmas.List.{length-append, length-map}
-use Rattle.std.proofs.lemmas.Option.{same_Some, slice_get_within, slice_get-map}
+use Rattle.std.proofs.lemmas.Option.{same_Some, slice_get_within}
 use Rattle.upc_cell.specs.declared.side.Side.{Side}
 use Rattle.upc_cell.specs.declared.vc.Vc.{Vc}
 use Rattle.bpf_code.specs.declared.instr.Instr.{Instr}
 use Rattle.gen_arena.specs.declared.id.Id.{Id}
 use Rattle.card_core.specs.declared.reply.Reply.TheVariants.{Loaded, Retired}
-use Rattle.card_core.specs.declared.shape.Shape.{Shape}
 use Rattle.card_core.specs.declared.step.Step.TheVariants.{Load, Retire}
 use Rattle.card_core.specs.Agreement.{CoreView, Follows}
 use Rattle.card_core.specs.Log.{Event}
 use Rattle.card_core.specs.World.{Loading}
 use Rattle.card_isolation.specs.Isolation.{account_of}
-use Rattle.card_isolation.specs.Outcome.{Outcome, done}
+use Rattle.card_isolation.specs.Outcome.{Outcome}
 use Rattle.card_isolation.specs.OwnEvents.{Notes, own_event, codes_after}
 use Rattle.card_shelf.specs.Calls.{CardState, ShelfState, CardLoads, CardRetires, ShelfLoads, ShelfRetires, load, retire, with_code}
 use Rattle.card_shelf.specs.Dealing.{card_of}

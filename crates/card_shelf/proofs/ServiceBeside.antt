@@ -1,15 +1,14 @@
 -- A card stays beside a shelf through what both do for a connection, and both tell the same.
-use Rattle.std.proofs.Common.{◌≡◌, ℕ, ◌+◌, ◌≤◌, ◌<◌, ◌^◌, true, false, List, [], ◌∷◌, ◌++◌, length, map, Option, Some, None, sym, ap, ◌∙◌, subst, inl, inr, arith, length-set}
+use Rattle.std.proofs.Common.{◌≡◌, ℕ, ◌<◌, true, List, [], ◌∷◌, ◌++◌, length, map, Option, Some, None, sym, ap, ◌∙◌, subst, inl, inr, arith, length-set}
 use Rattle.std.specs.Prelude.{slice_get, slice_set, unwrap_or, option_map}
 use Rattle.std.proofs.lemmas.List.{length-append, length-map, map-append}
 use Rattle.std.proofs.lemmas.Option.{same_Some, slice_get_within, slice_get-map}
-use Rattle.upc_cell.specs.declared.side.Side.{Side}
 use Rattle.upc_cell.specs.declared.vc.Vc.{Vc}
 use Rattle.upc_cell.specs.Connection.{is_same_vc}
 use Rattle.upc_cell.proofs.Public.{vc_same, vc_itself}
 use Rattle.card_core.specs.declared.shape.Shape.{Shape}
 use Rattle.card_core.specs.Agreement.{CoreView, Follows}
-use Rattle.card_core.specs.Log.{Event, IsLog}
+use Rattle.card_core.specs.Log.{Event}
 use Rattle.card_core.specs.World.{Loading}
 use Rattle.card_isolation.specs.Act.{Act}
 use Rattle.card_isolation.specs.Isolation.{account_of}
