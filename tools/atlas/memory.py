@@ -90,6 +90,10 @@ def cause_of(body, at):
     arm = before[: found.start()].rstrip() if found else ""
     if re.search(r"(?:Err\(_\w*\)|None)$", arm) or ERROR.search(arm.rsplit("=>", 1)[-1]):
         return judged(scrutinee(body, at))
+    # The last statement of the arm of a failed call.
+    brace = opening(body, at)
+    if brace > 0 and re.search(r"\bErr\(\w+\)\s*=>\s*$", body[:brace]) and re.search(r"[;}]\s*" + WRAPPED, before):
+        return judged(scrutinee(body, brace))
     return "", "it isn't the failure of a call"
 
 

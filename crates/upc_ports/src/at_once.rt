@@ -121,14 +121,17 @@ fn join_ports<'e, 'l, S: Ledgers, R: Threads>(
         (map (λ port. port.arrivals.items) ports.items)) }
 {
     let mut ended = ended;
-    let mut whole = true;
+    let mut whole = Ok(());
     for thread in running {
         match thread.join(rt) {
             Ok(port) => ended.push_reserved(port),
-            Err(_) => whole = false,
+            Err(error) => whole = Err(error),
         }
     }
-    if whole { Ok(ended) } else { Err(AllocError) }
+    match whole {
+        Ok(()) => Ok(ended),
+        Err(error) => Err(error),
+    }
 }
 
 /// Waits for each thread, and drops its port. There is nothing to say of what is dropped.

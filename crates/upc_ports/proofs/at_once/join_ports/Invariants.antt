@@ -1,5 +1,5 @@
 -- If all threads so far had memory, their answers keep their promises.
-use Rattle.std.proofs.Common.{◌≡◌, ◌≤◌, true, length, map, vec_capacity}
+use Rattle.std.proofs.Common.{◌≡◌, ◌≤◌, IsOk, length, map, vec_capacity}
 use Rattle.std.specs.List.{AllZip}
 use Rattle.upc_ports.specs.inner.AtOnce.{KeepsPromise}
 use Rattle.upc_ports.proofs.at_once.join_ports.Given as goal
@@ -10,5 +10,5 @@ invariant-loop-thread g l = record {
   ends : (goal.iterator-loop-thread g).is_finite l.thread-iterator;
   room : length l.fn.running.items ≤ vec_capacity l.ended;
   short : length l.ended.items ≤ length l.yielded;
-  kept : l.whole ≡ true → AllZip KeepsPromise (map (λ thread. thread.promise) l.yielded) (map (λ port. port.arrivals.items) l.ended.items);
+  kept : IsOk l.whole → AllZip KeepsPromise (map (λ thread. thread.promise) l.yielded) (map (λ port. port.arrivals.items) l.ended.items);
 }
