@@ -5,8 +5,8 @@ each place that makes such an error has to be the failed result of one call, and
 """
 import re
 
-# An error that says so, and std's own.
-ERROR = re.compile(r"\b(?:\w+::)*(?:NoMemory|OutOfMemory)\b|\bAllocError\b")
+# An error that says so, std's own, and the function that makes that of the library for C.
+ERROR = re.compile(r"\b(?:\w+::)*(?:NoMemory|OutOfMemory)\b|\bAllocError\b|\bout_of_memory\(\)")
 # What follows a pattern, and a type.
 PATTERN = re.compile(r"[\s,)}.]*(?:=>|\|(?!\|)|if\b)")
 # What stands between a cause and the error that it makes.
@@ -59,7 +59,7 @@ def is_call(text):
     outside = text
     while "(" in outside and outside != (outside := re.sub(r"\([^()]*\)", "", outside)):
         pass
-    return bool(re.search(r"\)$|\)\?$|^\*?\w+$", text)) and not OPERATOR.search(outside)
+    return bool(re.search(r"\)$|\)\?$|^\*?[\w.]+$", text)) and not OPERATOR.search(outside)
 
 
 def judged(cause, ending=""):

@@ -55,6 +55,11 @@ fn ask(program: Id) -> Result<Ask, Fail> {
     })
 }
 
+/// Takes one step. It promises nothing, so the prover carries no contract of a step through a test: what a test says is tested.
+fn take(core: &mut Core, step: Step) -> Reply {
+    core.step(step)
+}
+
 fn id_of(reply: &Reply) -> Result<Id, Fail> {
     match reply {
         Reply::Loaded(id) => Ok(*id),
@@ -99,12 +104,12 @@ fn pick_at(core: &mut Core, port: u8, moment: u64) -> bool {
         cell: cell(),
         moment,
     };
-    matches!(core.step(enter), Reply::Entered)
-        && matches!(core.step(Step::Pick { port }), Reply::Picked)
+    matches!(take(core, enter), Reply::Entered)
+        && matches!(take(core, Step::Pick { port }), Reply::Picked)
 }
 
 fn judge_at_port(core: &mut Core, port: u8) -> Option<Answer> {
-    answer_of(&core.step(Step::Judge { port }))
+    answer_of(&take(core, Step::Judge { port }))
 }
 
 /// The verdict, the cell's number on the line, and the program that named the contract.
@@ -126,7 +131,7 @@ fn judged(answer: Option<Answer>) -> Option<(Verdict, u64, Id)> {
 }
 
 fn enter_at(core: &mut Core, port: u8) -> Reply {
-    core.step(Step::Enter {
+    take(core, Step::Enter {
         port,
         cell: cell(),
         moment: 0,
@@ -140,11 +145,11 @@ fn a_port_takes_its_steps_in_order(rt: HostRuntime) -> Result<(), Fail> {
         slot: 0,
         generation: 1,
     };
-    assert!(rt; matches!(core.step(Step::Judge { port: 0 }), Reply::NotNow));
+    assert!(rt; matches!(take(&mut core, Step::Judge { port: 0 }), Reply::NotNow));
     assert!(rt; matches!(enter_at(&mut core, 1), Reply::NotNow));
     assert!(rt; matches!(enter_at(&mut core, 0), Reply::Entered));
     assert!(rt; matches!(enter_at(&mut core, 0), Reply::NotNow));
-    match core.step(Step::Load(constant(rt.alloc(), 7)?)) {
+    match take(&mut core, Step::Load(constant(rt.alloc(), 7)?)) {
         Reply::NotLoaded(fault, program) => {
             assert_eq!(rt; fault, DeskFault::Busy);
             assert_eq!(rt; program.code(), [Instr::RetK(7)].as_slice());
@@ -152,13 +157,13 @@ fn a_port_takes_its_steps_in_order(rt: HostRuntime) -> Result<(), Fail> {
         _ => return Err(Fail::from("loaded")),
     }
     assert_eq!(rt;
-        fault_of(&core.step(Step::Retire(id))),
+        fault_of(&take(&mut core, Step::Retire(id))),
         Some(DeskFault::Busy)
     );
-    let missed = answer_of(&core.step(Step::Pick { port: 0 }));
+    let missed = answer_of(&take(&mut core, Step::Pick { port: 0 }));
     assert_eq!(rt; missed, Some(Answer::NoConnection));
     assert_eq!(rt;
-        fault_of(&core.step(Step::Retire(id))),
+        fault_of(&take(&mut core, Step::Retire(id))),
         Some(DeskFault::NoProgram)
     );
     Ok(())
@@ -167,8 +172,8 @@ fn a_port_takes_its_steps_in_order(rt: HostRuntime) -> Result<(), Fail> {
 #[test]
 fn cells_of_two_ports_meet_on_one_line(rt: HostRuntime) -> Result<(), Fail> {
     let mut core = Core::new(rt.alloc(), shape(1, 2, 1))?;
-    let program = id_of(&core.step(Step::Load(constant(rt.alloc(), 1)?)))?;
-    let owner = owner_of(&core.step(Step::Setup(ask(program)?)))?;
+    let program = id_of(&take(&mut core, Step::Load(constant(rt.alloc(), 1)?)))?;
+    let owner = owner_of(&take(&mut core, Step::Setup(ask(program)?)))?;
     assert_eq!(rt; owner.incarnation, 1);
     assert!(rt; pick_at(&mut core, 0, 10));
     assert!(rt; pick_at(&mut core, 1, 5));
@@ -184,15 +189,15 @@ fn cells_of_two_ports_meet_on_one_line(rt: HostRuntime) -> Result<(), Fail> {
 #[test]
 fn a_reload_leaves_a_picked_cell_its_program(rt: HostRuntime) -> Result<(), Fail> {
     let mut core = Core::new(rt.alloc(), shape(2, 1, 4))?;
-    let first = id_of(&core.step(Step::Load(constant(rt.alloc(), 1)?)))?;
-    let second = id_of(&core.step(Step::Load(constant(rt.alloc(), 1)?)))?;
+    let first = id_of(&take(&mut core, Step::Load(constant(rt.alloc(), 1)?)))?;
+    let second = id_of(&take(&mut core, Step::Load(constant(rt.alloc(), 1)?)))?;
     assert_eq!(rt; (first.generation, second.generation), (1, 1));
-    owner_of(&core.step(Step::Setup(ask(first)?)))?;
+    owner_of(&take(&mut core, Step::Setup(ask(first)?)))?;
     assert!(rt; pick_at(&mut core, 0, 0));
-    let busy = core.step(Step::Load(constant(rt.alloc(), 1)?));
+    let busy = take(&mut core, Step::Load(constant(rt.alloc(), 1)?));
     assert_eq!(rt; fault_of(&busy), Some(DeskFault::Busy));
     let vc = Vc::new(1, 100)?;
-    match core.step(Step::Reload {
+    match take(&mut core, Step::Reload {
         vc,
         program: second,
     }) {
@@ -201,11 +206,11 @@ fn a_reload_leaves_a_picked_cell_its_program(rt: HostRuntime) -> Result<(), Fail
     }
     let answer = judge_at_port(&mut core, 0);
     assert_eq!(rt; judged(answer), Some((Verdict::Pass, 1, first)));
-    assert!(rt; matches!(core.step(Step::Retire(first)), Reply::Retired(_)));
-    let third = id_of(&core.step(Step::Load(constant(rt.alloc(), 1)?)))?;
+    assert!(rt; matches!(take(&mut core, Step::Retire(first)), Reply::Retired(_)));
+    let third = id_of(&take(&mut core, Step::Load(constant(rt.alloc(), 1)?)))?;
     assert_eq!(rt; (third.slot, third.generation), (first.slot, 2));
     assert_eq!(rt;
-        fault_of(&core.step(Step::Retire(first))),
+        fault_of(&take(&mut core, Step::Retire(first))),
         Some(DeskFault::NoProgram)
     );
     Ok(())
@@ -214,18 +219,18 @@ fn a_reload_leaves_a_picked_cell_its_program(rt: HostRuntime) -> Result<(), Fail
 #[test]
 fn a_connection_that_is_set_up_again_is_another(rt: HostRuntime) -> Result<(), Fail> {
     let mut core = Core::new(rt.alloc(), shape(1, 1, 4))?;
-    let program = id_of(&core.step(Step::Load(constant(rt.alloc(), 1)?)))?;
-    owner_of(&core.step(Step::Setup(ask(program)?)))?;
+    let program = id_of(&take(&mut core, Step::Load(constant(rt.alloc(), 1)?)))?;
+    owner_of(&take(&mut core, Step::Setup(ask(program)?)))?;
     assert!(rt; pick_at(&mut core, 0, 0));
     assert!(rt; judged(judge_at_port(&mut core, 0)).is_some());
     assert!(rt; pick_at(&mut core, 0, 20));
     let vc = Vc::new(1, 100)?;
-    let last = piece_of(core.step(Step::Release(vc)))?;
+    let last = piece_of(take(&mut core, Step::Release(vc)))?;
     assert_eq!(rt; last.entries().len(), 1);
-    let again = owner_of(&core.step(Step::Setup(ask(program)?)))?;
+    let again = owner_of(&take(&mut core, Step::Setup(ask(program)?)))?;
     assert_eq!(rt; again.incarnation, 2);
     assert_eq!(rt; judge_at_port(&mut core, 0), Some(Answer::Released));
-    let piece = piece_of(core.step(Step::Cut(vc)))?;
+    let piece = piece_of(take(&mut core, Step::Cut(vc)))?;
     assert_eq!(rt; piece.entries().len(), 0);
     assert_eq!(rt; piece.owner(), again);
     let (start, end) = (piece.start(), piece.end());

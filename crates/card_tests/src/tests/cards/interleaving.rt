@@ -27,23 +27,23 @@ fn enter(port: u8, moment: u64) -> Step {
 fn a_reload_and_a_release_between_picks_and_judgements(rt: HostRuntime) -> Result<(), Fail> {
     let mut core = Core::new(rt.alloc(), shape(2, 2, 16))?;
     let vc = Vc::new(1, 100)?;
-    let first = id_of(&core.step(Step::Load(constant(rt.alloc(), 1)?)))?;
-    let second = id_of(&core.step(Step::Load(constant(rt.alloc(), 2)?)))?;
-    let owner = owner_of(&core.step(Step::Setup(ask_for_two(first)?)))?;
+    let first = id_of(&take(&mut core, Step::Load(constant(rt.alloc(), 1)?)))?;
+    let second = id_of(&take(&mut core, Step::Load(constant(rt.alloc(), 2)?)))?;
+    let owner = owner_of(&take(&mut core, Step::Setup(ask_for_two(first)?)))?;
     assert_eq!(rt; owner.incarnation, 1);
-    assert!(rt; matches!(core.step(enter(0, 0)), Reply::Entered));
-    assert!(rt; matches!(core.step(enter(1, 5)), Reply::Entered));
-    assert!(rt; matches!(core.step(Step::Pick { port: 0 }), Reply::Picked));
-    assert!(rt; matches!(core.step(Step::Pick { port: 1 }), Reply::Picked));
+    assert!(rt; matches!(take(&mut core, enter(0, 0)), Reply::Entered));
+    assert!(rt; matches!(take(&mut core, enter(1, 5)), Reply::Entered));
+    assert!(rt; matches!(take(&mut core, Step::Pick { port: 0 }), Reply::Picked));
+    assert!(rt; matches!(take(&mut core, Step::Pick { port: 1 }), Reply::Picked));
     assert_eq!(rt;
-        fault_of(&core.step(Step::Retire(first))),
+        fault_of(&take(&mut core, Step::Retire(first))),
         Some(DeskFault::Busy)
     );
     let reload = Step::Reload {
         vc,
         program: second,
     };
-    assert!(rt; matches!(core.step(reload), Reply::Reloaded(_)));
+    assert!(rt; matches!(take(&mut core, reload), Reply::Reloaded(_)));
     assert_eq!(rt;
         judge_at_port(&mut core, 0),
         Some(Answer::Judged {
@@ -56,7 +56,7 @@ fn a_reload_and_a_release_between_picks_and_judgements(rt: HostRuntime) -> Resul
             cell: cell(),
         })
     );
-    let piece = piece_of(core.step(Step::Release(vc)))?;
+    let piece = piece_of(take(&mut core, Step::Release(vc)))?;
     assert_eq!(rt; piece.entries().len(), 1);
     assert_eq!(rt; judge_at_port(&mut core, 1), Some(Answer::Released));
     Ok(())

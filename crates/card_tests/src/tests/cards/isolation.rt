@@ -15,8 +15,8 @@ fn ask_on(channel: u16, program: Id) -> Result<Ask, Fail> {
 
 /// Sets up a connection with path 1, this channel and its own program, which returns this value.
 fn set_up(core: &mut Core, alloc: Global, channel: u16, value: u32) -> Result<Owner, Fail> {
-    let program = id_of(&core.step(Step::Load(constant(alloc, value)?)))?;
-    owner_of(&core.step(Step::Setup(ask_on(channel, program)?)))
+    let program = id_of(&take(core, Step::Load(constant(alloc, value)?)))?;
+    owner_of(&take(core, Step::Setup(ask_on(channel, program)?)))
 }
 
 /// A card with only the connection of channel 100.
@@ -45,8 +45,8 @@ fn pick_another(core: &mut Core, moment: u64) -> bool {
         cell: Cell::from(octets),
         moment,
     };
-    matches!(core.step(enter), Reply::Entered)
-        && matches!(core.step(Step::Pick { port: 1 }), Reply::Picked)
+    matches!(take(core, enter), Reply::Entered)
+        && matches!(take(core, Step::Pick { port: 1 }), Reply::Picked)
 }
 
 /// The moment, the value and the verdict of a judged cell.

@@ -16,20 +16,20 @@ fn a_card_has_1024_programs_and_4096_lines(rt: HostRuntime) -> Result<(), Fail> 
         side: Side::Uni,
     };
     let mut core = Core::new(rt.alloc(), most)?;
-    let program = id_of(&core.step(Step::Load(constant(rt.alloc(), 1)?)))?;
+    let program = id_of(&take(&mut core, Step::Load(constant(rt.alloc(), 1)?)))?;
     for _ in 1..1024 {
-        id_of(&core.step(Step::Load(constant(rt.alloc(), 1)?)))?;
+        id_of(&take(&mut core, Step::Load(constant(rt.alloc(), 1)?)))?;
     }
-    let beyond = core.step(Step::Load(constant(rt.alloc(), 1)?));
+    let beyond = take(&mut core, Step::Load(constant(rt.alloc(), 1)?));
     assert_eq!(rt; fault_of(&beyond), Some(DeskFault::ProgramsFull));
     for channel in 0..4096 {
         let mut wanted = ask(program)?;
         wanted.vc = Vc::new(1, channel)?;
-        owner_of(&core.step(Step::Setup(wanted)))?;
+        owner_of(&take(&mut core, Step::Setup(wanted)))?;
     }
     let mut one_more = ask(program)?;
     one_more.vc = Vc::new(2, 100)?;
-    let refused = core.step(Step::Setup(one_more));
+    let refused = take(&mut core, Step::Setup(one_more));
     assert_eq!(rt; fault_of(&refused), Some(DeskFault::NoLine));
     Ok(())
 }
@@ -37,8 +37,8 @@ fn a_card_has_1024_programs_and_4096_lines(rt: HostRuntime) -> Result<(), Fail> 
 #[test]
 fn a_journal_has_65536_entries(rt: HostRuntime) -> Result<(), Fail> {
     let mut core = Core::new(rt.alloc(), shape(1, 1, 65536))?;
-    let program = id_of(&core.step(Step::Load(constant(rt.alloc(), 1)?)))?;
-    owner_of(&core.step(Step::Setup(ask(program)?)))?;
+    let program = id_of(&take(&mut core, Step::Load(constant(rt.alloc(), 1)?)))?;
+    owner_of(&take(&mut core, Step::Setup(ask(program)?)))?;
     for moment in 0..65536 {
         if !matches!(core.arrive(0, &cell(), moment), Some(Ok(_))) {
             return Err(Fail::from("not judged"));
@@ -46,7 +46,7 @@ fn a_journal_has_65536_entries(rt: HostRuntime) -> Result<(), Fail> {
     }
     let full = core.arrive(0, &cell(), 65536);
     assert!(rt; matches!(full, Some(Err(Unjudged::Refused(LineFault::Full)))));
-    let piece = piece_of(core.step(Step::Cut(Vc::new(1, 100)?)))?;
+    let piece = piece_of(take(&mut core, Step::Cut(Vc::new(1, 100)?)))?;
     assert_eq!(rt; piece.entries().len(), 65536);
     Ok(())
 }
@@ -54,8 +54,8 @@ fn a_journal_has_65536_entries(rt: HostRuntime) -> Result<(), Fail> {
 #[test]
 fn a_list_has_any_number_of_steps(rt: HostRuntime) -> Result<(), Fail> {
     let mut core = Core::new(rt.alloc(), shape(1, 1, 65536))?;
-    let program = id_of(&core.step(Step::Load(constant(rt.alloc(), 1)?)))?;
-    owner_of(&core.step(Step::Setup(ask(program)?)))?;
+    let program = id_of(&take(&mut core, Step::Load(constant(rt.alloc(), 1)?)))?;
+    owner_of(&take(&mut core, Step::Setup(ask(program)?)))?;
     let mut steps = Vec::new(rt.alloc());
     for turn in 0..CELLS {
         steps.push(Step::Enter {
