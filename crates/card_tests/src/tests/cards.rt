@@ -131,11 +131,14 @@ fn judged(answer: Option<Answer>) -> Option<(Verdict, u64, Id)> {
 }
 
 fn enter_at(core: &mut Core, port: u8) -> Reply {
-    take(core, Step::Enter {
-        port,
-        cell: cell(),
-        moment: 0,
-    })
+    take(
+        core,
+        Step::Enter {
+            port,
+            cell: cell(),
+            moment: 0,
+        },
+    )
 }
 
 #[test]
@@ -197,10 +200,13 @@ fn a_reload_leaves_a_picked_cell_its_program(rt: HostRuntime) -> Result<(), Fail
     let busy = take(&mut core, Step::Load(constant(rt.alloc(), 1)?));
     assert_eq!(rt; fault_of(&busy), Some(DeskFault::Busy));
     let vc = Vc::new(1, 100)?;
-    match take(&mut core, Step::Reload {
-        vc,
-        program: second,
-    }) {
+    match take(
+        &mut core,
+        Step::Reload {
+            vc,
+            program: second,
+        },
+    ) {
         Reply::Reloaded(before) => assert_eq!(rt; before, first),
         _ => return Err(Fail::from("not reloaded")),
     }
