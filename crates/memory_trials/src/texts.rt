@@ -1,6 +1,7 @@
 //! The subcommands, over an input and an output in memory.
 
 use crate::trial::{Attempt, Call, ample_if, made_again, refused_if, try_out};
+use arrayvec::ArrayVec;
 use std::alloc::Global;
 use std::sync::Wait;
 use std::thread::Threads;
@@ -33,6 +34,9 @@ const ANSWERS: &[u8; 334] =
     fault desk 5 InUse\nreloaded 1/100 p2\ndiscard 1/100 p2 1\nretired p1\nloaded p3\n\
     fault desk 1 NoProgram\nfault desk 3 Taken\nfault desk 4 NoLine\nreleased 1/100 2 1 0 1 0\n\
     fault arrive 1 NoConnection\nset 1/100\npass 1/100 p3 1 00100640\ncut 1/100 1 1 0 0 0\n";
+
+/// An output that allocates nothing and has room for each of these answers, so only the subcommand can be out of memory.
+type Answered = ArrayVec<u8, 512>;
 
 /// The subcommands.
 #[derive(Clone, Copy)]
@@ -69,7 +73,7 @@ impl Talking {
 impl Call for Talking {
     fn make(&mut self) -> Attempt {
         let mut input = Taking::new(self.input());
-        let mut output = Giving::new(Vec::new(self.alloc));
+        let mut output = Giving::new(Answered::new());
         let ended = match self.dialogue {
             Dialogue::Eval => eval_bytes(self.alloc, &mut input, &mut output),
             Dialogue::Check => check_source(self.alloc, &mut input, &mut output),
@@ -83,8 +87,7 @@ impl Call for Talking {
 fn outcome_of(ended: Result<Done, RunFault>, written: &[u8], ample: &[u8]) -> Attempt {
     match ended {
         Ok(Done::Whole) => ample_if(written == ample),
-        // An output in memory fails if it can't grow.
-        Err(RunFault::NoMemory | RunFault::WriteFailed) => refused_if(ample.starts_with(written)),
+        Err(RunFault::NoMemory) => refused_if(ample.starts_with(written)),
         _ => Attempt::Otherwise,
     }
 }
@@ -120,7 +123,7 @@ const PORTS_ANSWERS: &[u8; 145] = b"ready\nloaded p1\nset 1/100\nset 1/101\n\
 /// Runs a script whose ports are threads.
 fn talk_at_ports<R: Threads + Wait + Sync>(rt: &R, alloc: Global) -> Attempt {
     let mut input = Taking::new(PORTS_SCRIPT.as_slice());
-    let mut output = Giving::new(Vec::new(alloc));
+    let mut output = Giving::new(Answered::new());
     let ended = run_ports(rt, alloc, &mut input, &mut output);
     outcome_of(ended, &output.writer, PORTS_ANSWERS)
 }

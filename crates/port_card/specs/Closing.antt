@@ -24,22 +24,22 @@ seats_total seats = total (map tally_of_seat seats)
 abbrev pub seats_on : List SeatView → ℕ → Tally
 seats_on seats line = total (map (tally_on line) seats)
 
--- The counts of this line, if it exists, are those in `otherwise`.
+-- The counts of this line, if it exists, are those in `tallies`.
 abbrev pub IsEven : List LineView → (ℕ → Tally) → ℕ → Type 0
-IsEven lines otherwise number = (line : LineView) → slice_get lines number ≡ Some line
-    → line_counts line ≡ otherwise number
+IsEven lines tallies number = (line : LineView) → slice_get lines number ≡ Some line
+    → line_counts line ≡ tallies number
 
--- This line exists, and its counts differ from those in `otherwise`.
-pub record IsUneven (lines : List LineView) (otherwise : ℕ → Tally) (number : ℕ) : Type 0 where
+-- This line exists, and its counts differ from those in `tallies`.
+pub record IsUneven (lines : List LineView) (tallies : ℕ → Tally) (number : ℕ) : Type 0 where
   pub line : LineView
   pub there : slice_get lines number ≡ Some line
-  pub differs : line_counts line ≢ otherwise number
+  pub differs : line_counts line ≢ tallies number
 
 -- The first uneven line, or None if all lines are even.
 abbrev pub IsFirstUneven : List LineView → (ℕ → Tally) → Option ℕ → Type 0
-IsFirstUneven lines otherwise None = (number : ℕ) → IsEven lines otherwise number
-IsFirstUneven lines otherwise (Some first) =
-    IsUneven lines otherwise first × ((number : ℕ) → number < first → IsEven lines otherwise number)
+IsFirstUneven lines tallies None = (number : ℕ) → IsEven lines tallies number
+IsFirstUneven lines tallies (Some first) =
+    IsUneven lines tallies first × ((number : ℕ) → number < first → IsEven lines tallies number)
 
 -- The errors of a close: Missing only if there are fewer seats than ports, NoMemory only if there are enough.
 abbrev pub IsUnclosed : Shape → List SeatView → CloseFault → Type 0
