@@ -1,14 +1,12 @@
 -- The words of a cell line, and their command.
-use Rattle.std.proofs.Common.{◌≡◌, ℕ, zero, suc, ◌+◌, ◌-◌, ◌*◌, ◌<◌, Bool, true, false, if◌then◌else◌, List, [], ◌∷◌, ◌++◌, Option, Some, None, length, get_or, refl, sym, ap, subst, ◌∙◌, arith, codes, option_map, append-nil}
+use Rattle.std.proofs.Common.{◌≡◌, ℕ, zero, suc, ◌+◌, ◌-◌, ◌*◌, ◌<◌, true, false, if◌then◌else◌, List, [], ◌∷◌, ◌++◌, Option, Some, None, length, get_or, refl, ap, ◌∙◌, arith, codes}
 use Rattle.std.proofs.lemmas.Bool.Decides.{nat_tests}
-use Rattle.std.specs.Bool.{MatchBool}
 use Rattle.std.specs.Option.{option_and_then}
 use Rattle.text_io.specs.Words.{is_blank, is_silent, words_of, is_digit}
 use Rattle.text_io.proofs.Public.{first-word, one-word}
 use Rattle.upc_words.specs.CellWord.{IsCellWord}
 use Rattle.upc_words.specs.declared.hexadecimal.CellWord.TheVariants.{OfCell}
 use Rattle.upc_words.proofs.Public.{cell-visible}
-use Rattle.upc_script.specs.ScriptCommands.{cell, command_of}
 use Rattle.upc_script.specs.ScriptWords.{most_number, number_of_digits, spelled_behind, up_to}
 use Rattle.upc_script.specs.inner.SpelledCell.{SpellsCell}
 

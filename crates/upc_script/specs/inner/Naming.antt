@@ -1,16 +1,16 @@
 -- The names of a script's programs, as the code stores them: the ids in the order in which they were given, and for
--- each slot a number that no name of a program of this slot exceeds.
-use Rattle.std.specs.Prelude.{◌≡◌, ◌≢◌, ℕ, ◌≤◌, List, length, Some, slice_get}
+-- each slot where its programs are among them, in the order of their generations from 1.
+use Rattle.std.specs.Prelude.{◌≡◌, ℕ, ◌-◌, ◌<◌, List, Some, slice_get}
+use Rattle.std.specs.Global.{Vec}
 use Rattle.gen_arena.specs.declared.id.Id.{Id}
 
--- No program of this slot has a number above this one.
-abbrev pub NoneAbove : List Id → ℕ → ℕ → Type 0
-NoneAbove ids slot number = (place : ℕ) (id : Id) → number ≤ place → slice_get ids place ≡ Some id → id.slot ≢ slot
+-- The place is under the id's slot and generation.
+pub record IsPlaceOf (places : List (Vec ℕ)) (id : Id) (place : ℕ) : Type 0 where
+  pub of_slot : Vec ℕ
+  pub there : slice_get places id.slot ≡ Some of_slot
+  pub counted : 0 < id.generation
+  pub here : slice_get of_slot.items (id.generation - 1) ≡ Some place
 
--- The table has such a number for the slot: one of those given, or 0.
-pub record IsLatest (ids : List Id) (slot number : ℕ) : Type 0 where
-  pub within : number ≤ length ids
-  pub last : NoneAbove ids slot number
-
-abbrev pub AreLatest : List Id → List ℕ → Type 0
-AreLatest ids latest = (slot number : ℕ) → slice_get latest slot ≡ Some number → IsLatest ids slot number
+-- The place of each id is under its slot and generation.
+abbrev pub ArePlaced : List Id → List (Vec ℕ) → Type 0
+ArePlaced ids places = (place : ℕ) (id : Id) → slice_get ids place ≡ Some id → IsPlaceOf places id place

@@ -1,29 +1,65 @@
-use Rattle.std.proofs.Common.{◌≡◌, ◌-◌, Some, slice_get, get_or, length, refl, sym, ◌∙◌, ap, subst}
-use Rattle.std.proofs.lemmas.Option.{slice_get_read}
-use Rattle.upc_script.proofs.NamingLemmas.{NotAbove, found-here, not-above-all, not-above-latest, not-here}
-use Rattle.upc_script.proofs.names.Names.number_of.Goals.{in-Some, in-None}
+-- The number is that of the place under the program's slot and generation, if the program is there.
+use Rattle.std.proofs.Common.{◌≡◌, ℕ, ◌+◌, ◌<◌, List, Some, slice_get, length, refl, sym, ap, subst, ◌∙◌, true, false, arith}
+use Rattle.std.specs.Global.{Vec as TheVec}
+use Rattle.std.proofs.lemmas.Option.{same_Some, slice_get_read, slice_get_within}
+use Rattle.gen_arena.proofs.Public.{id_itself, id_same}
+use Rattle.gen_arena.specs.SameId.{is_same_id}
+use Rattle.gen_arena.specs.declared.id.Id.{Id as TheId}
+use Rattle.upc_script.specs.ProgramNames.{number_of_program}
+use Rattle.upc_script.specs.inner.Naming.{IsPlaceOf}
+use Rattle.upc_script.proofs.NamingLemmas.{no-number, number-of-place, one-place}
 use Rattle.upc_script.proofs.names.Names.number_of.Goals as goal
 
-pub loop-number-init : goal.loop-number-init
-loop-number-init c =
-    subst (λ ids. NotAbove ids c.args.id c.match-get.number) c.self.view_is (elim c.match-get.branch [
-      | in-Some w ↦
-          let read = w.in-Some.ensures.lookup in
-          let there = slice_get_read c.deref.result.now (length c.deref.result.now) c.from.result w.in-Some.latest.now refl read.3.0 read.1 in
-          let got : slice_get c.self.inside.latest.items c.args.id.slot ≡ Some c.match-get.number =
-          ap (λ xs. slice_get xs c.args.id.slot) (sym c.deref.ensures.value) ∙ ap (λ slot. slice_get c.deref.result.now slot) (sym c.from.ensures)
-          ∙ there ∙ ap (λ n. Some n) (sym w.number-is) in
-          not-above-latest c.self.inside.ids.items c.args.id c.match-get.number (c.self.invariant c.args.id.slot c.match-get.number got)
-      | in-None w ↦
-          subst (λ n. NotAbove c.self.inside.ids.items c.args.id n) (sym (w.number-is ∙ w.len-number.ensures ∙ c.self.inside.ids.ok.0)) (not-above-all c.self.inside.ids.items c.args.id)
-    ])
+pub returns-in_default : goal.returns-in_default
+returns-in_default c =
+    let ids = c.self.inside.ids.items in
+    let places = c.self.inside.places.items in
+    let none : (place : ℕ) → IsPlaceOf places c.args.id place → ⊥ =
+    subst (λ (it : List (TheVec ℕ)). (place : ℕ) → IsPlaceOf it c.args.id place → ⊥) c.deref-2.ensures.value c.in_default.ensures in
+    subst (λ (names : List TheId). 0 ≡ number_of_program names c.args.id) c.self.view_is
+    (no-number ids places c.args.id (c.self.invariant c.if-not-self.false) (λ place is here. none place is))
+
+pub returns-then-place-len : goal.returns-then-place-len
+returns-then-place-len c =
+    let ids = c.self.inside.ids.items in
+    let places = c.self.inside.places.items in
+    let place = c.in-Some.place in
+    let is : IsPlaceOf places c.args.id place =
+    subst (λ (it : List (TheVec ℕ)). IsPlaceOf it c.args.id place) c.deref-2.ensures.value c.in-Some.ensures in
+    subst (λ (names : List TheId). 0 ≡ number_of_program names c.args.id) c.self.view_is
+    (no-number ids places c.args.id (c.self.invariant c.if-not-self.false) (λ other its here.
+    let same : other ≡ place = one-place places c.args.id other place its is in
+    let within : other < length ids = slice_get_within ids other c.args.id here in
+    let past = c.if-place-len.true in let long = c.len.ensures in let sized = c.self.inside.ids.ok.0 in absurd (omega arith)))
 
 pub returns-then-eq : goal.returns-then-eq
 returns-then-eq c =
-    found-here c.args.self.now c.args.id c.index.result.now c.loop-number.number c.loop-number-test.true c.loop-number.invariant
-    (c.index.ensures ∙ ap (λ ids. get_or ids (c.loop-number.number - 1) c.index.result.now) c.self.view_is) (sym c.eq.ensures ∙ c.if-eq.true)
+    let ids = c.self.inside.ids.items in
+    let places = c.self.inside.places.items in
+    let place = c.in-Some.place in
+    let it = c.index.result.now in
+    let is : IsPlaceOf places c.args.id place =
+    subst (λ (them : List (TheVec ℕ)). IsPlaceOf them c.args.id place) c.deref-2.ensures.value c.in-Some.ensures in
+    let within : place < length ids = let test = c.if-place-len.false in let long = c.len.ensures in let sized = c.self.inside.ids.ok.0 in omega arith in
+    let there : slice_get ids place ≡ Some it = slice_get_read ids (length ids) place it refl within c.index.ensures in
+    let same : it ≡ c.args.id = id_same it c.args.id (sym c.eq.ensures ∙ c.if-eq.true) in
+    subst (λ (names : List TheId). place + 1 ≡ number_of_program names c.args.id) c.self.view_is
+    (number-of-place ids places c.args.id place (c.self.invariant c.if-not-self.false) is (there ∙ ap (λ (x : TheId). Some x) same))
 
-pub loop-number-preserved : goal.loop-number-preserved
-loop-number-preserved c =
-    not-here c.args.self.now c.args.id c.index.result.now c.loop-number.number c.loop-number-test.true c.loop-number.invariant
-    (c.index.ensures ∙ ap (λ ids. get_or ids (c.loop-number.number - 1) c.index.result.now) c.self.view_is) (sym c.eq.ensures ∙ c.if-eq.false)
+pub returns : goal.returns
+returns c =
+    let ids = c.self.inside.ids.items in
+    let places = c.self.inside.places.items in
+    let place = c.in-Some.place in
+    let it = c.index.result.now in
+    let is : IsPlaceOf places c.args.id place =
+    subst (λ (them : List (TheVec ℕ)). IsPlaceOf them c.args.id place) c.deref-2.ensures.value c.in-Some.ensures in
+    let within : place < length ids = let test = c.if-place-len.false in let long = c.len.ensures in let sized = c.self.inside.ids.ok.0 in omega arith in
+    let there : slice_get ids place ≡ Some it = slice_get_read ids (length ids) place it refl within c.index.ensures in
+    let differs : is_same_id it c.args.id ≡ false = sym c.eq.ensures ∙ c.if-eq.false in
+    subst (λ (names : List TheId). 0 ≡ number_of_program names c.args.id) c.self.view_is
+    (no-number ids places c.args.id (c.self.invariant c.if-not-self.false) (λ other its here.
+    let at : other ≡ place = one-place places c.args.id other place its is in
+    let same : c.args.id ≡ it = same_Some c.args.id it (sym (ap (λ k. slice_get ids k) (sym at) ∙ here) ∙ there) in
+    let itself : is_same_id it c.args.id ≡ true = ap (λ (x : TheId). is_same_id it x) same ∙ id_itself it in
+    absurd (cc)))
