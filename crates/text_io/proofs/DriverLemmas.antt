@@ -7,7 +7,7 @@ use Rattle.text_io.specs.Lines.{Line, lines_of}
 use Rattle.text_io.specs.Limits.{is_over, most_input_lines, most_line_octets}
 use Rattle.text_io.specs.Devices.{Adds, IsPart, TakesEnough}
 use Rattle.text_io.specs.inner.Moving.{WritesPrefix}
-use Rattle.text_io.specs.Printing.{Rules, IsTotal, Prints, IsFront}
+use Rattle.text_io.specs.Printing.{Rules, IsTotal, Prints, EndsAt, IsFront}
 use Rattle.text_io.specs.Answering.{OfEach}
 use Rattle.text_io.specs.inner.Progress.{Passes, Progress}
 use Rattle.text_io.specs.declared.ending.Done.{Done}
@@ -60,6 +60,14 @@ retold {World = World} rules start octets octets' text text' done same alike pri
     let Q : List ℕ → Type 0 = λ xs. Prints {World = World} rules 0 start (lines_of octets') xs done in
     subst Q alike (subst P same prints)
 
+-- And of where they lead.
+pub led : {World : Type 0} (rules : Rules World) (start last : World) (octets octets' text text' : List ℕ)
+    → octets ≡ octets' → text ≡ text' → EndsAt rules 0 start (lines_of octets) text last → EndsAt rules 0 start (lines_of octets') text' last
+led {World = World} rules start last octets octets' text text' same alike leads =
+    let P : List ℕ → Type 0 = λ xs. EndsAt {World = World} rules 0 start (lines_of xs) text last in
+    let Q : List ℕ → Type 0 = λ xs. EndsAt {World = World} rules 0 start (lines_of octets') xs last in
+    subst Q alike (subst P same leads)
+
 -- The invariant holds at the start.
 pub begin : {World : Type 0} (rules : Rules World) (shown : World → Type 0) (Known Held : Type 0) (whole before : List ℕ)
     → Progress rules shown shown Known Held whole whole before before [] 0
@@ -68,7 +76,7 @@ begin rules shown Known Held whole before = record {
   said = [];
   came = λ _. refl;
   gave = λ _. ([], sym (append-nil before), refl);
-  reaches = λ start sound is_shown. record { present = start; sound = sound; is_shown = is_shown; leads = λ behind more done prints. prints };
+  reaches = λ start sound is_shown. record { present = start; sound = sound; is_shown = is_shown; leads = λ behind more done prints. prints; reaches = λ behind more last leads. leads };
 }
 
 -- A line and the octets after it, associated to the left.
@@ -102,6 +110,13 @@ progress-line {World = World} rules shown now now' Known Held whole left line be
             (line-front p.answered line rest) (sym (append_assoc p.said passes.0 more))
             (r.leads (line ++ 10 ∷ rest) (passes.0 ++ more) done
             (subst Q (sym (lines-at_feed line rest none)) (after.3 (lines_of rest) more done prints)));
+        reaches = λ rest more last leads.
+            let Q : List Line → Type 0 = λ lines. EndsAt {World = World} rules met r.present lines (passes.0 ++ more) last in
+            led rules start last (p.answered ++ (line ++ 10 ∷ rest)) ((p.answered ++ (line ++ 10 ∷ [])) ++ rest)
+            (p.said ++ (passes.0 ++ more)) ((p.said ++ passes.0) ++ more)
+            (line-front p.answered line rest) (sym (append_assoc p.said passes.0 more))
+            (r.reaches (line ++ 10 ∷ rest) (passes.0 ++ more) last
+            (subst Q (sym (lines-at_feed line rest none)) (after.4 (lines_of rest) more last leads)));
       };
 }
 
@@ -154,6 +169,27 @@ text-of rules shown now Known Held whole left before held held' old here met don
       retold rules start (p.answered ++ left) whole (p.said ++ here) (gave.0 ++ (old ++ here)) done
           (sym (p.came known)) (ap (λ xs. xs ++ here) gave.2 ∙ append_assoc gave.0 old here)
           (r.leads left here done (closes r.present r.sound r.is_shown)),
+    )
+
+-- The whole input leads to a world that is shown in the end.
+pub world-of : {World : Type 0} (rules : Rules World) (shown now after : World → Type 0) (Known Held : Type 0)
+    (whole left before held held' old here : List ℕ) (met : ℕ) → Known
+    → OfEach rules now (λ present. (last : World) × after last × EndsAt rules met present (lines_of left) here last)
+    → (Held → held' ≡ held ++ (old ++ here))
+    → Progress rules shown now Known Held whole left before held old met
+    → OfEach rules shown (λ start. (text : List ℕ) × (last : World) × after last × EndsAt rules 0 start (lines_of whole) text last
+    × (Held → held' ≡ before ++ text))
+world-of rules shown now after Known Held whole left before held held' old here met known closes given p = λ start sound is_shown.
+    let r = p.reaches start sound is_shown in
+    let end = closes r.present r.sound r.is_shown in (
+      p.said ++ here,
+      end.0,
+      end.1,
+      led rules start end.0 (p.answered ++ left) whole (p.said ++ here) (p.said ++ here) (sym (p.came known)) refl (r.reaches left here end.0 end.2),
+      λ is_held.
+          let gave = p.gave is_held in
+          given is_held ∙ ap (λ xs. xs ++ (old ++ here)) gave.1 ∙ append_assoc before gave.0 (old ++ here)
+          ∙ ap (λ xs. before ++ xs) (sym (append_assoc gave.0 old here) ∙ ap (λ xs. xs ++ here) (sym gave.2)),
     )
 
 -- A prefix of the last answers gives a prefix of the text.
@@ -260,3 +296,7 @@ at-given (Err fault) done All P same all holds = tt
 pub at-fault : (result : Result Done RunFault) (Part Front : Type 0) → OnErr result Part → (Part → Front) → OnErr result Front
 at-fault (Ok value) Part Front part holds = tt
 at-fault (Err fault) Part Front part holds = holds part
+
+-- A property of the result, at a result that is known.
+pub at-result : (result : Result Done RunFault) (P : Done → Type 0) (done : Done) → result ≡ Ok done → IfOk result P → P done
+at-result result P done same holds = subst (λ (r : Result Done RunFault). IfOk r P) same holds

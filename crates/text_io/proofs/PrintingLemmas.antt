@@ -1,14 +1,15 @@
 -- Texts of lines: existence, and how a text grows line by line.
-use Rattle.std.proofs.Common.{◌≡◌, ℕ, ◌+◌, ◌<◌, Bool, true, false, List, [], ◌∷◌, ◌++◌, Option, Some, None, length, refl, ap, sym, ◌∙◌, append_assoc, append-nil}
+use Rattle.std.proofs.Common.{◌≡◌, ℕ, ◌+◌, ◌<◌, Bool, true, false, List, [], ◌∷◌, ◌++◌, Option, Some, None, length, refl, ap, sym, ◌∙◌, subst, append_assoc, append-nil}
 use Rattle.std.specs.Option.{MatchOption}
-use Rattle.text_io.specs.Lines.{Line, lines_of, said}
+use Rattle.std.specs.Prelude.{MatchBool}
+use Rattle.text_io.specs.Lines.{Line, said}
 use Rattle.text_io.specs.Limits.{is_over}
-use Rattle.text_io.specs.Printing.{Rules, IsTotal, Prints}
+use Rattle.text_io.specs.Printing.{Rules, IsTotal, Prints, EndsAt}
 use Rattle.text_io.specs.Answering.{OfEach, Answers, AnswersEnd, TurnsFrom}
-use Rattle.text_io.specs.inner.Progress.{Passes, PassesBy}
+use Rattle.text_io.specs.inner.Progress.{Concludes, Passes, PassesBy}
 use Rattle.text_io.proofs.LinesLemmas.{NoFeed, lines-of_rest}
 use Rattle.text_io.specs.declared.ending.Done.{Done}
-use Rattle.text_io.specs.declared.ending.Done.TheVariants.{Ended}
+use Rattle.text_io.specs.declared.ending.Done.TheVariants.{Whole, Ended}
 use Rattle.text_io.specs.declared.machine.Turn.{Turn}
 use Rattle.text_io.specs.declared.machine.Turn.TheVariants.{GoesOn, Ends}
 
@@ -19,6 +20,47 @@ prints-here : {World : Type 0} (rules : Rules World) (met : ℕ) (world : World)
     × MatchOption next ((more ≡ []) × (done ≡ Ended)) (λ v. Prints rules (met + 1) v lines more done))
     → Prints rules met world (line ∷ lines) text done
 prints-here rules met world line lines text done over answered = rw over answered
+
+-- A line that leads on.
+ends-here : {World : Type 0} (rules : Rules World) (met : ℕ) (world next last : World) (line : Line) (lines : List Line) (here more : List ℕ)
+    → is_over met line ≡ false → rules.steps world (said line) here (Some next) → EndsAt rules (met + 1) next lines more last
+    → EndsAt rules met world (line ∷ lines) (here ++ more) last
+ends-here rules met world next last line lines here more over step behind = (over, (here, more, next, refl, step, behind))
+
+-- Lines that lead to a world have that text.
+pub ends-print : {World : Type 0} (rules : Rules World) (met : ℕ) (world last : World) (lines : List Line) (text : List ℕ)
+    → EndsAt rules met world lines text last → Prints rules met world lines text Whole
+ends-print rules met world last [] text leads = leads.1
+ends-print rules met world last (line ∷ lines) text (over, (here, more, next, is, step, behind)) =
+    prints-here rules met world line lines text Whole over
+    (here, more, Some next, is, step, ends-print rules (met + 1) next last lines more behind)
+
+-- A text of lines that aren't ended early leads to a world.
+next-ends : {World : Type 0} (rules : Rules World) (met : ℕ) (world : World) (line : Line) (lines : List Line) (text here more : List ℕ)
+    → ((v : World) (left : List ℕ) → Prints rules (met + 1) v lines left Whole → (last : World) × EndsAt rules (met + 1) v lines left last)
+    → (next : Option World) → is_over met line ≡ false → text ≡ here ++ more → rules.steps world (said line) here next
+    → MatchOption next ((more ≡ []) × (Whole ≡ Ended)) (λ v. Prints rules (met + 1) v lines more Whole)
+    → (last : World) × EndsAt rules met world (line ∷ lines) text last
+next-ends rules met world line lines text here more behind None over is step rest = let no : Whole ≡ Ended = rest.1 in cc
+next-ends rules met world line lines text here more behind (Some next) over is step rest =
+    let later = behind next more rest in (later.0, (over, (here, more, next, is, step, later.1)))
+
+line-ends-at : {World : Type 0} (rules : Rules World) (met : ℕ) (world : World) (line : Line) (lines : List Line) (text : List ℕ)
+    → ((v : World) (left : List ℕ) → Prints rules (met + 1) v lines left Whole → (last : World) × EndsAt rules (met + 1) v lines left last)
+    → (over : Bool) → is_over met line ≡ over
+    → MatchBool over ((text ≡ rules.too_long) × (Whole ≡ Ended))
+    ((here : List ℕ) × (more : List ℕ) × (next : Option World) × (text ≡ here ++ more) × rules.steps world (said line) here next
+    × MatchOption next ((more ≡ []) × (Whole ≡ Ended)) (λ v. Prints rules (met + 1) v lines more Whole))
+    → (last : World) × EndsAt rules met world (line ∷ lines) text last
+line-ends-at rules met world line lines text behind true over told = let no : Whole ≡ Ended = told.1 in cc
+line-ends-at rules met world line lines text behind false over (here, more, next, is, step, rest) =
+    next-ends rules met world line lines text here more behind next over is step rest
+
+pub prints-end : {World : Type 0} (rules : Rules World) (met : ℕ) (world : World) (lines : List Line) (text : List ℕ)
+    → Prints rules met world lines text Whole → (last : World) × EndsAt rules met world lines text last
+prints-end rules met world [] text closes = (world, (refl, closes))
+prints-end rules met world (line ∷ lines) text prints =
+    line-ends-at rules met world line lines text (λ v left. prints-end rules (met + 1) v lines left) (is_over met line) refl prints
 
 -- A line over the limits.
 pub prints-over : {World : Type 0} (rules : Rules World) (met : ℕ) (world : World) (line : Line) (lines : List Line)
@@ -57,6 +99,7 @@ passes-from rules total met before line here GoesOn shown' sound over turns = (
   total.keeps before (said line) here turns.0 sound turns.2,
   turns.1,
   λ lines more done prints. prints-here rules met before line lines (here ++ more) done over (here, more, Some turns.0, refl, turns.2, prints),
+  λ lines more last leads. ends-here rules met before turns.0 last line lines here more over turns.2 leads,
 )
 
 -- A line within the limits, as the machine answers it.
@@ -74,39 +117,65 @@ pub passes-over : {World : Type 0} (rules : Rules World) (met : ℕ) (shown show
 passes-over rules met shown shown' line old over = (rules.too_long, refl, λ before sound is_shown lines. prints-over rules met before line lines over)
 
 -- The answer to octets without a line feed and to the end of the input.
-abbrev pub EndsBehind : {World : Type 0} → Rules World → ℕ → (World → Type 0) → List ℕ → Done → List ℕ → List ℕ → Type 0
-EndsBehind rules met shown octets done old new =
-    (here : List ℕ) × (new ≡ old ++ here) × OfEach rules shown (λ before. Prints rules met before (lines_of octets) here done)
+abbrev pub EndsBehind : {World : Type 0} → Rules World → ℕ → (World → Type 0) → (World → Type 0) → List ℕ → Done → List ℕ → List ℕ → Type 0
+EndsBehind rules met shown shown' octets done old new =
+    (here : List ℕ) × (new ≡ old ++ here) × OfEach rules shown (λ before. Concludes rules met shown' octets before here done)
 
-pub end-over : {World : Type 0} (rules : Rules World) (met : ℕ) (shown : World → Type 0) (octets old new : List ℕ)
+pub end-over : {World : Type 0} (rules : Rules World) (met : ℕ) (shown shown' : World → Type 0) (octets old new : List ℕ)
     → 0 < length octets → NoFeed octets → is_over met (record { octets = octets; ended = false }) ≡ true
-    → new ≡ old ++ rules.too_long → EndsBehind rules met shown octets Ended old new
-end-over rules met shown octets old new some none over grown = (
+    → new ≡ old ++ rules.too_long → EndsBehind rules met shown shown' octets Ended old new
+end-over rules met shown shown' octets old new some none over grown = (
   rules.too_long,
   grown,
-  λ before sound is_shown. rw (lines-of_rest octets some none) (prints-over rules met before (record { octets = octets; ended = false }) [] over),
+  λ before sound is_shown. (
+    rw (lines-of_rest octets some none) (prints-over rules met before (record { octets = octets; ended = false }) [] over),
+    λ no. cc,
+  ),
+)
+
+-- Nothing is left before the end of the input.
+pub end-closes : {World : Type 0} (rules : Rules World) (met : ℕ) (shown : World → Type 0) (octets old new : List ℕ) (done : Done)
+    → octets ≡ [] → AnswersEnd rules shown done old new → EndsBehind rules met shown shown octets done old new
+end-closes rules met shown octets old new done none end = (
+  end.0,
+  end.1,
+  λ before sound is_shown.
+      let P : Done → Type 0 = λ d. rules.closes before end.0 d in
+      let closes = end.2 before sound is_shown in
+      rw none (closes, λ whole. (before, is_shown, (refl, subst P whole closes))),
 )
 
 pub end-ends : {World : Type 0} (rules : Rules World) (met : ℕ) (shown shown' : World → Type 0) (octets old new : List ℕ)
     → 0 < length octets → NoFeed octets → is_over met (record { octets = octets; ended = false }) ≡ false
-    → Answers rules shown octets Ends shown' old new → EndsBehind rules met shown octets Ended old new
+    → Answers rules shown octets Ends shown' old new → EndsBehind rules met shown shown' octets Ended old new
 end-ends rules met shown shown' octets old new some none over answers = (
   answers.0,
   answers.1,
-  λ before sound is_shown. rw (lines-of_rest octets some none)
-      (prints-here rules met before (record { octets = octets; ended = false }) [] answers.0 Ended over (answers.0, [], None, sym (append-nil answers.0), answers.2 before sound is_shown, (refl, refl))),
+  λ before sound is_shown. (
+    rw (lines-of_rest octets some none)
+        (prints-here rules met before (record { octets = octets; ended = false }) [] answers.0 Ended over (answers.0, [], None, sym (append-nil answers.0), answers.2 before sound is_shown, (refl, refl))),
+    λ no. cc,
+  ),
 )
 
 pub end-goes : {World : Type 0} (rules : Rules World) → IsTotal rules → (met : ℕ) (shown shown' : World → Type 0) (octets old mid new : List ℕ) (done : Done)
     → 0 < length octets → NoFeed octets → is_over met (record { octets = octets; ended = false }) ≡ false
-    → Answers rules shown octets GoesOn shown' old mid → AnswersEnd rules shown' done mid new → EndsBehind rules met shown octets done old new
+    → Answers rules shown octets GoesOn shown' old mid → AnswersEnd rules shown' done mid new → EndsBehind rules met shown shown' octets done old new
 end-goes rules total met shown shown' octets old mid new done some none over answers end = (
   answers.0 ++ end.0,
   end.1 ∙ ap (λ xs. xs ++ end.0) answers.1 ∙ append_assoc old answers.0 end.0,
   λ before sound is_shown.
       let turns = answers.2 before sound is_shown in
       let sound' = total.keeps before octets answers.0 turns.0 sound turns.2 in
-      rw (lines-of_rest octets some none)
-      (prints-here rules met before (record { octets = octets; ended = false }) [] (answers.0 ++ end.0) done over
-      (answers.0, end.0, Some turns.0, refl, turns.2, end.2 turns.0 sound' turns.1)),
+      let closes = end.2 turns.0 sound' turns.1 in
+      let P : Done → Type 0 = λ d. rules.closes turns.0 end.0 d in
+      rw (lines-of_rest octets some none) (
+        prints-here rules met before (record { octets = octets; ended = false }) [] (answers.0 ++ end.0) done over
+            (answers.0, end.0, Some turns.0, refl, turns.2, closes),
+        λ whole. (
+          turns.0,
+          turns.1,
+          ends-here rules met before turns.0 turns.0 (record { octets = octets; ended = false }) [] answers.0 end.0 over turns.2 (refl, subst P whole closes),
+        ),
+      ),
 )

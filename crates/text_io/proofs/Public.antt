@@ -2,13 +2,14 @@
 use Rattle.std.proofs.Common.{◌≡◌, ℕ, ◌<◌, length, get_or, true, false, [], ◌∷◌, ◌++◌, List, refl, sym, append-nil}
 use Rattle.text_io.specs.Devices.{Adds}
 use Rattle.text_io.specs.Lines.{Line}
-use Rattle.text_io.specs.Printing.{Rules, IsTotal, IsFunctional, Prints, IsFront}
+use Rattle.text_io.specs.Printing.{Rules, IsTotal, IsFunctional, EndsAt, Prints, IsFront}
 use Rattle.text_io.specs.inner.Alike.{KeepsAlike}
 use Rattle.text_io.proofs.AlikeLemmas as alike
 use Rattle.text_io.specs.Words.{is_blank, words_of}
 use Rattle.text_io.proofs.PrintingLemmas as texts
 use Rattle.text_io.proofs.WordsLemmas as words
 use Rattle.text_io.specs.declared.ending.Done.{Done}
+use Rattle.text_io.specs.declared.ending.Done.TheVariants.{Whole}
 -- Lines without words.
 pub use Rattle.text_io.proofs.SilentLines.{silent-or, silent-sound}
 
@@ -25,6 +26,16 @@ first-word word rest blank some none parts = words.words-at_blank word rest blan
 pub some-text : {World : Type 0} (rules : Rules World) → IsTotal rules
     → (lines : List Line) (met : ℕ) (world : World) → rules.is_sound world → (text : List ℕ) × (done : Done) × Prints rules met world lines text done
 some-text rules total lines met world sound = texts.some-text rules total lines met world sound
+
+-- A text of lines that isn't ended early leads to a world.
+pub prints-end : {World : Type 0} (rules : Rules World) (met : ℕ) (world : World) (lines : List Line) (text : List ℕ)
+    → Prints rules met world lines text Whole → (last : World) × EndsAt rules met world lines text last
+prints-end = texts.prints-end
+
+-- And lines that lead to a world have that text.
+pub ends-print : {World : Type 0} (rules : Rules World) (met : ℕ) (world last : World) (lines : List Line) (text : List ℕ)
+    → EndsAt rules met world lines text last → Prints rules met world lines text Whole
+ends-print = texts.ends-print
 
 -- The empty text is a prefix of a text, if there is one.
 pub nothing-begins : (IsWhole : List ℕ → Done → Type 0) (held : List ℕ) → ((text : List ℕ) × (done : Done) × IsWhole text done) → Adds (IsFront IsWhole) held held

@@ -6,9 +6,9 @@ ghost use Rattle.text_io.specs.Devices.{Adds, IsPart, TakesEnough, one_more};
 ghost use Rattle.text_io.specs.inner.Moving.{WritesPrefix};
 ghost use Rattle.text_io.specs.Limits.{most_ahead, most_input_lines, most_line_octets};
 ghost use Rattle.text_io.specs.Lines.{lines_of};
-ghost use Rattle.text_io.specs.Printing.{Prints, IsFront};
+ghost use Rattle.text_io.specs.Printing.{Prints, EndsAt, IsFront};
 ghost use Rattle.text_io.specs.Failures.{read_failures, write_failures};
-ghost use Rattle.text_io.specs.inner.Progress.{Passes};
+ghost use Rattle.text_io.specs.inner.Progress.{Concludes, Passes};
 ghost use Rattle.text_io.specs.declared.ending.Done.{Done as TheDone};
 
 use crate::delivery::{give_answers, give_last};
@@ -64,7 +64,8 @@ fn answer_end<M: Machine>(
 ) -> Result<Done, AllocError>
     requires { (k : ℕ) → k < length octets.now → slice_index octets.now k ≢ 10 }
     ensures { IfOk result (λ done. (here : List ℕ) × (answers.new.items ≡ answers.old.items ++ here)
-        × OfEach M.rules (M.shows machine.old) (λ before. Prints M.rules met before (lines_of octets.now) here done)) }
+        × OfEach M.rules (M.shows machine.old)
+        (λ before. Concludes M.rules met (M.shows machine.new) octets.now before here done)) }
 {
     if octets.is_empty() {
         return machine.close(answers);
@@ -155,7 +156,8 @@ fn finish<O: Output, M: Machine>(
     requires { (k : ℕ) → k < length octets.now → slice_index octets.now k ≢ 10 }
     ensures given { IfOk result (λ done. (here : List ℕ)
         × (O.is_known → O.held output.new ≡ O.held output.old ++ (answers.old.items ++ here))
-        × OfEach M.rules (M.shows machine.old) (λ before. Prints M.rules met before (lines_of octets.now) here done)) }
+        × OfEach M.rules (M.shows machine.old)
+        (λ before. Concludes M.rules met (M.shows machine.new) octets.now before here done)) }
     ensures front { O.is_known → OnErr result
         (OfEach M.rules (M.shows machine.old) (λ before. (here : List ℕ) × (done : TheDone)
         × IsPart (O.held output.old) (O.held output.new) (answers.old.items ++ here)
@@ -189,6 +191,12 @@ pub fn answer_lines<I: Input, O: Output, M: Machine>(
     ensures front { I.is_known → O.is_known → OnErr result
         (OfEach M.rules (M.shows machine.old) (λ start.
         Adds (IsFront (Prints M.rules 0 start (lines_of (I.rest input.old)))) (O.held output.old) (O.held output.new))) }
+
+    // If all was answered, the machine shows a world to which the lines lead, with the text that was written.
+    ensures world { I.is_known → result ≡ Ok Done.Whole → OfEach M.rules (M.shows machine.old) (λ start.
+        (text : List ℕ) × (last : M.World) × M.shows machine.new last
+        × EndsAt M.rules 0 start (lines_of (I.rest input.old)) text last
+        × (O.is_known → O.held output.new ≡ O.held output.old ++ text)) }
 
     // The run reads what it answers and at most a window more.
     ensures left { I.is_known → IfOk result (λ done. OfEach M.rules (M.shows machine.old) (λ start.

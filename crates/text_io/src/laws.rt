@@ -2,8 +2,9 @@
 
 ghost use Rattle.std.specs.Prelude.{◌≡◌, ℕ, List};
 ghost use Rattle.text_io.specs.Lines.{Line};
-ghost use Rattle.text_io.specs.Printing.{IsFunctional, Prints};
+ghost use Rattle.text_io.specs.Printing.{IsFunctional, EndsAt, Prints};
 ghost use Rattle.text_io.specs.declared.ending.Done.{Done as TheDone};
+ghost use Rattle.text_io.specs.declared.ending.Done.TheVariants.{Whole};
 
 use crate::machine::Machine;
 
@@ -19,4 +20,12 @@ pub fn lines_have_one_text<M: Machine>()
         → (one other : List ℕ) (ends other_ends : TheDone)
         → Prints M.rules met start lines one ends → Prints M.rules met start lines other other_ends
         → (one ≡ other) × (ends ≡ other_ends) }
+{}
+
+/// The texts with which lines lead to a last world are their texts that no line ends early.
+pub fn whole_texts_end_at_a_world<M: Machine>()
+    ensures leads { (lines : List Line) (met : ℕ) (start : M.World) (text : List ℕ)
+        → Prints M.rules met start lines text Whole → (last : M.World) × EndsAt M.rules met start lines text last }
+    ensures prints { (lines : List Line) (met : ℕ) (start last : M.World) (text : List ℕ)
+        → EndsAt M.rules met start lines text last → Prints M.rules met start lines text Whole }
 {}

@@ -33,9 +33,9 @@ pub trait Machine {
             Answers rules (shows self.old) line.now turn (shows self.new) answers.old.items answers.new.items) };
 
     /// Appends the answer to the end of the input to the answers.
-    fn close(&mut self, answers: &mut Vec<u8>) -> Result<Done, AllocError>
+    fn close(&self, answers: &mut Vec<u8>) -> Result<Done, AllocError>
         ensures { IfOk result (λ done.
-            AnswersEnd rules (shows self.old) done answers.old.items answers.new.items) };
+            AnswersEnd rules (shows self.now) done answers.old.items answers.new.items) };
 
     /// Appends the answer to a line over the limits to the answers.
     fn refuse(&self, answers: &mut Vec<u8>) -> Result<(), AllocError>

@@ -94,7 +94,7 @@ impl Machine for Script {
         Ok(Turn::GoesOn)
     }
 
-    fn close(&mut self, answers: &mut Vec<u8>) -> Result<Done, AllocError> {
+    fn close(&self, answers: &mut Vec<u8>) -> Result<Done, AllocError> {
         if self.is_open {
             return Ok(Done::Whole);
         }

@@ -152,7 +152,7 @@ impl Machine for Evaluation {
         }
     }
 
-    fn close(&mut self, answers: &mut Vec<u8>) -> Result<Done, AllocError> {
+    fn close(&self, answers: &mut Vec<u8>) -> Result<Done, AllocError> {
         if self.program.is_some() {
             return Ok(Done::Whole);
         }

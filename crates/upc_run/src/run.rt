@@ -89,7 +89,7 @@ impl Machine for Policing {
         }
     }
 
-    fn close(&mut self, answers: &mut Vec<u8>) -> Result<Done, AllocError> {
+    fn close(&self, answers: &mut Vec<u8>) -> Result<Done, AllocError> {
         if self.card.is_some() {
             return Ok(Done::Whole);
         }

@@ -5,9 +5,9 @@ use Rattle.text_io.specs.Lines.{lines_of}
 use Rattle.text_io.specs.Limits.{most_ahead}
 use Rattle.text_io.specs.Printing.{Prints}
 use Rattle.text_io.specs.Answering.{OfEach}
-use Rattle.text_io.specs.declared.ending.Done.TheVariants.{Ended}
-use Rattle.text_io.proofs.DriverLemmas.{begin, progress-line, progress-given, progress-left, all-moved, text-of, front-of, front-of-last, enough, line-ends, window-over}
-use Rattle.text_io.proofs.DriverLemmas.{split-window, no-feed-front, at-err, at-ok, at-done, at-given, at-fault, none-at}
+use Rattle.text_io.specs.declared.ending.Done.TheVariants.{Whole, Ended}
+use Rattle.text_io.proofs.DriverLemmas.{begin, progress-line, progress-given, progress-left, all-moved, text-of, front-of, front-of-last, world-of, enough, line-ends, window-over}
+use Rattle.text_io.proofs.DriverLemmas.{split-window, no-feed-front, at-err, at-ok, at-result, at-done, at-given, at-fault, none-at}
 use Rattle.text_io.proofs.driver.answer_lines.Goals as goal
 
 pub returns-in_default-clause-front : goal.returns-in_default-clause-front
@@ -303,8 +303,38 @@ returns-in-Ok-eq0-clause-text g c = λ ki ko.
     (λ ko. all-moved held held' old new (c.in-Ok-eq0.ensures.given ko) c.in-Ok-eq0.ensures.none) goes in
     let ready = progress-left m.rules shown now g.I.Input.is_known g.O.Output.is_known whole left O before held' new met last given in
     IfOk-weaker c.finish.result _ _
-    (λ done end. text-of m.rules shown now g.I.Input.is_known g.O.Output.is_known whole O before held' (g.O.Output.held c.finish.new.output) new end.0 met done ki ko end.2 (end.1 ko) ready)
+    (λ done end. text-of m.rules shown now g.I.Input.is_known g.O.Output.is_known whole O before held' (g.O.Output.held c.finish.new.output) new end.0 met done ki ko
+    (λ present sound is_shown. (end.2 present sound is_shown).0) (end.1 ko) ready)
     c.finish.ensures.given
+
+pub returns-in-Ok-eq0-clause-world : goal.returns-in-Ok-eq0-clause-world
+returns-in-Ok-eq0-clause-world g c = λ ki is_whole.
+    let m = g.M.Machine in
+    let shown = m.shows c.args.machine.now in
+    let now = m.shows c.loop-count.machine in
+    let after = m.shows c.finish.new.machine in
+    let whole = g.I.Input.rest c.args.input.now in
+    let before = g.O.Output.held c.args.output.now in
+    let held = g.O.Output.held c.loop-count.output in
+    let old = c.loop-count.answers.items in
+    let met = c.loop-count.met in
+    let rest = g.I.Input.rest c.loop-count.input in
+    let left = c.loop-count.window ++ rest in
+    let goes = c.loop-count.invariant.goes in
+    let O = c.octets-in-Ok-eq0.result.now in
+    let held' = g.O.Output.held c.refill.new.output in
+    let new = c.refill.new.answers.items in
+    let none : c.in-Ok-eq0.field-0 ≡ 0 = omega arith in
+    let at_end : g.I.Input.is_known → g.I.Input.rest c.refill.new.input ≡ [] = λ ki. c.in-Ok-eq0.ensures.end ki (ap (λ n. Ok n) none) in
+    let last : g.I.Input.is_known → left ≡ O = λ ki. ap (λ xs. xs ++ rest) (sym c.find_line.ensures.same) ∙ c.in-Ok-eq0.ensures.octets ki
+    ∙ ap (λ xs. c.refill.new.window ++ xs) (at_end ki)
+    ∙ append-nil c.refill.new.window ∙ sym c.octets-in-Ok-eq0.ensures in
+    let given = progress-given m.rules shown now g.I.Input.is_known g.O.Output.is_known whole left before held held' old new met
+    (λ ko. all-moved held held' old new (c.in-Ok-eq0.ensures.given ko) c.in-Ok-eq0.ensures.none) goes in
+    let ready = progress-left m.rules shown now g.I.Input.is_known g.O.Output.is_known whole left O before held' new met last given in
+    let end = at-result c.finish.result _ Whole is_whole c.finish.ensures.given in
+    world-of m.rules shown now after g.I.Input.is_known g.O.Output.is_known whole O before held' (g.O.Output.held c.finish.new.output) new end.0 met ki
+    (λ present sound is_shown. (end.2 present sound is_shown).1 refl) end.1 ready
 
 pub returns-in-Ok-eq0-clause-front : goal.returns-in-Ok-eq0-clause-front
 returns-in-Ok-eq0-clause-front g c = λ ki ko.
@@ -361,7 +391,8 @@ returns-in-Ok-eq0-clause-left g c = λ ki.
     let rest' = g.I.Input.rest c.refill.new.input in
     IfOk-weaker c.finish.result _ _
     (λ done end. enough m.rules shown now g.I.Input.is_known g.O.Output.is_known whole O O [] rest' before held' new end.0 met most_ahead done ki
-    (sym (append-nil O) ∙ ap (λ xs. O ++ xs) (sym (at_end ki))) empty end.2 ready)
+    (sym (append-nil O) ∙ ap (λ xs. O ++ xs) (sym (at_end ki))) empty
+    (λ present sound is_shown. (end.2 present sound is_shown).0) ready)
     c.finish.ensures.given
 
 pub loop-count-preserved : goal.loop-count-preserved

@@ -33,7 +33,7 @@ impl Machine for Parity {
         Ok(Turn::GoesOn)
     }
 
-    fn close(&mut self, _answers: &mut Vec<u8>) -> Result<Done, AllocError> {
+    fn close(&self, _answers: &mut Vec<u8>) -> Result<Done, AllocError> {
         Ok(Done::Whole)
     }
 
