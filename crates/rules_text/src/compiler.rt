@@ -1,9 +1,10 @@
 //! The compiler from text to code.
 
-ghost use Rattle.std.specs.Prelude.{List, IfOk};
+ghost use Rattle.std.specs.Prelude.{List, IfOk, IfErr};
 ghost use Rattle.bpf_verify.specs.Accepted.{IsAccepted};
 ghost use Rattle.cell_rules.specs.Promise.{FollowsRules};
 ghost use Rattle.cell_rules.specs.declared.rules.Rules.{Rules};
+ghost use Rattle.rules_text.specs.TextFaults.{IsCompilingFault, ReadsAs};
 
 use crate::fault::{RuleFault, RuleKind};
 use crate::reader::read_rules;
@@ -19,18 +20,21 @@ use std::alloc::Global;
 /// instructions.
 pub fn compile_text(alloc: Global, text: &[u8]) -> Result<Vec<Instr>, RuleFault>
     ensures accepted { IfOk result (λ code. IsAccepted code.items) }
-    ensures value { IfOk result (λ code. (rules : Rules) × FollowsRules rules code.items) }
+    ensures value { IfOk result (λ code. (rules : Rules) × ReadsAs text.now rules × FollowsRules rules code.items) }
+    ensures fault { IfErr result (IsCompilingFault text.now) }
 {
     let rules = read_rules(alloc, text)?;
     match compile(alloc, &rules) {
         Ok(code) => Ok(code),
-        Err(fault) => Err(RuleFault {
+        Err(CodeFault::TooLong) => Err(RuleFault {
             line: 0,
             column: 0,
-            kind: match fault {
-                CodeFault::TooLong => RuleKind::TooLong,
-                CodeFault::NoMemory => RuleKind::NoMemory,
-            },
+            kind: RuleKind::TooLong,
+        }),
+        Err(CodeFault::NoMemory) => Err(RuleFault {
+            line: 0,
+            column: 0,
+            kind: RuleKind::NoMemory,
         }),
     }
 }
