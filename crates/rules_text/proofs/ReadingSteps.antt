@@ -1,11 +1,14 @@
 -- A line read token by token, and a text line by line.
-use Rattle.std.proofs.Common.{◌≡◌, ℕ, suc, ◌+◌, List, [], ◌∷◌, Result, Ok, Err, refl, sym, ap, ◌∙◌, subst, arith}
-use Rattle.rules_text.specs.LineGrammar.{LineContext, Reading, SaidRead, read_token, said_at_end}
+use Rattle.std.proofs.Common.{◌≡◌, ◌≢◌, ◌⊎◌, inl, inr, ℕ, suc, ◌+◌, true, false, List, [], ◌∷◌, Result, Ok, Err, refl, sym, ap, ◌∙◌, subst, arith}
+use Rattle.rules_text.specs.LineGrammar.{LineContext, Reading, SaidRead, nothing_read, read_token, said_at_end}
 use Rattle.rules_text.specs.RulesRead.{RulesRead}
-use Rattle.rules_text.specs.RuleTokens.{RuleFound}
-use Rattle.rules_text.specs.TextOfRules.{TextReading, fault_column, placed_fault, read_then, rules_at_end, rules_from, said_from, text_with_line}
+use Rattle.rules_text.specs.RuleTokens.{RuleFound, rule_tokens}
+use Rattle.rules_text.specs.TextFaults.{IsFaultOf}
+use Rattle.rules_text.specs.TextOfRules.{TextReading, context_of, fault_column, placed_fault, read_then, rules_at_end, rules_from, said_from, text_with, text_with_line}
 use Rattle.rules_text.specs.declared.fault.RuleFault.{RuleFault}
 use Rattle.rules_text.specs.declared.fault.RuleKind.{RuleKind}
+use Rattle.rules_text.specs.declared.fault.RuleKind.TheVariants.{BadLine, BadNumber, TooLarge, OutsideCell, AfterOtherwise, Unbalanced, TooDeep, TooLong, NoMemory}
+use Rattle.rules_text.specs.inner.SeenReading.{fault_seen}
 
 -- One more token.
 pub said_more : (context : LineContext) (number column : ℕ) (reading next : Reading) (found : RuleFound) (rest : List RuleFound)
@@ -49,3 +52,52 @@ rules_fault text number line rest fault e = rw e refl
 pub rules_end : (text : TextReading) (number : ℕ) → rules_from text number [] ≡ rules_at_end text
 unfolding rules_from
 rules_end text number = refl
+
+-- A line without tokens.
+pub line_empty : (text : TextReading) (number : ℕ) (line : List ℕ) → rule_tokens line ≡ [] → text_with_line text number line ≡ Ok text
+unfolding text_with_line
+line_empty text number line e = rw e refl
+
+-- A line after `otherwise`.
+pub line_closed : (text : TextReading) (number : ℕ) (line : List ℕ) (first : RuleFound) (rest : List RuleFound)
+    → rule_tokens line ≡ first ∷ rest → text.closed ≡ true → text_with_line text number line ≡ Err (placed_fault number first.column AfterOtherwise)
+unfolding text_with_line
+line_closed text number line first rest e closed = rw (e, closed) refl
+
+-- A line that says something.
+pub line_said : (text : TextReading) (number : ℕ) (line : List ℕ) (first : RuleFound) (rest : List RuleFound) (said : SaidRead)
+    → rule_tokens line ≡ first ∷ rest → text.closed ≡ false → said_from (context_of text) number nothing_read 1 (rule_tokens line) ≡ Ok said
+    → text_with_line text number line ≡ Ok (text_with text number first.column said)
+unfolding text_with_line
+line_said text number line first rest said e closed s =
+    let t : said_from (context_of text) number nothing_read 1 (first ∷ rest) ≡ Ok said = ap (said_from (context_of text) number nothing_read 1) (sym e) ∙ s in
+    rw (e, closed, t) refl
+
+-- A line with a fault.
+pub line_fault : (text : TextReading) (number : ℕ) (line : List ℕ) (first : RuleFound) (rest : List RuleFound) (fault : RuleFault)
+    → rule_tokens line ≡ first ∷ rest → text.closed ≡ false → said_from (context_of text) number nothing_read 1 (rule_tokens line) ≡ Err fault
+    → text_with_line text number line ≡ Err fault
+unfolding text_with_line
+line_fault text number line first rest fault e closed s =
+    let t : said_from (context_of text) number nothing_read 1 (first ∷ rest) ≡ Err fault = ap (said_from (context_of text) number nothing_read 1) (sym e) ∙ s in
+    rw (e, closed, t) refl
+
+-- A fault that has no place but its token's.
+pub other_fault : {A : Type 0} (read : Result A RuleFault) (reading : Reading) (number column : ℕ) (fault : RuleFault) (kind : RuleKind)
+    → kind ≢ Unbalanced → fault ≡ fault_seen number column kind
+    → (kind ≢ NoMemory → read ≡ Err (placed_fault number (fault_column reading kind column) kind)) → IsFaultOf read fault
+other_fault read reading number column fault BadLine n f g = inr (g (λ e. cc) ∙ ap (λ (x : RuleFault). Err x) (sym f))
+other_fault read reading number column fault BadNumber n f g = inr (g (λ e. cc) ∙ ap (λ (x : RuleFault). Err x) (sym f))
+other_fault read reading number column fault TooLarge n f g = inr (g (λ e. cc) ∙ ap (λ (x : RuleFault). Err x) (sym f))
+other_fault read reading number column fault OutsideCell n f g = inr (g (λ e. cc) ∙ ap (λ (x : RuleFault). Err x) (sym f))
+other_fault read reading number column fault AfterOtherwise n f g = inr (g (λ e. cc) ∙ ap (λ (x : RuleFault). Err x) (sym f))
+other_fault read reading number column fault Unbalanced n f g = absurd (n refl)
+other_fault read reading number column fault TooDeep n f g = inr (g (λ e. cc) ∙ ap (λ (x : RuleFault). Err x) (sym f))
+other_fault read reading number column fault TooLong n f g = inr (g (λ e. cc) ∙ ap (λ (x : RuleFault). Err x) (sym f))
+other_fault read reading number column fault NoMemory n f g = inl f
+
+-- A fault of a part is one of the whole.
+pub fault_onward : {A B : Type 0} (part : Result A RuleFault) (whole : Result B RuleFault) (fault : RuleFault)
+    → (part ≡ Err fault → whole ≡ Err fault) → IsFaultOf part fault → IsFaultOf whole fault
+fault_onward part whole fault on (inl e) = inl e
+fault_onward part whole fault on (inr e) = inr (on e)

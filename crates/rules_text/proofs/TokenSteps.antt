@@ -1,9 +1,10 @@
 -- The tokens of a line, one blank or token after the other.
-use Rattle.std.proofs.Common.{◌≡◌, ℕ, zero, suc, ◌+◌, ◌-◌, ◌<◌, ◌≤◌, true, false, ◌==◌, List, [], ◌∷◌, length, get_or, drop, refl, sym, ap, ◌∙◌, subst, arith}
-use Rattle.std.proofs.lemmas.List.{at_drop_all, at_drop_more}
+use Rattle.std.proofs.Common.{◌≡◌, ◌≢◌, ℕ, zero, suc, ◌+◌, ◌-◌, ◌<◌, ◌≤◌, true, false, ◌==◌, List, [], ◌∷◌, length, get_or, drop, refl, sym, ap, ◌∙◌, subst, arith}
+use Rattle.std.proofs.lemmas.Bool.{ne_eqb}
+use Rattle.std.proofs.lemmas.List.{at_drop_all, at_drop_more, drop-drop}
 use Rattle.bpf_asm.specs.Tokens.{is_word}
 use Rattle.text_io.specs.Words.{is_blank}
-use Rattle.rules_text.specs.RuleTokens.{TokenCut, first_cut, found_at, letters_len, tokens_from}
+use Rattle.rules_text.specs.RuleTokens.{RuleFound, TokenCut, first_cut, found_at, letters_len, tokens_from}
 
 tokens_blank : (column octet : ℕ) (rest : List ℕ) → is_blank octet ≡ true → tokens_from column 0 (octet ∷ rest) ≡ tokens_from (column + 1) 0 rest
 unfolding tokens_from
@@ -32,13 +33,31 @@ token_by_size column octet (suc n) rest s w =
     let e : column + 1 + n ≡ column + suc n = omega arith in
     ap (λ (k : ℕ). tokens_from (column + 1) k rest) same ∙ tokens_passed (column + 1) n rest (omega arith) ∙ ap (λ (c : ℕ). tokens_from c 0 (drop n rest)) e
 
--- One more token.
-pub token_more : (column : ℕ) (text : List ℕ) → 0 < length text → is_blank (get_or text 0 0) ≡ false → (get_or text 0 0 == 35) ≡ false
-    → 0 < (first_cut text).size → (first_cut text).size ≤ length text
-    → tokens_from column 0 text ≡ found_at column (first_cut text) ∷ tokens_from (column + (first_cut text).size) 0 (drop (first_cut text).size text)
+token_first : (column octet : ℕ) (rest : List ℕ) (cut : TokenCut) → is_blank octet ≡ false → octet ≢ 35 → cut ≡ first_cut (octet ∷ rest)
+    → 0 < cut.size → cut.size ≤ length rest + 1
+    → tokens_from column 0 (octet ∷ rest) ≡ found_at column cut ∷ tokens_from (column + cut.size) 0 (drop cut.size (octet ∷ rest))
 unfolding tokens_from
-token_more column [] h b c s w = absurd (omega arith)
-token_more column (octet ∷ rest) h b c s w = rw (b, c) (ap (λ ts. found_at column (first_cut (octet ∷ rest)) ∷ ts) (token_by_size column octet (first_cut (octet ∷ rest)).size rest s (omega arith)))
+token_first column octet rest cut b c e s w =
+    rw (b, ne_eqb octet 35 c, sym e) (ap (λ ts. found_at column cut ∷ ts) (token_by_size column octet cut.size rest s w))
+
+-- A token up to a column.
+abbrev found_to : TokenCut → ℕ → ℕ → RuleFound
+found_to cut column after = record { token = cut.token; column = column; after = after }
+
+-- One more token.
+pub token_more : (line : List ℕ) (start : ℕ) (cut : TokenCut) → start < length line → is_blank (get_or line start 0) ≡ false → get_or line start 0 ≢ 35
+    → cut ≡ first_cut (drop start line) → 0 < cut.size → cut.size ≤ length (drop start line)
+    → tokens_from (start + 1) 0 (drop start line)
+    ≡ found_to cut (start + 1) (start + cut.size + 1) ∷ tokens_from (start + cut.size + 1) 0 (drop (start + cut.size) line)
+token_more line start cut h b c e s w =
+    let split = at_drop_more (λ (xs : List ℕ). xs) line start 0 h in
+    let column : start + 1 + cut.size ≡ start + cut.size + 1 = omega arith in
+    let behind : drop cut.size (get_or line start 0 ∷ drop (start + 1) line) ≡ drop (start + cut.size) line = ap (drop cut.size) (sym split) ∙ drop-drop cut.size start line in
+    let within : cut.size ≤ length (drop (start + 1) line) + 1 = omega (arith, ap length split) in
+    ap (tokens_from (start + 1) 0) split
+    ∙ token_first (start + 1) (get_or line start 0) (drop (start + 1) line) cut b c (e ∙ ap first_cut split) s within
+    ∙ ap (λ (k : ℕ). found_to cut (start + 1) k ∷ tokens_from k 0 (drop cut.size (get_or line start 0 ∷ drop (start + 1) line))) column
+    ∙ ap (λ (xs : List ℕ). found_to cut (start + 1) (start + cut.size + 1) ∷ tokens_from (start + cut.size + 1) 0 xs) behind
 
 -- A line without more octets has no token.
 pub tokens_none : (column : ℕ) (text : List ℕ) → length text ≡ 0 → tokens_from column 0 text ≡ []
@@ -46,11 +65,14 @@ unfolding tokens_from
 tokens_none column [] h = refl
 tokens_none column (octet ∷ rest) h = absurd (omega arith)
 
--- A comment has no token.
-pub tokens_comment : (column : ℕ) (text : List ℕ) → 0 < length text → is_blank (get_or text 0 0) ≡ false → (get_or text 0 0 == 35) ≡ true → tokens_from column 0 text ≡ []
+comment_first : (column octet : ℕ) (rest : List ℕ) → is_blank octet ≡ false → octet ≡ 35 → tokens_from column 0 (octet ∷ rest) ≡ []
 unfolding tokens_from
-tokens_comment column [] h b c = absurd (omega arith)
-tokens_comment column (octet ∷ rest) h b c = rw (b, c) refl
+comment_first column octet rest b c = let h : (octet == 35) ≡ true = rw c refl in rw (b, h) refl
+
+-- A comment has no token.
+pub comment_none : (line : List ℕ) (start : ℕ) → start < length line → is_blank (get_or line start 0) ≡ false → get_or line start 0 ≡ 35
+    → tokens_from (start + 1) 0 (drop start line) ≡ []
+comment_none line start h b c = at_drop_more (tokens_from (start + 1) 0) line start 0 h ∙ comment_first (start + 1) (get_or line start 0) (drop (start + 1) line) b c
 
 letters_word : (octet : ℕ) (rest : List ℕ) → is_word octet ≡ true → letters_len (octet ∷ rest) ≡ letters_len rest + 1
 unfolding letters_len

@@ -4,7 +4,7 @@ ghost use Rattle.std.specs.Prelude.{◌≡◌, ◌≢◌, ◌+◌, ℕ, Ok, Err,
 ghost use Rattle.rules_text.specs.LineGrammar.{no_group, nothing_read, read_arrow, read_comma, read_constant, read_dots, read_high, read_low, read_mask, read_offset, read_operator, read_relation, read_rest, read_side, read_sign, read_start, read_token, read_unit, read_value, said_at_end, whole_test, with_block, with_close, with_list, with_open, with_range, with_test, with_unit};
 ghost use Rattle.rules_text.specs.RulesRead.{comparing, field_read, relation_read, test_read};
 ghost use Rattle.rules_text.specs.TextOfRules.{fault_column};
-ghost use Rattle.rules_text.specs.declared.fault.RuleKind.TheVariants.{NoMemory, Unbalanced};
+ghost use Rattle.rules_text.specs.declared.fault.RuleKind.TheVariants.{BadLine, NoMemory, Unbalanced};
 ghost use Rattle.rules_text.specs.inner.Seen.{sign_seen, token_seen};
 ghost use Rattle.rules_text.specs.inner.SeenReading.{context_seen, group_seen, reading_seen, said_found, said_seen, subject_seen, wants_seen};
 
@@ -159,7 +159,8 @@ impl LineReader {
 
     /// What the line is, once its last token was read.
     pub(crate) fn finish(self) -> Result<Said, RuleKind>
-        ensures { said_found result ≡ said_at_end (wants_seen self.wants) (said_seen self.said) }
+        ensures said { said_found result ≡ said_at_end (wants_seen self.wants) (said_seen self.said) }
+        ensures early { IfErr result (λ kind. kind ≡ BadLine) }
     {
         match self.wants {
             Wants::Start | Wants::End => Ok(self.said),
