@@ -1,10 +1,12 @@
 -- A line read token by token, and a text line by line.
-use Rattle.std.proofs.Common.{◌≡◌, ◌≢◌, ◌⊎◌, inl, inr, ℕ, suc, ◌+◌, true, false, List, [], ◌∷◌, Result, Ok, Err, refl, sym, ap, ◌∙◌, subst, arith}
+use Rattle.std.proofs.Common.{◌≡◌, ◌≢◌, ◌⊎◌, inl, inr, IsErrAnd, IfErr, IfOk, ℕ, suc, ◌+◌, true, false, List, [], ◌∷◌, Result, Ok, Err, refl, sym, ap, ◌∙◌, subst, arith}
+use Rattle.bpf_asm.specs.SourceLines.{source_lines}
+use Rattle.cell_rules.specs.declared.rules.Rules.{Rules}
 use Rattle.rules_text.specs.LineGrammar.{LineContext, Reading, SaidRead, nothing_read, read_token, said_at_end}
-use Rattle.rules_text.specs.RulesRead.{RulesRead}
+use Rattle.rules_text.specs.RulesRead.{RulesRead, rules_read}
 use Rattle.rules_text.specs.RuleTokens.{RuleFound, rule_tokens}
 use Rattle.rules_text.specs.TextFaults.{IsFaultOf}
-use Rattle.rules_text.specs.TextOfRules.{TextReading, context_of, fault_column, placed_fault, read_then, rules_at_end, rules_from, said_from, text_with, text_with_line}
+use Rattle.rules_text.specs.TextOfRules.{TextReading, context_of, fault_column, no_text_read, placed_fault, read_then, rules_at_end, rules_from, rules_in, said_from, text_with, text_with_line}
 use Rattle.rules_text.specs.declared.fault.RuleFault.{RuleFault}
 use Rattle.rules_text.specs.declared.fault.RuleKind.{RuleKind}
 use Rattle.rules_text.specs.declared.fault.RuleKind.TheVariants.{BadLine, BadNumber, TooLarge, OutsideCell, AfterOtherwise, Unbalanced, TooDeep, TooLong, NoMemory}
@@ -101,3 +103,36 @@ pub fault_onward : {A B : Type 0} (part : Result A RuleFault) (whole : Result B 
     → (part ≡ Err fault → whole ≡ Err fault) → IsFaultOf part fault → IsFaultOf whole fault
 fault_onward part whole fault on (inl e) = inl e
 fault_onward part whole fault on (inr e) = inr (on e)
+
+-- A fault that is returned at once.
+pub returned_fault : {T : Type 0} (returned : Result T RuleFault) (fault : RuleFault) (P : RuleFault → Type 0)
+    → IsErrAnd returned (λ other. other ≡ fault) → P fault → IfErr returned P
+returned_fault (Ok value) fault P e p = tt
+returned_fault (Err other) fault P e p = subst P (sym e) p
+
+-- A fault at an equal column.
+pub placed_same : (fault : RuleFault) (number column other : ℕ) (kind : RuleKind) → fault ≡ placed_fault number column kind → column ≡ other → fault ≡ placed_fault number other kind
+placed_same fault number column other kind e same = e ∙ ap (λ (k : ℕ). placed_fault number k kind) same
+
+-- A line that ends too early has a place.
+pub early_same : (fault : RuleFault) (number column : ℕ) (kind : RuleKind) → fault ≡ fault_seen number column kind → kind ≡ BadLine → fault ≡ placed_fault number column kind
+early_same fault number column kind e bad =
+    let seen : fault_seen number column kind ≡ placed_fault number column BadLine = ap (fault_seen number column) bad in
+    e ∙ seen ∙ ap (placed_fault number column) (sym bad)
+
+-- The rules of a text, from its first line on.
+pub rules_begun : (octets : List ℕ) → rules_in octets ≡ rules_from no_text_read 1 (source_lines octets)
+unfolding rules_in
+rules_begun octets = refl
+
+-- The rules at the end of the text are those of the whole text.
+pub rules_at_last : (returned : Result Rules RuleFault) (at_end whole : Result RulesRead RuleFault) → whole ≡ at_end
+    → IfOk returned (λ rules. at_end ≡ Ok (rules_read rules)) → IfOk returned (λ rules. whole ≡ Ok (rules_read rules))
+rules_at_last (Ok rules) at_end whole e h = e ∙ h
+rules_at_last (Err fault) at_end whole e h = tt
+
+-- A fault at the end of the text is one of the whole text.
+pub fault_at_last : (returned : Result Rules RuleFault) (at_end whole : Result RulesRead RuleFault) → whole ≡ at_end
+    → IfErr returned (λ fault. at_end ≡ Err fault) → IfErr returned (IsFaultOf whole)
+fault_at_last (Ok rules) at_end whole e h = tt
+fault_at_last (Err fault) at_end whole e h = inr (e ∙ h)
