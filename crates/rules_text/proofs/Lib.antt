@@ -1,3 +1,3 @@
 pub mod TokenSteps
-pub mod Stacks
 pub mod ReadingSteps
+pub mod Values

@@ -1,16 +1,16 @@
 -- A line read token by token, and a text line by line.
-use Rattle.std.proofs.Common.{◌≡◌, ◌≢◌, ◌⊎◌, inl, inr, IsErrAnd, IfErr, IfOk, ℕ, suc, ◌+◌, true, false, List, [], ◌∷◌, Result, Ok, Err, refl, sym, ap, ◌∙◌, subst, arith}
+use Rattle.std.proofs.Common.{◌≡◌, ◌≢◌, inl, inr, IsErrAnd, IfErr, IfOk, ℕ, ◌+◌, true, false, List, [], ◌∷◌, Result, Ok, Err, refl, sym, ap, ◌∙◌, subst}
 use Rattle.bpf_asm.specs.SourceLines.{source_lines}
 use Rattle.cell_rules.specs.declared.rules.Rules.{Rules}
 use Rattle.rules_text.specs.LineGrammar.{LineContext, Reading, SaidRead, nothing_read, read_token, said_at_end}
 use Rattle.rules_text.specs.RulesRead.{RulesRead, rules_read}
 use Rattle.rules_text.specs.RuleTokens.{RuleFound, rule_tokens}
 use Rattle.rules_text.specs.TextFaults.{IsFaultOf}
-use Rattle.rules_text.specs.TextOfRules.{TextReading, context_of, fault_column, no_text_read, placed_fault, read_then, rules_at_end, rules_from, rules_in, said_from, text_with, text_with_line}
+use Rattle.rules_text.specs.TextOfRules.{TextReading, context_of, fault_column, no_text_read, placed_fault, rules_at_end, rules_from, rules_in, said_from, text_with, text_with_line}
 use Rattle.rules_text.specs.declared.fault.RuleFault.{RuleFault}
 use Rattle.rules_text.specs.declared.fault.RuleKind.{RuleKind}
 use Rattle.rules_text.specs.declared.fault.RuleKind.TheVariants.{BadLine, BadNumber, TooLarge, OutsideCell, AfterOtherwise, Unbalanced, TooDeep, TooLong, NoMemory}
-use Rattle.rules_text.specs.inner.SeenReading.{fault_seen}
+use Rattle.rules_text.specs.inner.SeenFaults.{fault_seen}
 
 -- One more token.
 pub said_more : (context : LineContext) (number column : ℕ) (reading next : Reading) (found : RuleFound) (rest : List RuleFound)

@@ -1,6 +1,5 @@
 -- The tokens of a line, one blank or token after the other.
-use Rattle.std.proofs.Common.{◌≡◌, ◌≢◌, ℕ, zero, suc, ◌+◌, ◌-◌, ◌<◌, ◌≤◌, true, false, ◌==◌, List, [], ◌∷◌, length, get_or, drop, refl, sym, ap, ◌∙◌, subst, arith}
-use Rattle.std.proofs.lemmas.Bool.{ne_eqb}
+use Rattle.std.proofs.Common.{◌≡◌, ℕ, zero, suc, ◌+◌, ◌-◌, ◌<◌, ◌≤◌, true, false, ◌==◌, List, [], ◌∷◌, length, get_or, drop, refl, sym, ap, ◌∙◌, arith}
 use Rattle.std.proofs.lemmas.List.{at_drop_all, at_drop_more, drop-drop}
 use Rattle.bpf_asm.specs.Tokens.{is_word}
 use Rattle.text_io.specs.Words.{is_blank}
@@ -33,19 +32,19 @@ token_by_size column octet (suc n) rest s w =
     let e : column + 1 + n ≡ column + suc n = omega arith in
     ap (λ (k : ℕ). tokens_from (column + 1) k rest) same ∙ tokens_passed (column + 1) n rest (omega arith) ∙ ap (λ (c : ℕ). tokens_from c 0 (drop n rest)) e
 
-token_first : (column octet : ℕ) (rest : List ℕ) (cut : TokenCut) → is_blank octet ≡ false → octet ≢ 35 → cut ≡ first_cut (octet ∷ rest)
+token_first : (column octet : ℕ) (rest : List ℕ) (cut : TokenCut) → is_blank octet ≡ false → (octet == 35) ≡ false → cut ≡ first_cut (octet ∷ rest)
     → 0 < cut.size → cut.size ≤ length rest + 1
     → tokens_from column 0 (octet ∷ rest) ≡ found_at column cut ∷ tokens_from (column + cut.size) 0 (drop cut.size (octet ∷ rest))
 unfolding tokens_from
 token_first column octet rest cut b c e s w =
-    rw (b, ne_eqb octet 35 c, sym e) (ap (λ ts. found_at column cut ∷ ts) (token_by_size column octet cut.size rest s w))
+    rw (b, c, sym e) (ap (λ ts. found_at column cut ∷ ts) (token_by_size column octet cut.size rest s w))
 
 -- A token up to a column.
 abbrev found_to : TokenCut → ℕ → ℕ → RuleFound
 found_to cut column after = record { token = cut.token; column = column; after = after }
 
 -- One more token.
-pub token_more : (line : List ℕ) (start : ℕ) (cut : TokenCut) → start < length line → is_blank (get_or line start 0) ≡ false → get_or line start 0 ≢ 35
+pub token_more : (line : List ℕ) (start : ℕ) (cut : TokenCut) → start < length line → is_blank (get_or line start 0) ≡ false → (get_or line start 0 == 35) ≡ false
     → cut ≡ first_cut (drop start line) → 0 < cut.size → cut.size ≤ length (drop start line)
     → tokens_from (start + 1) 0 (drop start line)
     ≡ found_to cut (start + 1) (start + cut.size + 1) ∷ tokens_from (start + cut.size + 1) 0 (drop (start + cut.size) line)
@@ -65,12 +64,12 @@ unfolding tokens_from
 tokens_none column [] h = refl
 tokens_none column (octet ∷ rest) h = absurd (omega arith)
 
-comment_first : (column octet : ℕ) (rest : List ℕ) → is_blank octet ≡ false → octet ≡ 35 → tokens_from column 0 (octet ∷ rest) ≡ []
+comment_first : (column octet : ℕ) (rest : List ℕ) → is_blank octet ≡ false → (octet == 35) ≡ true → tokens_from column 0 (octet ∷ rest) ≡ []
 unfolding tokens_from
-comment_first column octet rest b c = let h : (octet == 35) ≡ true = rw c refl in rw (b, h) refl
+comment_first column octet rest b c = rw (b, c) refl
 
 -- A comment has no token.
-pub comment_none : (line : List ℕ) (start : ℕ) → start < length line → is_blank (get_or line start 0) ≡ false → get_or line start 0 ≡ 35
+pub comment_none : (line : List ℕ) (start : ℕ) → start < length line → is_blank (get_or line start 0) ≡ false → (get_or line start 0 == 35) ≡ true
     → tokens_from (start + 1) 0 (drop start line) ≡ []
 comment_none line start h b c = at_drop_more (tokens_from (start + 1) 0) line start 0 h ∙ comment_first (start + 1) (get_or line start 0) (drop (start + 1) line) b c
 

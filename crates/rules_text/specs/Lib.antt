@@ -4,4 +4,5 @@ pub mod Subjects
 pub mod LineGrammar
 pub mod TextOfRules
 pub mod TextFaults
+pub mod ValuesRead
 pub mod inner

@@ -1,10 +1,10 @@
 -- Fields and the numbers that they can have.
-use Rattle.std.specs.Prelude.{ℕ, nat_le, nat_lt, if◌then◌else◌, Option, Some, None, Result, Ok, Err}
+use Rattle.std.specs.Prelude.{ℕ, nat_lt, if◌then◌else◌, Result, Ok, Err}
 use Rattle.bpf_code.specs.declared.instr.Size.{Size}
 use Rattle.bpf_code.specs.declared.instr.Size.TheVariants.{Octet, Half, Word}
 use Rattle.upc_cell.specs.Side.{last_vpi}
 use Rattle.upc_cell.specs.declared.side.Side.{Side}
-use Rattle.upc_cell.specs.declared.side.Side.TheVariants.{Uni, Nni}
+use Rattle.upc_cell.specs.declared.side.Side.TheVariants.{Nni}
 use Rattle.rules_text.specs.RulesRead.{FieldRead, gfc_field, vpi_field, vci_field, pti_field, clp_field, octets_field}
 use Rattle.rules_text.specs.RuleTokens.{RuleToken, number_word, bad_number, refuse_word}
 use Rattle.rules_text.specs.declared.fault.RuleKind.{RuleKind}

@@ -9,9 +9,9 @@ use Rattle.rules_text.specs.TextOfRules.{placed_fault, rules_in}
 use Rattle.rules_text.specs.declared.fault.RuleFault.{RuleFault}
 use Rattle.rules_text.specs.declared.fault.RuleKind.TheVariants.{NoMemory, TooLong}
 
--- The text reads as these rules.
-abbrev pub ReadsAs : List ℕ → Rules → Type 0
-ReadsAs octets rules = rules_in octets ≡ Ok (rules_read rules)
+-- The text has these rules.
+abbrev pub HasRules : List ℕ → Rules → Type 0
+HasRules octets rules = rules_in octets ≡ Ok (rules_read rules)
 
 -- The fault is that an allocation failed, or it is what the definition says. Out of memory has no place.
 abbrev pub IsFaultOf : {A : Type 0} → Result A RuleFault → RuleFault → Type 0
@@ -20,7 +20,7 @@ IsFaultOf read fault = (fault ≡ placed_fault 0 0 NoMemory) ⊎ (read ≡ Err f
 -- The text has rules, and the code that is defined for them has more than 4096 instructions.
 pub record IsTooLong (octets : List ℕ) : Type 0 where
   pub rules : Rules
-  pub read : ReadsAs octets rules
+  pub read : HasRules octets rules
   pub lines : List Line
   pub plain : ArePlainLines rules.side rules.lines.items lines
   pub longer : 4096 < length (lines_code lines rules.otherwise)

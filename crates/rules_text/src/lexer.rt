@@ -1,10 +1,10 @@
 //! The tokens of a line.
 
-ghost use Rattle.std.specs.Prelude.{◌≡◌, ◌+◌, ◌≤◌, ◌<◌, ◌∷◌, [], false, length, slice_index, take, drop, map, MatchOption, IfSome};
+ghost use Rattle.std.specs.Prelude.{◌≡◌, ◌+◌, ◌≤◌, ◌<◌, ◌∷◌, ◌==◌, [], false, length, slice_index, take, drop, map, MatchOption, IfSome};
 ghost use Rattle.bpf_asm.specs.Tokens.{is_word};
 ghost use Rattle.text_io.specs.Words.{is_blank, is_digit};
 ghost use Rattle.rules_text.specs.RuleTokens.{first_cut, letters_len, long_marks, longest_mark, row_token, rule_words, short_marks, token_of_letters, tokens_from};
-ghost use Rattle.rules_text.specs.inner.Seen.{cut_seen, found_seen, token_seen, some_token};
+ghost use Rattle.rules_text.specs.inner.Seen.{cut_seen, found_seen, rule_token_seen, some_token};
 
 use bpf_asm::number;
 use bpf_code::Size;
@@ -136,7 +136,7 @@ const SHORT_MARKS: [(&[u8], Token); 9] = [
 
 /// The token that a table has for these octets, if it has one.
 fn found_in(octets: &[u8], rows: &[(&[u8], Token)]) -> Option<Token>
-    ensures { some_token result ≡ row_token octets.now (map (λ row. (row.0.now, token_seen row.1)) rows.now) }
+    ensures { some_token result ≡ row_token octets.now (map (λ row. (row.0.now, rule_token_seen row.1)) rows.now) }
 {
     let mut left = rows;
     while let [row, rest @ ..] = left {
@@ -174,6 +174,13 @@ fn blank(octet: u8) -> bool
     ensures { result ≡ is_blank octet }
 {
     octet == b' ' || octet == b'\t'
+}
+
+/// Whether a comment begins at an octet.
+fn begins_comment(octet: u8) -> bool
+    ensures { result ≡ (octet == 35) }
+{
+    octet == b'#'
 }
 
 /// Whether an octet is an ASCII digit.
@@ -226,7 +233,7 @@ fn word_len(text: &[u8]) -> usize
 #[tactic(auto, unfolding(crate::specs::RuleTokens::token_of_letters))]
 fn word_token(word: &[u8]) -> Token
     requires { 0 < length word.now }
-    ensures { token_seen result ≡ token_of_letters word.now }
+    ensures { rule_token_seen result ≡ token_of_letters word.now }
 {
     if digit(word[0]) {
         match number(word) {
@@ -290,7 +297,7 @@ pub(crate) fn next_token(line: &[u8], from: usize) -> Option<Found>
     if start == line.len() {
         return None;
     }
-    if line[start] == b'#' {
+    if begins_comment(line[start]) {
         return None;
     }
     let first = first_token(&line[start..]);

@@ -1,11 +1,11 @@
 //! The reader of a line, token by token.
 
 ghost use Rattle.std.specs.Prelude.{◌≡◌, ◌≢◌, ◌+◌, ℕ, Ok, Err, IfOk, IfErr};
-ghost use Rattle.rules_text.specs.LineGrammar.{no_group, nothing_read, read_arrow, read_comma, read_constant, read_dots, read_high, read_low, read_mask, read_offset, read_operator, read_relation, read_rest, read_side, read_sign, read_start, read_token, read_unit, read_value, said_at_end, whole_test, with_block, with_close, with_list, with_open, with_range, with_test, with_unit};
+ghost use Rattle.rules_text.specs.LineGrammar.{no_group, nothing_read, read_arrow, read_comma, read_constant, read_dots, read_high, read_low, read_mask, read_offset, read_operator, read_relation, read_rest, read_side, read_sign, read_start, read_token, read_unit, read_value, said_at_end, whole_test, with_block, with_close, with_list, with_open, with_range, with_head, with_unit};
 ghost use Rattle.rules_text.specs.RulesRead.{comparing, field_read, relation_read, test_read};
 ghost use Rattle.rules_text.specs.TextOfRules.{fault_column};
 ghost use Rattle.rules_text.specs.declared.fault.RuleKind.TheVariants.{BadLine, NoMemory, Unbalanced};
-ghost use Rattle.rules_text.specs.inner.Seen.{sign_seen, token_seen};
+ghost use Rattle.rules_text.specs.inner.Seen.{sign_seen, rule_token_seen};
 ghost use Rattle.rules_text.specs.inner.SeenReading.{context_seen, group_seen, reading_seen, said_found, said_seen, subject_seen, wants_seen};
 
 use crate::fault::RuleKind;
@@ -133,8 +133,8 @@ impl LineReader {
         column: usize,
         token: Token,
     ) -> Result<(), RuleKind>
-        ensures ok { IfOk result (λ _. read_token (context_seen context) column (reading_seen self.old) (token_seen token) ≡ Ok (reading_seen self.new)) }
-        ensures err { IfErr result (λ kind. kind ≢ NoMemory → read_token (context_seen context) column (reading_seen self.old) (token_seen token) ≡ Err kind) }
+        ensures ok { IfOk result (λ _. read_token (context_seen context) column (reading_seen self.old) (rule_token_seen token) ≡ Ok (reading_seen self.new)) }
+        ensures err { IfErr result (λ kind. kind ≢ NoMemory → read_token (context_seen context) column (reading_seen self.old) (rule_token_seen token) ≡ Err kind) }
     {
         match self.wants {
             Wants::Start => self.start(alloc, context, column, token),
@@ -188,8 +188,8 @@ impl LineReader {
         column: usize,
         token: Token,
     ) -> Result<(), RuleKind>
-        ensures ok { IfOk result (λ _. read_start (context_seen context) column (reading_seen self.old) (token_seen token) ≡ Ok (reading_seen self.new)) }
-        ensures err { IfErr result (λ kind. kind ≢ NoMemory → read_start (context_seen context) column (reading_seen self.old) (token_seen token) ≡ Err kind) }
+        ensures ok { IfOk result (λ _. read_start (context_seen context) column (reading_seen self.old) (rule_token_seen token) ≡ Ok (reading_seen self.new)) }
+        ensures err { IfErr result (λ kind. kind ≢ NoMemory → read_start (context_seen context) column (reading_seen self.old) (rule_token_seen token) ≡ Err kind) }
     {
         match token {
             Token::Otherwise => {
@@ -227,8 +227,8 @@ impl LineReader {
         column: usize,
         token: Token,
     ) -> Result<(), RuleKind>
-        ensures ok { IfOk result (λ _. read_unit (context_seen context) column (reading_seen self.old) (token_seen token) ≡ Ok (reading_seen self.new)) }
-        ensures err { IfErr result (λ kind. kind ≢ NoMemory → read_unit (context_seen context) column (reading_seen self.old) (token_seen token) ≡ Err kind) }
+        ensures ok { IfOk result (λ _. read_unit (context_seen context) column (reading_seen self.old) (rule_token_seen token) ≡ Ok (reading_seen self.new)) }
+        ensures err { IfErr result (λ kind. kind ≢ NoMemory → read_unit (context_seen context) column (reading_seen self.old) (rule_token_seen token) ≡ Err kind) }
     {
         match token {
             Token::Not => {
@@ -290,8 +290,8 @@ impl LineReader {
     /// Reads a token after a unit.
     #[tactic(auto, unfolding(crate::specs::LineGrammar::read_operator))]
     fn operator(&mut self, alloc: Global, context: Context, token: Token) -> Result<(), RuleKind>
-        ensures ok { IfOk result (λ _. read_operator (context_seen context) (reading_seen self.old) (token_seen token) ≡ Ok (reading_seen self.new)) }
-        ensures err { IfErr result (λ kind. kind ≢ NoMemory → read_operator (context_seen context) (reading_seen self.old) (token_seen token) ≡ Err kind) }
+        ensures ok { IfOk result (λ _. read_operator (context_seen context) (reading_seen self.old) (rule_token_seen token) ≡ Ok (reading_seen self.new)) }
+        ensures err { IfErr result (λ kind. kind ≢ NoMemory → read_operator (context_seen context) (reading_seen self.old) (rule_token_seen token) ≡ Err kind) }
     {
         match token {
             Token::And => {
@@ -364,10 +364,10 @@ impl LineReader {
     }
 
     /// Keeps the test of a rule.
-    #[tactic(auto, unfolding(crate::specs::LineGrammar::with_test))]
+    #[tactic(auto, unfolding(crate::specs::LineGrammar::with_head))]
     fn head(&mut self, alloc: Global) -> Result<(), RuleKind>
-        ensures ok { IfOk result (λ _. with_test (reading_seen self.old) ≡ Ok (reading_seen self.new)) }
-        ensures err { IfErr result (λ kind. kind ≢ NoMemory → with_test (reading_seen self.old) ≡ Err kind) }
+        ensures ok { IfOk result (λ _. with_head (reading_seen self.old) ≡ Ok (reading_seen self.new)) }
+        ensures err { IfErr result (λ kind. kind ≢ NoMemory → with_head (reading_seen self.old) ≡ Err kind) }
     {
         let test = self.whole(alloc)?;
         self.test = test;
@@ -378,8 +378,8 @@ impl LineReader {
     /// Reads the offset of octets.
     #[tactic(auto, unfolding(crate::specs::LineGrammar::read_offset))]
     fn offset(&mut self, size: Size, token: Token) -> Result<(), RuleKind>
-        ensures ok { IfOk result (λ _. read_offset size (reading_seen self.old) (token_seen token) ≡ Ok (reading_seen self.new)) }
-        ensures err { IfErr result (λ kind. read_offset size (reading_seen self.old) (token_seen token) ≡ Err kind) }
+        ensures ok { IfOk result (λ _. read_offset size (reading_seen self.old) (rule_token_seen token) ≡ Ok (reading_seen self.new)) }
+        ensures err { IfErr result (λ kind. read_offset size (reading_seen self.old) (rule_token_seen token) ≡ Err kind) }
     {
         let field = octets_of(size, token)?;
         self.wants = Wants::Relation(Subject { field, mask: None });
@@ -389,8 +389,8 @@ impl LineReader {
     /// Reads a token after a field.
     #[tactic(auto, unfolding(crate::specs::LineGrammar::read_relation))]
     fn relation(&mut self, context: Context, subject: Subject, token: Token) -> Result<(), RuleKind>
-        ensures ok { IfOk result (λ _. read_relation (context_seen context) (subject_seen subject) (reading_seen self.old) (token_seen token) ≡ Ok (reading_seen self.new)) }
-        ensures err { IfErr result (λ kind. read_relation (context_seen context) (subject_seen subject) (reading_seen self.old) (token_seen token) ≡ Err kind) }
+        ensures ok { IfOk result (λ _. read_relation (context_seen context) (subject_seen subject) (reading_seen self.old) (rule_token_seen token) ≡ Ok (reading_seen self.new)) }
+        ensures err { IfErr result (λ kind. read_relation (context_seen context) (subject_seen subject) (reading_seen self.old) (rule_token_seen token) ≡ Err kind) }
     {
         match token {
             Token::Mask => {
@@ -404,8 +404,8 @@ impl LineReader {
     /// Reads a mask.
     #[tactic(auto, unfolding(crate::specs::LineGrammar::read_mask))]
     fn mask(&mut self, context: Context, subject: Subject, token: Token) -> Result<(), RuleKind>
-        ensures ok { IfOk result (λ _. read_mask (context_seen context) (subject_seen subject) (reading_seen self.old) (token_seen token) ≡ Ok (reading_seen self.new)) }
-        ensures err { IfErr result (λ kind. read_mask (context_seen context) (subject_seen subject) (reading_seen self.old) (token_seen token) ≡ Err kind) }
+        ensures ok { IfOk result (λ _. read_mask (context_seen context) (subject_seen subject) (reading_seen self.old) (rule_token_seen token) ≡ Ok (reading_seen self.new)) }
+        ensures err { IfErr result (λ kind. read_mask (context_seen context) (subject_seen subject) (reading_seen self.old) (rule_token_seen token) ≡ Err kind) }
     {
         let mask = number_for(token, subject.field, context.side)?;
         self.wants = Wants::Sign(Subject {
@@ -418,8 +418,8 @@ impl LineReader {
     /// Reads a sign, or the first number of a list.
     #[tactic(auto, unfolding(crate::specs::LineGrammar::read_sign))]
     fn sign(&mut self, context: Context, subject: Subject, token: Token) -> Result<(), RuleKind>
-        ensures ok { IfOk result (λ _. read_sign (context_seen context) (subject_seen subject) (reading_seen self.old) (token_seen token) ≡ Ok (reading_seen self.new)) }
-        ensures err { IfErr result (λ kind. read_sign (context_seen context) (subject_seen subject) (reading_seen self.old) (token_seen token) ≡ Err kind) }
+        ensures ok { IfOk result (λ _. read_sign (context_seen context) (subject_seen subject) (reading_seen self.old) (rule_token_seen token) ≡ Ok (reading_seen self.new)) }
+        ensures err { IfErr result (λ kind. read_sign (context_seen context) (subject_seen subject) (reading_seen self.old) (rule_token_seen token) ≡ Err kind) }
     {
         match token {
             Token::Sign(sign) => {
@@ -440,8 +440,8 @@ impl LineReader {
         sign: Sign,
         token: Token,
     ) -> Result<(), RuleKind>
-        ensures ok { IfOk result (λ _. read_constant (context_seen context) (subject_seen subject) (sign_seen sign) (reading_seen self.old) (token_seen token) ≡ Ok (reading_seen self.new)) }
-        ensures err { IfErr result (λ kind. kind ≢ NoMemory → read_constant (context_seen context) (subject_seen subject) (sign_seen sign) (reading_seen self.old) (token_seen token) ≡ Err kind) }
+        ensures ok { IfOk result (λ _. read_constant (context_seen context) (subject_seen subject) (sign_seen sign) (reading_seen self.old) (rule_token_seen token) ≡ Ok (reading_seen self.new)) }
+        ensures err { IfErr result (λ kind. kind ≢ NoMemory → read_constant (context_seen context) (subject_seen subject) (sign_seen sign) (reading_seen self.old) (rule_token_seen token) ≡ Err kind) }
     {
         let k = number_for(token, subject.field, context.side)?;
         self.compare(alloc, subject, relation_of(sign, k))
@@ -470,8 +470,8 @@ impl LineReader {
     /// Reads a number of a list.
     #[tactic(auto, unfolding(crate::specs::LineGrammar::read_low))]
     fn low(&mut self, context: Context, subject: Subject, token: Token) -> Result<(), RuleKind>
-        ensures ok { IfOk result (λ _. read_low (context_seen context) (subject_seen subject) (reading_seen self.old) (token_seen token) ≡ Ok (reading_seen self.new)) }
-        ensures err { IfErr result (λ kind. read_low (context_seen context) (subject_seen subject) (reading_seen self.old) (token_seen token) ≡ Err kind) }
+        ensures ok { IfOk result (λ _. read_low (context_seen context) (subject_seen subject) (reading_seen self.old) (rule_token_seen token) ≡ Ok (reading_seen self.new)) }
+        ensures err { IfErr result (λ kind. read_low (context_seen context) (subject_seen subject) (reading_seen self.old) (rule_token_seen token) ≡ Err kind) }
     {
         let low = number_for(token, subject.field, context.side)?;
         self.wants = Wants::Dots(subject, low);
@@ -488,8 +488,8 @@ impl LineReader {
         low: u32,
         token: Token,
     ) -> Result<(), RuleKind>
-        ensures ok { IfOk result (λ _. read_dots (context_seen context) (subject_seen subject) low (reading_seen self.old) (token_seen token) ≡ Ok (reading_seen self.new)) }
-        ensures err { IfErr result (λ kind. kind ≢ NoMemory → read_dots (context_seen context) (subject_seen subject) low (reading_seen self.old) (token_seen token) ≡ Err kind) }
+        ensures ok { IfOk result (λ _. read_dots (context_seen context) (subject_seen subject) low (reading_seen self.old) (rule_token_seen token) ≡ Ok (reading_seen self.new)) }
+        ensures err { IfErr result (λ kind. kind ≢ NoMemory → read_dots (context_seen context) (subject_seen subject) low (reading_seen self.old) (rule_token_seen token) ≡ Err kind) }
     {
         match token {
             Token::Dots => {
@@ -526,8 +526,8 @@ impl LineReader {
         low: u32,
         token: Token,
     ) -> Result<(), RuleKind>
-        ensures ok { IfOk result (λ _. read_high (context_seen context) (subject_seen subject) low (reading_seen self.old) (token_seen token) ≡ Ok (reading_seen self.new)) }
-        ensures err { IfErr result (λ kind. read_high (context_seen context) (subject_seen subject) low (reading_seen self.old) (token_seen token) ≡ Err kind) }
+        ensures ok { IfOk result (λ _. read_high (context_seen context) (subject_seen subject) low (reading_seen self.old) (rule_token_seen token) ≡ Ok (reading_seen self.new)) }
+        ensures err { IfErr result (λ kind. read_high (context_seen context) (subject_seen subject) low (reading_seen self.old) (rule_token_seen token) ≡ Err kind) }
     {
         let high = number_for(token, subject.field, context.side)?;
         if high < low {
@@ -546,8 +546,8 @@ impl LineReader {
         span: Span,
         token: Token,
     ) -> Result<(), RuleKind>
-        ensures ok { IfOk result (λ _. read_comma (context_seen context) (subject_seen subject) span (reading_seen self.old) (token_seen token) ≡ Ok (reading_seen self.new)) }
-        ensures err { IfErr result (λ kind. kind ≢ NoMemory → read_comma (context_seen context) (subject_seen subject) span (reading_seen self.old) (token_seen token) ≡ Err kind) }
+        ensures ok { IfOk result (λ _. read_comma (context_seen context) (subject_seen subject) span (reading_seen self.old) (rule_token_seen token) ≡ Ok (reading_seen self.new)) }
+        ensures err { IfErr result (λ kind. kind ≢ NoMemory → read_comma (context_seen context) (subject_seen subject) span (reading_seen self.old) (rule_token_seen token) ≡ Err kind) }
     {
         match token {
             Token::Comma => {
@@ -579,8 +579,8 @@ impl LineReader {
     /// Reads `->` after `otherwise`.
     #[tactic(auto, unfolding(crate::specs::LineGrammar::read_arrow))]
     fn arrow(&mut self, token: Token) -> Result<(), RuleKind>
-        ensures ok { IfOk result (λ _. read_arrow (reading_seen self.old) (token_seen token) ≡ Ok (reading_seen self.new)) }
-        ensures err { IfErr result (λ kind. read_arrow (reading_seen self.old) (token_seen token) ≡ Err kind) }
+        ensures ok { IfOk result (λ _. read_arrow (reading_seen self.old) (rule_token_seen token) ≡ Ok (reading_seen self.new)) }
+        ensures err { IfErr result (λ kind. read_arrow (reading_seen self.old) (rule_token_seen token) ≡ Err kind) }
     {
         match token {
             Token::Arrow => {
@@ -594,8 +594,8 @@ impl LineReader {
     /// Reads the value of a rule.
     #[tactic(auto, unfolding(crate::specs::LineGrammar::read_value))]
     fn value(&mut self, token: Token) -> Result<(), RuleKind>
-        ensures ok { IfOk result (λ _. read_value (reading_seen self.old) (token_seen token) ≡ Ok (reading_seen self.new)) }
-        ensures err { IfErr result (λ kind. read_value (reading_seen self.old) (token_seen token) ≡ Err kind) }
+        ensures ok { IfOk result (λ _. read_value (reading_seen self.old) (rule_token_seen token) ≡ Ok (reading_seen self.new)) }
+        ensures err { IfErr result (λ kind. read_value (reading_seen self.old) (rule_token_seen token) ≡ Err kind) }
     {
         let value = value_of(token)?;
         let test = std::mem::replace(&mut self.test, Test::Any);
@@ -607,8 +607,8 @@ impl LineReader {
     /// Reads the value of `otherwise`.
     #[tactic(auto, unfolding(crate::specs::LineGrammar::read_rest))]
     fn rest(&mut self, token: Token) -> Result<(), RuleKind>
-        ensures ok { IfOk result (λ _. read_rest (reading_seen self.old) (token_seen token) ≡ Ok (reading_seen self.new)) }
-        ensures err { IfErr result (λ kind. read_rest (reading_seen self.old) (token_seen token) ≡ Err kind) }
+        ensures ok { IfOk result (λ _. read_rest (reading_seen self.old) (rule_token_seen token) ≡ Ok (reading_seen self.new)) }
+        ensures err { IfErr result (λ kind. read_rest (reading_seen self.old) (rule_token_seen token) ≡ Err kind) }
     {
         let value = value_of(token)?;
         self.said = Said::Otherwise(value);
@@ -619,8 +619,8 @@ impl LineReader {
     /// Reads the side.
     #[tactic(auto, unfolding(crate::specs::LineGrammar::read_side))]
     fn side_name(&mut self, token: Token) -> Result<(), RuleKind>
-        ensures ok { IfOk result (λ _. read_side (reading_seen self.old) (token_seen token) ≡ Ok (reading_seen self.new)) }
-        ensures err { IfErr result (λ kind. read_side (reading_seen self.old) (token_seen token) ≡ Err kind) }
+        ensures ok { IfOk result (λ _. read_side (reading_seen self.old) (rule_token_seen token) ≡ Ok (reading_seen self.new)) }
+        ensures err { IfErr result (λ kind. read_side (reading_seen self.old) (rule_token_seen token) ≡ Err kind) }
     {
         match token {
             Token::Uni => {

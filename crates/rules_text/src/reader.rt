@@ -4,12 +4,12 @@ ghost use Rattle.std.specs.Prelude.{◌≡◌, ◌+◌, ◌≤◌, ◌<◌, ◌^
 ghost use Rattle.rules_text.specs.LineGrammar.{nothing_read};
 ghost use Rattle.rules_text.specs.RulesRead.{line_read, rules_read};
 ghost use Rattle.rules_text.specs.RuleTokens.{rule_tokens};
-ghost use Rattle.rules_text.specs.TextFaults.{IsFaultOf, ReadsAs};
+ghost use Rattle.rules_text.specs.TextFaults.{IsFaultOf, HasRules};
 ghost use Rattle.rules_text.specs.TextOfRules.{placed_fault, rules_at_end, rules_in, said_from, text_with, text_with_line, with_line};
 ghost use Rattle.rules_text.specs.declared.fault.RuleKind.TheVariants.{NoMemory};
-ghost use Rattle.rules_text.specs.inner.SeenReading.{context_seen, fault_seen, said_seen, text_seen};
+ghost use Rattle.rules_text.specs.inner.SeenReading.{context_seen, said_seen, text_seen};
 
-use crate::fault::{RuleFault, RuleKind};
+use crate::fault::{RuleFault, RuleKind, fault_at};
 use crate::lexer::next_token;
 use crate::line_reader::{Context, LineReader, Said};
 use bpf_asm::next_line;
@@ -22,20 +22,6 @@ use upc_cell::Side;
 struct Place {
     line: usize,
     column: usize,
-}
-
-/// The fault of this kind at a place. NoMemory has none.
-fn fault_at(kind: RuleKind, line: usize, column: usize) -> RuleFault
-    ensures { result ≡ fault_seen line column kind }
-{
-    match kind {
-        RuleKind::NoMemory => RuleFault {
-            line: 0,
-            column: 0,
-            kind,
-        },
-        _ => RuleFault { line, column, kind },
-    }
 }
 
 /// What was read of a text.
@@ -174,7 +160,7 @@ impl TextReader {
 /// closed is met at the end of its test or of the text, and has the place of its beginning. `NoMemory` if an allocation
 /// failed; it has no place.
 pub fn read_rules(alloc: Global, text: &[u8]) -> Result<Rules, RuleFault>
-    ensures rules { IfOk result (ReadsAs text.now) }
+    ensures rules { IfOk result (HasRules text.now) }
     ensures fault { IfErr result (IsFaultOf (rules_in text.now)) }
 {
     let mut reader = TextReader {

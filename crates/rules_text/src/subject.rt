@@ -3,7 +3,7 @@
 ghost use Rattle.std.specs.Prelude.{◌≡◌};
 ghost use Rattle.rules_text.specs.Subjects.{header_read, last_offset, most_of_field, number_within, octets_at_token, octets_read, value_read};
 ghost use Rattle.rules_text.specs.RulesRead.{compared, field_read, relation_read};
-ghost use Rattle.rules_text.specs.inner.Seen.{sign_seen, token_seen};
+ghost use Rattle.rules_text.specs.inner.Seen.{sign_seen, rule_token_seen};
 ghost use Rattle.rules_text.specs.inner.SeenReading.{field_found};
 
 use crate::fault::RuleKind;
@@ -62,7 +62,7 @@ fn octets_at(size: Size, at: u32) -> Result<Field, RuleKind>
 
 /// The octets at the offset that a token is.
 pub(crate) fn octets_of(size: Size, token: Token) -> Result<Field, RuleKind>
-    ensures { field_found result ≡ octets_at_token size (token_seen token) }
+    ensures { field_found result ≡ octets_at_token size (rule_token_seen token) }
 {
     match token {
         Token::Number(at) => octets_at(size, at),
@@ -91,7 +91,7 @@ fn most_of(field: Field, side: Side) -> u32
 
 /// The number of a token that a field can have.
 pub(crate) fn number_for(token: Token, field: Field, side: Side) -> Result<u32, RuleKind>
-    ensures { result ≡ number_within (most_of_field side (field_read field)) (token_seen token) }
+    ensures { result ≡ number_within (most_of_field side (field_read field)) (rule_token_seen token) }
 {
     match token {
         Token::Number(k) => {
@@ -108,7 +108,7 @@ pub(crate) fn number_for(token: Token, field: Field, side: Side) -> Result<u32, 
 
 /// The value of a rule that a token is.
 pub(crate) fn value_of(token: Token) -> Result<u32, RuleKind>
-    ensures { result ≡ value_read (token_seen token) }
+    ensures { result ≡ value_read (rule_token_seen token) }
 {
     match token {
         Token::Refuse => Ok(0),

@@ -1,13 +1,11 @@
 -- What the readers have read, in the words of the definitions.
-use Rattle.std.specs.Prelude.{ℕ, Bool, List, map, reverse, Option, Some, None, Result, Ok, Err}
+use Rattle.std.specs.Prelude.{map, reverse, Option, Some, None, Result, Ok, Err}
 use Rattle.cell_rules.specs.declared.field.Field.{Field}
 use Rattle.cell_rules.specs.declared.test.Test.{Test}
 use Rattle.rules_text.specs.LineGrammar.{Awaited, GroupRead, LineContext, Reading, SaidRead, SubjectRead, awaits_start, awaits_unit, awaits_operator, awaits_offset, awaits_relation, awaits_mask, awaits_sign, awaits_constant, awaits_dots, awaits_high, awaits_comma, awaits_low, awaits_arrow, awaits_value, awaits_rest, awaits_side, awaits_end, says_nothing, says_side, says_line, says_otherwise}
 use Rattle.rules_text.specs.RulesRead.{FieldRead, TestRead, field_read, line_read, test_read}
-use Rattle.rules_text.specs.TextOfRules.{TextReading, placed_fault}
-use Rattle.rules_text.specs.declared.fault.RuleFault.{RuleFault}
+use Rattle.rules_text.specs.TextOfRules.{TextReading}
 use Rattle.rules_text.specs.declared.fault.RuleKind.{RuleKind}
-use Rattle.rules_text.specs.declared.fault.RuleKind.TheVariants.{NoMemory}
 use Rattle.rules_text.specs.declared.group.Group.{Group}
 use Rattle.rules_text.specs.declared.line_reader.Context.{Context}
 use Rattle.rules_text.specs.declared.line_reader.LineReader.{LineReader}
@@ -98,8 +96,3 @@ field_found (Err kind) = Err kind
 abbrev pub said_found : Result Said RuleKind → Result SaidRead RuleKind
 said_found (Ok said) = Ok (said_seen said)
 said_found (Err kind) = Err kind
-
--- A fault at a place. Out of memory has none.
-abbrev pub fault_seen : ℕ → ℕ → RuleKind → RuleFault
-fault_seen line column NoMemory = placed_fault 0 0 NoMemory
-fault_seen line column kind = placed_fault line column kind

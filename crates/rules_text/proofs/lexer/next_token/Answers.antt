@@ -1,4 +1,4 @@
-use Rattle.std.proofs.Common.{◌<◌, ◌≤◌, ◌+◌, length, drop, ◌∙◌, arith, length-drop}
+use Rattle.std.proofs.Common.{◌<◌, ◌≤◌, ◌+◌, length, drop, sym, ◌∙◌, arith, length-drop}
 use Rattle.std.proofs.lemmas.List.{take_rest}
 use Rattle.rules_text.specs.inner.Seen.{cut_seen}
 use Rattle.rules_text.proofs.TokenSteps.{comment_none, token_more, tokens_none}
@@ -9,10 +9,10 @@ returns-then-start-line-clause-tokens c =
     let start = c.after_blanks-start.result in
     c.after_blanks-start.ensures.tokens ∙ tokens_none (start + 1) (drop start c.args.line.now) (omega (arith, length-drop start c.args.line.now))
 
-pub returns-then-line-start-eq35-clause-tokens : goal.returns-then-line-start-eq35-clause-tokens
-returns-then-line-start-eq35-clause-tokens c =
+pub returns-then-begins_comment-clause-tokens : goal.returns-then-begins_comment-clause-tokens
+returns-then-begins_comment-clause-tokens c =
     let some : c.after_blanks-start.result < length c.args.line.now = omega arith in
-    c.after_blanks-start.ensures.tokens ∙ comment_none c.args.line.now c.after_blanks-start.result some (c.after_blanks-start.ensures.stops some) c.if-line-start-eq35.true
+    c.after_blanks-start.ensures.tokens ∙ comment_none c.args.line.now c.after_blanks-start.result some (c.after_blanks-start.ensures.stops some) (sym c.begins_comment.ensures ∙ c.if-begins_comment.true)
 
 pub returns-clause-tokens : goal.returns-clause-tokens
 returns-clause-tokens c =
@@ -21,4 +21,4 @@ returns-clause-tokens c =
     let cut = c.first_token-first.result in
     let within : cut.size ≤ length (drop start c.args.line.now) = rw take_rest at c.first_token-first.ensures.within in
     c.after_blanks-start.ensures.tokens
-    ∙ token_more c.args.line.now start (cut_seen cut) some (c.after_blanks-start.ensures.stops some) c.if-line-start-eq35.false (rw take_rest at c.first_token-first.ensures.seen) c.first_token-first.ensures.some within
+    ∙ token_more c.args.line.now start (cut_seen cut) some (c.after_blanks-start.ensures.stops some) (sym c.begins_comment.ensures ∙ c.if-begins_comment.false) (rw take_rest at c.first_token-first.ensures.seen) c.first_token-first.ensures.some within
