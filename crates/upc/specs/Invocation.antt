@@ -2,18 +2,19 @@
 -- the input, the output and the error output. A name with a prime is the device after the run.
 use Rattle.std.specs.Prelude.{◌≡◌, ◌⊎◌, ℕ, List, ◌++◌, codes, Result, Ok, Err}
 use Rattle.std.specs.String.{string_bytes}
-use Rattle.text_io.specs.Devices.{IsPart, one_more}
+use Rattle.text_io.specs.Devices.{IsPart}
 use Rattle.text_io.specs.Serving.{IsServed}
 use Rattle.text_io.specs.declared.device.Input.{Ghosts as InputView}
 use Rattle.text_io.specs.declared.device.Output.{Ghosts as OutputView}
 use Rattle.text_io.specs.declared.ending.Done.{Done}
 use Rattle.text_io.specs.declared.ending.RunFault.{RunFault}
 use Rattle.text_io.specs.declared.ending.RunFault.TheVariants.{ReadFailed, WriteFailed, NoMemory}
-use Rattle.upc.specs.ExitStatus.{status_of}
 use Rattle.upc.specs.Subcommand.{IsTextOf}
 use Rattle.upc_choice.specs.declared.choice.Choice.{Choice}
 use Rattle.upc_choice.specs.declared.choice.Stop.{Stop}
 use Rattle.upc_choice.specs.declared.choice.Stop.TheVariants.{Help, Words, NoMemory as LacksMemory}
+use Rattle.upc_exit.specs.ExitStatus.{status_of}
+use Rattle.upc_exit.specs.Messages.{IsIdle, Reports, WritesMessage}
 
 -- The message for each failure.
 abbrev pub failure_line : RunFault → List ℕ
@@ -21,28 +22,13 @@ failure_line ReadFailed = codes "upc: reading failed\n"
 failure_line WriteFailed = codes "upc: writing failed\n"
 failure_line NoMemory = codes "upc: out of memory\n"
 
--- The message was written to the error output, or that failed and only a prefix was written.
-abbrev pub WritesMessage : {Errors : Type 0} → OutputView Errors → Errors → Errors → List ℕ → Type 0
-WritesMessage E errors errors' text =
-    (E.held errors' ≡ E.held errors ++ text)
-    ⊎ (IsPart (E.held errors) (E.held errors') text × (E.failures errors' ≡ one_more (E.failures errors)))
-
--- After a failed run its message is on the error output, as `WritesMessage` says. After any other run nothing was written to it.
-abbrev pub Reports : {Errors : Type 0} → OutputView Errors → Errors → Errors → Result Done RunFault → Type 0
-Reports E errors errors' (Ok done) = E.held errors' ≡ E.held errors
-Reports E errors errors' (Err fault) = WritesMessage E errors errors' (failure_line fault)
-
--- Nothing was written to the output and nothing was read.
-abbrev pub IsIdle : {Source Sink : Type 0} → InputView Source → Source → Source → OutputView Sink → Sink → Sink → Type 0
-IsIdle I input input' O output output' = (O.held output' ≡ O.held output) × (I.rest input' ≡ I.rest input)
-
 -- The effect of the program, and its exit status. A choice is run. Help is written to the output. A message about the
 -- words goes to the error output. If the help can't be written, the status is that of a failed run.
 abbrev pub CarriesOut : {Source Sink Errors : Type 0} → Result Choice Stop → InputView Source → Source → Source
     → OutputView Sink → Sink → Sink → OutputView Errors → Errors → Errors → ℕ → Type 0
 CarriesOut (Ok choice) I input input' O output output' E errors errors' status =
     (ended : Result Done RunFault) × (status ≡ status_of ended)
-    × IsServed (IsTextOf choice) I input input' O output output' ended × Reports E errors errors' ended
+    × IsServed (IsTextOf choice) I input input' O output output' ended × Reports failure_line E errors errors' ended
 CarriesOut (Err (Help text)) I input input' O output output' E errors errors' status =
     ((status ≡ 0) × (O.held output' ≡ O.held output ++ string_bytes text) × (E.held errors' ≡ E.held errors))
     ⊎ ((status ≡ 3) × IsPart (O.held output) (O.held output') (string_bytes text) × WritesMessage E errors errors' (failure_line WriteFailed))

@@ -17,7 +17,7 @@ use Rattle.clap.specs.declared.parser.matches.SubCommand.{SubCommand}
 use Rattle.clap.proofs.FaultLemmas.{fails_as}
 use Rattle.clap.proofs.OnLiterals.{clap_on_literals}
 use Rattle.upc_choice.specs.Choice.{NamesSubcommand, IsChoiceOf, IsChosen, StopsAt, behind_name, choice_named, faults_in, subcommand_in, subcommands, upc_app, with_name}
-use Rattle.upc_choice.specs.inner.Stopping.{IsStopFor}
+use Rattle.upc_choice.specs.Stopping.{IsStopFor}
 use Rattle.std.specs.Str.{bytes_eq}
 use Rattle.std.proofs.lemmas.Slice.Eq.{bytes_eq-Decides}
 use Rattle.clap.proofs.WalkLemmas.{both}

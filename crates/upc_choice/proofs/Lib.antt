@@ -1,3 +1,4 @@
 pub mod Choosing
 pub mod PlainWords
+pub mod Public
 pub mod WordLemmas

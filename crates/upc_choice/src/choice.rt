@@ -6,7 +6,7 @@ ghost use Rattle.clap.specs.Values.{kind_of};
 ghost use Rattle.clap.specs.Simple.{app_of, new_app};
 ghost use Rattle.clap.specs.Kinds.{FailsBy};
 ghost use Rattle.upc_choice.specs.Choice.{NamesSubcommand, IsChoiceOf, IsChosen, StopsAt, behind_name, choice_named, faults_in};
-ghost use Rattle.upc_choice.specs.inner.Stopping.{IsStopFor};
+ghost use Rattle.upc_choice.specs.Stopping.{IsStopFor};
 ghost use Rattle.upc_choice.specs.Choice.{subcommand_in, upc_app, with_name};
 
 use clap::error::ErrorKind;
@@ -160,7 +160,9 @@ fn named(name: &str) -> Option<Choice>
     }
 }
 
-fn stop_for(alloc: Global, error: Error) -> Stop
+/// Returns why an error of `clap` gives no choice: it asks for help, a word is wrong, or an allocation failed. The text is
+/// clap's.
+pub fn stop_for(alloc: Global, error: Error) -> Stop
     ensures { IsStopFor (kind_of error) result }
 {
     let kind = error.kind();

@@ -1,4 +1,4 @@
--- The Stop for an error of clap.
+-- Why words that `clap` refuses give no choice.
 use Rattle.std.specs.Prelude.{◌≡◌, ◌≢◌, ⊤}
 use Rattle.clap.specs.declared.error.kind.ErrorKind.{ErrorKind}
 use Rattle.clap.specs.declared.error.kind.ErrorKind.TheVariants.{DisplayHelp, OutOfMemory}

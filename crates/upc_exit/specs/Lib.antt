@@ -1,0 +1,3 @@
+-- How a program ends. Read the modules in this order:
+pub mod ExitStatus
+pub mod Messages
