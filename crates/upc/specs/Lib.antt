@@ -1,3 +1,3 @@
 -- The program `upc`. Read the modules in this order:
 pub mod Subcommand
-pub mod Invocation
+pub mod FailureLines

@@ -1,9 +1,11 @@
 //! Runs the program over three devices and returns its exit status.
 
 ghost use Rattle.std.specs.Prelude.{◌≡◌, ◌≢◌, Ok as TheOk};
-ghost use Rattle.upc.specs.Invocation.{CarriesOut, IsStatusFor, failure_line};
+ghost use Rattle.upc.specs.FailureLines.{failure_line};
+ghost use Rattle.upc.specs.Subcommand.{IsTextOf};
 ghost use Rattle.upc_choice.specs.declared.choice.Choice.TheVariants.{Ports};
 ghost use Rattle.upc_exit.specs.ExitStatus.{status_of};
+ghost use Rattle.upc_exit.specs.Invocation.{CarriesOut, IsStatusFor};
 ghost use Rattle.upc_exit.specs.Messages.{Reports};
 
 use crate::subcommand::run_alone;
@@ -50,7 +52,7 @@ pub fn carry_out_alone<I: Input, O: Output, E: Output>(
     errors: &mut E,
 ) -> u8
     requires alone { chosen ≢ TheOk Ports }
-    ensures carried { I.is_known → O.is_known → E.is_known → CarriesOut chosen I.Input input.old input.new
+    ensures carried { I.is_known → O.is_known → E.is_known → CarriesOut failure_line IsTextOf chosen I.Input input.old input.new
         O.Output output.old output.new E.Output errors.old errors.new result }
     ensures status { IsStatusFor chosen result }
 {
@@ -81,7 +83,7 @@ pub fn carry_out<R: Threads + Wait + Sync, I: Input, O: Output, E: Output>(
     output: &mut O,
     errors: &mut E,
 ) -> u8
-    ensures carried { I.is_known → O.is_known → E.is_known → CarriesOut chosen I.Input input.old input.new
+    ensures carried { I.is_known → O.is_known → E.is_known → CarriesOut failure_line IsTextOf chosen I.Input input.old input.new
         O.Output output.old output.new E.Output errors.old errors.new result }
     ensures status { IsStatusFor chosen result }
 {

@@ -4,7 +4,14 @@ use Rattle.std.specs.List.{list_all}
 use Rattle.clap.specs.Walk.{Text}
 use Rattle.clap.specs.Simple.{App, Shape, argument_words, built, subcommand_of}
 use Rattle.clap.specs.Faults.{fault_of}
+use Rattle.clap.specs.Kinds.{HasKind, Kinds}
+use Rattle.clap.specs.Values.{kind_of}
+use Rattle.clap.specs.declared.error.Error.{Error}
+use Rattle.upc_choice.specs.Stopping.{IsStopFor, StopsAt}
+use Rattle.upc_choice.specs.declared.choice.Stop.{Stop}
+use Rattle.upc_choice.specs.declared.choice.Stop.TheVariants.{NoMemory}
 use Rattle.upc_choice.proofs.PlainWords as plain
+use Rattle.upc_choice.proofs.Stops as stops
 
 -- No option of the command asks for anything but help.
 abbrev pub has_requests_alone : Shape → Bool
@@ -27,3 +34,11 @@ pub finds : (known : Text → Bool) (a : App) (words : List Text) → list_all (
     → (built a).top.disable_help_subcommand ≡ false → fault_of a words ≡ []
     → Finds known (argument_words a words) (option_map (λ p. p.0) (subcommand_of a words))
 finds = plain.finds
+
+-- What is said of an error that the words have is true of the words.
+pub stops_at : (kinds : Kinds) (error : Error) (stop : Stop) → HasKind kinds error → IsStopFor (kind_of error) stop → StopsAt kinds stop
+stops_at = stops.stops_at
+
+-- Words without an error are refused only with NoMemory.
+pub memory_alone : (kinds : Kinds) (error : Error) (stop : Stop) → HasKind kinds error → IsStopFor (kind_of error) stop → kinds ≡ [] → stop ≡ NoMemory
+memory_alone = stops.memory_alone
