@@ -98,15 +98,15 @@ def comparisons(parts):
     return found
 
 
-def cells_for(reader, source):
+def cells_for(reader, source, count=120):
     """Returns cells at the bounds of the comparisons, and random ones."""
     made = []
     found = comparisons(reader.rules)
-    for _ in range(120):
+    for _ in range(count):
         cell = bytearray(source.choice([bytes(52), bytes([255] * 52), source.randbytes(52)]))
         for part in source.sample(found, min(len(found), source.choice([0, 1, 2, 4]))):
             bounds = [part[4]] if part[0] == "compare" else [bound for pair in part[3] for bound in pair]
-            value = max(0, source.choice(bounds) + source.choice([-1, 0, 0, 1]))
+            value = max(0, source.choice(bounds) + source.choice([-1, 0, 1]))
             place(cell, part[1], value, reader.nni)
         made.append(bytes(cell))
     return made
