@@ -36,11 +36,7 @@ fn add_octets(alloc: Global, answers: &mut Vec<u8>, octets: &[u8]) -> Result<(),
 
 /// Appends the number of instructions of a code, and a line of their octets in hexadecimal: the answer of `upc check` to a program.
 #[tactic(auto, using(std::proofs::lemmas::List::append_assoc))]
-pub fn add_program(
-    alloc: Global,
-    answers: &mut Vec<u8>,
-    code: &[Instr],
-) -> Result<(), AllocError>
+pub fn add_program(alloc: Global, answers: &mut Vec<u8>, code: &[Instr]) -> Result<(), AllocError>
     ensures { OnOk result (answers.new.items ≡ answers.old.items ++ accepted_text code.now) }
 {
     let octets = encode(alloc, code).map_err(|_| AllocError)?;
