@@ -1,7 +1,7 @@
 -- The output of each subcommand of `upc-lab`.
 use Rattle.std.specs.Prelude.{ℕ, List}
+use Rattle.lab_rules.specs.RulesText.{IsRulesText}
 use Rattle.text_io.specs.declared.ending.Done.{Done}
-use Rattle.upc_lab.specs.RulesText.{IsRulesText}
 use Rattle.upc_lab.specs.declared.choice.Subcommand.{Subcommand}
 use Rattle.upc_lab.specs.declared.choice.Subcommand.TheVariants.{Rules}
 

@@ -9,7 +9,7 @@ ghost use Rattle.upc_lab.specs.LabMessages.{lab_failure_line};
 ghost use Rattle.upc_lab.specs.LabText.{IsLabText};
 
 use crate::choice::Subcommand;
-use crate::rules::compile_rules;
+use lab_rules::compile_rules;
 use std::alloc::Global;
 use text_io::{Done, Input, Output, RunFault, give_all};
 use upc_choice::Stop;

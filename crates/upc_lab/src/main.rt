@@ -1,19 +1,17 @@
 //! `upc-lab`: a program for those who write rules, over standard input and standard output.
 #![tactic(auto)]
 
-mod answers;
 mod choice;
 mod invocation;
 mod laws;
 mod notice;
-mod rules;
 #[cfg(test)]
 mod tests;
 
 pub use choice::{Subcommand, choose};
 pub use invocation::carry_out;
+pub use lab_rules::compile_rules;
 pub use notice::awaited;
-pub use rules::compile_rules;
 use std::io::IsTerminal;
 use std::process::ExitCode;
 use text_io::{Giving, Taking};

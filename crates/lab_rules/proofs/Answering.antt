@@ -1,4 +1,4 @@
--- Every input has an answer of `upc-lab rules`.
+-- Every input has an answer.
 use Rattle.std.proofs.Common.{◌≡◌, ◌≢◌, ℕ, ◌+◌, ◌≤◌, inl, inr, List, [], ◌++◌, Option, Some, None, length, refl, ap, sym, ◌∙◌, subst, arith, append-nil, nat_lt, if◌then◌else◌}
 use Rattle.rules_text.specs.declared.fault.RuleFault.{RuleFault}
 use Rattle.rules_text.specs.declared.fault.RuleKind.TheVariants.{BadLine}
@@ -7,11 +7,8 @@ use Rattle.text_io.specs.Gathered.{gathered, LeavesBehind}
 use Rattle.text_io.specs.Limits.{most_ahead}
 use Rattle.text_io.specs.declared.ending.Done.{Done}
 use Rattle.text_io.specs.declared.ending.Done.TheVariants.{Whole, Ended}
-use Rattle.upc_lab.specs.LabText.{IsLabText}
-use Rattle.upc_lab.specs.RuleFaults.{rule_fault}
-use Rattle.upc_lab.specs.RulesText.{AnswersRules, IsFaultFor, IsRulesText, TellsRules, most_rules_octets}
-use Rattle.upc_lab.specs.declared.choice.Subcommand.{Subcommand}
-use Rattle.upc_lab.specs.declared.choice.Subcommand.TheVariants.{Rules}
+use Rattle.lab_rules.specs.RuleFaults.{rule_fault}
+use Rattle.lab_rules.specs.RulesText.{AnswersRules, IsFaultFor, IsRulesText, TellsRules, most_rules_octets}
 use Rattle.upc_words.specs.FaultLines.{too_long}
 
 -- Every text has a program or a fault.
@@ -27,9 +24,6 @@ found-answered (Some text) = rules-told text
 
 pub some-rules_text : (octets : List ℕ) → (answer : List ℕ) × (done : Done) × IsRulesText octets answer done
 some-rules_text octets = found-answered (gathered most_rules_octets octets)
-
-pub some-lab_text : (subcommand : Subcommand) (octets : List ℕ) → (answer : List ℕ) × (done : Done) × IsLabText subcommand octets answer done
-some-lab_text Rules octets = some-rules_text octets
 
 -- One octet more than the limit is over the limit.
 gathered-none : (octets : List ℕ) → length octets ≡ most_rules_octets + 1 → gathered most_rules_octets octets ≡ None

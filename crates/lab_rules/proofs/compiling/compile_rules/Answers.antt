@@ -5,9 +5,9 @@ use Rattle.text_io.specs.Devices.{TakesEnough}
 use Rattle.text_io.specs.Limits.{most_ahead}
 use Rattle.text_io.specs.declared.ending.Done.{Done}
 use Rattle.text_io.proofs.Public.{nothing-begins}
-use Rattle.upc_lab.specs.RulesText.{IsRulesText}
-use Rattle.upc_lab.proofs.Answering.{enough, some-rules_text}
-use Rattle.upc_lab.proofs.rules.compile_rules.Goals as goal
+use Rattle.lab_rules.specs.RulesText.{IsRulesText}
+use Rattle.lab_rules.proofs.Answering.{enough, some-rules_text}
+use Rattle.lab_rules.proofs.compiling.compile_rules.Goals as goal
 
 pub returns-in-Err : goal.returns-in-Err
 returns-in-Err g c =

@@ -3,9 +3,9 @@
 ghost use Rattle.std.specs.Prelude.{IfOk, option_map};
 ghost use Rattle.text_io.specs.Devices.{Adds};
 ghost use Rattle.text_io.specs.Serving.{IsServed};
-ghost use Rattle.upc_lab.specs.RulesText.{AnswersRules, IsRulesText, TellsRules};
+ghost use Rattle.lab_rules.specs.RulesText.{AnswersRules, IsRulesText, TellsRules};
 
-use crate::answers::add_rule_fault;
+use crate::fault_lines::add_rule_fault;
 use rules_text::{RuleFault, RuleKind, compile_text};
 use std::alloc::{AllocError, Global};
 use text_io::{Done, Input, Output, RunFault, gather, give_last};

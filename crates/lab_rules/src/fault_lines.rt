@@ -1,7 +1,7 @@
 //! The fault line of a text of rules.
 
 ghost use Rattle.std.specs.Prelude.{◌≡◌, ◌++◌, OnOk};
-ghost use Rattle.upc_lab.specs.RuleFaults.{rule_fault, rule_name};
+ghost use Rattle.lab_rules.specs.RuleFaults.{rule_fault, rule_name};
 
 use rules_text::{RuleFault, RuleKind};
 use std::alloc::AllocError;
@@ -26,7 +26,7 @@ fn name_of(kind: RuleKind) -> &'static [u8]
 
 /// Appends the answer to a text with a fault.
 #[tactic(auto, using(std::proofs::lemmas::List::append_assoc))]
-pub(crate) fn add_rule_fault(answers: &mut Vec<u8>, fault: RuleFault) -> Result<(), AllocError>
+pub fn add_rule_fault(answers: &mut Vec<u8>, fault: RuleFault) -> Result<(), AllocError>
     ensures { OnOk result (answers.new.items ≡ answers.old.items ++ rule_fault fault) }
 {
     answers.extend_from_slice(b"fault rules ")?;

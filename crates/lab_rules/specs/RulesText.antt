@@ -10,7 +10,7 @@ use Rattle.rules_text.specs.declared.fault.RuleKind.TheVariants.{NoMemory}
 use Rattle.text_io.specs.Gathered.{gathered}
 use Rattle.text_io.specs.declared.ending.Done.{Done}
 use Rattle.text_io.specs.declared.ending.Done.TheVariants.{Whole, Ended}
-use Rattle.upc_lab.specs.RuleFaults.{rule_fault}
+use Rattle.lab_rules.specs.RuleFaults.{rule_fault}
 use Rattle.upc_programs.specs.Check.{accepted_text}
 use Rattle.upc_words.specs.FaultLines.{too_long}
 
