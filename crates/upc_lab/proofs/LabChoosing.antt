@@ -155,10 +155,10 @@ names_it given (Some text) subcommand h is =
     let same : text.now ≡ h.0 = let e : Some text.now ≡ Some h.0 = h.3 in cc in
     (h.0, h.1, h.2, subst (λ name. lab_named name ≡ Some subcommand) same is, h.5)
 
-if_ok : {P : Bor Text → Subcommand → Type 0} (name : Option (Bor Text)) (subcommand : Subcommand)
+if_ok : (P : Bor Text → Subcommand → Type 0) (name : Option (Bor Text)) (subcommand : Subcommand)
     → IfSome name (λ text. IsOkAnd {E = Stop} (Ok subcommand) (P text)) → IfSome name (λ text. P text subcommand)
-if_ok None subcommand h = tt
-if_ok (Some text) subcommand h = h
+if_ok P None subcommand h = tt
+if_ok P (Some text) subcommand h = h
 
 never : (given : List Text) (name : Option (Bor Text)) (stop : Stop) → IsNamed given (option_map (λ text. text.now) name)
     → IfSome name (λ text. IsOkAnd {T = Subcommand} (Err stop) (λ subcommand. lab_named text.now ≡ Some subcommand)) → ⊥
@@ -173,7 +173,7 @@ pub answers : (given : List Text) (found : Result (Option (Bor Text)) Error) (an
 answers given (Ok name) (Ok subcommand) none met named stopped =
     let h = named_at given (option_map (λ text. text.now) name) (subst (λ o. Finds is_named given o) (sym met) (found_in given none)) none in
     record {
-      asked = names_it given name subcommand h (if_ok {P = λ text it. lab_named text.now ≡ Some it} name subcommand named);
+      asked = names_it given name subcommand h (if_ok (λ text it. lab_named text.now ≡ Some it) name subcommand named);
       faultless = none;
       stopped = tt;
       taken = λ _. tt;
