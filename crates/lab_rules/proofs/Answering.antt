@@ -1,12 +1,12 @@
 -- Every input has an answer.
-use Rattle.std.proofs.Common.{◌≡◌, ◌≢◌, ℕ, ◌+◌, ◌≤◌, inl, inr, List, [], ◌++◌, Option, Some, None, length, refl, ap, sym, ◌∙◌, subst, arith, append-nil, nat_lt, if◌then◌else◌}
+use Rattle.std.proofs.Common.{◌≡◌, ℕ, ◌+◌, ◌≤◌, inr, List, [], ◌++◌, Option, Some, None, length, refl, ap, sym, ◌∙◌, subst, arith, append-nil, nat_lt, if◌then◌else◌}
 use Rattle.rules_text.specs.declared.fault.RuleFault.{RuleFault}
 use Rattle.rules_text.specs.declared.fault.RuleKind.TheVariants.{BadLine}
 use Rattle.text_io.specs.Devices.{TakesEnough}
 use Rattle.text_io.specs.Gathered.{gathered, LeavesBehind}
 use Rattle.text_io.specs.Limits.{most_ahead}
 use Rattle.text_io.specs.declared.ending.Done.{Done}
-use Rattle.text_io.specs.declared.ending.Done.TheVariants.{Whole, Ended}
+use Rattle.text_io.specs.declared.ending.Done.TheVariants.{Ended}
 use Rattle.lab_rules.specs.RuleFaults.{rule_fault}
 use Rattle.lab_rules.specs.RulesText.{AnswersRules, IsFaultFor, IsRulesText, TellsRules, most_rules_octets}
 use Rattle.upc_words.specs.FaultLines.{too_long}

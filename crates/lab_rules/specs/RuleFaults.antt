@@ -17,6 +17,10 @@ rule_name kind.TooDeep = codes "7 TooDeep"
 rule_name kind.TooLong = codes "8 TooLong"
 rule_name kind.NoMemory = codes "9 NoMemory"
 
+-- A blank, a line and a column, which end the answer's line.
+abbrev pub place_text : ℕ → ℕ → List ℕ
+place_text at column = line (codes " " ++ decimal at ++ codes " " ++ decimal column)
+
 -- The answer to a text with a fault: its number and name, line and column.
 abbrev pub rule_fault : RuleFault → List ℕ
-rule_fault fault = line (codes "fault rules " ++ rule_name fault.kind ++ codes " " ++ decimal fault.line ++ codes " " ++ decimal fault.column)
+rule_fault fault = codes "fault rules " ++ rule_name fault.kind ++ place_text fault.line fault.column

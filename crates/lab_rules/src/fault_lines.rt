@@ -1,7 +1,7 @@
 //! The fault line of a text of rules.
 
 ghost use Rattle.std.specs.Prelude.{◌≡◌, ◌++◌, OnOk};
-ghost use Rattle.lab_rules.specs.RuleFaults.{rule_fault, rule_name};
+ghost use Rattle.lab_rules.specs.RuleFaults.{place_text, rule_fault, rule_name};
 
 use rules_text::{RuleFault, RuleKind};
 use std::alloc::AllocError;
@@ -24,6 +24,19 @@ fn name_of(kind: RuleKind) -> &'static [u8]
     }
 }
 
+/// Appends a blank, a line and a column, and ends the answer's line.
+#[tactic(auto, using(std::proofs::lemmas::List::append_assoc))]
+fn add_place(answers: &mut Vec<u8>, line: usize, column: usize) -> Result<(), AllocError>
+    ensures { OnOk result (answers.new.items ≡ answers.old.items ++ place_text line column) }
+{
+    answers.push(b' ')?;
+    add_number(answers, line as u64)?;
+    answers.push(b' ')?;
+    add_number(answers, column as u64)?;
+    answers.push(b'\n')?;
+    Ok(())
+}
+
 /// Appends the answer to a text with a fault.
 #[tactic(auto, using(std::proofs::lemmas::List::append_assoc))]
 pub fn add_rule_fault(answers: &mut Vec<u8>, fault: RuleFault) -> Result<(), AllocError>
@@ -31,10 +44,6 @@ pub fn add_rule_fault(answers: &mut Vec<u8>, fault: RuleFault) -> Result<(), All
 {
     answers.extend_from_slice(b"fault rules ")?;
     answers.extend_from_slice(name_of(fault.kind))?;
-    answers.push(b' ')?;
-    add_number(answers, fault.line as u64)?;
-    answers.push(b' ')?;
-    add_number(answers, fault.column as u64)?;
-    answers.push(b'\n')?;
+    add_place(answers, fault.line, fault.column)?;
     Ok(())
 }
