@@ -10,7 +10,7 @@ use Rattle.clap.specs.Walk.{Text, is_empty}
 use Rattle.clap.specs.Values.{kind_of}
 use Rattle.clap.specs.Matches.{subcommand_name_of}
 use Rattle.clap.specs.Simple.{App, HasMatchesOf, argument_words, built, is_simple, subcommand_of, subcommand_rows}
-use Rattle.clap.specs.Kinds.{FailsBy, HasKind}
+use Rattle.clap.specs.Kinds.{FailsBy}
 use Rattle.clap.specs.Faults.{fault_of, is_simple_and_free}
 use Rattle.clap.specs.declared.error.Error.{Error}
 use Rattle.clap.specs.declared.parser.matches.ArgMatches.{ArgMatches}
