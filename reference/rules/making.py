@@ -72,12 +72,43 @@ def mutated(source, text):
     return text[:at] + piece + text[at + source.choice([0, 0, 1, 2]):]
 
 
+def deep(source):
+    """Returns lines about as deep as blocks and parentheses may be."""
+    blocks, parentheses = source.choice([0, 1, 31, 32, 63, 64, 65]), source.choice([0, 1, 31, 32, 33, 64, 65])
+    return ["vpi 1 {"] * blocks + ["(" * parentheses + "clp 1" + ")" * parentheses + " -> 1"] + ["}"] * blocks
+
+
+def long(source):
+    """Returns a line with about as many comparisons as a test may have."""
+    count = 4096 - source.choice([0, 1, 2]) + source.choice([0, 0, 1, 2])
+    kinds = [" or ".join(["clp 1"] * count), "vci " + ", ".join("7" for _ in range(count)), " and ".join(["any"] * count)]
+    return [source.choice(kinds) + " -> 1"]
+
+
+# Lines with a fault, or at a limit.
+AT_LIMITS = (
+    "octet 51 1 -> 1", "octet 52 1 -> 1", "half 50 1 -> 1", "half 51 1 -> 1", "word 48 1 -> 1", "word 49 1 -> 1", "word 4294967295 1 -> 1",
+    "vpi 255 -> 1", "vpi 256 -> 1", "vpi 4095 -> 1", "vpi 4096 -> 1", "gfc 15 -> 1", "gfc 16 -> 1", "vci 65536 -> 1", "pti 8 -> 1",
+    "clp < 2 -> 1", "octet 4 & 256 = 0 -> 1", "half 4 & 0xffff = 65536 -> 1", "vci 5..4 -> 1", "vci 5..5 -> 1", "vci 1, 5..4 -> 1",
+    "any -> 0", "any -> 4294967295", "any -> 4294967296", "any -> 0x100000000", "any -> 1x", "vpi 0x -> 1", "9a -> 1", "}", "otherwise -> 1",
+    "side nni", "side nni 1", "side", "otherwise", "otherwise -> 0", "any", "any {", "any { }", "(any -> 1", "any) -> 1", "((any) {", "( -> 1", "not not any -> 1",
+    "any and -> 1", "vci 1, -> 1", "vci 1.. -> 1", "vci & 1 -> 1", "clp 1 2 -> 1", "any -> refuse 1", "any -> 1 # 2", "oam or not user -> 010",
+)
+
+
 def text_of(source):
-    """Returns a text, a third of the time with a small change."""
+    """Returns a text: a third of the time with a small change, and sometimes with a line at a limit."""
     made = []
     if source.random() < 0.1:
         made.append(source.choice(["side nni", "side uni"]))
     made += lines(source, source.choice([1, 2, 5, 12, 60]), 3)
+    kind = source.random()
+    if kind < 0.2:
+        made.insert(source.randrange(len(made) + 1), source.choice(AT_LIMITS))
+    elif kind < 0.23:
+        made += deep(source)
+    elif kind < 0.24:
+        made += long(source)
     if source.random() < 0.5:
         made.append(f"otherwise -> {source.choice(['refuse', '7'])}")
     text = source.choice(["\n", "\n", "\r\n"]).join(made) + source.choice(["", "\n"])
