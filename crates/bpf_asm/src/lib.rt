@@ -18,3 +18,5 @@ mod unresolved;
 pub use assembler::assemble;
 pub use fault::{AsmFault, AsmKind, ListFault};
 pub use lister::listing;
+pub use source_lines::next_line;
+pub use token::number;

@@ -20,7 +20,7 @@ fn line_len(text: &[u8]) -> usize
 }
 
 /// Returns the first line of a text and the rest.
-pub(crate) fn next_line(text: &[u8]) -> Option<(&[u8], &[u8])>
+pub fn next_line(text: &[u8]) -> Option<(&[u8], &[u8])>
     ensures lines { MatchOption result (source_lines text.now ≡ [])
         (λ found. source_lines text.now ≡ found.0.now ∷ source_lines found.1.now) }
     ensures shorter { IfSome result (λ found. length found.1.now < length text.now) }

@@ -114,7 +114,7 @@ fn hexadecimal(word: &[u8]) -> bool
 
 /// Returns the number that a word spells.
 #[tactic(auto, unfolding(crate::specs::Numbers::number_of_word))]
-pub(crate) fn number(word: &[u8]) -> Option<u32>
+pub fn number(word: &[u8]) -> Option<u32>
     ensures { result ≡ number_of_word word.now }
 {
     if hexadecimal(word) {

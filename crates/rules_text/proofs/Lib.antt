@@ -1,0 +1,3 @@
+pub mod TokenSteps
+pub mod ReadingSteps
+pub mod Values

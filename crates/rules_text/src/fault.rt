@@ -1,5 +1,8 @@
 //! The faults of texts of rules.
 
+ghost use Rattle.std.specs.Prelude.{◌≡◌};
+ghost use Rattle.rules_text.specs.inner.SeenFaults.{fault_seen};
+
 use std::alloc::{AllocError, AllocFailed};
 use thiserror::Error;
 
@@ -69,4 +72,18 @@ pub struct RuleFault {
     pub column: usize,
     /// The kind of the fault.
     pub kind: RuleKind,
+}
+
+/// The fault of this kind at a place. NoMemory has none.
+pub(crate) fn fault_at(kind: RuleKind, line: usize, column: usize) -> RuleFault
+    ensures { result ≡ fault_seen line column kind }
+{
+    match kind {
+        RuleKind::NoMemory => RuleFault {
+            line: 0,
+            column: 0,
+            kind,
+        },
+        _ => RuleFault { line, column, kind },
+    }
 }

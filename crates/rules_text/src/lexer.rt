@@ -1,11 +1,34 @@
 //! The tokens of a line.
 
-ghost use Rattle.std.specs.Prelude.{◌≤◌, ◌<◌, length, IfSome};
+ghost use Rattle.std.specs.Prelude.{◌≡◌, ◌+◌, ◌≤◌, ◌<◌, ◌∷◌, ◌==◌, [], false, length, slice_index, take, drop, map, MatchOption, IfSome};
+ghost use Rattle.bpf_asm.specs.Tokens.{is_word};
+ghost use Rattle.text_io.specs.Words.{is_blank, is_digit};
+ghost use Rattle.rules_text.specs.RuleTokens.{first_cut, letters_len, long_marks, longest_mark, row_token, rule_words, short_marks, token_of_letters, tokens_from};
+ghost use Rattle.rules_text.specs.inner.Seen.{cut_seen, found_seen, rule_token_seen, some_token};
 
-use crate::numbers::number_of;
+use bpf_asm::number;
+use bpf_code::Size;
+use cell_rules::Field;
+
+/// How a number is related to a constant.
+#[derive(Clone, Copy)]
+pub(crate) enum Sign {
+    /// `=`
+    Equal,
+    /// `!=`
+    Unequal,
+    /// `<`
+    Less,
+    /// `<=`
+    AtMost,
+    /// `>`
+    Greater,
+    /// `>=`
+    AtLeast,
+}
 
 /// A token.
-#[derive(Clone, Copy, Debug, PartialEq, Eq)]
+#[derive(Clone, Copy)]
 pub(crate) enum Token {
     Any,
     Oam,
@@ -18,14 +41,10 @@ pub(crate) enum Token {
     Side,
     Uni,
     Nni,
-    Gfc,
-    Vpi,
-    Vci,
-    Pti,
-    Clp,
-    Octet,
-    Half,
-    Word,
+    /// The name of a field of the header.
+    Field(Field),
+    /// `octet`, `half` or `word`.
+    Octets(Size),
     /// A number of at most 4294967295.
     Number(u32),
     /// A word that begins with a digit and is no such number.
@@ -46,18 +65,8 @@ pub(crate) enum Token {
     Comma,
     /// `..`
     Dots,
-    /// `=`
-    Equal,
-    /// `!=`
-    Unequal,
-    /// `<`
-    Less,
-    /// `<=`
-    AtMost,
-    /// `>`
-    Greater,
-    /// `>=`
-    AtLeast,
+    /// A sign.
+    Sign(Sign),
     /// Anything else.
     Unknown,
 }
@@ -73,9 +82,122 @@ pub(crate) struct Found {
     pub end: usize,
 }
 
+/// A token, and how many octets it has.
+#[derive(Clone, Copy)]
+struct Cut {
+    token: Token,
+    size: usize,
+}
+
+/// The words of the language.
+const WORDS: [(&[u8], Token); 19] = [
+    (b"any", Token::Any),
+    (b"oam", Token::Oam),
+    (b"user", Token::User),
+    (b"not", Token::Not),
+    (b"and", Token::And),
+    (b"or", Token::Or),
+    (b"otherwise", Token::Otherwise),
+    (b"refuse", Token::Refuse),
+    (b"side", Token::Side),
+    (b"uni", Token::Uni),
+    (b"nni", Token::Nni),
+    (b"gfc", Token::Field(Field::Gfc)),
+    (b"vpi", Token::Field(Field::Vpi)),
+    (b"vci", Token::Field(Field::Vci)),
+    (b"pti", Token::Field(Field::Pti)),
+    (b"clp", Token::Field(Field::Clp)),
+    (b"octet", Token::Octets(Size::Octet)),
+    (b"half", Token::Octets(Size::Half)),
+    (b"word", Token::Octets(Size::Word)),
+];
+
+/// The marks of two octets.
+const LONG_MARKS: [(&[u8], Token); 5] = [
+    (b"->", Token::Arrow),
+    (b"..", Token::Dots),
+    (b"!=", Token::Sign(Sign::Unequal)),
+    (b"<=", Token::Sign(Sign::AtMost)),
+    (b">=", Token::Sign(Sign::AtLeast)),
+];
+
+/// The marks of one octet.
+const SHORT_MARKS: [(&[u8], Token); 9] = [
+    (b"{", Token::Open),
+    (b"}", Token::Close),
+    (b"(", Token::Left),
+    (b")", Token::Right),
+    (b"&", Token::Mask),
+    (b",", Token::Comma),
+    (b"=", Token::Sign(Sign::Equal)),
+    (b"<", Token::Sign(Sign::Less)),
+    (b">", Token::Sign(Sign::Greater)),
+];
+
+/// The token that a table has for these octets, if it has one.
+fn found_in(octets: &[u8], rows: &[(&[u8], Token)]) -> Option<Token>
+    ensures { some_token result ≡ row_token octets.now (map (λ row. (row.0.now, rule_token_seen row.1)) rows.now) }
+{
+    let mut left = rows;
+    while let [row, rest @ ..] = left {
+        if octets == row.0 {
+            return Some(row.1);
+        }
+        left = rest;
+    }
+    None
+}
+
+/// The word of the language that these octets are.
+fn known_word(octets: &[u8]) -> Option<Token>
+    ensures { some_token result ≡ row_token octets.now rule_words }
+{
+    found_in(octets, &WORDS)
+}
+
+/// The mark of two octets that these are.
+fn long_mark(octets: &[u8]) -> Option<Token>
+    ensures { some_token result ≡ row_token octets.now long_marks }
+{
+    found_in(octets, &LONG_MARKS)
+}
+
+/// The mark of one octet that these are.
+fn short_mark(octets: &[u8]) -> Option<Token>
+    ensures { some_token result ≡ row_token octets.now short_marks }
+{
+    found_in(octets, &SHORT_MARKS)
+}
+
+/// Whether an octet is a space or a tab.
+fn blank(octet: u8) -> bool
+    ensures { result ≡ is_blank octet }
+{
+    octet == b' ' || octet == b'\t'
+}
+
+/// Whether a comment begins at an octet.
+fn begins_comment(octet: u8) -> bool
+    ensures { result ≡ (octet == 35) }
+{
+    octet == b'#'
+}
+
+/// Whether an octet is an ASCII digit.
+fn digit(octet: u8) -> bool
+    ensures { result ≡ is_digit octet }
+{
+    b'0' <= octet && octet <= b'9'
+}
+
 /// Whether an octet belongs to words: an ASCII letter, a digit or `_`.
-fn is_word(octet: u8) -> bool {
-    matches!(octet, b'0'..=b'9' | b'A'..=b'Z' | b'a'..=b'z' | b'_')
+fn letter(octet: u8) -> bool
+    ensures { result ≡ is_word octet }
+{
+    digit(octet)
+        || (b'A' <= octet && octet <= b'Z')
+        || (b'a' <= octet && octet <= b'z')
+        || octet == b'_'
 }
 
 /// The column after blanks.
@@ -83,120 +205,105 @@ fn after_blanks(line: &[u8], from: usize) -> usize
     requires { from ≤ length line.now }
     ensures least { from ≤ result }
     ensures most { result ≤ length line.now }
+    ensures tokens { tokens_from (from + 1) 0 (drop from line.now) ≡ tokens_from (result + 1) 0 (drop result line.now) }
+    ensures stops { result < length line.now → is_blank (slice_index line.now result) ≡ false }
 {
     for at in from..line.len() {
-        if line[at] != b' ' && line[at] != b'\t' {
+        if !blank(line[at]) {
             return at;
         }
     }
     line.len()
 }
 
-/// The column after octets of words.
-fn after_word(line: &[u8], from: usize) -> usize
-    requires { from ≤ length line.now }
-    ensures least { from ≤ result }
-    ensures most { result ≤ length line.now }
+/// How many octets of words a text begins with.
+fn word_len(text: &[u8]) -> usize
+    ensures within { result ≤ length text.now }
+    ensures letters { result ≡ letters_len text.now }
 {
-    for at in from..line.len() {
-        if !is_word(line[at]) {
+    for (at, octet) in text.iter().enumerate() {
+        if !letter(*octet) {
             return at;
         }
     }
-    line.len()
+    text.len()
 }
 
 /// The token of a word.
-fn word_token(word: &[u8]) -> Token {
-    match word {
-        b"any" => Token::Any,
-        b"oam" => Token::Oam,
-        b"user" => Token::User,
-        b"not" => Token::Not,
-        b"and" => Token::And,
-        b"or" => Token::Or,
-        b"otherwise" => Token::Otherwise,
-        b"refuse" => Token::Refuse,
-        b"side" => Token::Side,
-        b"uni" => Token::Uni,
-        b"nni" => Token::Nni,
-        b"gfc" => Token::Gfc,
-        b"vpi" => Token::Vpi,
-        b"vci" => Token::Vci,
-        b"pti" => Token::Pti,
-        b"clp" => Token::Clp,
-        b"octet" => Token::Octet,
-        b"half" => Token::Half,
-        b"word" => Token::Word,
-        [b'0'..=b'9', ..] => match number_of(word) {
+#[tactic(auto, unfolding(crate::specs::RuleTokens::token_of_letters))]
+fn word_token(word: &[u8]) -> Token
+    requires { 0 < length word.now }
+    ensures { rule_token_seen result ≡ token_of_letters word.now }
+{
+    if digit(word[0]) {
+        match number(word) {
             Some(value) => Token::Number(value),
             None => Token::BadNumber,
+        }
+    } else {
+        match known_word(word) {
+            Some(token) => token,
+            None => Token::Unknown,
+        }
+    }
+}
+
+/// The longest mark that octets begin with, or any other octet.
+fn mark(octets: &[u8]) -> Cut
+    requires { 0 < length octets.now }
+    ensures seen { cut_seen result ≡ longest_mark (row_token (take 2 octets.now) long_marks) (row_token (take 1 octets.now) short_marks) }
+    ensures some { 0 < result.size }
+    ensures within { result.size ≤ length octets.now }
+{
+    let two = octets.len().min(2);
+    if let Some(token) = long_mark(&octets[..two]) {
+        return Cut { token, size: two };
+    }
+    match short_mark(&octets[..1]) {
+        Some(token) => Cut { token, size: 1 },
+        None => Cut {
+            token: Token::Unknown,
+            size: 1,
         },
-        _ => Token::Unknown,
     }
 }
 
-/// The mark of two octets, if it is one.
-fn long_mark(first: u8, second: u8) -> Option<Token> {
-    match (first, second) {
-        (b'-', b'>') => Some(Token::Arrow),
-        (b'.', b'.') => Some(Token::Dots),
-        (b'!', b'=') => Some(Token::Unequal),
-        (b'<', b'=') => Some(Token::AtMost),
-        (b'>', b'=') => Some(Token::AtLeast),
-        _ => None,
+/// The token that octets begin with, which don't begin with a blank or a comment.
+#[tactic(auto, unfolding(crate::specs::RuleTokens::first_cut))]
+fn first_token(octets: &[u8]) -> Cut
+    requires { 0 < length octets.now }
+    ensures seen { cut_seen result ≡ first_cut octets.now }
+    ensures some { 0 < result.size }
+    ensures within { result.size ≤ length octets.now }
+{
+    if !letter(octets[0]) {
+        return mark(octets);
     }
-}
-
-/// The mark of one octet.
-fn short_mark(octet: u8) -> Token {
-    match octet {
-        b'{' => Token::Open,
-        b'}' => Token::Close,
-        b'(' => Token::Left,
-        b')' => Token::Right,
-        b'&' => Token::Mask,
-        b',' => Token::Comma,
-        b'=' => Token::Equal,
-        b'<' => Token::Less,
-        b'>' => Token::Greater,
-        _ => Token::Unknown,
+    let size = word_len(octets);
+    Cut {
+        token: word_token(&octets[..size]),
+        size,
     }
 }
 
 /// The first token from a column on, if there is one before a comment and the end of the line.
 pub(crate) fn next_token(line: &[u8], from: usize) -> Option<Found>
     requires { from ≤ length line.now }
-    ensures { IfSome result (λ found. (found.start < found.end) × (from < found.end) × (found.end ≤ length line.now)) }
+    ensures tokens { MatchOption result (tokens_from (from + 1) 0 (drop from line.now) ≡ [])
+        (λ found. tokens_from (from + 1) 0 (drop from line.now) ≡ found_seen found ∷ tokens_from (found.end + 1) 0 (drop found.end line.now)) }
+    ensures places { IfSome result (λ found. (found.start < found.end) × (from < found.end) × (found.end ≤ length line.now)) }
 {
     let start = after_blanks(line, from);
     if start == line.len() {
         return None;
     }
-    let octet = line[start];
-    if octet == b'#' {
+    if begins_comment(line[start]) {
         return None;
     }
-    if is_word(octet) {
-        let end = after_word(line, start + 1);
-        return Some(Found {
-            token: word_token(&line[start..end]),
-            start,
-            end,
-        });
-    }
-    if start + 1 < line.len() {
-        if let Some(token) = long_mark(octet, line[start + 1]) {
-            return Some(Found {
-                token,
-                start,
-                end: start + 2,
-            });
-        }
-    }
+    let first = first_token(&line[start..]);
     Some(Found {
-        token: short_mark(octet),
+        token: first.token,
         start,
-        end: start + 1,
+        end: start + first.size,
     })
 }

@@ -6,7 +6,6 @@ mod fault;
 mod group;
 mod lexer;
 mod line_reader;
-mod numbers;
 mod reader;
 mod subject;
 

@@ -1,13 +1,20 @@
 //! The reader of a text, line by line.
 
-ghost use Rattle.std.specs.Prelude.{◌≤◌, ◌<◌, length, IfSome};
+ghost use Rattle.std.specs.Prelude.{◌≡◌, ◌+◌, ◌≤◌, ◌<◌, ◌^◌, Ok, Err, IfOk, IfErr};
+ghost use Rattle.rules_text.specs.LineGrammar.{nothing_read};
+ghost use Rattle.rules_text.specs.RulesRead.{line_read, rules_read};
+ghost use Rattle.rules_text.specs.RuleTokens.{rule_tokens};
+ghost use Rattle.rules_text.specs.TextFaults.{IsFaultOf, HasRules};
+ghost use Rattle.rules_text.specs.TextOfRules.{placed_fault, rules_at_end, rules_in, said_from, text_with, text_with_line, with_line};
+ghost use Rattle.rules_text.specs.declared.fault.RuleKind.TheVariants.{NoMemory};
+ghost use Rattle.rules_text.specs.inner.SeenReading.{context_seen, said_seen, text_seen};
 
-use crate::fault::{RuleFault, RuleKind};
+use crate::fault::{RuleFault, RuleKind, fault_at};
 use crate::lexer::next_token;
-use crate::line_reader::{LineReader, Said};
+use crate::line_reader::{Context, LineReader, Said};
+use bpf_asm::next_line;
 use cell_rules::{RuleLine, Rules};
 use std::alloc::Global;
-use text_io::{before_return, first_feed};
 use upc_cell::Side;
 
 /// The place of a token, both counted from 1.
@@ -17,162 +24,161 @@ struct Place {
     column: usize,
 }
 
-/// The fault of this kind at a place. NoMemory has none.
-fn fault_at(kind: RuleKind, place: Place) -> RuleFault {
-    match kind {
-        RuleKind::NoMemory => RuleFault {
-            line: 0,
-            column: 0,
-            kind,
-        },
-        _ => RuleFault {
-            line: place.line,
-            column: place.column,
-            kind,
-        },
-    }
-}
-
 /// What was read of a text.
 #[derive(Drop)]
 struct TextReader {
     /// The rules.
     rules: Rules,
-    /// The heads of the open blocks, the outermost first.
-    heads: Vec<Place>,
+    /// How many blocks are open.
+    blocks: usize,
+    /// The head of the outermost of them.
+    head: Place,
     /// Whether a line with a token was read.
     begun: bool,
     /// Whether `otherwise` was read.
     closed: bool,
 }
 
-/// Returns the first line of a text and the rest.
-fn next_line(text: &[u8]) -> Option<(&[u8], &[u8])>
-    ensures { IfSome result (λ found. (length found.1.now < length text.now) × (length found.0.now ≤ length text.now)) }
+/// Reads what a line says.
+fn said_in(alloc: Global, context: Context, number: usize, line: &[u8]) -> Result<Said, RuleFault>
+    ensures ok { IfOk result (λ said. said_from (context_seen context) number nothing_read 1 (rule_tokens line.now) ≡ Ok (said_seen said)) }
+    ensures err { IfErr result (IsFaultOf (said_from (context_seen context) number nothing_read 1 (rule_tokens line.now))) }
 {
-    if text.is_empty() {
-        return None;
+    let mut reader = LineReader::new(alloc);
+    let mut from = 0;
+    while let Some(found) = next_token(line, from) {
+        let column = found.start + 1;
+        let unbalanced = reader.unbalanced_at(column);
+        match reader.read(alloc, context, column, found.token) {
+            Ok(()) => from = found.end,
+            Err(RuleKind::Unbalanced) => {
+                return Err(fault_at(RuleKind::Unbalanced, number, unbalanced));
+            }
+            Err(kind) => return Err(fault_at(kind, number, column)),
+        }
     }
-    match first_feed(text, 0) {
-        None => Some((text, &text[text.len()..])),
-        Some(at) => Some((before_return(&text[..at]), &text[at + 1..])),
+    match reader.finish() {
+        Ok(said) => Ok(said),
+        Err(kind) => Err(fault_at(kind, number, from + 1)),
     }
 }
 
 impl TextReader {
-    /// Takes what a line is, which begins at a place.
-    fn take(&mut self, said: Said, place: Place) -> Result<(), RuleKind> {
-        match said {
-            Said::Blank => return Ok(()),
-            Said::Side(side) => {
-                if self.begun {
-                    return Err(RuleKind::BadLine);
+    /// Takes a line of rules, which begins at a place.
+    fn take_line(&mut self, line: RuleLine, place: Place) -> Result<(), RuleKind>
+        requires { self.old.blocks < 2 ^ 63 }
+        ensures ok { IfOk result (λ _. with_line (text_seen self.old) (line_read line) place.line place.column ≡ text_seen self.new) }
+        ensures blocks { self.new.blocks ≤ self.old.blocks + 1 }
+        ensures err { IfErr result (λ kind. kind ≡ NoMemory) }
+    {
+        match line {
+            RuleLine::Block { .. } => {
+                if self.blocks == 0 {
+                    self.head = place;
                 }
+                self.blocks += 1;
+            }
+            RuleLine::End => self.blocks = self.blocks.saturating_sub(1),
+            RuleLine::Rule { .. } => {}
+        }
+        self.begun = true;
+        self.rules.lines.push(line)?;
+        Ok(())
+    }
+
+    /// Takes what a line says, which begins at a place.
+    fn take(&mut self, said: Said, place: Place) -> Result<(), RuleKind>
+        requires { self.old.blocks < 2 ^ 63 }
+        ensures ok { IfOk result (λ _. text_with (text_seen self.old) place.line place.column (said_seen said) ≡ text_seen self.new) }
+        ensures blocks { self.new.blocks ≤ self.old.blocks + 1 }
+        ensures err { IfErr result (λ kind. kind ≡ NoMemory) }
+    {
+        match said {
+            Said::Blank => Ok(()),
+            Said::Side(side) => {
                 self.rules.side = side;
+                self.begun = true;
+                Ok(())
             }
             Said::Otherwise(value) => {
                 self.rules.otherwise = value;
                 self.closed = true;
+                self.begun = true;
+                Ok(())
             }
-            Said::Line(line) => {
-                match &line {
-                    RuleLine::Block { .. } => self.heads.push(place)?,
-                    RuleLine::End => {
-                        let _ = self.heads.pop();
-                    }
-                    RuleLine::Rule { .. } => {}
-                }
-                self.rules.lines.push(line)?;
-            }
+            Said::Line(line) => self.take_line(line, place),
         }
-        self.begun = true;
-        Ok(())
     }
 
     /// Reads a line of this number, counted from 1.
-    fn read_line(&mut self, alloc: Global, line: &[u8], number: usize) -> Result<(), RuleFault> {
-        let mut reader = LineReader::new(alloc, self.rules.side);
-        let mut from = 0;
-        let mut first = None;
-        while let Some(found) = next_token(line, from) {
-            let place = Place {
-                line: number,
-                column: found.start + 1,
-            };
-            if first.is_none() {
-                first = Some(place);
-                if self.closed {
-                    return Err(fault_at(RuleKind::AfterOtherwise, place));
-                }
-            }
-            match reader.read(alloc, found.token, found.start, self.heads.len()) {
-                Ok(()) => {}
-                Err(kind) => return Err(self.fault_in(&reader, kind, place)),
-            }
-            from = found.end;
-        }
-        let Some(first) = first else {
+    fn read_line(&mut self, alloc: Global, number: usize, line: &[u8]) -> Result<(), RuleFault>
+        requires { self.old.blocks < 2 ^ 63 }
+        ensures ok { IfOk result (λ _. text_with_line (text_seen self.old) number line.now ≡ Ok (text_seen self.new)) }
+        ensures blocks { self.new.blocks ≤ self.old.blocks + 1 }
+        ensures err { IfErr result (IsFaultOf (text_with_line (text_seen self.old) number line.now)) }
+    {
+        let Some(first) = next_token(line, 0) else {
             return Ok(());
         };
-        let end = Place {
-            line: number,
-            column: from + 1,
-        };
-        match reader.finish() {
-            Ok(said) => match self.take(said, first) {
-                Ok(()) => Ok(()),
-                Err(kind) => Err(fault_at(kind, first)),
-            },
-            Err(kind) => Err(fault_at(kind, end)),
+        let column = first.start + 1;
+        if self.closed {
+            return Err(fault_at(RuleKind::AfterOtherwise, number, column));
         }
-    }
-
-    /// The fault of a token at a place. A parenthesis that isn't closed has its own place.
-    fn fault_in(&self, reader: &LineReader, kind: RuleKind, place: Place) -> RuleFault {
-        match kind {
-            RuleKind::Unbalanced => match reader.opened.first() {
-                None => fault_at(kind, place),
-                Some(column) => RuleFault {
-                    line: place.line,
-                    column: column.saturating_add(1),
-                    kind,
-                },
-            },
-            _ => fault_at(kind, place),
+        let context = Context {
+            side: self.rules.side,
+            blocks: self.blocks,
+            begun: self.begun,
+        };
+        let said = said_in(alloc, context, number, line)?;
+        let place = Place {
+            line: number,
+            column,
+        };
+        match self.take(said, place) {
+            Ok(()) => Ok(()),
+            Err(kind) => Err(fault_at(kind, number, column)),
         }
     }
 
     /// The rules, once the whole text was read.
-    fn finish(self) -> Result<Rules, RuleFault> {
-        match self.heads.first() {
-            Some(place) => Err(fault_at(RuleKind::Unbalanced, *place)),
-            None => Ok(self.rules),
+    fn finish(self) -> Result<Rules, RuleFault>
+        ensures ok { IfOk result (λ rules. rules_at_end (text_seen self) ≡ Ok (rules_read rules)) }
+        ensures err { IfErr result (λ fault. rules_at_end (text_seen self) ≡ Err fault) }
+    {
+        if self.blocks > 0 {
+            return Err(fault_at(RuleKind::Unbalanced, self.head.line, self.head.column));
         }
+        Ok(self.rules)
     }
 }
 
-/// Reads a text of rules.
+/// Reads a text of rules: returns the rules that are defined for it (`rules_in`).
 ///
 /// # Errors
 ///
 /// The first fault that a reader meets who goes through the text from left to right. A parenthesis or a block that isn't
-/// closed is met at the end of its test or of the text, and has the place of its beginning. `NoMemory` has no place.
-pub fn read_rules(alloc: Global, text: &[u8]) -> Result<Rules, RuleFault> {
+/// closed is met at the end of its test or of the text, and has the place of its beginning. `NoMemory` if an allocation
+/// failed; it has no place.
+pub fn read_rules(alloc: Global, text: &[u8]) -> Result<Rules, RuleFault>
+    ensures rules { IfOk result (HasRules text.now) }
+    ensures fault { IfErr result (IsFaultOf (rules_in text.now)) }
+{
     let mut reader = TextReader {
         rules: Rules {
             side: Side::Uni,
             lines: Vec::new(alloc),
             otherwise: 0,
         },
-        heads: Vec::new(alloc),
+        blocks: 0,
+        head: Place { line: 0, column: 0 },
         begun: false,
         closed: false,
     };
     let mut left = text;
-    let mut number = 0usize;
+    let mut number = 1usize;
     while let Some((line, rest)) = next_line(left) {
-        number = number.saturating_add(1);
-        reader.read_line(alloc, line, number)?;
+        reader.read_line(alloc, number, line)?;
+        number += 1;
         left = rest;
     }
     reader.finish()

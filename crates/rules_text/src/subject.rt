@@ -1,7 +1,13 @@
 //! What a comparison is about.
 
+ghost use Rattle.std.specs.Prelude.{◌≡◌};
+ghost use Rattle.rules_text.specs.Subjects.{header_read, last_offset, most_of_field, number_within, octets_at_token, octets_read, value_read};
+ghost use Rattle.rules_text.specs.RulesRead.{compared, field_read, relation_read};
+ghost use Rattle.rules_text.specs.inner.Seen.{sign_seen, rule_token_seen};
+ghost use Rattle.rules_text.specs.inner.SeenReading.{field_found};
+
 use crate::fault::RuleKind;
-use crate::lexer::Token;
+use crate::lexer::{Sign, Token};
 use bpf_code::Size;
 use cell_rules::{Field, Octets, Relation};
 use upc_cell::Side;
@@ -15,57 +21,20 @@ pub(crate) struct Subject {
     pub mask: Option<u32>,
 }
 
-/// How a number is related to a constant.
-#[derive(Clone, Copy)]
-pub(crate) enum Sign {
-    Equal,
-    Unequal,
-    Less,
-    AtMost,
-    Greater,
-    AtLeast,
-}
-
-/// The field of the header that a token names at this side.
-pub(crate) fn header_field(token: Token, side: Side) -> Option<Field> {
-    match token {
-        Token::Gfc => match side {
-            Side::Uni => Some(Field::Gfc),
-            Side::Nni => None,
-        },
-        Token::Vpi => Some(Field::Vpi),
-        Token::Vci => Some(Field::Vci),
-        Token::Pti => Some(Field::Pti),
-        Token::Clp => Some(Field::Clp),
-        _ => None,
-    }
-}
-
-/// The size that a token names.
-pub(crate) fn size_of(token: Token) -> Option<Size> {
-    match token {
-        Token::Octet => Some(Size::Octet),
-        Token::Half => Some(Size::Half),
-        Token::Word => Some(Size::Word),
-        _ => None,
-    }
-}
-
-/// The sign that a token is.
-pub(crate) fn sign_of(token: Token) -> Option<Sign> {
-    match token {
-        Token::Equal => Some(Sign::Equal),
-        Token::Unequal => Some(Sign::Unequal),
-        Token::Less => Some(Sign::Less),
-        Token::AtMost => Some(Sign::AtMost),
-        Token::Greater => Some(Sign::Greater),
-        Token::AtLeast => Some(Sign::AtLeast),
-        _ => None,
+/// The field of the header that a name is at this side.
+pub(crate) fn header_field(side: Side, name: Field) -> Result<Field, RuleKind>
+    ensures { field_found result ≡ header_read side (field_read name) }
+{
+    match (side, name) {
+        (Side::Nni, Field::Gfc) => Err(RuleKind::BadLine),
+        _ => Ok(name),
     }
 }
 
 /// The relation to a constant.
-pub(crate) fn relation_of(sign: Sign, k: u32) -> Relation {
+pub(crate) fn relation_of(sign: Sign, k: u32) -> Relation
+    ensures { relation_read result ≡ compared (sign_seen sign) k }
+{
     match sign {
         Sign::Equal => Relation::Equal(k),
         Sign::Unequal => Relation::Unequal(k),
@@ -77,20 +46,35 @@ pub(crate) fn relation_of(sign: Sign, k: u32) -> Relation {
 }
 
 /// The octets at an offset, if they are all in the cell.
-pub(crate) fn octets_at(size: Size, at: u32) -> Option<Field> {
-    let most = match size {
+fn octets_at(size: Size, at: u32) -> Result<Field, RuleKind>
+    ensures { field_found result ≡ octets_read size at }
+{
+    let last = match size {
         Size::Octet => 51,
         Size::Half => 50,
         Size::Word => 48,
     };
-    if at > most {
-        return None;
+    if last < at {
+        return Err(RuleKind::OutsideCell);
     }
-    Some(Field::Octets(Octets { size, at }))
+    Ok(Field::Octets(Octets { size, at }))
+}
+
+/// The octets at the offset that a token is.
+pub(crate) fn octets_of(size: Size, token: Token) -> Result<Field, RuleKind>
+    ensures { field_found result ≡ octets_at_token size (rule_token_seen token) }
+{
+    match token {
+        Token::Number(at) => octets_at(size, at),
+        Token::BadNumber => Err(RuleKind::BadNumber),
+        _ => Err(RuleKind::BadLine),
+    }
 }
 
 /// The largest number that a field can have.
-fn most_of(field: Field, side: Side) -> u32 {
+fn most_of(field: Field, side: Side) -> u32
+    ensures { result ≡ most_of_field side (field_read field) }
+{
     match field {
         Field::Gfc => 15,
         Field::Vpi => u32::from(side.last_vpi()),
@@ -106,13 +90,33 @@ fn most_of(field: Field, side: Side) -> u32 {
 }
 
 /// The number of a token that a field can have.
-pub(crate) fn number_for(token: Token, field: Field, side: Side) -> Result<u32, RuleKind> {
+pub(crate) fn number_for(token: Token, field: Field, side: Side) -> Result<u32, RuleKind>
+    ensures { result ≡ number_within (most_of_field side (field_read field)) (rule_token_seen token) }
+{
     match token {
         Token::Number(k) => {
-            if k > most_of(field, side) {
+            if most_of(field, side) < k {
                 Err(RuleKind::TooLarge)
             } else {
                 Ok(k)
+            }
+        }
+        Token::BadNumber => Err(RuleKind::BadNumber),
+        _ => Err(RuleKind::BadLine),
+    }
+}
+
+/// The value of a rule that a token is.
+pub(crate) fn value_of(token: Token) -> Result<u32, RuleKind>
+    ensures { result ≡ value_read (rule_token_seen token) }
+{
+    match token {
+        Token::Refuse => Ok(0),
+        Token::Number(value) => {
+            if 0 < value {
+                Ok(value)
+            } else {
+                Err(RuleKind::TooLarge)
             }
         }
         Token::BadNumber => Err(RuleKind::BadNumber),

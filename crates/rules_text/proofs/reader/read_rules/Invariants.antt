@@ -1,5 +1,16 @@
-use Rattle.std.proofs.Common.{length}
+-- The rest of the text, read on from here, has the rules of the whole text.
+use Rattle.std.proofs.Common.{◌≡◌, ◌+◌, ◌≤◌, length}
+use Rattle.bpf_asm.specs.SourceLines.{source_lines}
+use Rattle.rules_text.specs.TextOfRules.{rules_from, rules_in}
+use Rattle.rules_text.specs.inner.SeenReading.{text_seen}
 use Rattle.rules_text.proofs.reader.read_rules.Given as goal
+
+abbrev pub invariant-loop-line : goal.invariant-loop-line
+invariant-loop-line l = record {
+  counted : l.number + length l.left ≤ length l.text + 1;
+  blocks : l.reader.blocks + 1 ≤ l.number;
+  rest : rules_from (text_seen l.reader) l.number (source_lines l.left) ≡ rules_in l.text;
+}
 
 abbrev pub decreases-loop-line : goal.decreases-loop-line
 decreases-loop-line l = length l.left

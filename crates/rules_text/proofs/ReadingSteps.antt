@@ -1,0 +1,138 @@
+-- A line read token by token, and a text line by line.
+use Rattle.std.proofs.Common.{◌≡◌, ◌≢◌, inl, inr, IsErrAnd, IfErr, IfOk, ℕ, ◌+◌, true, false, List, [], ◌∷◌, Result, Ok, Err, refl, sym, ap, ◌∙◌, subst}
+use Rattle.bpf_asm.specs.SourceLines.{source_lines}
+use Rattle.cell_rules.specs.declared.rules.Rules.{Rules}
+use Rattle.rules_text.specs.LineGrammar.{LineContext, Reading, SaidRead, nothing_read, read_token, said_at_end}
+use Rattle.rules_text.specs.RulesRead.{RulesRead, rules_read}
+use Rattle.rules_text.specs.RuleTokens.{RuleFound, rule_tokens}
+use Rattle.rules_text.specs.TextFaults.{IsFaultOf}
+use Rattle.rules_text.specs.TextOfRules.{TextReading, context_of, fault_column, no_text_read, placed_fault, rules_at_end, rules_from, rules_in, said_from, text_with, text_with_line}
+use Rattle.rules_text.specs.declared.fault.RuleFault.{RuleFault}
+use Rattle.rules_text.specs.declared.fault.RuleKind.{RuleKind}
+use Rattle.rules_text.specs.declared.fault.RuleKind.TheVariants.{BadLine, BadNumber, TooLarge, OutsideCell, AfterOtherwise, Unbalanced, TooDeep, TooLong, NoMemory}
+use Rattle.rules_text.specs.inner.SeenFaults.{fault_seen}
+
+-- One more token.
+pub said_more : (context : LineContext) (number column : ℕ) (reading next : Reading) (found : RuleFound) (rest : List RuleFound)
+    → read_token context found.column reading found.token ≡ Ok next
+    → said_from context number reading column (found ∷ rest) ≡ said_from context number next found.after rest
+unfolding said_from
+said_more context number column reading next found rest e = rw e refl
+
+-- A token that is a fault.
+pub said_fault : (context : LineContext) (number column : ℕ) (reading : Reading) (found : RuleFound) (rest : List RuleFound) (kind : RuleKind)
+    → read_token context found.column reading found.token ≡ Err kind
+    → said_from context number reading column (found ∷ rest) ≡ Err (placed_fault number (fault_column reading kind found.column) kind)
+unfolding said_from
+said_fault context number column reading found rest kind e = rw e refl
+
+-- The end of a line that may end here.
+pub said_end : (context : LineContext) (number column : ℕ) (reading : Reading) (said : SaidRead)
+    → said_at_end reading.awaited reading.said ≡ Ok said → said_from context number reading column [] ≡ Ok said
+unfolding said_from
+said_end context number column reading said e = rw e refl
+
+-- The end of a line that ends too early.
+pub said_early : (context : LineContext) (number column : ℕ) (reading : Reading) (kind : RuleKind)
+    → said_at_end reading.awaited reading.said ≡ Err kind → said_from context number reading column [] ≡ Err (placed_fault number column kind)
+unfolding said_from
+said_early context number column reading kind e = rw e refl
+
+-- One more line.
+pub rules_more : (text next : TextReading) (number : ℕ) (line : List ℕ) (rest : List (List ℕ))
+    → text_with_line text number line ≡ Ok next → rules_from text number (line ∷ rest) ≡ rules_from next (number + 1) rest
+unfolding rules_from
+rules_more text next number line rest e = rw e refl
+
+-- A line with a fault.
+pub rules_fault : (text : TextReading) (number : ℕ) (line : List ℕ) (rest : List (List ℕ)) (fault : RuleFault)
+    → text_with_line text number line ≡ Err fault → rules_from text number (line ∷ rest) ≡ Err fault
+unfolding rules_from
+rules_fault text number line rest fault e = rw e refl
+
+-- The end of the text.
+pub rules_end : (text : TextReading) (number : ℕ) → rules_from text number [] ≡ rules_at_end text
+unfolding rules_from
+rules_end text number = refl
+
+-- A line without tokens.
+pub line_empty : (text : TextReading) (number : ℕ) (line : List ℕ) → rule_tokens line ≡ [] → text_with_line text number line ≡ Ok text
+unfolding text_with_line
+line_empty text number line e = rw e refl
+
+-- A line after `otherwise`.
+pub line_closed : (text : TextReading) (number : ℕ) (line : List ℕ) (first : RuleFound) (rest : List RuleFound)
+    → rule_tokens line ≡ first ∷ rest → text.closed ≡ true → text_with_line text number line ≡ Err (placed_fault number first.column AfterOtherwise)
+unfolding text_with_line
+line_closed text number line first rest e closed = rw (e, closed) refl
+
+-- A line that says something.
+pub line_said : (text : TextReading) (number : ℕ) (line : List ℕ) (first : RuleFound) (rest : List RuleFound) (said : SaidRead)
+    → rule_tokens line ≡ first ∷ rest → text.closed ≡ false → said_from (context_of text) number nothing_read 1 (rule_tokens line) ≡ Ok said
+    → text_with_line text number line ≡ Ok (text_with text number first.column said)
+unfolding text_with_line
+line_said text number line first rest said e closed s =
+    let t : said_from (context_of text) number nothing_read 1 (first ∷ rest) ≡ Ok said = ap (said_from (context_of text) number nothing_read 1) (sym e) ∙ s in
+    rw (e, closed, t) refl
+
+-- A line with a fault.
+pub line_fault : (text : TextReading) (number : ℕ) (line : List ℕ) (first : RuleFound) (rest : List RuleFound) (fault : RuleFault)
+    → rule_tokens line ≡ first ∷ rest → text.closed ≡ false → said_from (context_of text) number nothing_read 1 (rule_tokens line) ≡ Err fault
+    → text_with_line text number line ≡ Err fault
+unfolding text_with_line
+line_fault text number line first rest fault e closed s =
+    let t : said_from (context_of text) number nothing_read 1 (first ∷ rest) ≡ Err fault = ap (said_from (context_of text) number nothing_read 1) (sym e) ∙ s in
+    rw (e, closed, t) refl
+
+-- A fault that has no place but its token's.
+pub other_fault : {A : Type 0} (read : Result A RuleFault) (reading : Reading) (number column : ℕ) (fault : RuleFault) (kind : RuleKind)
+    → kind ≢ Unbalanced → fault ≡ fault_seen number column kind
+    → (kind ≢ NoMemory → read ≡ Err (placed_fault number (fault_column reading kind column) kind)) → IsFaultOf read fault
+other_fault read reading number column fault BadLine n f g = inr (g (λ e. cc) ∙ ap (λ (x : RuleFault). Err x) (sym f))
+other_fault read reading number column fault BadNumber n f g = inr (g (λ e. cc) ∙ ap (λ (x : RuleFault). Err x) (sym f))
+other_fault read reading number column fault TooLarge n f g = inr (g (λ e. cc) ∙ ap (λ (x : RuleFault). Err x) (sym f))
+other_fault read reading number column fault OutsideCell n f g = inr (g (λ e. cc) ∙ ap (λ (x : RuleFault). Err x) (sym f))
+other_fault read reading number column fault AfterOtherwise n f g = inr (g (λ e. cc) ∙ ap (λ (x : RuleFault). Err x) (sym f))
+other_fault read reading number column fault Unbalanced n f g = absurd (n refl)
+other_fault read reading number column fault TooDeep n f g = inr (g (λ e. cc) ∙ ap (λ (x : RuleFault). Err x) (sym f))
+other_fault read reading number column fault TooLong n f g = inr (g (λ e. cc) ∙ ap (λ (x : RuleFault). Err x) (sym f))
+other_fault read reading number column fault NoMemory n f g = inl f
+
+-- A fault of a part is one of the whole.
+pub fault_onward : {A B : Type 0} (part : Result A RuleFault) (whole : Result B RuleFault) (fault : RuleFault)
+    → (part ≡ Err fault → whole ≡ Err fault) → IsFaultOf part fault → IsFaultOf whole fault
+fault_onward part whole fault on (inl e) = inl e
+fault_onward part whole fault on (inr e) = inr (on e)
+
+-- A fault that is returned at once.
+pub returned_fault : {T : Type 0} (returned : Result T RuleFault) (fault : RuleFault) (P : RuleFault → Type 0)
+    → IsErrAnd returned (λ other. other ≡ fault) → P fault → IfErr returned P
+returned_fault (Ok value) fault P e p = tt
+returned_fault (Err other) fault P e p = subst P (sym e) p
+
+-- A fault at an equal column.
+pub placed_same : (fault : RuleFault) (number column other : ℕ) (kind : RuleKind) → fault ≡ placed_fault number column kind → column ≡ other → fault ≡ placed_fault number other kind
+placed_same fault number column other kind e same = e ∙ ap (λ (k : ℕ). placed_fault number k kind) same
+
+-- A line that ends too early has a place.
+pub early_same : (fault : RuleFault) (number column : ℕ) (kind : RuleKind) → fault ≡ fault_seen number column kind → kind ≡ BadLine → fault ≡ placed_fault number column kind
+early_same fault number column kind e bad =
+    let seen : fault_seen number column kind ≡ placed_fault number column BadLine = ap (fault_seen number column) bad in
+    e ∙ seen ∙ ap (placed_fault number column) (sym bad)
+
+-- The rules of a text, from its first line on.
+pub rules_begun : (octets : List ℕ) → rules_in octets ≡ rules_from no_text_read 1 (source_lines octets)
+unfolding rules_in
+rules_begun octets = refl
+
+-- The rules at the end of the text are those of the whole text.
+pub rules_at_last : (returned : Result Rules RuleFault) (at_end whole : Result RulesRead RuleFault) → whole ≡ at_end
+    → IfOk returned (λ rules. at_end ≡ Ok (rules_read rules)) → IfOk returned (λ rules. whole ≡ Ok (rules_read rules))
+rules_at_last (Ok rules) at_end whole e h = e ∙ h
+rules_at_last (Err fault) at_end whole e h = tt
+
+-- A fault at the end of the text is one of the whole text.
+pub fault_at_last : (returned : Result Rules RuleFault) (at_end whole : Result RulesRead RuleFault) → whole ≡ at_end
+    → IfErr returned (λ fault. at_end ≡ Err fault) → IfErr returned (IsFaultOf whole)
+fault_at_last (Ok rules) at_end whole e h = tt
+fault_at_last (Err fault) at_end whole e h = inr (e ∙ h)

@@ -1,0 +1,99 @@
+-- Rules in memory give each cell the value of what they are written as.
+use Rattle.std.proofs.Common.{◌≡◌, ℕ, zero, suc, Bool, true, false, not, ◌&&◌, ◌||◌, if◌then◌else◌, List, [], ◌∷◌, ◌++◌, map, refl, sym, ap, ◌∙◌}
+use Rattle.bpf_code.specs.declared.instr.Instr.{Instr}
+use Rattle.cell_rules.specs.Fields.{is_so, number_in}
+use Rattle.cell_rules.specs.Promise.{FollowsRules}
+use Rattle.cell_rules.specs.Rules.{rules_value_from, value_of_rules}
+use Rattle.cell_rules.specs.Tests.{is_met}
+use Rattle.cell_rules.specs.declared.field.Field.{Field}
+use Rattle.cell_rules.specs.declared.field.Field.TheVariants.{Gfc, Vpi, Vci, Pti, Clp, Octets}
+use Rattle.cell_rules.specs.declared.relation.Relation.{Relation}
+use Rattle.cell_rules.specs.declared.relation.Relation.TheVariants.{Equal, Unequal, Less, AtMost, Greater, AtLeast, In}
+use Rattle.cell_rules.specs.declared.rules.RuleLine.{RuleLine}
+use Rattle.cell_rules.specs.declared.rules.RuleLine.TheVariants.{Rule, Block, End}
+use Rattle.cell_rules.specs.declared.rules.Rules.{Rules}
+use Rattle.cell_rules.specs.declared.test.Test.{Test}
+use Rattle.cell_rules.specs.declared.test.Test as asked
+use Rattle.match_code.specs.PlainTests.{is_among, is_in, kept_bits}
+use Rattle.match_code.specs.declared.part.Span.{Span}
+use Rattle.upc_cell.specs.declared.side.Side.{Side}
+use Rattle.rules_text.specs.RulesRead.{field_read, line_read, relation_read, rules_read, test_read}
+use Rattle.rules_text.specs.TextFaults.{HasRules}
+use Rattle.rules_text.specs.ValuesRead.{FollowsText, field_number, lines_give, relation_holds, rules_give, test_holds}
+
+or_swap : (a b c : Bool) → a || (b || c) ≡ b || (a || c)
+or_swap true true c = refl
+or_swap true false c = refl
+or_swap false true c = refl
+or_swap false false c = refl
+
+among_last : (span : Span) (spans : List Span) (number : ℕ) → is_among (span ∷ spans) number ≡ is_among (spans ++ span ∷ []) number
+among_last span [] number = refl
+among_last span (first ∷ spans) number =
+    or_swap (is_in span number) (is_in first number) (is_among spans number)
+    ∙ ap (λ (t : Bool). is_in first number || t) (among_last span spans number)
+
+relation_same : (relation : Relation) (number : ℕ) → is_so relation number ≡ relation_holds (relation_read relation) number
+relation_same (Equal k) number = refl
+relation_same (Unequal k) number = refl
+relation_same (Less k) number = refl
+relation_same (AtMost k) number = refl
+relation_same (Greater k) number = refl
+relation_same (AtLeast k) number = refl
+relation_same (In last others) number = among_last last others.items number
+
+field_same : (side : Side) (field : Field) (cell : List ℕ) → number_in side field cell ≡ field_number side (field_read field) cell
+field_same side Gfc cell = refl
+field_same side Vpi cell = refl
+field_same side Vci cell = refl
+field_same side Pti cell = refl
+field_same side Clp cell = refl
+field_same side (Octets octets) cell = refl
+
+test_same : (side : Side) (test : Test) (cell : List ℕ) → is_met side test cell ≡ test_holds side (test_read test) cell
+test_same side asked.Any cell = refl
+test_same side asked.Oam cell = refl
+test_same side asked.User cell = refl
+test_same side (asked.Compare field mask relation) cell =
+    relation_same relation (kept_bits mask (number_in side field cell))
+    ∙ ap (λ (n : ℕ). relation_holds (relation_read relation) (kept_bits mask n)) (field_same side field cell)
+test_same side (asked.Not' p test) cell = ap not (test_same side test cell)
+test_same side (asked.And' p one q other) cell =
+    ap (λ (t : Bool). t && is_met side other cell) (test_same side one cell)
+    ∙ ap (λ (t : Bool). test_holds side (test_read one) cell && t) (test_same side other cell)
+test_same side (asked.Or' p one q other) cell =
+    ap (λ (t : Bool). t || is_met side other cell) (test_same side one cell)
+    ∙ ap (λ (t : Bool). test_holds side (test_read one) cell || t) (test_same side other cell)
+
+chosen_same : (a b : Bool) (value other same : ℕ) → a ≡ b → other ≡ same → (if a then value else other) ≡ (if b then value else same)
+chosen_same a true value other same e f = rw e refl
+chosen_same a false value other same e f = rw e f
+
+both_same : (a b : Bool) (value equal other same : ℕ) → a ≡ b → value ≡ equal → other ≡ same → (if a then value else other) ≡ (if b then equal else same)
+both_same a true value equal other same e f g = rw e f
+both_same a false value equal other same e f g = rw e g
+
+lines_same : (side : Side) (lines : List RuleLine) (skipped otherwise : ℕ) (cell : List ℕ)
+    → rules_value_from side lines skipped otherwise cell ≡ lines_give side (map line_read lines) skipped otherwise cell
+lines_same side [] skipped otherwise cell = refl
+lines_same side (Rule test value ∷ rest) zero otherwise cell =
+    chosen_same (is_met side test cell) (test_holds side (test_read test) cell) value (rules_value_from side rest zero otherwise cell) (lines_give side (map line_read rest) zero otherwise cell) (test_same side test cell) (lines_same side rest zero otherwise cell)
+lines_same side (Block test ∷ rest) zero otherwise cell =
+    both_same (is_met side test cell) (test_holds side (test_read test) cell) (rules_value_from side rest zero otherwise cell) (lines_give side (map line_read rest) zero otherwise cell) (rules_value_from side rest 1 otherwise cell) (lines_give side (map line_read rest) 1 otherwise cell)
+    (test_same side test cell) (lines_same side rest zero otherwise cell) (lines_same side rest 1 otherwise cell)
+lines_same side (End ∷ rest) zero otherwise cell = lines_same side rest zero otherwise cell
+lines_same side (Rule test value ∷ rest) (suc skipped) otherwise cell = lines_same side rest (suc skipped) otherwise cell
+lines_same side (Block test ∷ rest) (suc skipped) otherwise cell = lines_same side rest (suc (suc skipped)) otherwise cell
+lines_same side (End ∷ rest) (suc skipped) otherwise cell = lines_same side rest skipped otherwise cell
+
+value_same : (rules : Rules) (cell : List ℕ) → value_of_rules rules cell ≡ rules_give (rules_read rules) cell
+value_same rules cell = lines_same rules.side rules.lines.items 0 rules.otherwise cell
+
+-- Code that follows the rules of a text follows the text.
+pub follows_text : (octets : List ℕ) (rules : Rules) (code : List Instr) → HasRules octets rules → FollowsRules rules code → FollowsText octets code
+follows_text octets rules code read follows = record {
+  rules = rules_read rules;
+  read = read;
+  gives = λ cell is_cell. rw (sym (value_same rules cell)) (follows.gives cell is_cell);
+  only = λ cell value steps is_cell ends. follows.only cell value steps is_cell ends ∙ value_same rules cell;
+}

@@ -1,0 +1,356 @@
+-- How a line of rules is read, token by token from left to right. A token that doesn't fit what was read before it is a
+-- fault, and no token after it is looked at.
+use Rattle.std.specs.Prelude.{ℕ, ◌+◌, Bool, true, false, not, nat_lt, nat_le, if◌then◌else◌, List, [], ◌∷◌, ◌++◌, length, Option, Some, None, Result, Ok, Err}
+use Rattle.bpf_code.specs.declared.instr.Size.{Size}
+use Rattle.match_code.specs.declared.part.Span.{Span}
+use Rattle.upc_cell.specs.declared.side.Side.{Side}
+use Rattle.upc_cell.specs.declared.side.Side.TheVariants as side_of
+use Rattle.rules_text.specs.RulesRead.{FieldRead, LineRead, SignRead, TestRead, any_cell, oam_cell, user_cell, comparing, negation, conjunction, disjunction, compared, listed, rule_line, block_line, end_line}
+use Rattle.rules_text.specs.RuleTokens.{RuleToken, any_word, oam_word, user_word, not_word, and_word, or_word, otherwise_word, side_word, uni_word, nni_word, field_word, size_word, bad_number, arrow_mark, open_brace, close_brace, open_parenthesis, close_parenthesis, mask_mark, comma_mark, dots_mark, sign_mark}
+use Rattle.rules_text.specs.Subjects.{header_read, most_of_field, number_within, octets_at_token, value_read}
+use Rattle.rules_text.specs.declared.fault.RuleKind.{RuleKind}
+use Rattle.rules_text.specs.declared.fault.RuleKind.TheVariants.{BadLine, BadNumber, TooLarge, Unbalanced, TooDeep, TooLong}
+
+-- What was read before a line.
+pub record LineContext : Type 0 where
+  -- the side at which headers are read
+  pub side : Side
+  -- how many blocks are open
+  pub blocks : ℕ
+  -- whether a line with tokens was read
+  pub begun : Bool
+
+-- What a line says.
+pub data SaidRead : Type 0 where
+  says_nothing : SaidRead
+  says_side : Side → SaidRead
+  says_line : LineRead → SaidRead
+  says_otherwise : ℕ → SaidRead
+
+-- A field with a mask, if there is one.
+pub record SubjectRead : Type 0 where
+  pub field : FieldRead
+  pub mask : Option ℕ
+
+-- What was read of a test, or of what is in a parenthesis: the alternatives before the last `or`, the parts after it
+-- that are joined by `and`, and whether a `not` applies to the next part.
+pub record GroupRead : Type 0 where
+  pub either : Option TestRead
+  pub both : Option TestRead
+  pub negated : Bool
+
+-- What comes next in a line.
+pub data Awaited : Type 0 where
+  -- the first token
+  awaits_start : Awaited
+  -- a unit of a test
+  awaits_unit : Awaited
+  -- `and`, `or`, `)`, or the end of the test
+  awaits_operator : Awaited
+  -- the offset of octets
+  awaits_offset : Size → Awaited
+  -- after a field: `&`, a sign or a number
+  awaits_relation : SubjectRead → Awaited
+  -- the mask of a field
+  awaits_mask : SubjectRead → Awaited
+  -- after a mask: a sign or a number
+  awaits_sign : SubjectRead → Awaited
+  -- the number after a sign
+  awaits_constant : SubjectRead → SignRead → Awaited
+  -- after the first number of a range: `..`, `,`, or what comes after a unit
+  awaits_dots : SubjectRead → ℕ → Awaited
+  -- the number after `..`
+  awaits_high : SubjectRead → ℕ → Awaited
+  -- after a range: `,`, or what comes after a unit
+  awaits_comma : SubjectRead → Span → Awaited
+  -- the number after `,`
+  awaits_low : SubjectRead → Awaited
+  -- `->` after `otherwise`
+  awaits_arrow : Awaited
+  -- the value of a rule
+  awaits_value : Awaited
+  -- the value after `otherwise ->`
+  awaits_rest : Awaited
+  -- the name of the side
+  awaits_side : Awaited
+  -- nothing more
+  awaits_end : Awaited
+
+-- What was read of a line.
+pub record Reading : Type 0 where
+  -- what comes next
+  pub awaited : Awaited
+  -- the test, or what is in the innermost open parenthesis
+  pub group : GroupRead
+  -- what was read around each open parenthesis, the innermost first
+  pub around : List GroupRead
+  -- the column of the outermost open parenthesis
+  pub outermost : ℕ
+  -- the ranges of a list before the last `,`
+  pub spans : List Span
+  -- how many comparisons, words and ranges the test has so far
+  pub comparisons : ℕ
+  -- the whole test, once `->` came
+  pub test : TestRead
+  -- what the line says
+  pub said : SaidRead
+
+-- Reading goes on, or there is a fault.
+abbrev pub LineStep : Type 0
+LineStep = Result Reading RuleKind
+
+-- Reads on with what was found, if there is no fault.
+abbrev pub found_then : {A B : Type 0} → Result A RuleKind → (A → Result B RuleKind) → Result B RuleKind
+found_then (Ok found) next = next found
+found_then (Err kind) next = Err kind
+
+-- Nothing of a test was read.
+abbrev pub no_group : GroupRead
+no_group = record { either = None; both = None; negated = false }
+
+-- Nothing of a line was read.
+abbrev pub nothing_read : Reading
+nothing_read = record {
+  awaited = awaits_start;
+  group = no_group;
+  around = [];
+  outermost = 0;
+  spans = [];
+  comparisons = 0;
+  test = any_cell;
+  said = says_nothing;
+}
+
+-- The test, denied if a `not` applies to it.
+abbrev pub negated_if : Bool → TestRead → TestRead
+negated_if true test = negation test
+negated_if false test = test
+
+-- The parts of an alternative with one more.
+abbrev pub both_of : Option TestRead → TestRead → TestRead
+both_of None test = test
+both_of (Some parts) test = conjunction parts test
+
+-- The alternatives with one more.
+abbrev pub either_of : Option TestRead → Option TestRead → Option TestRead
+either_of None both = both
+either_of (Some either) None = Some either
+either_of (Some either) (Some both) = Some (disjunction either both)
+
+-- The group with one more part.
+abbrev pub group_with : GroupRead → TestRead → GroupRead
+group_with group test = record { either = group.either; both = Some (both_of group.both (negated_if group.negated test)); negated = false }
+
+-- The group after `or`.
+abbrev pub group_after_or : GroupRead → GroupRead
+group_after_or group = record { either = either_of group.either group.both; both = None; negated = group.negated }
+
+-- The group after `not`.
+abbrev pub group_after_not : GroupRead → GroupRead
+group_after_not group = record { either = group.either; both = group.both; negated = not group.negated }
+
+-- The test of a group.
+abbrev pub group_test : GroupRead → Option TestRead
+group_test group = either_of group.either group.both
+
+-- One more comparison is read. A test has at most 4096.
+unfoldable pub with_unit : Reading → TestRead → LineStep
+with_unit reading test =
+    if nat_le 4096 reading.comparisons then Err TooLong else
+    Ok (record reading { comparisons = reading.comparisons + 1; group = group_with reading.group test; awaited = awaits_operator })
+
+-- One more range of a list is counted.
+unfoldable pub with_range : Reading → Awaited → LineStep
+with_range reading awaited =
+    if nat_le 4096 reading.comparisons then Err TooLong else
+    Ok (record reading { comparisons = reading.comparisons + 1; awaited = awaited })
+
+-- A parenthesis is opened at this column. At most 64 parentheses and blocks are open together.
+unfoldable pub with_open : LineContext → ℕ → Reading → LineStep
+with_open context column reading =
+    if nat_le 64 (context.blocks + length reading.around) then Err TooDeep else
+    Ok (record reading {
+      around = reading.group ∷ reading.around;
+      outermost = (if nat_lt 0 (length reading.around) then reading.outermost else column);
+      group = no_group;
+      awaited = awaits_unit;
+    })
+
+-- What is in a parenthesis is a unit of what is around it.
+abbrev pub unit_around : Reading → List GroupRead → Option TestRead → LineStep
+unit_around reading [] inner = Err Unbalanced
+unit_around reading (group ∷ around) None = Err BadLine
+unit_around reading (group ∷ around) (Some test) =
+    Ok (record reading { around = around; group = group_with group test; awaited = awaits_operator })
+
+-- A parenthesis is closed.
+unfoldable pub with_close : Reading → LineStep
+with_close reading = unit_around reading reading.around (group_test reading.group)
+
+-- The test of the group, if there is one.
+abbrev pub some_test : Option TestRead → Result TestRead RuleKind
+some_test None = Err BadLine
+some_test (Some test) = Ok test
+
+-- The whole test. Each parenthesis must be closed.
+unfoldable pub whole_test : Reading → Result TestRead RuleKind
+whole_test reading = if nat_lt 0 (length reading.around) then Err Unbalanced else some_test (group_test reading.group)
+
+-- The line says this, and nothing comes after it.
+abbrev pub saying : Reading → SaidRead → Reading
+saying reading said = record reading { said = said; group = no_group; awaited = awaits_end }
+
+-- `{` after a test.
+unfoldable pub with_block : LineContext → Reading → LineStep
+with_block context reading = found_then (whole_test reading) (λ test.
+    if nat_le 64 context.blocks then Err TooDeep else Ok (saying reading (says_line (block_line test))))
+
+-- `->` after a test.
+unfoldable pub with_head : Reading → LineStep
+with_head reading = found_then (whole_test reading) (λ test. Ok (record reading { test = test; group = no_group; awaited = awaits_value }))
+
+-- A token after a unit.
+unfoldable pub read_operator : LineContext → Reading → RuleToken → LineStep
+read_operator context reading and_word = Ok (record reading { awaited = awaits_unit })
+read_operator context reading or_word = Ok (record reading { group = group_after_or reading.group; awaited = awaits_unit })
+read_operator context reading close_parenthesis = with_close reading
+read_operator context reading open_brace = with_block context reading
+read_operator context reading arrow_mark = with_head reading
+read_operator context reading _ = Err BadLine
+
+-- A field without a mask.
+abbrev pub subject_of : FieldRead → SubjectRead
+subject_of field = record { field = field; mask = None }
+
+-- A token where a unit of a test begins.
+unfoldable pub read_unit : LineContext → ℕ → Reading → RuleToken → LineStep
+read_unit context column reading not_word = Ok (record reading { group = group_after_not reading.group; awaited = awaits_unit })
+read_unit context column reading open_parenthesis = with_open context column reading
+read_unit context column reading any_word = with_unit reading any_cell
+read_unit context column reading oam_word = with_unit reading oam_cell
+read_unit context column reading user_word = with_unit reading user_cell
+read_unit context column reading (field_word name) =
+    found_then (header_read context.side name) (λ field. Ok (record reading { awaited = awaits_relation (subject_of field) }))
+read_unit context column reading (size_word size) = Ok (record reading { awaited = awaits_offset size })
+read_unit context column reading bad_number = Err BadNumber
+read_unit context column reading _ = Err BadLine
+
+-- The first token of a line.
+unfoldable pub read_start : LineContext → ℕ → Reading → RuleToken → LineStep
+read_start context column reading otherwise_word =
+    if nat_lt 0 context.blocks then Err BadLine else Ok (record reading { awaited = awaits_arrow })
+read_start context column reading side_word =
+    if context.begun then Err BadLine else Ok (record reading { awaited = awaits_side })
+read_start context column reading close_brace =
+    if nat_lt 0 context.blocks then Ok (record reading { said = says_line end_line; awaited = awaits_end }) else Err Unbalanced
+read_start context column reading token = read_unit context column reading token
+
+-- The offset of octets.
+unfoldable pub read_offset : Size → Reading → RuleToken → LineStep
+read_offset size reading token =
+    found_then (octets_at_token size token) (λ field. Ok (record reading { awaited = awaits_relation (subject_of field) }))
+
+-- A number of a list.
+unfoldable pub read_low : LineContext → SubjectRead → Reading → RuleToken → LineStep
+read_low context subject reading token =
+    found_then (number_within (most_of_field context.side subject.field) token) (λ low. Ok (record reading { awaited = awaits_dots subject low }))
+
+-- A sign, or the first number of a list.
+unfoldable pub read_sign : LineContext → SubjectRead → Reading → RuleToken → LineStep
+read_sign context subject reading (sign_mark sign) = Ok (record reading { awaited = awaits_constant subject sign })
+read_sign context subject reading token = read_low context subject reading token
+
+-- A token after a field.
+unfoldable pub read_relation : LineContext → SubjectRead → Reading → RuleToken → LineStep
+read_relation context subject reading mask_mark = Ok (record reading { awaited = awaits_mask subject })
+read_relation context subject reading token = read_sign context subject reading token
+
+-- A mask, which the field must be able to have.
+unfoldable pub read_mask : LineContext → SubjectRead → Reading → RuleToken → LineStep
+read_mask context subject reading token =
+    found_then (number_within (most_of_field context.side subject.field) token) (λ mask.
+    Ok (record reading { awaited = awaits_sign (record { field = subject.field; mask = Some mask }) }))
+
+-- The number after a sign.
+unfoldable pub read_constant : LineContext → SubjectRead → SignRead → Reading → RuleToken → LineStep
+read_constant context subject sign reading token =
+    found_then (number_within (most_of_field context.side subject.field) token) (λ k.
+    with_unit reading (comparing subject.field subject.mask (compared sign k)))
+
+-- The list of a field ends with this range. It is a unit of the test.
+unfoldable pub with_list : SubjectRead → Span → Reading → LineStep
+with_list subject span reading =
+    with_unit (record reading { spans = [] }) (comparing subject.field subject.mask (listed (reading.spans ++ span ∷ [])))
+
+-- A token after a range of a list.
+unfoldable pub read_comma : LineContext → SubjectRead → Span → Reading → RuleToken → LineStep
+read_comma context subject span reading comma_mark =
+    Ok (record reading { spans = reading.spans ++ span ∷ []; awaited = awaits_low subject })
+read_comma context subject span reading token = found_then (with_list subject span reading) (λ next. read_operator context next token)
+
+-- The range of one number.
+abbrev pub range_of_one : ℕ → Span
+range_of_one low = record { low = low; high = low }
+
+-- A token after the first number of a range. Without `..` the range is this number.
+unfoldable pub read_dots : LineContext → SubjectRead → ℕ → Reading → RuleToken → LineStep
+read_dots context subject low reading dots_mark = Ok (record reading { awaited = awaits_high subject low })
+read_dots context subject low reading token =
+    found_then (with_range reading reading.awaited) (λ next. read_comma context subject (range_of_one low) next token)
+
+-- The number after `..`, which is at least the first of the range.
+unfoldable pub read_high : LineContext → SubjectRead → ℕ → Reading → RuleToken → LineStep
+read_high context subject low reading token =
+    found_then (number_within (most_of_field context.side subject.field) token) (λ high.
+    if nat_lt high low then Err TooLarge else with_range reading (awaits_comma subject (record { low = low; high = high })))
+
+-- `->` after `otherwise`.
+unfoldable pub read_arrow : Reading → RuleToken → LineStep
+read_arrow reading arrow_mark = Ok (record reading { awaited = awaits_rest })
+read_arrow reading _ = Err BadLine
+
+-- The value of a rule.
+unfoldable pub read_value : Reading → RuleToken → LineStep
+read_value reading token = found_then (value_read token) (λ value.
+    Ok (record reading { test = any_cell; said = says_line (rule_line reading.test value); awaited = awaits_end }))
+
+-- The value after `otherwise ->`.
+unfoldable pub read_rest : Reading → RuleToken → LineStep
+read_rest reading token =
+    found_then (value_read token) (λ value. Ok (record reading { said = says_otherwise value; awaited = awaits_end }))
+
+-- The name of the side.
+unfoldable pub read_side : Reading → RuleToken → LineStep
+read_side reading uni_word = Ok (record reading { said = says_side side_of.Uni; awaited = awaits_end })
+read_side reading nni_word = Ok (record reading { said = says_side side_of.Nni; awaited = awaits_end })
+read_side reading _ = Err BadLine
+
+-- A token at this column, where this is awaited.
+unfoldable pub read_awaited : Awaited → LineContext → ℕ → Reading → RuleToken → LineStep
+read_awaited awaits_start context column reading token = read_start context column reading token
+read_awaited awaits_unit context column reading token = read_unit context column reading token
+read_awaited awaits_operator context column reading token = read_operator context reading token
+read_awaited (awaits_offset size) context column reading token = read_offset size reading token
+read_awaited (awaits_relation subject) context column reading token = read_relation context subject reading token
+read_awaited (awaits_mask subject) context column reading token = read_mask context subject reading token
+read_awaited (awaits_sign subject) context column reading token = read_sign context subject reading token
+read_awaited (awaits_constant subject sign) context column reading token = read_constant context subject sign reading token
+read_awaited (awaits_dots subject low) context column reading token = read_dots context subject low reading token
+read_awaited (awaits_high subject low) context column reading token = read_high context subject low reading token
+read_awaited (awaits_comma subject span) context column reading token = read_comma context subject span reading token
+read_awaited (awaits_low subject) context column reading token = read_low context subject reading token
+read_awaited awaits_arrow context column reading token = read_arrow reading token
+read_awaited awaits_value context column reading token = read_value reading token
+read_awaited awaits_rest context column reading token = read_rest reading token
+read_awaited awaits_side context column reading token = read_side reading token
+read_awaited awaits_end context column reading token = Err BadLine
+
+-- The next token.
+abbrev pub read_token : LineContext → ℕ → Reading → RuleToken → LineStep
+read_token context column reading token = read_awaited reading.awaited context column reading token
+
+-- What the line says where its tokens end, if it may end there.
+abbrev pub said_at_end : Awaited → SaidRead → Result SaidRead RuleKind
+said_at_end awaits_start said = Ok said
+said_at_end awaits_end said = Ok said
+said_at_end _ said = Err BadLine

@@ -1,0 +1,143 @@
+-- The tokens of a line of rules.
+use Rattle.std.specs.Prelude.{ℕ, zero, suc, ◌+◌, ◌-◌, ◌==◌, if◌then◌else◌, codes, take, slice_index, unwrap_or, List, [], ◌∷◌, Option, Some, None}
+use Rattle.std.specs.Str.{bytes_eq}
+use Rattle.bpf_asm.specs.Numbers.{number_of_word}
+use Rattle.bpf_asm.specs.Tokens.{is_word}
+use Rattle.bpf_code.specs.declared.instr.Size.{Size}
+use Rattle.bpf_code.specs.declared.instr.Size.TheVariants.{Octet, Half, Word}
+use Rattle.text_io.specs.Words.{is_blank, is_digit}
+use Rattle.rules_text.specs.RulesRead.{FieldRead, gfc_field, vpi_field, vci_field, pti_field, clp_field, SignRead, equal_sign, unequal_sign, less_sign, at_most_sign, greater_sign, at_least_sign}
+
+-- A token: a word of the language, a number, a word that begins with a digit and is no number, a mark, or anything else.
+pub data RuleToken : Type 0 where
+  any_word : RuleToken
+  oam_word : RuleToken
+  user_word : RuleToken
+  not_word : RuleToken
+  and_word : RuleToken
+  or_word : RuleToken
+  otherwise_word : RuleToken
+  refuse_word : RuleToken
+  side_word : RuleToken
+  uni_word : RuleToken
+  nni_word : RuleToken
+  field_word : FieldRead → RuleToken
+  size_word : Size → RuleToken
+  number_word : ℕ → RuleToken
+  bad_number : RuleToken
+  arrow_mark : RuleToken
+  open_brace : RuleToken
+  close_brace : RuleToken
+  open_parenthesis : RuleToken
+  close_parenthesis : RuleToken
+  mask_mark : RuleToken
+  comma_mark : RuleToken
+  dots_mark : RuleToken
+  sign_mark : SignRead → RuleToken
+  no_token : RuleToken
+
+-- The words of the language.
+abbrev pub rule_words : List (List ℕ × RuleToken)
+rule_words =
+    (codes "any", any_word)
+    ∷ (codes "oam", oam_word)
+    ∷ (codes "user", user_word)
+    ∷ (codes "not", not_word)
+    ∷ (codes "and", and_word)
+    ∷ (codes "or", or_word)
+    ∷ (codes "otherwise", otherwise_word)
+    ∷ (codes "refuse", refuse_word)
+    ∷ (codes "side", side_word)
+    ∷ (codes "uni", uni_word)
+    ∷ (codes "nni", nni_word)
+    ∷ (codes "gfc", field_word gfc_field)
+    ∷ (codes "vpi", field_word vpi_field)
+    ∷ (codes "vci", field_word vci_field)
+    ∷ (codes "pti", field_word pti_field)
+    ∷ (codes "clp", field_word clp_field)
+    ∷ (codes "octet", size_word Octet)
+    ∷ (codes "half", size_word Half)
+    ∷ (codes "word", size_word Word) ∷ []
+
+-- The marks of two octets.
+abbrev pub long_marks : List (List ℕ × RuleToken)
+long_marks =
+    (codes "->", arrow_mark)
+    ∷ (codes "..", dots_mark)
+    ∷ (codes "!=", sign_mark unequal_sign)
+    ∷ (codes "<=", sign_mark at_most_sign)
+    ∷ (codes ">=", sign_mark at_least_sign) ∷ []
+
+-- The marks of one octet.
+abbrev pub short_marks : List (List ℕ × RuleToken)
+short_marks =
+    (codes "{", open_brace)
+    ∷ (codes "}", close_brace)
+    ∷ (codes "(", open_parenthesis)
+    ∷ (codes ")", close_parenthesis)
+    ∷ (codes "&", mask_mark)
+    ∷ (codes ",", comma_mark)
+    ∷ (codes "=", sign_mark equal_sign)
+    ∷ (codes "<", sign_mark less_sign)
+    ∷ (codes ">", sign_mark greater_sign) ∷ []
+
+-- The token that a table has for these octets, if it has one.
+abbrev pub row_token : List ℕ → List (List ℕ × RuleToken) → Option RuleToken
+row_token octets [] = None
+row_token octets (row ∷ rows) = if bytes_eq octets row.0 then Some row.1 else row_token octets rows
+
+-- A number token, or the bad one if there is no number.
+abbrev pub number_read : Option ℕ → RuleToken
+number_read (Some value) = number_word value
+number_read None = bad_number
+
+-- The token of a longest sequence of letters, digits and `_`.
+unfoldable pub token_of_letters : List ℕ → RuleToken
+token_of_letters letters =
+    if is_digit (slice_index letters 0) then number_read (number_of_word letters) else unwrap_or (row_token letters rule_words) no_token
+
+-- How many letters, digits and `_` octets begin with.
+unfoldable pub letters_len : List ℕ → ℕ
+letters_len [] = 0
+letters_len (octet ∷ rest) = if is_word octet then letters_len rest + 1 else 0
+
+-- A token, and how many octets it has.
+pub record TokenCut : Type 0 where
+  pub token : RuleToken
+  pub size : ℕ
+
+-- The longest mark, or any other octet.
+abbrev pub longest_mark : Option RuleToken → Option RuleToken → TokenCut
+longest_mark (Some token) short = record { token = token; size = 2 }
+longest_mark None short = record { token = unwrap_or short no_token; size = 1 }
+
+-- The token that octets begin with, which don't begin with a blank or a comment.
+unfoldable pub first_cut : List ℕ → TokenCut
+first_cut octets =
+    if is_word (slice_index octets 0)
+    then record { token = token_of_letters (take (letters_len octets) octets); size = letters_len octets }
+    else longest_mark (row_token (take 2 octets) long_marks) (row_token (take 1 octets) short_marks)
+
+-- A token in its line: its column, and the column after it. Columns count from 1.
+pub record RuleFound : Type 0 where
+  pub token : RuleToken
+  pub column : ℕ
+  pub after : ℕ
+
+-- The token in its line.
+abbrev pub found_at : ℕ → TokenCut → RuleFound
+found_at column cut = record { token = cut.token; column = column; after = column + cut.size }
+
+-- The tokens of octets of a line that begin at this column, after this many octets of a token before them. Spaces and
+-- tabs separate tokens, and a comment begins at `#` (35).
+unfoldable pub tokens_from : ℕ → ℕ → List ℕ → List RuleFound
+tokens_from column passed [] = []
+tokens_from column (suc passed) (octet ∷ rest) = tokens_from (column + 1) passed rest
+tokens_from column zero (octet ∷ rest) =
+    if is_blank octet then tokens_from (column + 1) zero rest else (
+    if octet == 35 then [] else
+    (found_at column (first_cut (octet ∷ rest)) ∷ tokens_from (column + 1) ((first_cut (octet ∷ rest)).size - 1) rest))
+
+-- The tokens of a line.
+abbrev pub rule_tokens : List ℕ → List RuleFound
+rule_tokens line = tokens_from 1 0 line

@@ -1,0 +1,98 @@
+-- Rules as they are written: what a text of rules says, without where it is in memory.
+use Rattle.std.specs.Prelude.{ℕ, List, [], ◌∷◌, ◌++◌, map, Option}
+use Rattle.bpf_code.specs.declared.instr.Size.{Size}
+use Rattle.cell_rules.specs.declared.field.Field.{Field}
+use Rattle.cell_rules.specs.declared.field.Field.TheVariants.{Gfc, Vpi, Vci, Pti, Clp, Octets}
+use Rattle.cell_rules.specs.declared.relation.Relation.{Relation}
+use Rattle.cell_rules.specs.declared.relation.Relation.TheVariants.{Equal, Unequal, Less, AtMost, Greater, AtLeast, In}
+use Rattle.cell_rules.specs.declared.rules.RuleLine.{RuleLine}
+use Rattle.cell_rules.specs.declared.rules.RuleLine.TheVariants.{Rule, Block, End}
+use Rattle.cell_rules.specs.declared.rules.Rules.{Rules}
+use Rattle.cell_rules.specs.declared.test.Test.{Test}
+use Rattle.cell_rules.specs.declared.test.Test as asked
+use Rattle.match_code.specs.declared.part.Span.{Span}
+use Rattle.upc_cell.specs.declared.side.Side.{Side}
+
+-- A field: one of the header, or the octets from an offset on.
+pub data FieldRead : Type 0 where
+  gfc_field : FieldRead
+  vpi_field : FieldRead
+  vci_field : FieldRead
+  pti_field : FieldRead
+  clp_field : FieldRead
+  octets_field : Size → ℕ → FieldRead
+
+-- A sign between a field and a number.
+pub data SignRead : Type 0 where
+  equal_sign : SignRead
+  unequal_sign : SignRead
+  less_sign : SignRead
+  at_most_sign : SignRead
+  greater_sign : SignRead
+  at_least_sign : SignRead
+
+-- What a field is compared with: a number, or a list of ranges.
+pub data RelationRead : Type 0 where
+  compared : SignRead → ℕ → RelationRead
+  listed : List Span → RelationRead
+
+-- A test.
+pub data TestRead : Type 0 where
+  any_cell : TestRead
+  oam_cell : TestRead
+  user_cell : TestRead
+  comparing : FieldRead → Option ℕ → RelationRead → TestRead
+  negation : TestRead → TestRead
+  conjunction : TestRead → TestRead → TestRead
+  disjunction : TestRead → TestRead → TestRead
+
+-- A line of rules.
+pub data LineRead : Type 0 where
+  rule_line : TestRead → ℕ → LineRead
+  block_line : TestRead → LineRead
+  end_line : LineRead
+
+-- All rules of a text.
+pub record RulesRead : Type 0 where
+  pub side : Side
+  pub lines : List LineRead
+  pub otherwise : ℕ
+
+-- A field as it is written.
+abbrev pub field_read : Field → FieldRead
+field_read Gfc = gfc_field
+field_read Vpi = vpi_field
+field_read Vci = vci_field
+field_read Pti = pti_field
+field_read Clp = clp_field
+field_read (Octets octets) = octets_field octets.size octets.at
+
+-- A relation as it is written. The last range of a list is kept apart.
+abbrev pub relation_read : Relation → RelationRead
+relation_read (Equal k) = compared equal_sign k
+relation_read (Unequal k) = compared unequal_sign k
+relation_read (Less k) = compared less_sign k
+relation_read (AtMost k) = compared at_most_sign k
+relation_read (Greater k) = compared greater_sign k
+relation_read (AtLeast k) = compared at_least_sign k
+relation_read (In last others) = listed (others.items ++ last ∷ [])
+
+-- A test as it is written.
+abbrev pub test_read : Test → TestRead
+test_read asked.Any = any_cell
+test_read asked.Oam = oam_cell
+test_read asked.User = user_cell
+test_read (asked.Compare field mask relation) = comparing (field_read field) mask (relation_read relation)
+test_read (asked.Not' p test) = negation (test_read test)
+test_read (asked.And' p one q other) = conjunction (test_read one) (test_read other)
+test_read (asked.Or' p one q other) = disjunction (test_read one) (test_read other)
+
+-- A line as it is written.
+abbrev pub line_read : RuleLine → LineRead
+line_read (Rule test value) = rule_line (test_read test) value
+line_read (Block test) = block_line (test_read test)
+line_read End = end_line
+
+-- Rules as they are written.
+abbrev pub rules_read : Rules → RulesRead
+rules_read rules = record { side = rules.side; lines = map line_read rules.lines.items; otherwise = rules.otherwise }

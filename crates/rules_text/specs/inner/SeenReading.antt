@@ -1,0 +1,98 @@
+-- What the readers have read, in the words of the definitions.
+use Rattle.std.specs.Prelude.{map, reverse, Option, Some, None, Result, Ok, Err}
+use Rattle.cell_rules.specs.declared.field.Field.{Field}
+use Rattle.cell_rules.specs.declared.test.Test.{Test}
+use Rattle.rules_text.specs.LineGrammar.{Awaited, GroupRead, LineContext, Reading, SaidRead, SubjectRead, awaits_start, awaits_unit, awaits_operator, awaits_offset, awaits_relation, awaits_mask, awaits_sign, awaits_constant, awaits_dots, awaits_high, awaits_comma, awaits_low, awaits_arrow, awaits_value, awaits_rest, awaits_side, awaits_end, says_nothing, says_side, says_line, says_otherwise}
+use Rattle.rules_text.specs.RulesRead.{FieldRead, TestRead, field_read, line_read, test_read}
+use Rattle.rules_text.specs.TextOfRules.{TextReading}
+use Rattle.rules_text.specs.declared.fault.RuleKind.{RuleKind}
+use Rattle.rules_text.specs.declared.group.Group.{Group}
+use Rattle.rules_text.specs.declared.line_reader.Context.{Context}
+use Rattle.rules_text.specs.declared.line_reader.LineReader.{LineReader}
+use Rattle.rules_text.specs.declared.line_reader.Said.{Said}
+use Rattle.rules_text.specs.declared.line_reader.Said.TheVariants as said
+use Rattle.rules_text.specs.declared.line_reader.Wants.{Wants}
+use Rattle.rules_text.specs.declared.line_reader.Wants.TheVariants as wants
+use Rattle.rules_text.specs.declared.reader.TextReader.{TextReader}
+use Rattle.rules_text.specs.declared.subject.Subject.{Subject}
+use Rattle.rules_text.specs.inner.Seen.{sign_seen}
+
+-- A field with a mask.
+abbrev pub subject_seen : Subject → SubjectRead
+subject_seen subject = record { field = field_read subject.field; mask = subject.mask }
+
+-- What comes next.
+abbrev pub wants_seen : Wants → Awaited
+wants_seen wants.Start = awaits_start
+wants_seen wants.Unit = awaits_unit
+wants_seen wants.Operator = awaits_operator
+wants_seen (wants.Offset size) = awaits_offset size
+wants_seen (wants.Relation subject) = awaits_relation (subject_seen subject)
+wants_seen (wants.Mask subject) = awaits_mask (subject_seen subject)
+wants_seen (wants.Sign subject) = awaits_sign (subject_seen subject)
+wants_seen (wants.Constant subject sign) = awaits_constant (subject_seen subject) (sign_seen sign)
+wants_seen (wants.Dots subject low) = awaits_dots (subject_seen subject) low
+wants_seen (wants.High subject low) = awaits_high (subject_seen subject) low
+wants_seen (wants.Comma subject span) = awaits_comma (subject_seen subject) span
+wants_seen (wants.Low subject) = awaits_low (subject_seen subject)
+wants_seen wants.Arrow = awaits_arrow
+wants_seen wants.Value = awaits_value
+wants_seen wants.Rest = awaits_rest
+wants_seen wants.Side = awaits_side
+wants_seen wants.End = awaits_end
+
+-- A test, if there is one.
+abbrev pub some_test_seen : Option Test → Option TestRead
+some_test_seen None = None
+some_test_seen (Some test) = Some (test_read test)
+
+-- A group of parts of a test.
+abbrev pub group_seen : Group → GroupRead
+group_seen group = record { either = some_test_seen group.either; both = some_test_seen group.both; negated = group.negated }
+
+-- What a line says.
+abbrev pub said_seen : Said → SaidRead
+said_seen said.Blank = says_nothing
+said_seen (said.Side side) = says_side side
+said_seen (said.Line line) = says_line (line_read line)
+said_seen (said.Otherwise value) = says_otherwise value
+
+-- What was read before a line.
+abbrev pub context_seen : Context → LineContext
+context_seen context = record { side = context.side; blocks = context.blocks; begun = context.begun }
+
+-- What was read of a line.
+abbrev pub reading_seen : LineReader → Reading
+reading_seen reader = record {
+  awaited = wants_seen reader.wants;
+  group = group_seen reader.group;
+  around = reverse (map group_seen reader.around.items);
+  outermost = reader.outermost;
+  spans = reader.spans.items;
+  comparisons = reader.comparisons;
+  test = test_read reader.test;
+  said = said_seen reader.said;
+}
+
+-- What was read of a text.
+abbrev pub text_seen : TextReader → TextReading
+text_seen reader = record {
+  side = reader.rules.side;
+  lines = map line_read reader.rules.lines.items;
+  otherwise = reader.rules.otherwise;
+  blocks = reader.blocks;
+  head_line = reader.head.line;
+  head_column = reader.head.column;
+  begun = reader.begun;
+  closed = reader.closed;
+}
+
+-- A field, or the fault.
+abbrev pub field_found : Result Field RuleKind → Result FieldRead RuleKind
+field_found (Ok field) = Ok (field_read field)
+field_found (Err kind) = Err kind
+
+-- What a line says, or the fault.
+abbrev pub said_found : Result Said RuleKind → Result SaidRead RuleKind
+said_found (Ok said) = Ok (said_seen said)
+said_found (Err kind) = Err kind
