@@ -3,7 +3,7 @@
 ghost use Rattle.std.specs.Prelude.{IfOk, option_map};
 ghost use Rattle.text_io.specs.Devices.{Adds};
 ghost use Rattle.text_io.specs.Serving.{IsServed};
-ghost use Rattle.lab_rules.specs.RulesText.{AnswersRules, IsRulesText, TellsRules};
+ghost use Rattle.lab_rules.specs.RulesText.{AnswersRules, IsRulesText, MayBeRulesText, TellsRules};
 
 use crate::fault_lines::add_rule_fault;
 use rules_text::{RuleFault, RuleKind, compile_text};
@@ -68,7 +68,9 @@ pub fn compile_rules<I: Input, O: Output>(
     input: &mut I,
     output: &mut O,
 ) -> Result<Done, RunFault>
-    ensures { IsServed IsRulesText I.Input input.old input.new O.Output output.old output.new result }
+    ensures served { IsServed MayBeRulesText I.Input input.old input.new O.Output output.old output.new result }
+    ensures told { I.is_known → O.is_known → IfOk result (λ done.
+        Adds (λ answer. IsRulesText (I.rest input.old) answer done) (O.held output.old) (O.held output.new)) }
 {
     let found = match gather(alloc, input, MOST_RULES_OCTETS) {
         Ok(found) => found,
