@@ -1,0 +1,4 @@
+//! One module for each kind of answer.
+
+mod faults;
+mod values;

@@ -1,0 +1,65 @@
+//! The faults of texts, with their lines and columns, as docs/RULES.md has them.
+
+use rules_text::{RuleFault, RuleKind, read_rules};
+
+/// The fault of this kind at a place.
+fn at(kind: RuleKind, line: usize, column: usize) -> RuleFault {
+    RuleFault { line, column, kind }
+}
+
+#[test]
+fn the_first_fault_has_its_place(rt: HostRuntime) {
+    let rows: [(&[u8], RuleFault); 22] = [
+        (b"any any", at(RuleKind::BadLine, 1, 5)),
+        (b"Any -> 1", at(RuleKind::BadLine, 1, 1)),
+        (b"7 -> 1", at(RuleKind::BadLine, 1, 1)),
+        (b"any ->", at(RuleKind::BadLine, 1, 7)),
+        (b"any -> # 1", at(RuleKind::BadLine, 1, 7)),
+        (b"any -> 1 x", at(RuleKind::BadLine, 1, 10)),
+        (b"any -> 1\r\nside uni x", at(RuleKind::BadLine, 2, 1)),
+        (b"side nni\ngfc 1 -> 1", at(RuleKind::BadLine, 2, 1)),
+        (b"any {\notherwise -> 3\n}", at(RuleKind::BadLine, 2, 1)),
+        (b"vci 5 -> 01x", at(RuleKind::BadNumber, 1, 10)),
+        (b"any -> 4294967296", at(RuleKind::BadNumber, 1, 8)),
+        (b"vci 5 -> 0", at(RuleKind::TooLarge, 1, 10)),
+        (b"vpi 256 -> 1", at(RuleKind::TooLarge, 1, 5)),
+        (b"vci 5..4 -> 1", at(RuleKind::TooLarge, 1, 8)),
+        (b"vci & 0x10000 = 1 -> 1", at(RuleKind::TooLarge, 1, 7)),
+        (b"half 51 = 1 -> 1", at(RuleKind::OutsideCell, 1, 6)),
+        (
+            b"otherwise -> 3\n\n any -> x",
+            at(RuleKind::AfterOtherwise, 3, 2),
+        ),
+        (b"\n any {\n  oam {\n}\n", at(RuleKind::Unbalanced, 2, 2)),
+        (b"} x", at(RuleKind::Unbalanced, 1, 1)),
+        (b" (any or (oam) -> 1", at(RuleKind::Unbalanced, 1, 2)),
+        (b"((any or oam {", at(RuleKind::Unbalanced, 1, 1)),
+        (b"any) -> 1", at(RuleKind::Unbalanced, 1, 4)),
+    ];
+    for (text, want) in rows {
+        match read_rules(rt.alloc(), text) {
+            Ok(_) => assert_eq!(rt; 0, want.column),
+            Err(fault) => assert_eq!(rt; fault, want),
+        }
+    }
+}
+
+/// A text of this many opening parentheses, and then a test that needs no more than that.
+fn opened(rt: &HostRuntime, count: usize) -> Result<RuleFault, std::test::Fail> {
+    let mut text = Vec::new(rt.alloc());
+    for _ in 0..count {
+        text.push(b'(')?;
+    }
+    text.extend_from_slice(b"any -> 1")?;
+    match read_rules(rt.alloc(), &text) {
+        Ok(_) => Ok(at(RuleKind::BadLine, 0, 0)),
+        Err(fault) => Ok(fault),
+    }
+}
+
+#[test]
+fn parentheses_are_nested_up_to_64_deep(rt: HostRuntime) -> Result<(), std::test::Fail> {
+    assert_eq!(rt; opened(&rt, 64)?, at(RuleKind::Unbalanced, 1, 1));
+    assert_eq!(rt; opened(&rt, 65)?, at(RuleKind::TooDeep, 1, 65));
+    Ok(())
+}

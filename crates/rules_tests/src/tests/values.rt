@@ -1,0 +1,61 @@
+//! Values of cells by the code of a text.
+
+use bpf_interp::run;
+use bpf_verify::verify;
+use rules_text::compile_text;
+use std::alloc::Global;
+use std::test::Fail;
+use upc_cell::Cell;
+
+/// The example of docs/RULES.md.
+const CLASSES: &[u8] = b"# classes of the customer on path 1
+vpi 1 and vci 32..127 {
+  oam   -> 2
+  clp 1 -> 3
+  any   -> 1
+}
+not (octet 4 & 0xf0 = 0x30 or word 8 > 7) -> 4
+otherwise -> refuse
+";
+
+/// The value of a cell with this header, whose payload begins with an octet and has zeros else.
+fn value(alloc: Global, text: &[u8], header: u32, first: u8) -> Result<u32, Fail> {
+    let program = verify(compile_text(alloc, text)?)?;
+    let mut octets = [0; 52];
+    octets[..4].copy_from_slice(&header.to_be_bytes());
+    octets[4] = first;
+    Ok(run(&program, &Cell::from_bytes(&octets)?).value)
+}
+
+#[test]
+fn cells_have_the_values_of_their_classes(rt: HostRuntime) -> Result<(), Fail> {
+    let rows = [
+        (0x0010_0648, 0x00, 2),
+        (0x0010_064a, 0x00, 2),
+        (0x0010_0641, 0x00, 3),
+        (0x0010_0640, 0x00, 1),
+        (0x0010_0200, 0x00, 1),
+        (0x0010_07f6, 0x00, 1),
+        (0x0010_01f0, 0x00, 4),
+        (0x0010_0800, 0x3f, 0),
+        (0x0020_0640, 0x30, 0),
+        (0x0020_0640, 0x40, 4),
+    ];
+    for (header, first, want) in rows {
+        assert_eq!(rt; value(rt.alloc(), CLASSES, header, first)?, want);
+    }
+    Ok(())
+}
+
+#[test]
+fn two_nots_are_none_and_refuse_is_0(rt: HostRuntime) -> Result<(), Fail> {
+    assert_eq!(rt;
+        value(rt.alloc(), b"not not clp 1 -> 7\nany -> refuse", 1, 0)?,
+        7
+    );
+    assert_eq!(rt;
+        value(rt.alloc(), b"not not clp 1 -> 7\nany -> refuse", 0, 0)?,
+        0
+    );
+    Ok(())
+}
