@@ -1,8 +1,8 @@
 #!/usr/bin/env python3
-"""Makes the tables of docs/upc.1 from those of docs/FORMATS.md.
+"""Makes the tables of docs/upc.1 and docs/upc-lab.1 from those of docs/FORMATS.md and docs/RULES.md.
 
-    tools/manual.py           writes docs/upc.1 again
-    tools/manual.py --check   says whether docs/upc.1 is what it would write
+    tools/manual.py           writes both pages again
+    tools/manual.py --check   says whether they are what it would write
 
 The page marks each table by a comment `.\\" table NAME` and ends it by `.\\" end`. NAME is a function of TABLES below.
 """
@@ -13,9 +13,16 @@ import textwrap
 
 ROOT = os.path.dirname(os.path.dirname(os.path.realpath(__file__)))
 FORMATS = f"{ROOT}/docs/FORMATS.md"
-PAGE = f"{ROOT}/docs/upc.1"
+RULES = f"{ROOT}/docs/RULES.md"
+PAGES = [f"{ROOT}/docs/upc.1", f"{ROOT}/docs/upc-lab.1"]
 # A word of parameters, as VPI/VCI or N.
 PARAMETERS = re.compile(r"^[A-Z][A-Z/]*$")
+
+
+def text(path):
+    """The text of a file."""
+    with open(path, encoding="utf-8") as file:
+        return file.read()
 
 
 def rows(formats, head):
@@ -88,7 +95,7 @@ def instructions(formats):
 
 
 def grammar(formats):
-    """The grammar of a line of assembly."""
+    """The grammar of a line, of assembly in docs/FORMATS.md."""
     block = re.search(r"\n((?:    .*\n)*    line +=.*\n(?:    .*\n)*)", formats).group(1)
     return [".Bd -literal", *(it[4:] for it in block.rstrip("\n").split("\n")), ".Ed"]
 
@@ -125,9 +132,33 @@ def faults(formats):
     errors = {number.strip("`"): when for number, when in rows(formats, ["Error", "When"])}
     found = []
     for line, when in rows(formats, ["Line", "When"]):
+        if line.startswith("`fault rules"):
+            continue
         asm = re.match(r"`fault asm (\d+ [A-Za-z]+) LINE`", line)
         found.append((item(line), sentence(errors[asm.group(1)] if asm else when)))
     return listed(found)
+
+
+def rule_tokens(formats):
+    """Each kind of token of rules."""
+    return listed((f".It No {token}", sentence(form)) for token, form in rows(text(RULES), ["Token", "Form"]))
+
+
+def rule_grammar(formats):
+    """The grammar of a line of rules."""
+    return grammar(text(RULES))
+
+
+def rule_words(formats):
+    """What the words of rules hold of."""
+    return listed((item(word), sentence(holds)) for word, holds in rows(text(RULES), ["Word", "Holds of"]))
+
+
+def rule_faults(formats):
+    """Each fault line of rules, with the text of its row in the page of rules."""
+    found = {fault.strip("`"): when for fault, when in rows(text(RULES), ["Fault", "When"])}
+    lines = [line for line, _ in rows(formats, ["Line", "When"]) if line.startswith("`fault rules")]
+    return listed((item(line), sentence(found[" ".join(line.strip("`").split()[2:4])])) for line in lines)
 
 
 def statuses(formats):
@@ -135,7 +166,7 @@ def statuses(formats):
     return listed((".It " + status, sentence(when)) for status, when in rows(formats, ["Status", "When"]))
 
 
-TABLES = {it.__name__: it for it in (instructions, grammar, commands, answers, contracts, faults, statuses)}
+TABLES = {it.__name__: it for it in (instructions, grammar, commands, answers, contracts, faults, statuses, rule_tokens, rule_grammar, rule_words, rule_faults)}
 
 
 def made(page, formats):
@@ -155,18 +186,17 @@ def made(page, formats):
 
 
 def main():
-    with open(FORMATS, encoding="utf-8") as file:
-        formats = file.read()
-    with open(PAGE, encoding="utf-8") as file:
-        page = file.read()
-    new = made(page, formats)
-    if "--check" in sys.argv[1:]:
-        if new != page:
-            print("docs/upc.1 isn't what tools/manual.py makes of docs/FORMATS.md")
-        return new != page
-    with open(PAGE, "w", encoding="utf-8") as file:
-        file.write(new)
-    return 0
+    formats, differs = text(FORMATS), 0
+    for path in PAGES:
+        page = text(path)
+        new = made(page, formats)
+        if "--check" not in sys.argv[1:]:
+            with open(path, "w", encoding="utf-8") as file:
+                file.write(new)
+        elif new != page:
+            print(f"{os.path.relpath(path, ROOT)} isn't what tools/manual.py makes of docs/FORMATS.md and docs/RULES.md")
+            differs = 1
+    return differs
 
 
 if __name__ == "__main__":

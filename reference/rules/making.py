@@ -72,12 +72,43 @@ def mutated(source, text):
     return text[:at] + piece + text[at + source.choice([0, 0, 1, 2]):]
 
 
+def deep(source):
+    """Returns lines about as deep as blocks and parentheses may be."""
+    blocks, parentheses = source.choice([0, 1, 31, 32, 63, 64, 65]), source.choice([0, 1, 31, 32, 33, 64, 65])
+    return ["vpi 1 {"] * blocks + ["(" * parentheses + "clp 1" + ")" * parentheses + " -> 1"] + ["}"] * blocks
+
+
+def long(source):
+    """Returns a line with about as many comparisons as a test may have."""
+    count = 4096 - source.choice([0, 1, 2]) + source.choice([0, 0, 1, 2])
+    kinds = [" or ".join(["clp 1"] * count), "vci " + ", ".join("7" for _ in range(count)), " and ".join(["any"] * count)]
+    return [source.choice(kinds) + " -> 1"]
+
+
+# Lines with a fault, or at a limit.
+AT_LIMITS = (
+    "octet 51 1 -> 1", "octet 52 1 -> 1", "half 50 1 -> 1", "half 51 1 -> 1", "word 48 1 -> 1", "word 49 1 -> 1", "word 4294967295 1 -> 1",
+    "vpi 255 -> 1", "vpi 256 -> 1", "vpi 4095 -> 1", "vpi 4096 -> 1", "gfc 15 -> 1", "gfc 16 -> 1", "vci 65536 -> 1", "pti 8 -> 1",
+    "clp < 2 -> 1", "octet 4 & 256 = 0 -> 1", "half 4 & 0xffff = 65536 -> 1", "vci 5..4 -> 1", "vci 5..5 -> 1", "vci 1, 5..4 -> 1",
+    "any -> 0", "any -> 4294967295", "any -> 4294967296", "any -> 0x100000000", "any -> 1x", "vpi 0x -> 1", "9a -> 1", "}", "otherwise -> 1",
+    "side nni", "side nni 1", "side", "otherwise", "otherwise -> 0", "any", "any {", "any { }", "(any -> 1", "any) -> 1", "((any) {", "( -> 1", "not not any -> 1",
+    "any and -> 1", "vci 1, -> 1", "vci 1.. -> 1", "vci & 1 -> 1", "clp 1 2 -> 1", "any -> refuse 1", "any -> 1 # 2", "oam or not user -> 010",
+)
+
+
 def text_of(source):
-    """Returns a text, a third of the time with a small change."""
+    """Returns a text: a third of the time with a small change, and sometimes with a line at a limit."""
     made = []
     if source.random() < 0.1:
         made.append(source.choice(["side nni", "side uni"]))
     made += lines(source, source.choice([1, 2, 5, 12, 60]), 3)
+    kind = source.random()
+    if kind < 0.2:
+        made.insert(source.randrange(len(made) + 1), source.choice(AT_LIMITS))
+    elif kind < 0.23:
+        made += deep(source)
+    elif kind < 0.24:
+        made += long(source)
     if source.random() < 0.5:
         made.append(f"otherwise -> {source.choice(['refuse', '7'])}")
     text = source.choice(["\n", "\n", "\r\n"]).join(made) + source.choice(["", "\n"])
@@ -98,15 +129,15 @@ def comparisons(parts):
     return found
 
 
-def cells_for(reader, source):
+def cells_for(reader, source, count=120):
     """Returns cells at the bounds of the comparisons, and random ones."""
     made = []
     found = comparisons(reader.rules)
-    for _ in range(120):
+    for _ in range(count):
         cell = bytearray(source.choice([bytes(52), bytes([255] * 52), source.randbytes(52)]))
         for part in source.sample(found, min(len(found), source.choice([0, 1, 2, 4]))):
             bounds = [part[4]] if part[0] == "compare" else [bound for pair in part[3] for bound in pair]
-            value = max(0, source.choice(bounds) + source.choice([-1, 0, 0, 1]))
+            value = max(0, source.choice(bounds) + source.choice([-1, 0, 1]))
             place(cell, part[1], value, reader.nni)
         made.append(bytes(cell))
     return made

@@ -248,13 +248,13 @@ class Reader:
             line.end()
             self.otherwise, self.closed = value, True
         elif token == b"side":
+            if self.begun:
+                line.fault("BadLine")
             line.take()
             if line.peek() not in (b"uni", b"nni"):
                 line.fault("BadLine")
             nni = line.take() == b"nni"
             line.end()
-            if self.begun:
-                line.fault("BadLine", first)
             self.nni = nni
         elif token == b"}":
             if not self.heads:

@@ -1,4 +1,3 @@
 -- The program `upc`. Read the modules in this order:
 pub mod Subcommand
-pub mod ExitStatus
-pub mod Invocation
+pub mod FailureLines

@@ -1,17 +1,20 @@
 //! Runs the program over three devices and returns its exit status.
 
 ghost use Rattle.std.specs.Prelude.{◌≡◌, ◌≢◌, Ok as TheOk};
-ghost use Rattle.upc.specs.ExitStatus.{status_of};
-ghost use Rattle.upc.specs.Invocation.{CarriesOut, IsStatusFor, Reports, WritesMessage, failure_line};
+ghost use Rattle.upc.specs.FailureLines.{failure_line};
+ghost use Rattle.upc.specs.Subcommand.{IsTextOf};
 ghost use Rattle.upc_choice.specs.declared.choice.Choice.TheVariants.{Ports};
+ghost use Rattle.upc_exit.specs.ExitStatus.{status_of};
+ghost use Rattle.upc_exit.specs.Invocation.{CarriesOut, IsStatusFor};
+ghost use Rattle.upc_exit.specs.Messages.{Reports};
 
-use crate::exit::status;
 use crate::subcommand::run_alone;
 use std::alloc::Global;
 use std::sync::Wait;
 use std::thread::Threads;
 use text_io::{Done, Input, Output, RunFault, give_all};
 use upc_choice::{Choice, Stop};
+use upc_exit::{status, tell};
 use upc_ports::run_ports;
 
 /// The message for a failure.
@@ -25,17 +28,10 @@ fn line_of(fault: RunFault) -> &'static [u8]
     }
 }
 
-/// Writes a message to the error output. If that fails too, the failure is ignored.
-fn tell<E: Output>(errors: &mut E, text: &[u8])
-    ensures { E.is_known → WritesMessage E.Output errors.old errors.new text.now }
-{
-    let _ = give_all(errors, text);
-}
-
 /// Writes the message for a failed run, and returns the exit status of any run.
 fn report<E: Output>(errors: &mut E, ended: Result<Done, RunFault>) -> u8
     ensures status { result ≡ status_of ended }
-    ensures told { E.is_known → Reports E.Output errors.old errors.new ended }
+    ensures told { E.is_known → Reports failure_line E.Output errors.old errors.new ended }
 {
     match ended {
         Ok(_) => status(&ended),
@@ -56,7 +52,7 @@ pub fn carry_out_alone<I: Input, O: Output, E: Output>(
     errors: &mut E,
 ) -> u8
     requires alone { chosen ≢ TheOk Ports }
-    ensures carried { I.is_known → O.is_known → E.is_known → CarriesOut chosen I.Input input.old input.new
+    ensures carried { I.is_known → O.is_known → E.is_known → CarriesOut failure_line IsTextOf chosen I.Input input.old input.new
         O.Output output.old output.new E.Output errors.old errors.new result }
     ensures status { IsStatusFor chosen result }
 {
@@ -87,7 +83,7 @@ pub fn carry_out<R: Threads + Wait + Sync, I: Input, O: Output, E: Output>(
     output: &mut O,
     errors: &mut E,
 ) -> u8
-    ensures carried { I.is_known → O.is_known → E.is_known → CarriesOut chosen I.Input input.old input.new
+    ensures carried { I.is_known → O.is_known → E.is_known → CarriesOut failure_line IsTextOf chosen I.Input input.old input.new
         O.Output output.old output.new E.Output errors.old errors.new result }
     ensures status { IsStatusFor chosen result }
 {

@@ -1,20 +1,19 @@
 //! `upc`: usage parameter control for an ATM line card, as a program over standard input and standard output.
 #![tactic(auto)]
 
-pub mod exit;
 mod invocation;
 mod laws;
 mod subcommand;
 #[cfg(test)]
 mod tests;
 
-pub use exit::status;
 use invocation::{carry_out, carry_out_alone};
 use std::io::IsTerminal;
 use std::process::ExitCode;
 use text_io::{Giving, Taking};
 use upc_choice::{OfProcess, awaited, words_after_name};
 pub use upc_choice::{Choice, Stop, choose};
+pub use upc_exit::status;
 pub use upc_ports::{run_ports, run_ports_with};
 pub use upc_programs::{check_source, eval_bytes};
 pub use upc_run::run_script;

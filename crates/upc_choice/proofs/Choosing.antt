@@ -8,7 +8,7 @@ use Rattle.clap.specs.Walk.{Text, is_empty}
 use Rattle.clap.specs.Values.{kind_of}
 use Rattle.clap.specs.Matches.{subcommand_name_of}
 use Rattle.clap.specs.Simple.{App, HasMatchesOf, argument_words, built, is_simple, subcommand_of, subcommand_rows}
-use Rattle.clap.specs.Kinds.{FailsBy, HasKind, IsAmong, Kinds}
+use Rattle.clap.specs.Kinds.{FailsBy}
 use Rattle.clap.specs.Faults.{fault_of, is_simple_and_free}
 use Rattle.clap.specs.declared.error.Error.{Error}
 use Rattle.clap.specs.declared.parser.matches.ArgMatches.{ArgMatches}
@@ -16,15 +16,16 @@ use Rattle.clap.specs.declared.parser.matches.ArgMatches.TheViews.{out-ArgMatche
 use Rattle.clap.specs.declared.parser.matches.SubCommand.{SubCommand}
 use Rattle.clap.proofs.FaultLemmas.{fails_as}
 use Rattle.clap.proofs.OnLiterals.{clap_on_literals}
-use Rattle.upc_choice.specs.Choice.{NamesSubcommand, IsChoiceOf, IsChosen, StopsAt, behind_name, choice_named, faults_in, subcommand_in, subcommands, upc_app, with_name}
-use Rattle.upc_choice.specs.inner.Stopping.{IsStopFor}
+use Rattle.upc_choice.specs.Choice.{NamesSubcommand, IsChoiceOf, IsChosen, behind_name, choice_named, faults_in, subcommand_in, subcommands, upc_app, with_name}
+use Rattle.upc_choice.specs.Stopping.{IsStopFor, StopsAt}
 use Rattle.std.specs.Str.{bytes_eq}
 use Rattle.std.proofs.lemmas.Slice.Eq.{bytes_eq-Decides}
 use Rattle.clap.proofs.WalkLemmas.{both}
 use Rattle.clap.proofs.SimpleLemmas.{is_nil}
 use Rattle.upc_choice.specs.declared.choice.Choice.{Choice}
 use Rattle.upc_choice.specs.declared.choice.Stop.{Stop}
-use Rattle.upc_choice.specs.declared.choice.Stop.TheVariants.{Help, Words, NoMemory}
+use Rattle.upc_choice.specs.declared.choice.Stop.TheVariants.{NoMemory}
+use Rattle.upc_choice.proofs.Stops.{memory_alone, stops_at}
 use Rattle.upc_choice.proofs.PlainWords.{Finds, find_both, finds, has_requests_alone, is_plain_subcommand}
 
 pub upc_is_simple : is_simple upc_app ≡ true
@@ -95,13 +96,6 @@ named_in given (Ok name) none met =
     some_named name (subst (λ o. IfSome o (λ n. is_named n ≡ true)) (sym met) (named_by given (subcommand_in given) (found_in given none)))
 named_in given (Err error) kinds met = tt
 
-stops_at : (given : List Text) (error : Error) (stop : Stop) → HasKind (faults_in given) error → IsStopFor (kind_of error) stop → StopsAt given stop
-stops_at given error (Help text) (inl memory) is = cc
-stops_at given error (Help text) (inr among) is = subst (λ kind. IsAmong kind (faults_in given)) is among
-stops_at given error (Words text) (inl memory) is = absurd (is.1 memory)
-stops_at given error (Words text) (inr among) is = (kind_of error, among, is.0)
-stops_at given error NoMemory h is = tt
-
 -- Words without an error are a name and nothing more.
 asks_at : (given : List Text) (choice : Choice) (found : Option Text) → IsChoiceOf found choice → Finds is_named given found → NamesSubcommand given choice
 asks_at given choice found chosen (inl h) = inl (h.0, subst (λ o. IsChoiceOf o choice) h.1 chosen)
@@ -139,20 +133,13 @@ taken_at given choice (inr h) =
     ap faults_in h.2
     ∙ ⊎_elim (λ e. ap (λ rest. faults_in (name ∷ rest)) e ∙ is_nil _ parts.0) (λ e. ap (λ rest. faults_in (name ∷ rest)) e ∙ is_nil _ parts.1) h.4
 
--- Words without an error are refused only with NoMemory.
-memory_alone : (kinds : Kinds) (error : Error) (stop : Stop) → HasKind kinds error → IsStopFor (kind_of error) stop → kinds ≡ [] → stop ≡ NoMemory
-memory_alone kinds error (Help text) (inl memory) is none = cc
-memory_alone kinds error (Words text) (inl memory) is none = absurd (is.1 memory)
-memory_alone kinds error NoMemory h is none = refl
-memory_alone kinds error stop (inr among) is none = absurd (subst (λ ks. IsAmong (kind_of error) ks) none among)
-
 -- ---- the contract of `choose`
 
 pub record Answers (given : List Text) (answer : Result Choice Stop) : Type 0 where
   pub chosen : IfOk answer (IsChosen given)
   pub faultless : IfOk answer (λ _. faults_in given ≡ [])
   pub asked : IfOk answer (NamesSubcommand given)
-  pub stopped : IfErr answer (StopsAt given)
+  pub stopped : IfErr answer (StopsAt (faults_in given))
   pub taken : faults_in given ≡ [] → IfErr answer (λ stop. stop ≡ NoMemory)
   pub granted : (choice : Choice) → NamesSubcommand given choice → IfErr answer (λ stop. stop ≡ NoMemory)
 
@@ -177,7 +164,7 @@ answers given (Err error) (Err stop) kinds met named stopped = record {
   chosen = tt;
   faultless = tt;
   asked = tt;
-  stopped = stops_at given error stop kinds stopped;
+  stopped = stops_at (faults_in given) error stop kinds stopped;
   taken = memory_alone (faults_in given) error stop kinds stopped;
   granted = λ choice asks. memory_alone (faults_in given) error stop kinds stopped (taken_at given choice asks);
 }

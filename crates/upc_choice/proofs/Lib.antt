@@ -1,3 +1,5 @@
 pub mod Choosing
 pub mod PlainWords
+pub mod Public
+pub mod Stops
 pub mod WordLemmas

@@ -1,17 +1,13 @@
 -- The subcommand that the command line requests, and the errors of the command line, by clap's definitions for a simple
 -- command.
-use Rattle.std.specs.Prelude.{◌≡◌, ◌≢◌, ◌⊎◌, List, [], ◌∷◌, Option, Some, MatchOption, fold, find, codes, option_map, ⊤}
+use Rattle.std.specs.Prelude.{◌≡◌, ◌⊎◌, List, [], ◌∷◌, Option, Some, MatchOption, fold, find, codes, option_map}
 use Rattle.std.specs.Str.{bytes_eq}
 use Rattle.clap.specs.Walk.{Text}
 use Rattle.clap.specs.Simple.{App, new_app, new_shape, subcommand_of, with_subcommand}
-use Rattle.clap.specs.Kinds.{IsAmong, Kinds}
+use Rattle.clap.specs.Kinds.{Kinds}
 use Rattle.clap.specs.Faults.{fault_of}
-use Rattle.clap.specs.declared.error.kind.ErrorKind.{ErrorKind}
-use Rattle.clap.specs.declared.error.kind.ErrorKind.TheVariants.{DisplayHelp}
 use Rattle.upc_choice.specs.declared.choice.Choice.{Choice}
 use Rattle.upc_choice.specs.declared.choice.Choice.TheVariants.{Check, Eval, Run, Ports}
-use Rattle.upc_choice.specs.declared.choice.Stop.{Stop}
-use Rattle.upc_choice.specs.declared.choice.Stop.TheVariants.{Help, Words, NoMemory}
 
 -- The name of each subcommand and its choice.
 abbrev pub subcommands : List (Text × Choice)
@@ -58,17 +54,3 @@ abbrev pub NamesSubcommand : List Text → Choice → Type 0
 NamesSubcommand words choice = (IsEnd words × (choice ≡ Eval))
     ⊎ ((name : Text) × (rest : List Text) × (words ≡ name ∷ rest) × (choice_named name ≡ Some choice)
     × IsEnd rest)
-
--- The words ask for help.
-abbrev pub AsksHelp : List Text → Type 0
-AsksHelp words = IsAmong DisplayHelp (faults_in words)
-
--- The words have an error other than a request for help.
-abbrev pub IsFaulty : List Text → Type 0
-IsFaulty words = (kind : ErrorKind) × IsAmong kind (faults_in words) × (kind ≢ DisplayHelp)
-
--- The Stops that `choose` may return. NoMemory is always allowed.
-abbrev pub StopsAt : List Text → Stop → Type 0
-StopsAt words (Help text) = AsksHelp words
-StopsAt words (Words text) = IsFaulty words
-StopsAt words NoMemory = ⊤

@@ -5,9 +5,9 @@ ghost use Rattle.std.specs.String.{string_bytes};
 ghost use Rattle.clap.specs.Values.{kind_of};
 ghost use Rattle.clap.specs.Simple.{app_of, new_app};
 ghost use Rattle.clap.specs.Kinds.{FailsBy};
-ghost use Rattle.upc_choice.specs.Choice.{NamesSubcommand, IsChoiceOf, IsChosen, StopsAt, behind_name, choice_named, faults_in};
-ghost use Rattle.upc_choice.specs.inner.Stopping.{IsStopFor};
+ghost use Rattle.upc_choice.specs.Choice.{NamesSubcommand, IsChoiceOf, IsChosen, behind_name, choice_named, faults_in};
 ghost use Rattle.upc_choice.specs.Choice.{subcommand_in, upc_app, with_name};
+ghost use Rattle.upc_choice.specs.Stopping.{IsStopFor, StopsAt};
 
 use clap::error::ErrorKind;
 use clap::{Command, Error};
@@ -44,7 +44,7 @@ pub fn choose(alloc: Global, words: Vec<String>) -> Result<Choice, Stop>
     ensures chosen { IfOk result (IsChosen (map string_bytes words.items)) }
     ensures faultless { IfOk result (λ _. faults_in (map string_bytes words.items) ≡ []) }
     ensures asked { IfOk result (NamesSubcommand (map string_bytes words.items)) }
-    ensures stopped { IfErr result (StopsAt (map string_bytes words.items)) }
+    ensures stopped { IfErr result (StopsAt (faults_in (map string_bytes words.items))) }
     ensures taken { faults_in (map string_bytes words.items) ≡ []
         → IfErr result (λ stop. stop ≡ Stop.NoMemory) }
     ensures granted { (choice : Choice) → NamesSubcommand (map string_bytes words.items) choice
@@ -160,7 +160,9 @@ fn named(name: &str) -> Option<Choice>
     }
 }
 
-fn stop_for(alloc: Global, error: Error) -> Stop
+/// Returns why an error of `clap` gives no choice: it asks for help, a word is wrong, or an allocation failed. The text is
+/// clap's.
+pub fn stop_for(alloc: Global, error: Error) -> Stop
     ensures { IsStopFor (kind_of error) result }
 {
     let kind = error.kind();

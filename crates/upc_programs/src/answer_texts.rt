@@ -2,10 +2,12 @@
 
 ghost use Rattle.std.specs.Prelude.{◌≡◌, ◌++◌, codes, decimal, OnOk};
 ghost use Rattle.hex.specs.Hex.{encode_lower};
+ghost use Rattle.upc_programs.specs.Check.{accepted_text};
 ghost use Rattle.upc_programs.specs.SourceFaults.{asm_fault, asm_name};
 ghost use Rattle.upc_words.specs.FaultLines.{line, no_program};
 
 use bpf_asm::{AsmFault, AsmKind};
+use bpf_code::{Instr, encode};
 use std::alloc::{AllocError, Global};
 use upc_words::{TextFromEnd, add_number, add_text};
 
@@ -23,13 +25,23 @@ pub fn add_accepted(answers: &mut Vec<u8>, instructions: usize) -> Result<(), Al
 
 /// Appends a line of octets, in lower case hexadecimal digits.
 #[tactic(auto, using(std::proofs::lemmas::List::append_assoc))]
-pub fn add_octets(alloc: Global, answers: &mut Vec<u8>, octets: &[u8]) -> Result<(), AllocError>
+fn add_octets(alloc: Global, answers: &mut Vec<u8>, octets: &[u8]) -> Result<(), AllocError>
     ensures { OnOk result (answers.new.items ≡ answers.old.items ++ line (encode_lower octets.now)) }
 {
     let digits = hex::encode(alloc, octets)?;
     answers.extend_from_slice(digits.as_bytes())?;
     answers.push(b'\n')?;
     Ok(())
+}
+
+/// Appends the number of instructions of a code, and a line of their octets in hexadecimal: the answer of `upc check` to a program.
+#[tactic(auto, using(std::proofs::lemmas::List::append_assoc))]
+pub fn add_program(alloc: Global, answers: &mut Vec<u8>, code: &[Instr]) -> Result<(), AllocError>
+    ensures { OnOk result (answers.new.items ≡ answers.old.items ++ accepted_text code.now) }
+{
+    let octets = encode(alloc, code).map_err(|_| AllocError)?;
+    add_accepted(answers, code.len())?;
+    add_octets(alloc, answers, &octets)
 }
 
 /// Appends the answer to an input without a program.

@@ -1,13 +1,13 @@
 //! `upc check`: assembles and checks a source.
 
-ghost use Rattle.std.specs.Prelude.{◌≡◌, ◌++◌, IfOk, OnOk, option_map};
-ghost use Rattle.upc_programs.specs.Check.{IsCheckText, AnswersSource, TellsCode, TellsSource, accepted_text};
+ghost use Rattle.std.specs.Prelude.{IfOk, option_map};
+ghost use Rattle.upc_programs.specs.Check.{IsCheckText, AnswersSource, TellsCode, TellsSource};
 ghost use Rattle.text_io.specs.Devices.{Adds};
 ghost use Rattle.text_io.specs.Serving.{IsServed};
 
-use crate::answer_texts::{add_accepted, add_asm_fault, add_octets};
+use crate::answer_texts::{add_asm_fault, add_program};
 use bpf_asm::{AsmFault, AsmKind, assemble};
-use bpf_code::{Instr, encode};
+use bpf_code::Instr;
 use std::alloc::{AllocError, Global};
 use text_io::{Done, Input, Output, RunFault, gather, give_last};
 use upc_codes::check_code;
@@ -16,16 +16,6 @@ use upc_words::add_too_long;
 /// The maximum number of octets of a source.
 const MOST_SOURCE_OCTETS: u32 = 1048576;
 
-/// Appends the number of instructions of a code, and their octets.
-#[tactic(auto, using(std::proofs::lemmas::List::append_assoc))]
-fn add_program(alloc: Global, code: &[Instr], answers: &mut Vec<u8>) -> Result<(), AllocError>
-    ensures { OnOk result (answers.new.items ≡ answers.old.items ++ accepted_text code.now) }
-{
-    let octets = encode(alloc, code).map_err(|_| AllocError)?;
-    add_accepted(answers, code.len())?;
-    add_octets(alloc, answers, &octets)
-}
-
 /// Answers a code: its octets, or its first error.
 fn answer_code(alloc: Global, code: Vec<Instr>, answers: &mut Vec<u8>) -> Result<Done, AllocError>
     ensures { IfOk result (λ done.
@@ -33,7 +23,7 @@ fn answer_code(alloc: Global, code: Vec<Instr>, answers: &mut Vec<u8>) -> Result
 {
     match check_code(code, answers)? {
         Some(code) => {
-            add_program(alloc, &code, answers)?;
+            add_program(alloc, answers, &code)?;
             Ok(Done::Whole)
         }
         None => Ok(Done::Ended),

@@ -1,2 +1,2 @@
 -- Definitions that only private functions and proofs use.
-pub mod Stopping
+pub mod FoundName

@@ -1,7 +1,7 @@
-//! The exit status of the program.
+//! The exit status of a program.
 
 ghost use Rattle.std.specs.Prelude.{◌≡◌};
-ghost use Rattle.upc.specs.ExitStatus.{status_of};
+ghost use Rattle.upc_exit.specs.ExitStatus.{status_of};
 
 use text_io::{Done, RunFault};
 

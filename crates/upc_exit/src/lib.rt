@@ -1,0 +1,8 @@
+//! How a program ends: its exit status, and the messages on its error output.
+#![tactic(auto)]
+
+mod exit;
+mod messages;
+
+pub use exit::status;
+pub use messages::tell;

@@ -1,0 +1,2 @@
+pub mod LabChoosing
+pub mod Texts

@@ -1,0 +1,24 @@
+-- What `upc-lab` says beside its answers.
+use Rattle.std.specs.Prelude.{ℕ, List, ◌++◌, codes}
+use Rattle.text_io.specs.declared.ending.RunFault.{RunFault}
+use Rattle.text_io.specs.declared.ending.RunFault.TheVariants.{ReadFailed, WriteFailed, NoMemory}
+use Rattle.upc_lab.specs.declared.choice.Subcommand.{Subcommand}
+use Rattle.upc_lab.specs.declared.choice.Subcommand.TheVariants.{Rules}
+
+-- The message for each failure.
+abbrev pub lab_failure_line : RunFault → List ℕ
+lab_failure_line ReadFailed = codes "upc-lab: reading failed\n"
+lab_failure_line WriteFailed = codes "upc-lab: writing failed\n"
+lab_failure_line NoMemory = codes "upc-lab: out of memory\n"
+
+-- The name of a subcommand.
+abbrev pub lab_name_of : Subcommand → List ℕ
+lab_name_of Rules = codes "rules"
+
+-- What a subcommand waits for.
+abbrev pub lab_input_of : Subcommand → List ℕ
+lab_input_of Rules = codes "reading rules from the terminal, to its end"
+
+-- The name of the subcommand, and what it waits for.
+abbrev pub lab_notice : Subcommand → List ℕ
+lab_notice subcommand = codes "upc-lab " ++ lab_name_of subcommand ++ codes ": " ++ lab_input_of subcommand

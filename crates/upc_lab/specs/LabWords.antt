@@ -1,0 +1,40 @@
+-- The subcommand of `upc-lab` that the command line names, and the errors of the command line, by clap's definitions for a simple
+-- command.
+use Rattle.std.specs.Prelude.{◌≡◌, List, [], ◌∷◌, Option, Some, true, fold, find, codes, option_map}
+use Rattle.std.specs.Str.{bytes_eq}
+use Rattle.clap.specs.Walk.{Text}
+use Rattle.clap.specs.Simple.{App, new_app, on_top}
+use Rattle.clap.specs.Kinds.{Kinds}
+use Rattle.clap.specs.Faults.{fault_of}
+use Rattle.upc_choice.specs.Choice.{IsEnd, with_name}
+use Rattle.upc_lab.specs.declared.choice.Subcommand.{Subcommand}
+use Rattle.upc_lab.specs.declared.choice.Subcommand.TheVariants.{Rules}
+
+-- The name of each subcommand.
+abbrev pub lab_subcommands : List (Text × Subcommand)
+lab_subcommands = (codes "rules", Rules) ∷ []
+
+-- The command without its subcommands. It wants one of them.
+abbrev pub lab_alone : App
+lab_alone = on_top (λ top. record top { subcommand_required = true }) (new_app (codes "upc-lab"))
+
+-- The command `upc-lab`: these subcommands, and no option except help, which every command has.
+unfoldable pub lab_app : App
+lab_app = fold (λ app row. with_name app row.0) lab_alone lab_subcommands
+
+-- The command line as clap reads it: the program's name, then the words.
+abbrev pub lab_line : List Text → List Text
+lab_line words = codes "upc-lab" ∷ words
+
+-- The kinds of error in the words; a request for help is one of them. The list is empty if clap accepts the words.
+unfoldable pub lab_faults_in : List Text → Kinds
+lab_faults_in words = fault_of lab_app (lab_line words)
+
+-- The subcommand with this name.
+abbrev pub lab_named : Text → Option Subcommand
+lab_named name = option_map (λ row. row.1) (find (λ row. bytes_eq row.0 name) lab_subcommands)
+
+-- The words are the name of this subcommand, and nothing more.
+abbrev pub NamesLab : List Text → Subcommand → Type 0
+NamesLab words subcommand =
+    (name : Text) × (rest : List Text) × (words ≡ name ∷ rest) × (lab_named name ≡ Some subcommand) × IsEnd rest

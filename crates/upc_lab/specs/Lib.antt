@@ -1,0 +1,5 @@
+-- The program `upc-lab`. Read the modules in this order:
+pub mod LabWords
+pub mod LabText
+pub mod LabMessages
+pub mod inner

@@ -1,0 +1,123 @@
+//! The words of the command line, read by the crate `clap`.
+
+ghost use Rattle.std.specs.Prelude.{◌≡◌, List, ℕ, [], IfErr, IfOk, IfSome, IsErrAnd, IsOkAnd, IsSome, IsSomeAnd, Some, codes, map, option_map};
+ghost use Rattle.std.specs.String.{string_bytes};
+ghost use Rattle.clap.specs.Values.{kind_of};
+ghost use Rattle.clap.specs.Simple.{app_of};
+ghost use Rattle.clap.specs.Kinds.{FailsBy};
+ghost use Rattle.upc_choice.specs.Choice.{with_name};
+ghost use Rattle.upc_choice.specs.Stopping.{IsStopFor, StopsAt};
+ghost use Rattle.upc_lab.specs.LabWords.{NamesLab, lab_alone, lab_app, lab_faults_in, lab_line, lab_named};
+ghost use Rattle.upc_lab.specs.inner.FoundName.{lab_name_in};
+
+use clap::{Command, Error};
+use std::alloc::{AllocError, Global};
+use upc_choice::{Stop, stop_for};
+
+/// What the program should do.
+#[derive(Clone, Copy, Debug, PartialEq, Eq)]
+pub enum Subcommand {
+    /// Compile a text of rules, and print the octets of their program.
+    Rules,
+}
+
+/// Reads the words after the program's name: the name of one subcommand. The forms of help that `clap` has request help. Any
+/// other word, any further word and no word is an error. As everywhere in `clap`, `--` ends the options and isn't a word
+/// itself, so it may be last.
+pub fn choose(alloc: Global, words: Vec<String>) -> Result<Subcommand, Stop>
+    ensures asked { IfOk result (NamesLab (map string_bytes words.items)) }
+    ensures faultless { IfOk result (λ _. lab_faults_in (map string_bytes words.items) ≡ []) }
+    ensures stopped { IfErr result (StopsAt (lab_faults_in (map string_bytes words.items))) }
+    ensures taken { lab_faults_in (map string_bytes words.items) ≡ []
+        → IfErr result (λ stop. stop ≡ Stop.NoMemory) }
+    ensures granted { (subcommand : Subcommand) → NamesLab (map string_bytes words.items) subcommand
+        → IfErr result (λ stop. stop ≡ Stop.NoMemory) }
+{
+    let Ok(words) = line_of_words(alloc, words) else {
+        return Err(Stop::NoMemory);
+    };
+    let Ok(command) = own_command(alloc) else {
+        return Err(Stop::NoMemory);
+    };
+    let found = found_in(command, words.as_slice());
+    answer_to(alloc, found)
+}
+
+/// Puts the program's name before the words, because `clap` takes the first word as the name.
+fn line_of_words(alloc: Global, mut words: Vec<String>) -> Result<Vec<String>, AllocError>
+    ensures { IfOk result (λ all. map string_bytes all.items ≡ lab_line (map string_bytes words.items)) }
+{
+    let name = String::from_str(alloc, "upc-lab")?;
+    words.insert(0, name)?;
+    Ok(words)
+}
+
+#[tactic(auto, unfolding(crate::specs::LabWords::lab_app))]
+fn own_command<'a>(alloc: Global) -> Result<Command<'a>, AllocError>
+    ensures { IfOk result (λ command. app_of command ≡ lab_app) }
+{
+    let command = bare_command(alloc);
+    with_subcommand(
+        alloc,
+        command,
+        "rules",
+        "Compile rules for cells and print the octets of their program",
+        "Example: printf 'vpi 1 and vci 32..127 -> 1\\n' | upc-lab rules",
+    )
+}
+
+fn bare_command<'a>(alloc: Global) -> Command<'a>
+    ensures { app_of result ≡ lab_alone }
+{
+    Command::new(alloc, "upc-lab")
+        .about("Rules for classes of ATM cells, and the programs of upc that they are compiled to")
+        .after_help("All read standard input, to its end.")
+        .subcommand_required(true)
+}
+
+#[tactic(auto, unfolding(upc_choice::specs::Choice::with_name))]
+fn with_subcommand<'a>(
+    alloc: Global,
+    command: Command<'a>,
+    name: &'a str,
+    about: &'a str,
+    example: &'a str,
+) -> Result<Command<'a>, AllocError>
+    ensures { IfOk result (λ more. app_of more ≡ with_name (app_of command.entry) name.entry.now) }
+{
+    command.subcommand(Command::new(alloc, name).about(about).after_help(example))
+}
+
+/// Returns the name of the subcommand in the words, if `clap` accepts them.
+fn found_in<'a>(command: Command<'a>, words: &'a [String]) -> Result<Option<&'a str>, Error>
+    requires { app_of command ≡ lab_app }
+    ensures kinds { (given : List (List ℕ)) → map string_bytes words.entry.now ≡ lab_line given
+        → FailsBy (lab_faults_in given) result }
+    ensures name { (given : List (List ℕ)) → map string_bytes words.entry.now ≡ lab_line given
+        → IfOk result (λ name. option_map (λ text. text.now) name ≡ lab_name_in given) }
+{
+    match command.try_get_matches_from(words) {
+        Ok(matches) => Ok(matches.subcommand_name()),
+        Err(error) => Err(error),
+    }
+}
+
+fn answer_to(alloc: Global, found: Result<Option<&str>, Error>) -> Result<Subcommand, Stop>
+    requires { IfOk found (λ name. IsSomeAnd name (λ text. IsSome (lab_named text.now))) }
+    ensures named { IfOk found.entry (λ name. IfSome name (λ text. IsOkAnd result (λ subcommand. lab_named text.now ≡ Some subcommand))) }
+    ensures stopped { IfErr found.entry (λ error. IsErrAnd result (IsStopFor (kind_of error))) }
+{
+    match found {
+        Ok(name) => Ok(named(name.unwrap()).unwrap()),
+        Err(error) => Err(stop_for(alloc, error)),
+    }
+}
+
+fn named(name: &str) -> Option<Subcommand>
+    ensures { result ≡ lab_named name.now }
+{
+    match name {
+        "rules" => Some(Subcommand::Rules),
+        _ => None,
+    }
+}

@@ -1,0 +1,11 @@
+//! Laws of the definitions. Each function does nothing; its contract is the law.
+
+ghost use Rattle.std.specs.Prelude.{ℕ, List};
+ghost use Rattle.text_io.specs.declared.ending.Done.{Done as TheDone};
+ghost use Rattle.upc_lab.specs.LabText.{IsLabText};
+ghost use Rattle.upc_lab.specs.declared.choice.Subcommand.{Subcommand as TheSubcommand};
+
+/// Each subcommand has an answer to every input.
+pub fn each_input_has_an_answer()
+    ensures { (subcommand : TheSubcommand) (octets : List ℕ) → (answer : List ℕ) × (done : TheDone) × IsLabText subcommand octets answer done }
+{}

@@ -1,0 +1,17 @@
+//! What the program says if its input is a terminal, because nothing else shows that it waits for input.
+
+ghost use Rattle.std.specs.Prelude.{◌≡◌, Some};
+ghost use Rattle.upc_lab.specs.LabMessages.{lab_name_of, lab_notice};
+ghost use Rattle.upc_lab.specs.LabWords.{lab_named};
+
+use crate::choice::Subcommand;
+
+/// Returns the notice for a subcommand, which begins with its name.
+pub fn awaited(subcommand: Subcommand) -> &'static str
+    ensures text { result.now ≡ lab_notice subcommand }
+    ensures named { lab_named (lab_name_of subcommand) ≡ Some subcommand }
+{
+    match subcommand {
+        Subcommand::Rules => "upc-lab rules: reading rules from the terminal, to its end",
+    }
+}
