@@ -5,6 +5,7 @@ pub mod Branches
 pub mod Spans
 pub mod Loads
 pub mod JoinedSingles
+pub mod BitTests
 pub mod Tests
 pub mod LinesFit
 pub mod LinesAccepted

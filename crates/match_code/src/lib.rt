@@ -1,6 +1,7 @@
 //! Tests on the numbers in a packet, lines of such tests, and the classic BPF code that decides them.
 #![tactic(auto)]
 
+mod bits;
 mod draft;
 mod fault;
 mod leaves;
@@ -10,6 +11,7 @@ mod part;
 mod plain_test;
 mod tests_code;
 
+pub use bits::BitTest;
 pub use draft::Ways;
 pub use fault::CodeFault;
 pub use lines::{Line, generate};
