@@ -10,4 +10,5 @@ pub mod Tests
 pub mod LinesFit
 pub mod LinesAccepted
 pub mod Coding
+pub mod InOrder
 pub mod Public
