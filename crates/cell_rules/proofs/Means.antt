@@ -21,9 +21,9 @@ use Rattle.cell_rules.specs.declared.field.Field.TheVariants.{Gfc, Vpi, Vci, Pti
 use Rattle.cell_rules.specs.declared.relation.Relation.{Relation}
 use Rattle.cell_rules.specs.declared.relation.Relation.TheVariants.{Equal, Unequal, Less, AtMost, Greater, AtLeast, In}
 use Rattle.cell_rules.specs.declared.test.Test.{Test, Any, Oam, User, Compare, Not', And', Or'}
-use Rattle.cell_rules.specs.PlainOf.{IsPartOf, IsAmongOf, IsNotOf, AreBothOf, IsEitherOf, IsCompareOf, IsPlainOf, most_of, unit_of, placed_span, span_of_one, span_below, span_up_to}
+use Rattle.cell_rules.specs.PlainOf.{IsPartOf, IsAmongOf, IsNotOf, AreBothOf, IsEitherOf, IsCompareOf, IsPlainOf, most_of, unit_of, placed_span, span_of_one, span_below, span_up_to, some_spans}
 use Rattle.cell_rules.proofs.Bits.{IsInHeader, gfc_in, vpi_in, vci_in, pti_in, clp_in, number_le, number_placed}
-use Rattle.cell_rules.proofs.Spans.{among_placed, among_there, only_is, below_is, up_to_is, above_is, at_least_is}
+use Rattle.cell_rules.proofs.Spans.{among_placed, among_there, only_is, below_is, up_to_is, above_is, at_least_is, some_is}
 
 module _ (side : Side) (cell : List ℕ) (is : IsCell cell) where
   -- ---- a field in spans
@@ -86,7 +86,9 @@ module _ (side : Side) (cell : List ℕ) (is : IsCell cell) where
   compare_means field mask (AtLeast k) test of =
       not_means (IsAmongOf side field mask (span_below k ∷ [])) (is_among (span_below k ∷ []) (kept_bits mask (number_in side field cell))) (among_means field mask (span_below k ∷ [])) test of
       ∙ (ap not (below_is k (kept_bits mask (number_in side field cell))) ∙ at_least_is k (kept_bits mask (number_in side field cell)))
-  compare_means field mask (In first others) test of = among_means field mask (first ∷ others.items) test of
+  compare_means field mask (In first others) test of =
+      let number = kept_bits mask (number_in side field cell) in
+      among_means field mask (some_spans of.0) test of.2 ∙ (some_is of.0 number ∙ of.1.same number)
 
   -- ---- the payload types of OAM cells and of user data
   pti_below : pti_of cell < 8

@@ -5,7 +5,7 @@ use Rattle.std.proofs.lemmas.Bool.Decides.{nat_tests}
 use Rattle.std.proofs.Math.Nat.{mul-le-mul_right, le_of_mul-le-mul_right}
 use Rattle.match_code.specs.PlainTests.{is_in, is_among}
 use Rattle.match_code.specs.declared.part.Span.{Span}
-use Rattle.cell_rules.specs.PlainOf.{in_place, placed_span, span_of_one, span_below, span_up_to}
+use Rattle.cell_rules.specs.PlainOf.{in_place, placed_span, span_of_one, span_below, span_up_to, some_spans}
 
 -- Tests that are true of the same are the same.
 bool_same : (x y : Bool) → (x ≡ true → y ≡ true) → (y ≡ true → x ≡ true) → x ≡ y
@@ -78,3 +78,9 @@ above_is k number = grind (arith, nat_tests)
 
 pub at_least_is : (k number : ℕ) → not (nat_lt number k) ≡ nat_le k number
 at_least_is k number = grind (arith, nat_tests)
+
+-- ---- lists
+
+pub some_is : (spans : List Span) (number : ℕ) → is_among (some_spans spans) number ≡ is_among spans number
+some_is [] number = ap (λ b. b || false) (empty number)
+some_is (span ∷ more) number = refl

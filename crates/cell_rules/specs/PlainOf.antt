@@ -4,6 +4,7 @@ use Rattle.std.specs.Prelude.{◌≡◌, ℕ, ◌-◌, ◌*◌, ◌%◌, ◌^◌
 use Rattle.bpf_code.specs.declared.instr.Size.{Size}
 use Rattle.bpf_code.specs.declared.instr.Size.TheVariants.{Word}
 use Rattle.match_code.specs.Neighbours.{IsBothOf}
+use Rattle.match_code.specs.Order.{IsOrderOf}
 use Rattle.match_code.specs.declared.lines.Line.{Line}
 use Rattle.match_code.specs.declared.lines.Line.TheVariants as line
 use Rattle.match_code.specs.declared.part.Part.{Part}
@@ -103,6 +104,15 @@ abbrev pub IsEitherOf : (PlainTest → Type 0) → (PlainTest → Type 0) → Pl
 IsEitherOf Is IsOther (plain.Either' p one q other) = Is one × IsOther other
 IsEitherOf Is IsOther _ = ⊥
 
+-- Spans of which there is at least one: an empty one where there is none.
+abbrev pub some_spans : List Span → List Span
+some_spans [] = record { low = 1; high = 0 } ∷ []
+some_spans (span ∷ more) = span ∷ more
+
+-- The test is that the field is in spans with the numbers of these, in order and as few as there can be.
+abbrev pub IsListOf : Side → Field → Option ℕ → List Span → PlainTest → Type 0
+IsListOf side field mask spans test = (ordered : List Span) × IsOrderOf spans ordered × IsAmongOf side field mask (some_spans ordered) test
+
 -- The test of a field that is compared.
 abbrev pub IsCompareOf : Side → Field → Option ℕ → Relation → PlainTest → Type 0
 IsCompareOf side field mask (Equal k) test = IsAmongOf side field mask (span_of_one k ∷ []) test
@@ -111,7 +121,7 @@ IsCompareOf side field mask (Less k) test = IsAmongOf side field mask (span_belo
 IsCompareOf side field mask (AtMost k) test = IsAmongOf side field mask (span_up_to k ∷ []) test
 IsCompareOf side field mask (Greater k) test = IsNotOf (IsAmongOf side field mask (span_up_to k ∷ [])) test
 IsCompareOf side field mask (AtLeast k) test = IsNotOf (IsAmongOf side field mask (span_below k ∷ [])) test
-IsCompareOf side field mask (In first others) test = IsAmongOf side field mask (first ∷ others.items) test
+IsCompareOf side field mask (In first others) test = IsListOf side field mask (first ∷ others.items) test
 
 -- The test that a test of cells becomes.
 abbrev pub IsPlainOf : Side → Test → PlainTest → Type 0

@@ -2,14 +2,14 @@
 
 ghost use Rattle.std.specs.Prelude.{◌≡◌, Some, [], ◌∷◌, map, IfOk};
 ghost use Rattle.cell_rules.specs.declared.field.Field.TheVariants.{Pti};
-ghost use Rattle.cell_rules.specs.PlainOf.{IsAmongOf, IsCompareOf, IsPlainLine, IsPartOf, IsPlainOf, span_below, in_place, most_of, span_of_one, placed_mask, placed_span, unit_of};
+ghost use Rattle.cell_rules.specs.PlainOf.{IsAmongOf, IsCompareOf, IsListOf, some_spans, IsPlainLine, IsPartOf, IsPlainOf, span_below, in_place, most_of, span_of_one, placed_mask, placed_span, unit_of};
 
 use crate::field::Field;
 use crate::relation::Relation;
 use crate::rules::RuleLine;
 use crate::test::Test;
 use bpf_code::Size;
-use match_code::{Line, Part, PlainTest, Span, both};
+use match_code::{Line, Part, PlainTest, Span, both, in_order};
 use std::alloc::{AllocError, Global};
 use upc_cell::Side;
 
@@ -169,6 +169,38 @@ fn span_below(k: u32) -> Span
     }
 }
 
+/// The test that a field is in one of these spans, of which there may be none.
+fn among_any(
+    alloc: Global,
+    side: Side,
+    field: Field,
+    mask: Option<u32>,
+    spans: &[Span],
+) -> Result<PlainTest, AllocError>
+    ensures { IfOk result (IsAmongOf side field mask (some_spans spans.now)) }
+{
+    match spans.split_first() {
+        None => within(alloc, side, field, mask, Span { low: 1, high: 0 }),
+        Some((first, others)) => among(alloc, side, field, mask, *first, others),
+    }
+}
+
+/// The test that a field is in a list of spans.
+fn listed(
+    alloc: Global,
+    side: Side,
+    field: Field,
+    mask: Option<u32>,
+    first: Span,
+    others: &[Span],
+) -> Result<PlainTest, AllocError>
+    ensures { IfOk result (IsListOf side field mask (first ∷ others.now)) }
+{
+    let ordered = in_order(alloc, first, others)?;
+    let test = among_any(alloc, side, field, mask, &ordered)?;
+    Ok(test)
+}
+
 /// The test of a field that is compared.
 fn compared(
     alloc: Global,
@@ -195,7 +227,7 @@ fn compared(
             let less = within(alloc, side, field, mask, span_below(*k))?;
             Ok(PlainTest::Not(Box::new(alloc, less)?))
         }
-        Relation::In { first, others } => among(alloc, side, field, mask, *first, others),
+        Relation::In { first, others } => listed(alloc, side, field, mask, *first, others),
     }
 }
 

@@ -10,7 +10,8 @@ use Rattle.byteorder.specs.Endian.{big_number}
 use Rattle.bpf_code.specs.declared.instr.Size.{Size}
 use Rattle.bpf_interp.specs.Packet.{octets_loaded}
 use Rattle.match_code.specs.PlainTests.{holds, is_among, is_in, kept_bits, number_of}
-use Rattle.match_code.specs.Neighbours.{HasBoth, IsBothOf, IsSingle, above_unit, are_neighbours, joined_by, joined_single, joined_singles, single_in, single_of}
+use Rattle.match_code.specs.BitTests.{above_unit}
+use Rattle.match_code.specs.Neighbours.{HasBoth, IsBothOf, IsSingle, are_neighbours, joined_by, joined_single, joined_singles, single_in, single_of}
 use Rattle.match_code.specs.TestCode.{is_same_load}
 use Rattle.match_code.specs.declared.part.Part.{Part}
 use Rattle.match_code.specs.declared.part.Single.{Single}
@@ -24,7 +25,7 @@ zero_and : (n : ℕ) → bit_and n 0 ≡ 0
 zero_and n = and_comm n 0
 
 -- The bits that a mask of high bits keeps.
-high_bits : (n q j : ℕ) → bit_and n (q * 2 ^ j) ≡ bit_and (n / 2 ^ j) q * 2 ^ j
+pub high_bits : (n q j : ℕ) → bit_and n (q * 2 ^ j) ≡ bit_and (n / 2 ^ j) q * 2 ^ j
 high_bits n q j =
     let high = n / 2 ^ j in
     let low = n % 2 ^ j in
@@ -100,7 +101,7 @@ digits_tests unit k x low a b pos small least most =
 
 -- ---- singles
 
-multiple : (n j : ℕ) → n % 2 ^ j ≡ 0 → n ≡ n / 2 ^ j * 2 ^ j
+pub multiple : (n j : ℕ) → n % 2 ^ j ≡ 0 → n ≡ n / 2 ^ j * 2 ^ j
 multiple n j e = sym (shr_split n j) ∙ (ap (λ z. n / 2 ^ j * 2 ^ j + z) e ∙ add-zero (n / 2 ^ j * 2 ^ j))
 
 -- The comparison of a single with a number.
@@ -146,7 +147,7 @@ joined_number high low j n apart =
 
 -- ---- from the tests of the code
 
-power : (mask : ℕ) → above_unit mask ≡ 2 ^ (trailing_zeros w32 mask % 32)
+pub power : (mask : ℕ) → above_unit mask ≡ 2 ^ (trailing_zeros w32 mask % 32)
 power mask = one_shl (trailing_zeros w32 mask % 32) 32 (mod_below (trailing_zeros w32 mask) 32 (omega arith))
 
 apart : (high low : Single) → are_neighbours high low ≡ true → (is_same_load high.part low.part ≡ true) × AreApart high low (trailing_zeros w32 high.mask % 32)
@@ -176,7 +177,7 @@ apart high low e =
 abbrev number_there : Part → List ℕ → ℕ
 number_there part packet = big_number (octets_loaded part.size) (drop part.at packet)
 
-or_false : (b : Bool) → (b || false) ≡ b
+pub or_false : (b : Bool) → (b || false) ≡ b
 or_false true = refl
 or_false false = refl
 

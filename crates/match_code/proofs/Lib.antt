@@ -5,8 +5,10 @@ pub mod Branches
 pub mod Spans
 pub mod Loads
 pub mod JoinedSingles
+pub mod BitTests
 pub mod Tests
 pub mod LinesFit
 pub mod LinesAccepted
 pub mod Coding
+pub mod InOrder
 pub mod Public

@@ -1,6 +1,7 @@
 -- What A holds, and the load of a part.
-use Rattle.std.proofs.Common.{◌≡◌, ℕ, ◌+◌, ◌≤◌, ◌==◌, Bool, true, false, if◌then◌else◌, List, ◌∷◌, length, drop, Option, Some, None, refl, sym, ap, subst, ◌∙◌, arith}
+use Rattle.std.proofs.Common.{◌≡◌, ℕ, ◌+◌, ◌≤◌, ◌==◌, Bool, true, false, if◌then◌else◌, List, ◌∷◌, length, drop, Option, Some, None, refl, sym, ap, subst, ◌∙◌, arith, bit_and}
 use Rattle.std.proofs.lemmas.Bool.{eqb-true, and_parts, le-leb}
+use Rattle.std.proofs.lemmas.Nat.{and_assoc}
 use Rattle.byteorder.specs.Endian.{big_number}
 use Rattle.bpf_code.specs.declared.instr.By.TheVariants.{Imm}
 use Rattle.bpf_code.specs.declared.instr.Instr.{Instr}
@@ -10,7 +11,7 @@ use Rattle.bpf_interp.specs.Packet.{octets_loaded, number_at}
 use Rattle.bpf_interp.specs.State.{State, At}
 use Rattle.bpf_interp.specs.Step.{LoadsNumber}
 use Rattle.match_code.specs.PlainTests.{kept_bits, number_of}
-use Rattle.match_code.specs.TestCode.{is_same_mask, is_same_load, is_same_part, is_held, is_loaded, left_at_join, masked, loaded}
+use Rattle.match_code.specs.TestCode.{is_same_mask, is_same_load, is_same_part, is_held, is_covered, is_loaded, whole_of, held_for_bits, bits_loaded, left_at_join, masked, loaded}
 use Rattle.match_code.specs.declared.part.Part.{Part}
 use Rattle.match_code.proofs.Suffixes.{Gives, gives_next}
 use Rattle.match_code.proofs.Growing.{Extends, extends_self, extends_more, extends_one}
@@ -64,11 +65,18 @@ held_number : (held : Option Part) (part : Part) (packet : List ℕ) (a : ℕ) �
 held_number None part packet a h e = absurd cc
 held_number (Some held) part packet a h e = h ∙ number_is held part packet e
 
-loaded_number : (held : Option Part) (part : Part) (packet : List ℕ) (a : ℕ) → IsHeld packet held a → is_loaded held part ≡ true → a ≡ big_number (octets_loaded part.size) (drop part.at packet)
+-- Bits that the first mask keeps are there for the second.
+covered : (one other : Option ℕ) (n : ℕ) → is_covered one other ≡ true → kept_bits other (kept_bits one n) ≡ kept_bits other n
+covered None other n e = refl
+covered (Some mask) None n e = absurd cc
+covered (Some mask) (Some other) n e = and_assoc other n mask ∙ ap (λ m. bit_and n m) (eqb-true (bit_and mask other) other e)
+
+loaded_number : (held : Option Part) (part : Part) (packet : List ℕ) (a : ℕ) → IsHeld packet held a → is_loaded held part ≡ true → kept_bits part.mask a ≡ number_of part packet
 loaded_number None part packet a h e = absurd cc
 loaded_number (Some held) part packet a h e =
-    let parts = and_parts (is_same_load held part) (is_same_mask held.mask None) e in
-    h ∙ (ap (λ (m : Option ℕ). kept_bits m (big_number (octets_loaded held.size) (drop held.at packet))) (mask_is held.mask None parts.1) ∙ octets_are held part packet parts.0)
+    let parts = and_parts (is_same_load held part) (is_covered held.mask part.mask) e in
+    ap (λ n. kept_bits part.mask n) h
+    ∙ (covered held.mask part.mask (big_number (octets_loaded held.size) (drop held.at packet)) parts.1 ∙ ap (λ n. kept_bits part.mask n) (octets_are held part packet parts.0))
 
 masked_extends : (mask : Option ℕ) (code : List Instr) → Extends code (masked mask code)
 masked_extends None code = extends_self code
@@ -108,7 +116,27 @@ module _ (held : Option Part) (part : Part) (code : List Instr) where
       choose_code (λ c. Gives packet c a value) (is_held held part) code (if is_loaded held part then masked part.mask code else LoadAbs part.size part.at ∷ masked part.mask code)
       (λ e. subst (λ b. Gives packet code b value) (sym (held_number held part packet a h e)) given)
       (λ e. choose_code (λ c. Gives packet c a value) (is_loaded held part) (masked part.mask code) (LoadAbs part.size part.at ∷ masked part.mask code)
-      (λ e. subst (λ b. Gives packet (masked part.mask code) b value) (sym (loaded_number held part packet a h e)) (masked_gives part.mask packet code n value given))
+      (λ e. masked_gives part.mask packet code a value (subst (λ b. Gives packet code b value) (sym (loaded_number held part packet a h e)) given))
       (λ e. gives_next packet (LoadAbs part.size part.at) (masked part.mask code) a n value
       (λ pc x m. reads (number_at packet part.at (octets_loaded part.size)) n (λ b. At (pc + 1) b x m) (number_there part packet whole))
       (masked_gives part.mask packet code n value given)))
+
+  -- ---- the load before a test of bits
+
+  pub bits_loaded_extends : Extends code (bits_loaded held part code)
+  bits_loaded_extends =
+      choose_code (λ c. Extends code c) (is_loaded held part) code (LoadAbs part.size part.at ∷ code) (λ e. extends_self code) (λ e. extends_one (LoadAbs part.size part.at) code tt)
+
+  octets_on : (b : Bool) → is_loaded held part ≡ b → (packet : List ℕ) → length packet ≡ 52 → (a value : ℕ) → IsHeld packet held a
+      → ((c : ℕ) → kept_bits part.mask c ≡ number_of part packet → IsHeld packet (if b then held else Some (whole_of part)) c → Gives packet code c value)
+      → Gives packet (if b then code else LoadAbs part.size part.at ∷ code) a value
+  octets_on true e packet whole a value h on = on a (loaded_number held part packet a h e) h
+  octets_on false e packet whole a value h on =
+      let n = big_number (octets_loaded part.size) (drop part.at packet) in
+      gives_next packet (LoadAbs part.size part.at) code a n value
+      (λ pc x m. reads (number_at packet part.at (octets_loaded part.size)) n (λ b. At (pc + 1) b x m) (number_there part packet whole))
+      (on n refl refl)
+
+  pub bits_loaded_gives : (packet : List ℕ) → length packet ≡ 52 → (a value : ℕ) → IsHeld packet held a
+      → ((c : ℕ) → kept_bits part.mask c ≡ number_of part packet → IsHeld packet (held_for_bits held part) c → Gives packet code c value) → Gives packet (bits_loaded held part code) a value
+  bits_loaded_gives packet whole a value h on = octets_on (is_loaded held part) refl packet whole a value h on

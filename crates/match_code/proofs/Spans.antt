@@ -45,10 +45,10 @@ not_side false met unmet = refl
 
 module _ (packet : List ℕ) (a value : ℕ) where
   -- A side may be named by an equal outcome.
-  as_side : (b c : Bool) (code : List Instr) (met unmet : ℕ) → b ≡ c → Gives packet (suffix_at code (if b then met else unmet)) a value → Gives packet (suffix_at code (if c then met else unmet)) a value
+  pub as_side : (b c : Bool) (code : List Instr) (met unmet : ℕ) → b ≡ c → Gives packet (suffix_at code (if b then met else unmet)) a value → Gives packet (suffix_at code (if c then met else unmet)) a value
   as_side b c code met unmet e given = subst (λ (d : Bool). Gives packet (suffix_at code (if d then met else unmet)) a value) e given
 
-  turned_side : (b c : Bool) (code : List Instr) (met unmet : ℕ) → b ≡ not c → Gives packet (suffix_at code (if b then met else unmet)) a value → Gives packet (suffix_at code (if c then unmet else met)) a value
+  pub turned_side : (b c : Bool) (code : List Instr) (met unmet : ℕ) → b ≡ not c → Gives packet (suffix_at code (if b then met else unmet)) a value → Gives packet (suffix_at code (if c then unmet else met)) a value
   turned_side b c code met unmet e given =
       subst (λ (label : ℕ). Gives packet (suffix_at code label) a value) (not_side c met unmet) (as_side b (not c) code met unmet e given)
 

@@ -1,19 +1,23 @@
 -- The code of a test: where it leads, and with what in A.
-use Rattle.std.proofs.Common.{◌≡◌, ℕ, Bool, true, false, not, ◌&&◌, ◌||◌, if◌then◌else◌, List, ◌∷◌, length, Option, Some, refl, subst, arith}
+use Rattle.std.proofs.Common.{◌≡◌, ℕ, Bool, true, false, not, ◌&&◌, ◌||◌, if◌then◌else◌, List, ◌∷◌, length, Option, Some, None, refl, sym, ap, subst, ◌∙◌, arith}
 use Rattle.bpf_code.specs.declared.instr.Instr.{Instr}
 use Rattle.bpf_code.specs.declared.instr.Test.TheVariants.{Set}
 use Rattle.match_code.specs.Labels.{Tested, branched}
 use Rattle.match_code.specs.inner.Suffixes.{suffix_at}
-use Rattle.match_code.specs.PlainTests.{number_of, is_among, holds}
-use Rattle.match_code.specs.TestCode.{turned, spans_code, left_at_join, known_after, loaded, with_load, both_ways, either_way, test_code}
+use Rattle.match_code.specs.PlainTests.{kept_bits, number_of, is_among, holds}
+use Rattle.match_code.specs.TestCode.{turned, spans_code, left_at_join, known_after, held_for_bits, held_to_compare, loaded, with_load, bits_code, bits_loaded, with_octets, among_code, both_ways, either_way, test_code}
+use Rattle.match_code.specs.BitTests.{bits_of}
+use Rattle.match_code.specs.declared.bits.BitTest.{BitTest}
 use Rattle.match_code.specs.declared.part.Left.{Left}
 use Rattle.match_code.specs.declared.part.Part.{Part}
+use Rattle.match_code.specs.declared.part.Span.{Span}
 use Rattle.match_code.specs.declared.plain_test.PlainTest.{PlainTest, Always, Among, Has, Not', Both', Either'}
 use Rattle.match_code.proofs.Suffixes.{Gives, gives_whole, gives_from_whole}
-use Rattle.match_code.proofs.Growing.{IsLabel, IsWell, extends_self, extends_more, gives_kept, label_kept}
+use Rattle.match_code.proofs.Growing.{IsLabel, IsWell, Extends, extends_self, extends_more, gives_kept, label_kept}
 use Rattle.match_code.proofs.Branches.{branched_well, branched_front, branched_gives}
-use Rattle.match_code.proofs.Spans.{turned_well, spans_well, spans_front, spans_gives}
-use Rattle.match_code.proofs.Loads.{IsHeld, joined_left, joined_right, loaded_extends, loaded_gives}
+use Rattle.match_code.proofs.Spans.{turned_well, as_side, spans_well, spans_front, spans_gives}
+use Rattle.match_code.proofs.Loads.{IsHeld, joined_left, joined_right, loaded_extends, loaded_gives, bits_loaded_extends, bits_loaded_gives}
+use Rattle.match_code.proofs.BitTests.{bits_say, bits_well, bits_front, bits_give}
 
 -- A test with this outcome, begun with this in A, goes on at the label of its side, with that in A.
 pub record IsRight (packet : List ℕ) (held : Option Part) (outcome : Bool) (left : Option Part) (code : List Instr) (met unmet : ℕ) (t : Tested) : Type 0 where
@@ -22,21 +26,40 @@ pub record IsRight (packet : List ℕ) (held : Option Part) (outcome : Bool) (le
 -- ---- leaves
 
 module _ (held : Option Part) (part : Part) (code : List Instr) (met unmet : ℕ) (t : Tested) (w : IsWell code met unmet t) where
-  pub with_load_well : IsWell code met unmet (with_load held part t)
-  unfolding with_load
-  with_load_well =
-      let e = loaded_extends held part t.code in
+  -- A load in front of a test.
+  front_well : (new : List Instr) → Extends t.code new → IsWell code met unmet (record { code = new; ways = record { entry = length new; met = t.ways.met; unmet = t.ways.unmet } })
+  front_well new e =
       let more = e.within in
       let some = w.entry.positive in
       let there = w.entry.within in
       record {
-        extends = extends_more code t.code (loaded held part t.code) w.extends e;
+        extends = extends_more code t.code new w.extends e;
         entry = record { positive = omega arith; within = omega arith };
-        met_is = label_kept t.code (loaded held part t.code) t.ways.met e w.met_is;
-        unmet_is = label_kept t.code (loaded held part t.code) t.ways.unmet e w.unmet_is;
-        met_leads = λ packet a value given. gives_kept packet t.code (loaded held part t.code) t.ways.met a value e w.met_is (w.met_leads packet a value given);
-        unmet_leads = λ packet a value given. gives_kept packet t.code (loaded held part t.code) t.ways.unmet a value e w.unmet_is (w.unmet_leads packet a value given);
+        met_is = label_kept t.code new t.ways.met e w.met_is;
+        unmet_is = label_kept t.code new t.ways.unmet e w.unmet_is;
+        met_leads = λ packet a value given. gives_kept packet t.code new t.ways.met a value e w.met_is (w.met_leads packet a value given);
+        unmet_leads = λ packet a value given. gives_kept packet t.code new t.ways.unmet a value e w.unmet_is (w.unmet_leads packet a value given);
       }
+
+  pub with_load_well : IsWell code met unmet (with_load held part t)
+  unfolding with_load
+  with_load_well = front_well (loaded held part t.code) (loaded_extends held part t.code)
+
+  pub with_octets_well : IsWell code met unmet (with_octets held part t)
+  unfolding with_octets
+  with_octets_well = front_well (bits_loaded held part t.code) (bits_loaded_extends held part t.code)
+
+  pub with_octets_right : (packet : List ℕ) → length packet ≡ 52 → (outcome : Bool) → t.ways.entry ≡ length t.code
+      → ((a value : ℕ) → kept_bits part.mask a ≡ number_of part packet → Gives packet (suffix_at code (if outcome then met else unmet)) a value → Gives packet (suffix_at t.code t.ways.entry) a value)
+      → (left : Option Part) → ((a : ℕ) → IsHeld packet (held_for_bits held part) a → IsHeld packet left a) → IsRight packet held outcome left code met unmet (with_octets held part t)
+  unfolding with_octets
+  with_octets_right packet whole outcome front leads left h = record {
+    gives = λ a value begun on.
+        gives_whole packet (bits_loaded held part t.code) a value
+        (bits_loaded_gives held part t.code packet whole a value begun
+        (λ c kept there.
+        gives_from_whole packet t.code c value (subst (λ (label : ℕ). Gives packet (suffix_at t.code label) c value) front (leads c value kept (on c (h c there))))));
+  }
 
   pub with_load_right : (packet : List ℕ) → length packet ≡ 52 → (outcome : Bool) → t.ways.entry ≡ length t.code
       → ((value : ℕ) → Gives packet (suffix_at code (if outcome then met else unmet)) (number_of part packet) value → Gives packet (suffix_at t.code t.ways.entry) (number_of part packet) value)
@@ -49,9 +72,34 @@ module _ (held : Option Part) (part : Part) (code : List Instr) (met unmet : ℕ
         gives_whole packet (loaded held part t.code) a value (loaded_gives held part t.code packet whole a value begun (gives_from_whole packet t.code number value there));
   }
 
-held_either : (outcome : Bool) (part : Part) (packet : List ℕ) → IsHeld packet (if outcome then Some part else Some part) (number_of part packet)
-held_either true part packet = refl
-held_either false part packet = refl
+held_either : (outcome : Bool) (left : Option Part) (packet : List ℕ) (a : ℕ) → IsHeld packet left a → IsHeld packet (if outcome then left else left) a
+held_either true left packet a h = h
+held_either false left packet a h = h
+
+-- ---- comparisons
+
+module _ (part : Part) (first : Span) (others : List Span) (held : Option Part) (code : List Instr) (met unmet : ℕ) (p : IsLabel code met) (q : IsLabel code unmet) where
+  among_well : (test : Option BitTest) → IsWell code met unmet (among_code test held part (first ∷ others) code met unmet)
+  unfolding among_code
+  among_well None =
+      with_load_well held part code met unmet (spans_code (first ∷ others) code met unmet) (spans_well code met unmet p q (first ∷ others))
+  among_well (Some test) =
+      with_octets_well held part code met unmet (bits_code test code met unmet) (bits_well test code met unmet p q)
+
+  among_right : (packet : List ℕ) → length packet ≡ 52 → (test : Option BitTest) → bits_of part.mask first others ≡ test → (outcome : Bool) → is_among (first ∷ others) (number_of part packet) ≡ outcome
+      → IsRight packet held outcome (if outcome then held_to_compare test held part else held_to_compare test held part) code met unmet (among_code test held part (first ∷ others) code met unmet)
+  unfolding among_code
+  among_right packet whole None is outcome e =
+      with_load_right held part code met unmet (spans_code (first ∷ others) code met unmet) (spans_well code met unmet p q (first ∷ others)) packet whole outcome
+      (spans_front code met unmet p q first others)
+      (λ value given. spans_gives code met unmet p q (first ∷ others) packet (number_of part packet) value (as_side packet (number_of part packet) value outcome (is_among (first ∷ others) (number_of part packet)) code met unmet (sym e) given))
+      (if outcome then Some part else Some part) (held_either outcome (Some part) packet (number_of part packet) refl)
+  among_right packet whole (Some test) is outcome e =
+      with_octets_right held part code met unmet (bits_code test code met unmet) (bits_well test code met unmet p q) packet whole outcome
+      (bits_front test code met unmet p q)
+      (λ a value kept given.
+      bits_give test code met unmet p q packet a value outcome (sym e ∙ (ap (λ n. is_among (first ∷ others) n) (sym kept) ∙ bits_say part.mask first others test is a)) given)
+      (if outcome then held_for_bits held part else held_for_bits held part) (λ a h. held_either outcome (held_for_bits held part) packet a h)
 
 -- ---- not, both, either
 
@@ -122,7 +170,7 @@ test_well Always held code met unmet p q = record {
   unmet_leads = λ packet a value given. given;
 }
 test_well (Among part first others) held code met unmet p q =
-    with_load_well held part code met unmet (spans_code (first ∷ others.items) code met unmet) (spans_well code met unmet p q (first ∷ others.items))
+    among_well part first others.items held code met unmet p q (bits_of part.mask first others.items)
 test_well (Has part bits) held code met unmet p q =
     with_load_well held part code met unmet (branched Set bits code met unmet) (branched_well Set bits code met unmet p q)
 test_well (Not' at test) held code met unmet p q = turned_well code unmet met (test_code test held code unmet met) (test_well test held code unmet met q p)
@@ -143,14 +191,11 @@ module _ (packet : List ℕ) (whole : length packet ≡ 52) where
   unfolding test_code
   test_right Always held code met unmet p q = record { gives = λ a value h on. on a h }
   test_right (Among part first others) held code met unmet p q =
-      let spans = first ∷ others.items in
-      with_load_right held part code met unmet (spans_code spans code met unmet) (spans_well code met unmet p q spans) packet whole (is_among spans (number_of part packet))
-      (spans_front code met unmet p q first others.items) (λ value given. spans_gives code met unmet p q spans packet (number_of part packet) value given)
-      (if is_among spans (number_of part packet) then Some part else Some part) (held_either (is_among spans (number_of part packet)) part packet)
+      among_right part first others.items held code met unmet p q packet whole (bits_of part.mask first others.items) refl (is_among (first ∷ others.items) (number_of part packet)) refl
   test_right (Has part bits) held code met unmet p q =
       with_load_right held part code met unmet (branched Set bits code met unmet) (branched_well Set bits code met unmet p q) packet whole (holds (Has part bits) packet)
       (branched_front Set bits code met unmet p q) (λ value given. branched_gives Set bits code met unmet p q packet (number_of part packet) value given)
-      (if holds (Has part bits) packet then Some part else Some part) (held_either (holds (Has part bits) packet) part packet)
+      (if holds (Has part bits) packet then Some part else Some part) (held_either (holds (Has part bits) packet) (Some part) packet (number_of part packet) refl)
   test_right (Not' at test) held code met unmet p q =
       turned_right packet held (holds test packet) (known_after test held).met (known_after test held).unmet code met unmet (test_code test held code unmet met) (test_right test held code unmet met q p)
   test_right (Both' at one to other) held code met unmet p q =

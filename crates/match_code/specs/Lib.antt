@@ -2,7 +2,9 @@ pub mod Labels
 pub mod Neighbours
 pub mod Lines
 pub mod PlainTests
+pub mod Order
 pub mod Promise
+pub mod BitTests
 pub mod TestCode
 pub mod LineCode
 pub mod inner

@@ -1,7 +1,7 @@
 -- Two comparisons of neighbouring bits as one.
-use Rattle.std.specs.Prelude.{◌≡◌, ℕ, ◌*◌, ◌%◌, ◌^◌, ◌==◌, Bool, ◌&&◌, nat_lt, bit_or, if◌then◌else◌, List, [], ◌∷◌, Option, Some, None}
+use Rattle.std.specs.Prelude.{◌≡◌, ℕ, ◌%◌, ◌==◌, Bool, ◌&&◌, nat_lt, bit_or, if◌then◌else◌, List, [], ◌∷◌, Option, Some, None}
 use Rattle.std.specs.Option.{MatchOption}
-use Rattle.std.specs.Int.{trailing_zeros, w32}
+use Rattle.match_code.specs.BitTests.{above_unit}
 use Rattle.match_code.specs.TestCode.{is_same_load}
 use Rattle.match_code.specs.declared.part.Part.{Part}
 use Rattle.match_code.specs.declared.part.Single.{Single}
@@ -19,10 +19,6 @@ single_in part (Some mask) first [] = Some (record { part = part; mask = mask; s
 abbrev pub single_of : PlainTest → Option Single
 single_of (plain.Among part first others) = single_in part part.mask first others.items
 single_of _ = None
-
--- What the lowest bit of a mask counts.
-abbrev pub above_unit : ℕ → ℕ
-above_unit mask = (1 * 2 ^ (trailing_zeros w32 mask % 32)) % 2 ^ 32
 
 -- Whether the first has one number, and its bits are above those of the second in the same octets.
 abbrev pub are_neighbours : Single → Single → Bool

@@ -1,5 +1,5 @@
 -- The code that decides a test.
-use Rattle.std.specs.Prelude.{ℕ, Bool, true, false, ◌&&◌, ◌==◌, if◌then◌else◌, List, [], ◌∷◌, length, Option, Some, None}
+use Rattle.std.specs.Prelude.{ℕ, Bool, true, false, ◌&&◌, ◌==◌, bit_and, if◌then◌else◌, List, [], ◌∷◌, length, Option, Some, None}
 use Rattle.bpf_code.specs.declared.instr.By.TheVariants.{Imm}
 use Rattle.bpf_code.specs.declared.instr.Instr.{Instr}
 use Rattle.bpf_code.specs.declared.instr.Instr.TheVariants.{LoadAbs, Alu}
@@ -7,6 +7,8 @@ use Rattle.bpf_code.specs.declared.instr.Op.TheVariants.{And}
 use Rattle.bpf_code.specs.declared.instr.Test.TheVariants.{Eq, Gt, Ge, Set}
 use Rattle.bpf_interp.specs.Packet.{octets_loaded}
 use Rattle.match_code.specs.Labels.{Tested, branched}
+use Rattle.match_code.specs.BitTests.{bits_of}
+use Rattle.match_code.specs.declared.bits.BitTest.{BitTest}
 use Rattle.match_code.specs.declared.part.Left.{Left}
 use Rattle.match_code.specs.declared.part.Part.{Part}
 use Rattle.match_code.specs.declared.part.Span.{Span}
@@ -33,10 +35,29 @@ abbrev pub is_held : Option Part → Part → Bool
 is_held None part = false
 is_held (Some held) part = is_same_part held part
 
--- Whether A holds the octets of the part without a mask.
+-- Whether the first mask keeps each bit that the second keeps.
+abbrev pub is_covered : Option ℕ → Option ℕ → Bool
+is_covered None other = true
+is_covered (Some mask) None = false
+is_covered (Some mask) (Some other) = bit_and mask other == other
+
+-- Whether A holds octets in which each bit of the part is as it is in the packet.
 abbrev pub is_loaded : Option Part → Part → Bool
 is_loaded None part = false
-is_loaded (Some held) part = is_same_load held part && is_same_mask held.mask None
+is_loaded (Some held) part = is_same_load held part && is_covered held.mask part.mask
+
+-- The part without its mask.
+abbrev pub whole_of : Part → Part
+whole_of part = record { size = part.size; at = part.at; mask = None; inside = part.inside }
+
+-- What A holds at a test of bits of the part: what it held, if the bits are among that, and otherwise the octets.
+abbrev pub held_for_bits : Option Part → Part → Option Part
+held_for_bits held part = if is_loaded held part then held else Some (whole_of part)
+
+-- What A holds at a comparison of the part. A test of bits doesn't change what is loaded.
+abbrev pub held_to_compare : Option BitTest → Option Part → Part → Option Part
+held_to_compare None held part = Some part
+held_to_compare (Some bits) held part = held_for_bits held part
 
 -- What is known of A where two ways join that leave this in it.
 abbrev pub left_at_join : Option Part → Option Part → Option Part
@@ -47,7 +68,8 @@ left_at_join (Some one) (Some other) = if is_same_part one other then Some one e
 -- What is known of A after a test.
 abbrev pub known_after : PlainTest → Option Part → Left
 known_after plain.Always held = record { met = held; unmet = held }
-known_after (plain.Among part first others) held = record { met = Some part; unmet = Some part }
+known_after (plain.Among part first others) held =
+    let left = held_to_compare (bits_of part.mask first others.items) held part in record { met = left; unmet = left }
 known_after (plain.Has part bits) held = record { met = Some part; unmet = Some part }
 known_after (plain.Not' p test) held = record { met = (known_after test held).unmet; unmet = (known_after test held).met }
 known_after (plain.Both' p one q other) held =
@@ -115,6 +137,27 @@ with_load held part t = record {
   ways = record { entry = length (loaded held part t.code); met = t.ways.met; unmet = t.ways.unmet };
 }
 
+-- The test of bits put in front of code: one branch that changes nothing.
+unfoldable pub bits_code : BitTest → List Instr → ℕ → ℕ → Tested
+bits_code test code met unmet =
+    if test.set then branched Set test.bits code met unmet else turned (branched Set test.bits code unmet met)
+
+-- The load of the octets in front of a test of bits of the part, unless A holds the bits.
+abbrev pub bits_loaded : Option Part → Part → List Instr → List Instr
+bits_loaded held part code = if is_loaded held part then code else LoadAbs part.size part.at ∷ code
+
+-- The load of the octets in front of a test of bits of the part.
+unfoldable pub with_octets : Option Part → Part → Tested → Tested
+with_octets held part t = record {
+  code = bits_loaded held part t.code;
+  ways = record { entry = length (bits_loaded held part t.code); met = t.ways.met; unmet = t.ways.unmet };
+}
+
+-- A comparison of the part put in front of code: a test of bits where it is one.
+unfoldable pub among_code : Option BitTest → Option Part → Part → List Span → List Instr → ℕ → ℕ → Tested
+among_code None held part spans code met unmet = with_load held part (spans_code spans code met unmet)
+among_code (Some test) held part spans code met unmet = with_octets held part (bits_code test code met unmet)
+
 -- Both tests: where the first is met, the second is tried.
 abbrev pub both_ways : Tested → Tested → Tested
 both_ways other one = record {
@@ -134,7 +177,7 @@ either_way other one = record {
 unfoldable pub test_code : PlainTest → Option Part → List Instr → ℕ → ℕ → Tested
 test_code plain.Always held code met unmet = record { code = code; ways = record { entry = met; met = met; unmet = unmet } }
 test_code (plain.Among part first others) held code met unmet =
-    with_load held part (spans_code (first ∷ others.items) code met unmet)
+    among_code (bits_of part.mask first others.items) held part (first ∷ others.items) code met unmet
 test_code (plain.Has part bits) held code met unmet = with_load held part (branched Set bits code met unmet)
 test_code (plain.Not' p test) held code met unmet = turned (test_code test held code unmet met)
 test_code (plain.Both' p one q other) held code met unmet =

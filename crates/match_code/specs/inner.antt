@@ -3,3 +3,4 @@ pub mod Making
 pub mod Coding
 pub mod Suffixes
 pub mod Held
+pub mod Joining

@@ -2,10 +2,12 @@
 
 ghost use Rattle.std.specs.Prelude.{◌≡◌, IfOk, OnOk, ◌∷◌};
 ghost use Rattle.bpf_interp.specs.Packet.{octets_loaded};
+ghost use Rattle.match_code.specs.BitTests.{bits_of};
 ghost use Rattle.match_code.specs.Labels.{Tested};
-ghost use Rattle.match_code.specs.TestCode.{is_same_mask, is_same_load, is_same_part, is_held, is_loaded, left_at_join, loaded, masked, span_code, spans_code, spans_from};
+ghost use Rattle.match_code.specs.TestCode.{is_same_mask, is_same_load, is_same_part, is_held, is_covered, is_loaded, whole_of, held_for_bits, held_to_compare, left_at_join, loaded, masked, bits_loaded, span_code, spans_code, spans_from, bits_code, among_code};
 ghost use Rattle.match_code.specs.inner.Making.{IsMade};
 
+use crate::bits::{BitTest, bits_of};
 use crate::draft::{Draft, Ways};
 use crate::part::{Part, Span};
 use bpf_code::{By, Instr, Op, Size, Test};
@@ -57,13 +59,61 @@ fn is_held(held: Option<Part>, part: Part) -> bool
     }
 }
 
-/// Whether A holds the octets of the second part without a mask.
+/// Whether the first mask keeps each bit that the second keeps.
+fn is_covered(one: Option<u32>, other: Option<u32>) -> bool
+    ensures { result ≡ is_covered one other }
+{
+    match (one, other) {
+        (None, _) => true,
+        (Some(_), None) => false,
+        (Some(one), Some(other)) => one & other == other,
+    }
+}
+
+/// Whether A holds octets in which each bit of the second part is as it is in the packet.
 fn is_loaded(held: Option<Part>, part: Part) -> bool
     ensures { result ≡ is_loaded held part }
 {
     match held {
         None => false,
-        Some(held) => is_same_load(held, part) && held.mask.is_none(),
+        Some(held) => is_same_load(held, part) && is_covered(held.mask, part.mask),
+    }
+}
+
+/// The part without its mask.
+fn whole_of(part: Part) -> Part
+    ensures { result ≡ whole_of part }
+{
+    Part {
+        size: part.size,
+        at: part.at,
+        mask: None,
+    }
+}
+
+/// What A holds at a test of bits of the part.
+fn held_for_bits(held: Option<Part>, part: Part) -> Option<Part>
+    ensures { result ≡ held_for_bits held part }
+{
+    if is_loaded(held, part) {
+        held
+    } else {
+        Some(whole_of(part))
+    }
+}
+
+/// What A holds at a comparison of the part, where this was known of it before.
+pub(crate) fn held_to_compare(
+    held: Option<Part>,
+    part: Part,
+    first: Span,
+    others: &[Span],
+) -> Option<Part>
+    ensures { result ≡ held_to_compare (bits_of part.mask first others.now) held part }
+{
+    match bits_of(part.mask, first, others) {
+        None => Some(part),
+        Some(_) => held_for_bits(held, part),
     }
 }
 
@@ -94,6 +144,19 @@ fn put_mask(draft: &mut Draft, mask: Option<u32>) -> Result<(), AllocError>
             by: By::Imm(mask),
         }),
     }
+}
+
+/// Puts the load of the octets of a part in front of a test of its bits, unless A holds the bits.
+fn put_octets(draft: &mut Draft, held: Option<Part>, part: Part) -> Result<(), AllocError>
+    ensures { OnOk result (draft.new ≡ bits_loaded held part draft.old) }
+{
+    if is_loaded(held, part) {
+        return Ok(());
+    }
+    draft.put(Instr::LoadAbs {
+        size: part.size,
+        k: part.at,
+    })
 }
 
 /// Puts the load of a part in front, unless A holds it.
@@ -157,7 +220,7 @@ fn put_before(draft: &mut Draft, span: Span, more: Ways) -> Result<Ways, AllocEr
 }
 
 /// Puts the test of spans in front.
-pub(crate) fn put_spans(
+fn put_spans(
     draft: &mut Draft,
     first: Span,
     others: &[Span],
@@ -178,4 +241,55 @@ pub(crate) fn put_spans(
     }
     let ways = put_before(draft, first, ways)?;
     Ok(ways)
+}
+
+/// Puts a test of bits in front.
+#[tactic(auto, unfolding(crate::specs::TestCode::bits_code))]
+fn put_bits(draft: &mut Draft, test: BitTest, met: usize, unmet: usize) -> Result<Ways, AllocError>
+    ensures { IfOk result (IsMade (bits_code test draft.old met unmet) draft.new) }
+{
+    if test.set {
+        return draft.branch(Test::Set, test.bits, met, unmet);
+    }
+    let ways = draft.branch(Test::Set, test.bits, unmet, met)?;
+    Ok(Ways {
+        entry: ways.entry,
+        met: ways.unmet,
+        unmet: ways.met,
+    })
+}
+
+/// Puts a comparison of a part in front: a test of bits where it is one.
+#[tactic(auto, unfolding(crate::specs::TestCode::among_code, crate::specs::TestCode::with_load, crate::specs::TestCode::with_octets))]
+pub(crate) fn put_among(
+    draft: &mut Draft,
+    held: Option<Part>,
+    part: Part,
+    first: Span,
+    others: &[Span],
+    met: usize,
+    unmet: usize,
+) -> Result<Ways, AllocError>
+    ensures { IfOk result (IsMade (among_code (bits_of part.mask first others.now) held part (first ∷ others.now) draft.old met unmet) draft.new) }
+{
+    match bits_of(part.mask, first, others) {
+        Some(test) => {
+            let ways = put_bits(draft, test, met, unmet)?;
+            put_octets(draft, held, part)?;
+            Ok(Ways {
+                entry: draft.len(),
+                met: ways.met,
+                unmet: ways.unmet,
+            })
+        }
+        None => {
+            let ways = put_spans(draft, first, others, met, unmet)?;
+            put_load(draft, held, part)?;
+            Ok(Ways {
+                entry: draft.len(),
+                met: ways.met,
+                unmet: ways.unmet,
+            })
+        }
+    }
 }

@@ -1,18 +1,22 @@
 //! Tests on the numbers in a packet, lines of such tests, and the classic BPF code that decides them.
 #![tactic(auto)]
 
+mod bits;
 mod draft;
 mod fault;
 mod leaves;
 mod lines;
 mod neighbours;
+mod order;
 mod part;
 mod plain_test;
 mod tests_code;
 
+pub use bits::BitTest;
 pub use draft::Ways;
 pub use fault::CodeFault;
 pub use lines::{Line, generate};
 pub use neighbours::both;
+pub use order::in_order;
 pub use part::{Left, Part, Single, Span};
 pub use plain_test::PlainTest;

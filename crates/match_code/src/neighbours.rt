@@ -1,8 +1,9 @@
 //! Two comparisons of neighbouring bits as one.
 
 ghost use Rattle.std.specs.Prelude.{◌≡◌, IfOk};
-ghost use Rattle.match_code.specs.Neighbours.{IsBothOf, above_unit, are_neighbours, joined_by, joined_single, single_of};
+ghost use Rattle.match_code.specs.Neighbours.{IsBothOf, are_neighbours, joined_by, joined_single, single_of};
 
+use crate::bits::above_unit;
 use crate::leaves::is_same_load;
 use crate::part::{Part, Single, Span};
 use crate::plain_test::PlainTest;
@@ -33,13 +34,6 @@ fn single_of(test: &PlainTest) -> Option<Single>
         },
         _ => None,
     }
-}
-
-/// What the lowest bit of a mask counts.
-fn above_unit(mask: u32) -> u32
-    ensures { result ≡ above_unit mask }
-{
-    1u32 << (mask.trailing_zeros() % 32)
 }
 
 /// Whether the first has one number, and its bits are above those of the second in the same octets.

@@ -5,7 +5,7 @@ ghost use Rattle.match_code.specs.TestCode.{known_after, test_code};
 ghost use Rattle.match_code.specs.inner.Making.{IsMade};
 
 use crate::draft::{Draft, Ways};
-use crate::leaves::{left_at_join, put_load, put_spans};
+use crate::leaves::{held_to_compare, left_at_join, put_among, put_load};
 use crate::part::{Left, Part};
 use crate::plain_test::PlainTest;
 use bpf_code::Test;
@@ -20,10 +20,17 @@ pub(crate) fn known_after(test: &PlainTest, held: Option<Part>) -> Left
             met: held,
             unmet: held,
         },
-        PlainTest::Among { part, .. } => Left {
-            met: Some(*part),
-            unmet: Some(*part),
-        },
+        PlainTest::Among {
+            part,
+            first,
+            others,
+        } => {
+            let left = held_to_compare(held, *part, *first, others);
+            Left {
+                met: left,
+                unmet: left,
+            }
+        }
         PlainTest::Has { part, .. } => Left {
             met: Some(*part),
             unmet: Some(*part),
@@ -75,15 +82,7 @@ pub(crate) fn put_test(
             part,
             first,
             others,
-        } => {
-            let ways = put_spans(draft, *first, others, met, unmet)?;
-            put_load(draft, held, *part)?;
-            Ok(Ways {
-                entry: draft.len(),
-                met: ways.met,
-                unmet: ways.unmet,
-            })
-        }
+        } => put_among(draft, held, *part, *first, others, met, unmet),
         PlainTest::Has { part, bits } => {
             let ways = draft.branch(Test::Set, *bits, met, unmet)?;
             put_load(draft, held, *part)?;
