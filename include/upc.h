@@ -15,7 +15,8 @@
  *
  *  - A upc_program and a upc_card are all zeros, or as these calls left them.
  *
- *  - The thread has UPC_STACK octets of stack left. That this is enough is measured, and not proved.
+ *  - The thread has UPC_STACK octets of stack left, for upc_rules_compile UPC_RULES_STACK. That this is enough is
+ *    measured, and not proved.
  *
  * Any number of threads may call at once. The library stores nothing between calls except in its caller's objects.
  */
@@ -55,6 +56,10 @@ uint32_t upc_version(void);
  * 25 KiB, upc_listing takes 4 KiB, and each other call less than 2 KiB. */
 #define UPC_STACK 65536
 
+/* The stack that is enough for upc_rules_compile: some 1200 octets for each comparison of the longest test, of which there
+ * are at most 4096, and UPC_STACK. */
+#define UPC_RULES_STACK (8 << 20)
+
 /* ---- Faults ---- */
 
 /* The reason why a call refused. A member that the fault doesn't use is 0. */
@@ -64,8 +69,9 @@ typedef struct upc_fault {
 	size_t place;    /* see enum upc_kind */
 	uint32_t word;   /* the scratch word, 0 to 15, of UPC_VERIFY_UNWRITTEN */
 	uint32_t code;   /* the code of UPC_DECODE_UNKNOWN_CODE */
+	size_t column;   /* the column of a fault of UPC_RULES, from 1 */
 } upc_fault;
-UPC_SIZE(upc_fault, 24);
+UPC_SIZE(upc_fault, 32);
 
 /* The kind of a fault. Names and numbers are those of docs/FORMATS.md, except UPC_CALL, which only the library has. */
 enum upc_kind {
@@ -80,7 +86,8 @@ enum upc_kind {
 	UPC_ARRIVE = 8, /* place: of UPC_ARRIVE_MOMENT_BACK, the moment of the connection's last judged cell. A card in threads
 	                   may report 2 Released and 3 Stale, which no card of this library reports (proved) */
 	UPC_SHAPE = 9,
-	UPC_DESK = 10   /* a card in threads may report 9 Busy and 11 Stale, which no card of this library reports (proved) */
+	UPC_DESK = 10,  /* a card in threads may report 9 Busy and 11 Stale, which no card of this library reports (proved) */
+	UPC_RULES = 11  /* place: the line, from 1. Line and column are 0 if the code is too long */
 };
 
 /* The results of calls that refuse: each is 256 times the kind of the fault, plus its number. Here are those of the call
@@ -139,7 +146,15 @@ enum upc_result {
 	UPC_DESK_IN_USE = 2565,
 	UPC_DESK_PROGRAMS_FULL = 2566,
 	UPC_DESK_EXHAUSTED = 2567,
-	UPC_DESK_BAD_CONTRACTS = 2568
+	UPC_DESK_BAD_CONTRACTS = 2568,
+	UPC_RULES_BAD_LINE = 2817,
+	UPC_RULES_BAD_NUMBER = 2818,
+	UPC_RULES_TOO_LARGE = 2819,
+	UPC_RULES_OUTSIDE_CELL = 2820,
+	UPC_RULES_AFTER_OTHERWISE = 2821,
+	UPC_RULES_UNBALANCED = 2822,
+	UPC_RULES_TOO_DEEP = 2823,
+	UPC_RULES_TOO_LONG = 2824
 };
 /* end of faults */
 
@@ -235,6 +250,14 @@ uint32_t upc_assemble(const uint8_t *source, size_t source_length, uint8_t *room
  * Faults: those of UPC_DECODE, then UPC_VERIFY_JUMP_OUTSIDE, then UPC_NO_ROOM. */
 uint32_t upc_listing(const uint8_t *program, size_t length, uint8_t *room, size_t room_length, size_t *count,
                      upc_fault *fault) UPC_RESULT;
+
+/* ---- Rules for classes of cells (memory) ---- */
+
+/* Compiles a text of rules (docs/RULES.md): writes the octets of a program into the room, and their number into *count.
+ * The check accepts the program, and it gives each cell the value of the rules.
+ * Faults: the first of UPC_RULES in the text, then UPC_RULES_TOO_LONG, then UPC_NO_ROOM. */
+uint32_t upc_rules_compile(const uint8_t *rules, size_t rules_length, uint8_t *room, size_t room_length, size_t *count,
+                           upc_fault *fault) UPC_RESULT;
 
 /* ---- A program that the library stores (memory) ---- */
 

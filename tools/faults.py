@@ -15,9 +15,9 @@ import sys
 ROOT = os.path.dirname(os.path.dirname(os.path.realpath(__file__)))
 FORMATS, HEADER, PAGE = (f"{ROOT}/{it}" for it in ("docs/FORMATS.md", "include/upc.h", "docs/upc.3"))
 # The kinds in the order of their numbers, from 2, by the words of fault lines. Kind 1 is the call itself.
-KINDS = ["cell", "decode", "asm", "verify", "gcra", "burst", "arrive", "shape", "desk"]
+KINDS = ["cell", "decode", "asm", "verify", "gcra", "burst", "arrive", "shape", "desk", "rules"]
 # The crate's constants of these kinds, from 1.
-OF = "THE_CALL A_CELL DECODING ASSEMBLY THE_CHECK A_RATE A_BURST AN_ARRIVAL A_SHAPE THE_DESK".split()
+OF = "THE_CALL A_CELL DECODING ASSEMBLY THE_CHECK A_RATE A_BURST AN_ARRIVAL A_SHAPE THE_DESK RULES".split()
 # Burst tolerances have no fault line: their errors are printed by the crate.
 BURST = f"{ROOT}/crates/leaky/src/tolerance.rt"
 # What no call reports: the law cards_report_no_other_fault, and NoMemory, which is an error of the call.

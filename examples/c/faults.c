@@ -10,6 +10,8 @@ static void tell(const char *what, uint32_t result, const void *lent, const void
 {
 	printf("%s: kind %u number %u", what, (unsigned)fault.kind, (unsigned)fault.number);
 	printf(" place %lu word %u code %04x", (unsigned long)fault.place, (unsigned)fault.word, (unsigned)fault.code);
+	if (fault.column != 0)
+		printf(" column %lu", (unsigned long)fault.column);
 	printf(" %s", upc_strerror(&fault));
 	if (result != 256 * fault.kind + fault.number)
 		printf(", and it returned %u", (unsigned)result);
@@ -103,6 +105,33 @@ static void source(const char *text, size_t room_length)
 	     sizeof room);
 	if (count != (fault.number ? 9 : 8))
 		printf("%s: the count is %lu\n", text, (unsigned long)count);
+}
+
+static void rules(const char *what, const char *text, size_t room_length)
+{
+	uint8_t room[16] = {0}, before[16] = {0};
+	size_t count = 9;
+
+	tell(what, upc_rules_compile((const uint8_t *)text, strlen(text), room, room_length, &count, &fault), room, before,
+	     sizeof room);
+	if (count != (fault.number ? 9 : 8))
+		printf("%s: the count is %lu\n", what, (unsigned long)count);
+}
+
+/* Rules whose code is too long, and a test with too many comparisons. */
+static void long_rules(void)
+{
+	static char text[1 << 16];
+	size_t at, k;
+
+	for (at = 0, k = 1; k <= 2100; k++)
+		at += (size_t)sprintf(text + at, "word 4 = %u -> 1\n", (unsigned)k);
+	rules("2100 rules", text, 16);
+	at = (size_t)sprintf(text, "vci 1");
+	for (k = 1; k < 4097; k++)
+		at += (size_t)sprintf(text + at, ", %u", (unsigned)(2 * k));
+	sprintf(text + at, " -> 1\n");
+	rules("4097 numbers", text, 16);
 }
 
 /* A label that is too far for a branch, and a program that is too long. */
@@ -302,6 +331,9 @@ int main(void)
 	                                       "0067000000000000", "0060000000000010", "0034000000000000",
 	                                       "0064000000000020", "0005000000000001", "0007000000000000",
 	                                       "00610000000000030016000000000000"};
+	static const char *const texts[] = {"any -> 7", "vpi", "vpi 1x -> 1", "any -> 0", "octet 52 = 1 -> 1",
+	                                    "otherwise -> 1\nany -> 1", "any {\n}\n}",
+	                                    "((((((((((((((((((((((((((((((((((((((((((((((((((((((((((((((((("};
 	size_t k;
 
 	printf("version %u of the library, %d of the header\n", (unsigned)upc_version(), UPC_VERSION);
@@ -320,6 +352,10 @@ int main(void)
 	for (k = 0; k < sizeof sources / sizeof *sources; k++)
 		source(sources[k], 8);
 	source("ret #1", 7);
+	for (k = 0; k < sizeof texts / sizeof *texts; k++)
+		rules(texts[k], texts[k], 8);
+	rules("any -> 7, in seven octets", "any -> 7", 7);
+	long_rules();
 	far_and_long();
 	kept_program();
 	kept_card();

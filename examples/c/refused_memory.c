@@ -38,6 +38,13 @@ static uint32_t assemble(upc_fault *fault)
 	return upc_assemble((const uint8_t *)source, sizeof source - 1, room, sizeof room, &count, fault);
 }
 
+static const char rules[] = "vpi 1 and vci 32..127, 5 {\n  oam or clp 1 -> 2\n  any -> 1\n}\notherwise -> 3\n";
+
+static uint32_t compile_rules(upc_fault *fault)
+{
+	return upc_rules_compile((const uint8_t *)rules, sizeof rules - 1, room, sizeof room, &count, fault);
+}
+
 static uint32_t check(upc_fault *fault)
 {
 	return upc_check(program, octets, fault);
@@ -175,6 +182,7 @@ int main(void)
 	    upc_card_setup(&card, 1, 101, &id, &contract, 1, &fault) != 0)
 		return 1;
 	failed = !(try_call("upc_assemble", assemble) && try_call("upc_check", check) && try_call("upc_listing", list) &&
+	           try_call("upc_rules_compile", compile_rules) &&
 	           try_call("upc_program_new", put_in) && try_call("upc_card_new", make_card) && try_call("upc_card_load", load) &&
 	           try_call("upc_card_setup", set_up) && try_call("upc_card_cut", cut));
 	requests = 0;

@@ -1,7 +1,7 @@
 /* Measures the stack that each call takes: makes it on a thread whose stack was filled with a pattern, and looks how far below
  * the caller's frame the pattern is gone. With an argument it prints the octets of each call, of which some belong to the end
- * of a thread (those of "nothing"); otherwise only whether all take at most UPC_STACK. Its inputs are large, and some make a
- * call fail late. */
+ * of a thread (those of "nothing"); otherwise only whether all take at most UPC_STACK, and upc_rules_compile at most
+ * UPC_RULES_STACK. Its inputs are large, and some make a call fail late. */
 #define _POSIX_C_SOURCE 200809L
 #include <pthread.h>
 #include <stdio.h>
@@ -9,7 +9,7 @@
 #include <string.h>
 #include "upc.h"
 
-enum { AREA = 1 << 20, FILL = 0xa5, INSTRUCTIONS = 4096, TEXT = 1 << 17 };
+enum { AREA = UPC_RULES_STACK + (1 << 20), FILL = 0xa5, INSTRUCTIONS = 4096, TEXT = 1 << 17 };
 
 static uint8_t program[8 * INSTRUCTIONS], text[TEXT], room[TEXT], cell[UPC_CELL_OCTETS];
 static const upc_shape shape = {UPC_UNI, 1024, 4096, 16, 1024};
@@ -60,6 +60,18 @@ static void list(void) { number = upc_listing(program, sizeof program, text, siz
 static void assemble(void) { number = upc_assemble(text, length, room, sizeof room, &count, &fault); }
 
 static void assemble_program(void) { number = upc_assemble(program, sizeof program, room, sizeof room, &count, &fault); }
+
+/* A test of as many comparisons as a test may have, whose code is too long in the end. */
+static void compile_rules(void)
+{
+	static char rules[TEXT];
+	size_t at = 0, k;
+
+	for (k = 0; k < 4096; k++)
+		at += (size_t)sprintf(rules + at, "%sword %u = %u", k ? " or " : "", (unsigned)(k % 48), (unsigned)k);
+	at += (size_t)sprintf(rules + at, " -> 1\n");
+	number = upc_rules_compile((const uint8_t *)rules, at, room, sizeof room, &count, &fault);
+}
 
 static void new_program(void) { number = upc_program_new(program, sizeof program, &held, &fault); }
 
@@ -176,13 +188,13 @@ int main(int words, char **arguments)
 	entry calls[] = {{"nothing", nothing}, {"upc_contract_check", contract_check}, {"upc_judge", judge}, {"upc_burst_tolerance", tolerance},
 	                 {"upc_cell_fields", fields}, {"upc_cell_tag", tag}, {"upc_check", check},
 	                 {"upc_listing", list}, {"upc_assemble", assemble}, {"upc_assemble, no source", assemble_program},
-	                 {"upc_check, no program", check_unknown}, {"upc_program_new", new_program},
+	                 {"upc_rules_compile", compile_rules}, {"upc_check, no program", check_unknown}, {"upc_program_new", new_program},
 	                 {"upc_program_run", run_program}, {"upc_program_free", free_program}, {"upc_card_new", new_card},
 	                 {"upc_card_load", load}, {"upc_card_load, no program", load_unknown}, {"upc_card_setup", set_up},
 	                 {"upc_card_arrive", arrive}, {"upc_card_journal", journal}, {"upc_card_counts", counts},
 	                 {"upc_card_cut", cut}, {"upc_card_arrive", arrive}, {"upc_card_reload", reload},
 	                 {"upc_card_release", release}, {"upc_card_retire", retire}, {"upc_card_free", free_card}};
-	size_t most = 0, k, it;
+	size_t most = 0, rules_most = 0, k, it;
 
 	/* The first half jumps over one instruction each, so that the listing has labels. */
 	for (k = 0; k < INSTRUCTIONS; k++) {
@@ -195,8 +207,12 @@ int main(int words, char **arguments)
 		it = taken(&calls[k]);
 		if (words > 1)
 			printf("%6lu %s: %u\n", (unsigned long)it, calls[k].name, (unsigned)number);
-		most = it > most ? it : most;
+		if (calls[k].call == compile_rules)
+			rules_most = it;
+		else
+			most = it > most ? it : most;
 	}
 	printf("each call takes at most UPC_STACK octets of stack: %d\n", most <= UPC_STACK);
-	return most > UPC_STACK || arguments == NULL;
+	printf("upc_rules_compile takes at most UPC_RULES_STACK: %d\n", rules_most <= UPC_RULES_STACK);
+	return most > UPC_STACK || rules_most > UPC_RULES_STACK || arguments == NULL;
 }

@@ -4,7 +4,7 @@ use Rattle.upc_c.specs.declared.fault.UpcFault.{UpcFault}
 
 -- An error with a kind, a number and a place, and nothing else.
 abbrev pub plain_fault : ℕ → ℕ → ℕ → UpcFault
-plain_fault kind number place = record { kind = kind; number = number; place = place; word = 0; code = 0 }
+plain_fault kind number place = record { kind = kind; number = number; place = place; word = 0; code = 0; column = 0 }
 
 -- The result of a call with this error: 256 times its kind, plus its number. It is 0 if there is no error.
 abbrev pub call_result : UpcFault → ℕ

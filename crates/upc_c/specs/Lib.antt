@@ -5,6 +5,7 @@ pub mod Bursts
 pub mod CellHeader
 pub mod Telling
 pub mod Programs
+pub mod CompiledRules
 pub mod ProgramHandle
 pub mod CardHandle
 pub mod CardMaking

@@ -9,13 +9,16 @@ use Rattle.bpf_code.specs.declared.decoder.DecodeFault.{DecodeFault}
 use Rattle.bpf_code.specs.declared.decoder.DecodeFault.TheVariants as decode
 use Rattle.bpf_verify.specs.declared.fault.Fault.{Fault}
 use Rattle.bpf_verify.specs.declared.fault.Fault.TheVariants as verify
+use Rattle.rules_text.specs.declared.fault.RuleFault.{RuleFault}
+use Rattle.rules_text.specs.declared.fault.RuleKind.{RuleKind}
+use Rattle.rules_text.specs.declared.fault.RuleKind.TheVariants as rules
 use Rattle.upc_c.specs.Faults.{plain_fault, out_of_memory, ragged}
 use Rattle.upc_c.specs.declared.fault.UpcFault.{UpcFault}
 
 -- An error of decoding.
 abbrev pub told_decode : DecodeFault → UpcFault
 told_decode decode.Ragged = ragged
-told_decode (decode.UnknownCode at code) = record { kind = 3; number = 2; place = at; word = 0; code = code }
+told_decode (decode.UnknownCode at code) = record { kind = 3; number = 2; place = at; word = 0; code = code; column = 0 }
 told_decode decode.NoMemory = out_of_memory
 
 -- An error of a source, from its kind and its line.
@@ -42,9 +45,29 @@ told_verify (verify.ZeroDivisor at) = plain_fault 5 4 at
 told_verify (verify.BadShift at) = plain_fault 5 5 at
 told_verify (verify.JumpOutside at) = plain_fault 5 6 at
 told_verify verify.NoReturn = plain_fault 5 7 0
-told_verify (verify.Unwritten at word) = record { kind = 5; number = 8; place = at; word = word; code = 0 }
+told_verify (verify.Unwritten at word) = record { kind = 5; number = 8; place = at; word = word; code = 0; column = 0 }
 
 -- An error of a listing. A jump outside the code has the same error as in the check.
 abbrev pub told_list : ListFault → UpcFault
 told_list (list.JumpOutside at) = plain_fault 5 6 at
 told_list list.NoMemory = out_of_memory
+
+-- An error of a text of rules with this number, line and column.
+abbrev pub fault_in_rules : ℕ → ℕ → ℕ → UpcFault
+fault_in_rules number line column = record { kind = 11; number = number; place = line; word = 0; code = 0; column = column }
+
+-- An error of a text of rules, from its kind, its line and its column.
+abbrev pub told_rules_at : RuleKind → ℕ → ℕ → UpcFault
+told_rules_at rules.BadLine line column = fault_in_rules 1 line column
+told_rules_at rules.BadNumber line column = fault_in_rules 2 line column
+told_rules_at rules.TooLarge line column = fault_in_rules 3 line column
+told_rules_at rules.OutsideCell line column = fault_in_rules 4 line column
+told_rules_at rules.AfterOtherwise line column = fault_in_rules 5 line column
+told_rules_at rules.Unbalanced line column = fault_in_rules 6 line column
+told_rules_at rules.TooDeep line column = fault_in_rules 7 line column
+told_rules_at rules.TooLong line column = fault_in_rules 8 line column
+told_rules_at rules.NoMemory line column = out_of_memory
+
+-- An error of a text of rules.
+abbrev pub told_rules : RuleFault → UpcFault
+told_rules fault = told_rules_at fault.kind fault.line fault.column

@@ -15,13 +15,15 @@ pub struct UpcFault {
     pub kind: u32,
     /// The number of the error among those of its kind, from 1.
     pub number: u32,
-    /// The place of the instruction, from 0; or the line of the source or the bucket of the contract, from 1; or the
-    /// number of octets that there are, or have to be.
+    /// The place of the instruction, from 0; or the line of the source or of the rules or the bucket of the contract, from
+    /// 1; or the number of octets that there are, or have to be.
     pub place: usize,
     /// The index of a scratch word, 0 to 15.
     pub word: u32,
     /// The code of an instruction that isn't in the table.
     pub code: u32,
+    /// The column in the line of a text of rules, from 1.
+    pub column: usize,
 }
 
 /// The errors of the call itself: an allocation failed, the buffer is too small, the kind of the contract is unknown,
@@ -47,6 +49,9 @@ pub(crate) const OF_A_SHAPE: u32 = 9;
 
 pub(crate) const OF_THE_DESK: u32 = 10;
 
+/// The errors of texts of rules.
+pub(crate) const OF_RULES: u32 = 11;
+
 /// No error.
 const NO_FAULT: UpcFault = UpcFault {
     kind: 0,
@@ -54,6 +59,7 @@ const NO_FAULT: UpcFault = UpcFault {
     place: 0,
     word: 0,
     code: 0,
+    column: 0,
 };
 
 /// Returns the error with this kind, number and place, and nothing else.
@@ -66,6 +72,7 @@ pub(crate) fn fault_at(kind: u32, number: u32, place: usize) -> UpcFault
         place,
         word: 0,
         code: 0,
+        column: 0,
     }
 }
 

@@ -1,14 +1,15 @@
 //! The errors of the libraries below, as C gets them.
 
 ghost use Rattle.std.specs.Prelude.{◌≡◌};
-ghost use Rattle.upc_c.specs.Telling.{told_asm, told_decode, told_list, told_verify};
+ghost use Rattle.upc_c.specs.Telling.{told_asm, told_decode, told_list, told_rules, told_verify};
 ghost use Rattle.upc_c.specs.Faults.{out_of_memory};
 ghost use Rattle.upc_c.specs.inner.Numbered.{IsNumbered};
 
-use crate::fault::{OF_ASSEMBLY, OF_DECODING, OF_THE_CALL, OF_THE_CHECK, UpcFault, fault_at};
+use crate::fault::{OF_ASSEMBLY, OF_DECODING, OF_RULES, OF_THE_CALL, OF_THE_CHECK, UpcFault, fault_at};
 use bpf_asm::{AsmFault, AsmKind, ListFault};
 use bpf_code::DecodeFault;
 use bpf_verify::Fault;
+use rules_text::{RuleFault, RuleKind};
 
 /// Returns the error that an allocation failed.
 pub(crate) fn out_of_memory() -> UpcFault
@@ -78,5 +79,27 @@ pub(crate) fn told_list(found: ListFault) -> UpcFault
     match found {
         ListFault::JumpOutside(at) => fault_at(OF_THE_CHECK, 6, at),
         ListFault::NoMemory => out_of_memory(),
+    }
+}
+
+/// Returns the error for C of a text of rules.
+pub(crate) fn told_rules(found: RuleFault) -> UpcFault
+    ensures told { result ≡ told_rules found }
+    ensures numbered { IsNumbered result }
+{
+    let number = match found.kind {
+        RuleKind::BadLine => 1,
+        RuleKind::BadNumber => 2,
+        RuleKind::TooLarge => 3,
+        RuleKind::OutsideCell => 4,
+        RuleKind::AfterOtherwise => 5,
+        RuleKind::Unbalanced => 6,
+        RuleKind::TooDeep => 7,
+        RuleKind::TooLong => 8,
+        RuleKind::NoMemory => return out_of_memory(),
+    };
+    UpcFault {
+        column: found.column,
+        ..fault_at(OF_RULES, number, found.line)
     }
 }
