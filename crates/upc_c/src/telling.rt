@@ -5,7 +5,9 @@ ghost use Rattle.upc_c.specs.Telling.{told_asm, told_decode, told_list, told_rul
 ghost use Rattle.upc_c.specs.Faults.{out_of_memory};
 ghost use Rattle.upc_c.specs.inner.Numbered.{IsNumbered};
 
-use crate::fault::{OF_ASSEMBLY, OF_DECODING, OF_RULES, OF_THE_CALL, OF_THE_CHECK, UpcFault, fault_at};
+use crate::fault::{
+    OF_ASSEMBLY, OF_DECODING, OF_RULES, OF_THE_CALL, OF_THE_CHECK, UpcFault, fault_at,
+};
 use bpf_asm::{AsmFault, AsmKind, ListFault};
 use bpf_code::DecodeFault;
 use bpf_verify::Fault;
