@@ -1,5 +1,5 @@
 -- The text of a card.
-use Rattle.std.proofs.Common.{◌≡◌, ℕ, ◌<◌, List, [], ◌++◌, length, codes, Option, Some, None, IfSome, Bool, true, false, Result, Ok, Err, IfOk, OnOk, OnErr, is_err, refl, ap, sym, subst, ◌∙◌}
+use Rattle.std.proofs.Common.{◌≡◌, ℕ, ◌<◌, List, [], ◌++◌, length, Option, Some, None, IfSome, true, false, Result, Ok, Err, IfOk, OnOk, OnErr, is_err, refl, ap, subst, ◌∙◌}
 use Rattle.std.proofs.lemmas.Option.{slice_get_within}
 use Rattle.line_record.specs.Line.{LineView}
 use Rattle.line_record.specs.declared.tally.Tally.{Tally}
@@ -10,8 +10,8 @@ use Rattle.text_io.specs.Printing.{IsFront}
 use Rattle.text_io.specs.declared.ending.Done.{Done}
 use Rattle.text_io.specs.declared.ending.RunFault.{RunFault}
 use Rattle.upc_ports.specs.ClosingText.{closing_text, done_of}
-use Rattle.upc_ports.specs.PortsText.{IsCardText, IsClosedText}
-use Rattle.upc_ports.specs.inner.Script.{AnswersCard, HoldsLines, OfLines}
+use Rattle.upc_ports.specs.PortsText.{IsCardText}
+use Rattle.upc_ports.specs.inner.Script.{AnswersCard, OfLines}
 
 -- A line that is uneven is one of the card's.
 pub uneven-within : (lines : List LineView) (otherwise : ℕ → Tally) (uneven : Option ℕ) (all : ℕ) → length lines ≡ all → IsFirstUneven lines otherwise uneven
@@ -44,29 +44,32 @@ card-text shape octets held held' start answers last closed uneven done (text, a
     )
 
 -- The text was given, or a prefix of it.
-pub last-given : (shape : Shape) (octets held held' start answers last : List ℕ) (closed : List LineView) (uneven : Option ℕ) (end : Done) (result : Result Done RunFault)
+pub last-given : (Known : Type 0) (shape : Shape) (octets held held' start answers last : List ℕ) (closed : List LineView) (uneven : Option ℕ) (end : Done) (result : Result Done RunFault)
     → Adds (λ text. OfLines octets (λ each. AnswersCard shape.side each text)) start answers → start ≡ [] → IfSome uneven (λ number. number < shape.lines)
-    → last ≡ answers ++ closing_text closed uneven → OnOk result (held' ≡ held ++ last) → IfOk result (λ done. done ≡ end) → end ≡ done_of uneven
-    → IfOk result (λ done. Adds (λ text. OfLines octets (λ lines. IsCardText shape lines text done)) held held')
-last-given shape octets held held' start answers last closed uneven end (Ok done) card empty within more given same ends =
-    card-text shape octets held held' start answers last closed uneven done card empty within more given (same ∙ ends)
-last-given shape octets held held' start answers last closed uneven end (Err fault) card empty within more given same ends = tt
-
-front-of : (shape : Shape) (octets held held' start answers last : List ℕ) (closed : List LineView) (uneven : Option ℕ) → HoldsLines octets
-    → Adds (λ text. OfLines octets (λ each. AnswersCard shape.side each text)) start answers → start ≡ [] → IfSome uneven (λ number. number < shape.lines)
-    → last ≡ answers ++ closing_text closed uneven → IsPart held held' last → Adds (IsFront IsClosedText) held held'
+    → last ≡ answers ++ closing_text closed uneven → (Known → OnOk result (held' ≡ held ++ last)) → IfOk result (λ done. done ≡ end) → end ≡ done_of uneven
+    → IfOk result (λ done. (text : List ℕ) × (Known → held' ≡ held ++ text) × OfLines octets (λ lines. IsCardText shape lines text done))
 unfolding card-text
-front-of shape octets held held' start answers last closed uneven holds card empty within more (given, left, parts, adds) =
-    let whole = card-text shape octets [] last start answers last closed uneven (done_of uneven) card empty within more refl refl in
-    let closes : IsClosedText last (done_of uneven) = record { shape = shape; lines = holds.0; card = whole.2 holds.0 holds.1 } in
-    (given, adds, (left, done_of uneven, subst (λ (t : List ℕ). IsClosedText t (done_of uneven)) parts closes))
+last-given Known shape octets held held' start answers last closed uneven end (Ok done) card empty within more given same ends =
+    let whole = card-text shape octets [] last start answers last closed uneven done card empty within more refl (same ∙ ends) in
+    (last, given, whole.2)
+last-given Known shape octets held held' start answers last closed uneven end (Err fault) card empty within more given same ends = tt
 
-pub last-front : (shape : Shape) (octets held held' start answers last : List ℕ) (closed : List LineView) (uneven : Option ℕ) (result : Result Done RunFault) → HoldsLines octets
+front-of : (shape : Shape) (octets held held' start answers last : List ℕ) (closed : List LineView) (uneven : Option ℕ)
     → Adds (λ text. OfLines octets (λ each. AnswersCard shape.side each text)) start answers → start ≡ [] → IfSome uneven (λ number. number < shape.lines)
-    → last ≡ answers ++ closing_text closed uneven → OnErr result (IsPart held held' last) → OnErr result (Adds (IsFront IsClosedText) held held')
-last-front shape octets held held' start answers last closed uneven (Ok done) holds card empty within more part = tt
-last-front shape octets held held' start answers last closed uneven (Err fault) holds card empty within more part =
-    front-of shape octets held held' start answers last closed uneven holds card empty within more part
+    → last ≡ answers ++ closing_text closed uneven → IsPart held held' last
+    → OfLines octets (λ lines. Adds (IsFront (IsCardText shape lines)) held held')
+unfolding card-text
+front-of shape octets held held' start answers last closed uneven card empty within more (given, left, parts, adds) = λ lines are.
+    let whole = card-text shape octets [] last start answers last closed uneven (done_of uneven) card empty within more refl refl in
+    (given, adds, (left, done_of uneven, subst (λ (t : List ℕ). IsCardText shape lines t (done_of uneven)) parts (whole.2 lines are)))
+
+pub last-front : (shape : Shape) (octets held held' start answers last : List ℕ) (closed : List LineView) (uneven : Option ℕ) (result : Result Done RunFault)
+    → Adds (λ text. OfLines octets (λ each. AnswersCard shape.side each text)) start answers → start ≡ [] → IfSome uneven (λ number. number < shape.lines)
+    → last ≡ answers ++ closing_text closed uneven → OnErr result (IsPart held held' last)
+    → OnErr result (OfLines octets (λ lines. Adds (IsFront (IsCardText shape lines)) held held'))
+last-front shape octets held held' start answers last closed uneven (Ok done) card empty within more part = tt
+last-front shape octets held held' start answers last closed uneven (Err fault) card empty within more part =
+    front-of shape octets held held' start answers last closed uneven card empty within more part
 
 -- What an Ok ensures, of a result that is no Err.
 pub ok-of : {T E X : Type 0} (result : Result T E) → is_err result ≡ false → OnOk result X → X

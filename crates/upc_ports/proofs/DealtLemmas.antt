@@ -1,5 +1,5 @@
 -- The texts of the answerers of a script's lines are one answer for each line, in order.
-use Rattle.std.proofs.Common.{◌≡◌, ◌≢◌, ◌⊎◌, inl, inr, ℕ, zero, suc, ◌+◌, ◌<◌, Bool, true, false, List, [], ◌∷◌, ◌++◌, All, length, replicate, Option, Some, None, Result, Ok, Err, OnOk, refl, ap, sym, subst, ◌∙◌, arith}
+use Rattle.std.proofs.Common.{◌≡◌, ℕ, zero, suc, ◌+◌, Bool, true, false, List, [], ◌∷◌, ◌++◌, All, length, Option, Some, None, Result, Ok, Err, OnOk, refl, ap, sym, subst, ◌∙◌}
 use Rattle.std.specs.Prelude.{MatchBool, MatchOption, slice_get, slice_set}
 use Rattle.std.specs.Option.{IsSomeAnd}
 use Rattle.std.specs.List.{AllZip}
@@ -21,7 +21,7 @@ use Rattle.upc_dealing.specs.declared.dealing.Answerer.TheVariants.{Port, Desk, 
 use Rattle.upc_ports.specs.declared.told.ToldCell.{ToldCell}
 use Rattle.upc_ports.specs.inner.Arrivals.{AnswersPort, HasCell, IsStoredOf}
 use Rattle.upc_dealing.specs.CellLine.{IsCellLine}
-use Rattle.upc_dealing.specs.Dealing.{is_cell_line, port_of, Dealt, none_dealt, DealsAll, DealsCell, DealsCellLine, DealsDeskLine, DealsFound, DealsLine}
+use Rattle.upc_dealing.specs.Dealing.{is_cell_line, port_of, Dealt, none_dealt, DealsAll, DealsCell, DealsCellLine, DealsDeskLine, DealsFound}
 use Rattle.upc_ports.specs.inner.DeskTexts.{TellsEach, MayObeyLine}
 use Rattle.upc_ports.specs.inner.Script.{AnswersLater, OfLines}
 use Rattle.text_io.specs.Devices.{Adds}

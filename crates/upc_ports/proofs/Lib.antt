@@ -1,3 +1,4 @@
+pub mod ReadLines
 pub mod ReadingText
 pub mod InOrderLemmas
 pub mod DeskLemmas
@@ -5,7 +6,8 @@ pub mod ToldLemmas
 pub mod DealtLemmas
 pub mod AtOnceLemmas
 pub mod FirstLemmas
-pub mod CutLemmas
+pub mod OneReading
+pub mod SomeAnswers
 pub mod CardTexts
 pub mod PortsTexts
 pub mod Public

@@ -1,50 +1,44 @@
 -- The text of `ports`, from the text of the reading and that of the run.
-use Rattle.std.proofs.Common.{◌≡◌, ℕ, List, [], ◌∷◌, ◌++◌, Some, None, codes, inl, inr, refl, ap, subst, append-nil, ◌∙◌, arith}
-use Rattle.std.specs.Prelude.{Result, Ok, Err, IfOk}
+use Rattle.std.proofs.Common.{◌≡◌, ℕ, List, [], ◌∷◌, ◌++◌, inl, inr, Bool, refl, ap, sym, subst, append-nil, ◌∙◌, arith}
 use Rattle.text_io.specs.Devices.{Adds, TakesEnough}
 use Rattle.text_io.specs.Lines.{lines_of}
-use Rattle.text_io.specs.Printing.{IsFront}
+use Rattle.text_io.specs.Printing.{EndsAt, IsFront}
 use Rattle.text_io.specs.declared.ending.Done.{Done}
 use Rattle.text_io.specs.declared.ending.Done.TheVariants.{Whole, Ended}
-use Rattle.text_io.proofs.Public.{some-text}
-use Rattle.upc_ports.specs.ClosingText.{closing_text}
+use Rattle.text_io.proofs.Public.{ends-print, prints-end, some-text}
 use Rattle.card_core.specs.declared.shape.Shape.{Shape}
-use Rattle.upc_ports.specs.PortsText.{IsCardText, IsClosedText, IsPortsText, IsReadingText, reading_rules, unread}
-use Rattle.upc_ports.specs.inner.Script.{HoldsLines, OfLines}
+use Rattle.upc_ports.specs.PortsText.{IsCardText, IsPortsText, IsReadingText, ScriptReading, reading_rules, unread}
+use Rattle.upc_ports.specs.inner.Script.{OfLines}
 use Rattle.upc_ports.specs.inner.ReadingLaws.{reading-total}
+use Rattle.upc_dealing.specs.Dealing.{AreLinesOf}
+use Rattle.upc_ports.specs.inner.Reading.{IsStoredReading}
+use Rattle.upc_ports.proofs.ReadLines.{stored-lines}
 use Rattle.upc_ports.proofs.ReadingText.{reading-silent}
-
--- Each end of a run has a text.
-pub some-closed : (done : Done) → (text : List ℕ) × IsClosedText text done
-some-closed Whole = (
-  codes "ready\n" ++ [] ++ closing_text [] None,
-  record {
-    shape = unread.shape;
-    lines = [];
-    card = record { answers = []; each = ([], (refl, refl)); closed = []; uneven = None; within = tt; whole = refl; ends = refl };
-  },
-)
-some-closed Ended = (
-  codes "ready\n" ++ [] ++ closing_text [] (Some 0),
-  record {
-    shape = unread.shape;
-    lines = [];
-    card = record { answers = []; each = ([], (refl, refl)); closed = []; uneven = Some 0; within = omega arith; whole = refl; ends = refl };
-  },
-)
+use Rattle.upc_ports.proofs.SomeAnswers.{some-card}
 
 first-empty : (xs ys : List ℕ) → xs ++ ys ≡ [] → xs ≡ []
 first-empty [] ys none = refl
 first-empty (x ∷ xs) ys none = let no : ◌≡◌ {A = List ℕ} (x ∷ (xs ++ ys)) [] = none in cc
 
-read : (octets text : List ℕ) → IsReadingText octets text Whole → IsReadingText octets [] Whole
-read octets text told = subst (λ (t : List ℕ). IsReadingText octets t Whole) (reading-silent octets text told) told
+-- A reading to the end of a script leads to the card and the lines that are answered, and has no text.
+pub read-at : (octets text : List ℕ) (reading : ScriptReading) → EndsAt reading_rules 0 unread (lines_of octets) text reading
+    → EndsAt reading_rules 0 unread (lines_of octets) [] reading
+read-at octets text reading ends =
+    subst (λ (t : List ℕ). EndsAt reading_rules 0 unread (lines_of octets) t reading)
+    (reading-silent octets text (ends-print reading_rules 0 unread reading (lines_of octets) text ends)) ends
+
+-- A script that was read to its end has a text.
+some-run : (octets text : List ℕ) → IsReadingText octets text Whole → (run : List ℕ) × IsPortsText octets run Whole
+some-run octets text told =
+    let reached = prints-end reading_rules 0 unread (lines_of octets) text told in
+    let card = some-card reached.0.shape reached.0.lines in
+    (card.0, inr (record { reading = reached.0; read = read-at octets text reached.0 reached.1; card = card.1 }))
 
 -- A script has a text.
 some_from : (octets : List ℕ) → ((text : List ℕ) × (done : Done) × IsReadingText octets text done)
     → (text : List ℕ) × (done : Done) × IsPortsText octets text done
 some_from octets (text, Ended, told) = (text, Ended, inl (refl, told))
-some_from octets (text, Whole, told) = ((some-closed Whole).0, Whole, inr (read octets text told, (some-closed Whole).1))
+some_from octets (text, Whole, told) = let run = some-run octets text told in (run.0, Whole, run.1)
 
 pub some-ports_text : (octets : List ℕ) → (text : List ℕ) × (done : Done) × IsPortsText octets text done
 some-ports_text octets = some_from octets (some-text reading_rules reading-total (lines_of octets) 0 unread tt)
@@ -63,8 +57,8 @@ broken-whole : (octets held new text more : List ℕ) → new ≡ held ++ text �
 broken-whole octets held new text more is told =
     let none : text ++ more ≡ [] = reading-silent octets (text ++ more) told in
     let empty : text ≡ [] = first-empty text more none in
-    let closed = some-closed Whole in
-    ([], is ∙ ap (λ (t : List ℕ). held ++ t) empty, (closed.0, Whole, inr (read octets (text ++ more) told, closed.1)))
+    let run = some-run octets (text ++ more) told in
+    ([], is ∙ ap (λ (t : List ℕ). held ++ t) empty, (run.0, Whole, run.1))
 
 -- The reading failed after a prefix of its text.
 pub broken-front : (octets held new : List ℕ) → Adds (IsFront (IsReadingText octets)) held new → Adds (IsFront (IsPortsText octets)) held new
@@ -72,35 +66,73 @@ broken-front octets held new (text, is, (more, Ended, told)) = (text, is, (more,
 broken-front octets held new (text, is, (more, Whole, told)) =
     broken-whole octets held new text more is told
 
--- The script was read as a whole, which printed nothing, and then its run printed this text.
-after-reading : (octets held mid new closed : List ℕ) → Adds (λ text. IsReadingText octets text Whole) held mid → new ≡ mid ++ closed
-    → (new ≡ held ++ closed) × IsReadingText octets [] Whole
-after-reading octets held mid new closed (text, is, told) gives = (
-  gives ∙ ap (λ (t : List ℕ). t ++ closed) (is ∙ ap (λ (t : List ℕ). held ++ t) (reading-silent octets text told) ∙ append-nil held),
-  read octets text told,
+-- The script was read to its end, and this is what was read.
+pub record WasRead (Held : Type 0) (octets held mid : List ℕ) (shape : Shape) (stored : List ℕ) : Type 0 where
+  pub reading : ScriptReading
+  pub read : EndsAt reading_rules 0 unread (lines_of octets) [] reading
+  pub shaped : reading.shape ≡ shape
+  pub lines : AreLinesOf stored reading.lines
+  pub silent : Held → mid ≡ held
+
+pub was-read : (Held : Type 0) (octets held mid : List ℕ) (opened : Bool) (shape : Shape) (stored : List ℕ)
+    → ((text : List ℕ) × (last : ScriptReading) × IsStoredReading opened shape stored last
+    × EndsAt reading_rules 0 unread (lines_of octets) text last × (Held → mid ≡ held ++ text))
+    → WasRead Held octets held mid shape stored
+was-read Held octets held mid opened shape stored (text, last, is, ends, gave) =
+    let none = reading-silent octets text (ends-print reading_rules 0 unread last (lines_of octets) text ends) in
+    record {
+      reading = last;
+      read = read-at octets text last ends;
+      shaped = ap (λ (r : ScriptReading). r.shape) is.0;
+      lines = stored-lines octets text opened shape stored last ends is;
+      silent = λ is_held. gave is_held ∙ ap (λ (t : List ℕ). held ++ t) none ∙ append-nil held;
+    }
+
+-- A text of the card with the shape that was read, for the lines that were read.
+pub ran : (Held : Type 0) (octets held mid : List ℕ) (shape : Shape) (stored text : List ℕ) (done : Done) → WasRead Held octets held mid shape stored
+    → OfLines stored (λ lines. IsCardText shape lines text done) → IsPortsText octets text done
+ran Held octets held mid shape stored text done was card =
+    inr (record {
+      reading = was.reading;
+      read = was.read;
+      card = subst (λ (s : Shape). IsCardText s was.reading.lines text done) (sym was.shaped) (card was.reading.lines was.lines);
+    })
+
+pub ran-text : (Held : Type 0) (octets held mid new : List ℕ) (shape : Shape) (stored : List ℕ) (done : Done) → Held → WasRead Held octets held mid shape stored
+    → ((text : List ℕ) × (Held → new ≡ mid ++ text) × OfLines stored (λ lines. IsCardText shape lines text done))
+    → Adds (λ text. IsPortsText octets text done) held new
+ran-text Held octets held mid new shape stored done is_held was (text, gave, card) = (
+  text,
+  gave is_held ∙ ap (λ (t : List ℕ). t ++ text) (was.silent is_held),
+  ran Held octets held mid shape stored text done was card,
 )
 
--- The text of the stored lines is a text of some card.
-pub card-closed : (shape : Shape) (kept mid new : List ℕ) (done : Done) → HoldsLines kept
-    → Adds (λ text. OfLines kept (λ lines. IsCardText shape lines text done)) mid new → Adds (λ text. IsClosedText text done) mid new
-card-closed shape kept mid new done (lines, are) (text, adds, card) = (text, adds, record { shape = shape; lines = lines; card = card lines are })
+pub ran-front : (Held : Type 0) (octets held mid new : List ℕ) (shape : Shape) (stored : List ℕ) → Held → WasRead Held octets held mid shape stored
+    → OfLines stored (λ lines. Adds (IsFront (IsCardText shape lines)) mid new) → Adds (IsFront (IsPortsText octets)) held new
+ran-front Held octets held mid new shape stored is_held was fronts =
+    let front = fronts was.reading.lines was.lines in
+    let whole = front.2 in (
+      front.0,
+      front.1 ∙ ap (λ (t : List ℕ). t ++ front.0) (was.silent is_held),
+      (
+        whole.0,
+        whole.1,
+        inr (record {
+          reading = was.reading;
+          read = was.read;
+          card = subst (λ (s : Shape). IsCardText s was.reading.lines (front.0 ++ whole.0) whole.1) (sym was.shaped) whole.2;
+        }),
+      ),
+    )
 
-pub ran-text : (octets held mid new : List ℕ) (done : Done) → Adds (λ text. IsReadingText octets text Whole) held mid
-    → Adds (λ text. IsClosedText text done) mid new → Adds (λ text. IsPortsText octets text done) held new
-ran-text octets held mid new done reading (closed, gives, ends) =
-    let both = after-reading octets held mid new closed reading gives in (closed, both.0, inr (both.1, ends))
-
-pub ran-front : (octets held mid new : List ℕ) → Adds (λ text. IsReadingText octets text Whole) held mid
-    → Adds (IsFront IsClosedText) mid new → Adds (IsFront (IsPortsText octets)) held new
-ran-front octets held mid new reading (closed, gives, (more, done, ends)) =
-    let both = after-reading octets held mid new closed reading gives in (closed, both.0, (more, done, inr (both.1, ends)))
-
-pub ran-left : (done : Done) (most : ℕ) (before after : List ℕ) → TakesEnough (λ octets. (text : List ℕ) × IsReadingText octets text Whole) most before after
-    → TakesEnough (λ octets. (text : List ℕ) × IsPortsText octets text done) most before after
-ran-left done most before after (needed, ahead, cut, short, (text, told)) =
-    (needed, ahead, cut, short, ((some-closed done).0, inr (read needed text told, (some-closed done).1)))
-
--- A fact that doesn't depend on the result of a call.
-pub of_any : {T E X : Type 0} (result : Result T E) → X → IfOk result (λ _. X)
-of_any (Ok value) here = here
-of_any (Err fault) here = tt
+-- The whole input was read.
+pub ran-left : (Held : Type 0) (octets left held mid new : List ℕ) (shape : Shape) (stored : List ℕ) (done : Done) (most : ℕ) → left ≡ [] → WasRead Held octets held mid shape stored
+    → ((text : List ℕ) × (Held → new ≡ mid ++ text) × OfLines stored (λ lines. IsCardText shape lines text done))
+    → TakesEnough (λ needed. (text : List ℕ) × IsPortsText needed text done) most octets left
+ran-left Held octets left held mid new shape stored done most none was (text, gave, card) = (
+  octets,
+  [],
+  sym (append-nil octets) ∙ ap (λ (xs : List ℕ). octets ++ xs) (sym none),
+  omega arith,
+  (text, ran Held octets held mid shape stored text done was card),
+)

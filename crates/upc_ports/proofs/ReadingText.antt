@@ -13,6 +13,8 @@ use Rattle.card_core.specs.declared.shape.Shape.{Shape}
 use Rattle.upc_card_lines.specs.CardLine.{card_line_shape}
 use Rattle.upc_card_lines.specs.CardFaults.{no_card, shape_fault_line}
 use Rattle.upc_ports.specs.PortsText.{ScriptReading, unread, OpensOrEnds, ReadsWords, ReadSteps, ReadCloses, reading_rules, IsReadingText}
+use Rattle.upc_ports.specs.inner.Reading.{IsStoredReading}
+use Rattle.upc_ports.proofs.ReadLines.{text-more}
 
 -- A line that doesn't end the reading prints nothing.
 shaped-silent : (reading : ScriptReading) (shape : Shape) (fault : Option CardFault) (text : List ℕ) (next : Option ScriptReading) (world : ScriptReading) → next ≡ Some world
@@ -71,7 +73,7 @@ whole-silent (line ∷ lines) met opened text told =
 pub reading-silent : (octets text : List ℕ) → IsReadingText octets text Whole → text ≡ []
 reading-silent octets text told = whole-silent (lines_of octets) 0 unread text told
 
--- The line that opens a card leads to a reading with its shape and the same stored lines.
+-- The line that opens a card leads to a reading with its shape and the same lines.
 opens-words : (reading next : ScriptReading) (line text : List ℕ) (shape : Shape) → text ≡ [] → next ≡ record reading { opened = true; shape = shape }
     → card_line_shape (words_of line) ≡ Some shape → shape_fault shape ≡ None → ReadsWords false reading line text (Some next)
 opens-words reading next line text shape silent goes card fits =
@@ -81,16 +83,41 @@ opens-words reading next line text shape silent goes card fits =
     let Q : Option Shape → Type 0 = λ found. MatchOption found (EndsBy no_card text (Some next)) (λ s. OpensOrEnds reading s text (Some next)) in
     subst Q (sym card) here
 
-pub opens : (opened : Bool) (was shape : Shape) (kept line : List ℕ) → is_silent (words_of line) ≡ false → opened ≡ false
-    → card_line_shape (words_of line) ≡ Some shape → shape_fault shape ≡ None → (world : ScriptReading) → world ≡ record { opened = opened; shape = was; kept = kept }
-    → ReadSteps world line [] (Some (record { opened = true; shape = shape; kept = kept }))
-opens opened was shape kept line speaks closed card fits world shown =
-    let next : ScriptReading = record { opened = true; shape = shape; kept = kept } in
-    let text : List ℕ = [] in
-    let P : Bool → Type 0 = λ o. ReadsWords o (record { opened = o; shape = was; kept = kept }) line text (Some next) in
-    let there : ReadsWords opened (record { opened = opened; shape = was; kept = kept }) line text (Some next) =
-    subst P (sym closed) (opens-words (record { opened = false; shape = was; kept = kept }) next line text shape refl refl card fits) in
-    let Q : Bool → Type 0 = λ silent. MatchBool silent ((text ≡ []) × (Some next ≡ Some (record { opened = opened; shape = was; kept = kept })))
-    (ReadsWords opened (record { opened = opened; shape = was; kept = kept }) line text (Some next)) in
-    let R : ScriptReading → Type 0 = λ w. ReadSteps w line text (Some next) in
-    subst R (sym shown) (subst Q (sym speaks) there)
+-- A line with words, in a reading of this kind.
+speaks-step : (reading : ScriptReading) (opened : Bool) (line text : List ℕ) (next : Option ScriptReading) → is_silent (words_of line) ≡ false
+    → reading.opened ≡ opened → ReadsWords opened reading line text next → ReadSteps reading line text next
+speaks-step reading opened line text next speaks is reads =
+    let P : Bool → Type 0 = λ o. ReadsWords o reading line text next in
+    let Q : Bool → Type 0 = λ silent. MatchBool silent ((text ≡ []) × (next ≡ Some reading)) (ReadsWords reading.opened reading line text next) in
+    subst Q (sym speaks) (subst P (sym is) reads)
+
+pub opens : (opened : Bool) (was shape : Shape) (stored line : List ℕ) → is_silent (words_of line) ≡ false → opened ≡ false
+    → card_line_shape (words_of line) ≡ Some shape → shape_fault shape ≡ None → (reading : ScriptReading) → IsStoredReading opened was stored reading
+    → (next : ScriptReading) × IsStoredReading true shape stored next × ReadSteps reading line [] (Some next)
+opens opened was shape stored line speaks closed card fits reading is =
+    let next : ScriptReading = record reading { opened = true; shape = shape } in (
+      next,
+      (refl, is.1),
+      speaks-step reading false line [] (Some next) speaks (ap (λ (r : ScriptReading). r.opened) is.0 ∙ closed) (opens-words reading next line [] shape refl refl card fits),
+    )
+
+-- A later line with words is stored with a line feed.
+pub stores : (opened : Bool) (shape : Shape) (stored stored' line : List ℕ) → is_silent (words_of line) ≡ false → opened ≡ true
+    → stored' ≡ (stored ++ line) ++ 10 ∷ [] → (reading : ScriptReading) → IsStoredReading opened shape stored reading
+    → (next : ScriptReading) × IsStoredReading opened shape stored' next × ReadSteps reading line [] (Some next)
+stores opened shape stored stored' line speaks is_open grown reading is =
+    let next : ScriptReading = record reading { lines = reading.lines ++ line ∷ [] } in (
+      next,
+      (
+        ap (λ (r : ScriptReading). record r { lines = reading.lines ++ line ∷ [] }) is.0,
+        grown ∙ ap (λ (xs : List ℕ). (xs ++ line) ++ 10 ∷ []) is.1 ∙ sym (text-more reading.lines line),
+      ),
+      speaks-step reading true line [] (Some next) speaks (ap (λ (r : ScriptReading). r.opened) is.0 ∙ is_open) (refl, refl),
+    )
+
+-- A line without words changes nothing.
+pub skips : (opened : Bool) (shape : Shape) (stored line : List ℕ) → is_silent (words_of line) ≡ true → (reading : ScriptReading) → IsStoredReading opened shape stored reading
+    → (next : ScriptReading) × IsStoredReading opened shape stored next × ReadSteps reading line [] (Some next)
+skips opened shape stored line silent reading is =
+    let Q : Bool → Type 0 = λ s. MatchBool s (◌≡◌ {A = List ℕ} [] [] × (Some reading ≡ Some reading)) (ReadsWords reading.opened reading line [] (Some reading)) in
+    (reading, is, subst Q (sym silent) (refl, refl))

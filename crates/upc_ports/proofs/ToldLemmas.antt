@@ -1,7 +1,6 @@
 -- The text of a stored answer is one that the line of its cell may have.
-use Rattle.std.proofs.Common.{◌≡◌, ℕ, ◌+◌, ◌<◌, ◌≤◌, ◌==◌, ◌≢◌, Bool, true, false, List, [], ◌∷◌, ◌++◌, All, length, get_or, map, take, Option, Some, None, IfSome, option_to_list, Ok, Err, refl, ap, sym, subst, ◌∙◌, arith}
+use Rattle.std.proofs.Common.{◌≡◌, ℕ, ◌+◌, ◌<◌, ◌==◌, ◌≢◌, true, false, List, [], ◌∷◌, ◌++◌, length, get_or, map, take, Option, Some, None, IfSome, option_to_list, refl, ap, sym, subst, ◌∙◌, arith}
 use Rattle.std.specs.Prelude.{MatchBool, MatchOption}
-use Rattle.std.specs.List.{AllZip}
 use Rattle.std.proofs.lemmas.Bool.Decides.{nat_tests}
 use Rattle.std.proofs.lemmas.List.{map-append, take_more}
 use Rattle.std.proofs.lemmas.List.Elements.{All-pop}
@@ -34,7 +33,7 @@ use Rattle.upc_ports.specs.inner.Arrivals.{AnswersPort, HasCell, IsToldFrom, IsS
 use Rattle.upc_dealing.specs.CellLine.{IsCellLine, fault_text}
 use Rattle.upc_dealing.specs.Dealing.{is_cell_line}
 use Rattle.upc_ports.specs.inner.InOrder.{TellsCell}
-use Rattle.upc_ports.specs.inner.Told.{answer_kept, answered_cell, header_of, ruled, shown_cell}
+use Rattle.upc_ports.specs.inner.Told.{answer_kept, header_of, ruled, shown_cell}
 use Rattle.upc_ports.proofs.DeskLemmas.{bad-cell}
 
 -- The header decides the connection.

@@ -1,11 +1,10 @@
 -- The answers that a line of a running script may get. The rules are those of `run`, except that the card's data is
 -- behind locks: its state when a line is answered isn't known, so any reply of the right kind may come. The ids of the
 -- programs are known, in the order in which they were loaded: only the desk loads programs, line by line.
-use Rattle.std.specs.Prelude.{◌≡◌, ℕ, ◌==◌, List, [], ◌∷◌, ◌++◌, length, Option, Some, MatchOption, MatchBool, IfSome, ⊤}
+use Rattle.std.specs.Prelude.{◌≡◌, ℕ, ◌==◌, List, [], ◌∷◌, ◌++◌, length, Some, MatchOption, MatchBool, IfSome, ⊤}
 use Rattle.gen_arena.specs.declared.id.Id.{Id}
 use Rattle.upc_cell.specs.Connection.{vc_of}
 use Rattle.upc_cell.specs.declared.side.Side.{Side}
-use Rattle.upc_cell.specs.declared.vc.Vc.{Vc}
 use Rattle.card_core.specs.Sections.{told}
 use Rattle.card_core.specs.declared.answer.Answer.{Answer}
 use Rattle.card_core.specs.declared.fault.DeskFault.TheVariants.{ProgramsFull}
@@ -21,7 +20,6 @@ use Rattle.upc_script.specs.Rates.{first_wanted_fault}
 use Rattle.upc_card_lines.specs.Replies.{answer_text, reply_text}
 use Rattle.upc_script.specs.ProgramNames.{program_named}
 use Rattle.upc_script.specs.ScriptCommands.{Command, load, retire, setup, reload, release, cut, cell, command_of}
-use Rattle.upc_script.specs.declared.script_words.Wanted.{Wanted}
 
 -- The replies that the desk may give to a command.
 abbrev pub MayReply : Command → Reply → Type 0

@@ -1,5 +1,5 @@
 -- The text of `upc ports`. The whole script is read before any of it runs: its first line with words opens a card, and
--- each later one is stored. If the script can't run, the whole text is one fault line.
+-- each later one is a line of that card's script. If the script can't run, the whole text is one fault line.
 use Rattle.std.specs.Prelude.{◌≡◌, ◌<◌, ◌⊎◌, ℕ, Bool, true, false, List, [], ◌∷◌, ◌++◌, codes, Option, Some, IfSome, MatchOption, MatchBool}
 use Rattle.line_record.specs.Line.{LineView}
 use Rattle.card_core.specs.Shapes.{shape_fault}
@@ -7,7 +7,7 @@ use Rattle.card_core.specs.declared.shape.Shape.{Shape}
 use Rattle.upc_cell.specs.declared.side.Side.TheVariants.{Uni}
 use Rattle.text_io.specs.Answering.{EndsBy}
 use Rattle.text_io.specs.Lines.{lines_of}
-use Rattle.text_io.specs.Printing.{Rules, Prints}
+use Rattle.text_io.specs.Printing.{Rules, Prints, EndsAt}
 use Rattle.text_io.specs.Words.{words_of, is_silent}
 use Rattle.text_io.specs.declared.ending.Done.{Done}
 use Rattle.text_io.specs.declared.ending.Done.TheVariants.{Whole, Ended}
@@ -21,11 +21,11 @@ use Rattle.upc_ports.specs.ScriptAnswers.{AnswersScript}
 pub record ScriptReading : Type 0 where
   pub opened : Bool  -- whether a line has opened a card
   pub shape : Shape  -- the shape of that card; until then that of the smallest card
-  pub kept : List ℕ  -- the later lines with words, each ended by a line feed
+  pub lines : List (List ℕ)  -- the later lines with words, in order
 
 -- The state before the first line.
 abbrev pub unread : ScriptReading
-unread = record { opened = false; shape = record { programs = 1; lines = 1; ports = 1; journal = 1; side = Uni }; kept = [] }
+unread = record { opened = false; shape = record { programs = 1; lines = 1; ports = 1; journal = 1; side = Uni }; lines = [] }
 
 -- The line opens a card of this shape, or the reading ends since the shape is out of its limits.
 abbrev pub OpensOrEnds : ScriptReading → Shape → List ℕ → Option ScriptReading → Type 0
@@ -33,11 +33,11 @@ OpensOrEnds reading shape text next =
     MatchOption (shape_fault shape) ((text ≡ []) × (next ≡ Some (record reading { opened = true; shape = shape })))
     (λ fault. EndsBy (shape_fault_line fault) text next)
 
--- A line with words: the first opens the card, and each later one is stored with a line feed.
+-- A line with words: the first opens the card, and each later one is one of its script's.
 abbrev pub ReadsWords : Bool → ScriptReading → List ℕ → List ℕ → Option ScriptReading → Type 0
 ReadsWords false reading said text next =
     MatchOption (card_line_shape (words_of said)) (EndsBy no_card text next) (λ shape. OpensOrEnds reading shape text next)
-ReadsWords true reading said text next = (text ≡ []) × (next ≡ Some (record reading { kept = reading.kept ++ said ++ 10 ∷ [] }))
+ReadsWords true reading said text next = (text ≡ []) × (next ≡ Some (record reading { lines = reading.lines ++ said ∷ [] }))
 
 -- The line leads to the next state, or to none if it ends the reading. A line without words and a comment line change
 -- nothing.
@@ -75,15 +75,14 @@ pub record IsCardText (shape : Shape) (lines : List (List ℕ)) (text : List ℕ
   pub whole : text ≡ codes "ready\n" ++ answers ++ closing_text closed uneven
   pub ends : done ≡ done_of uneven
 
--- The text of a script that ran.
-pub record IsClosedText (text : List ℕ) (done : Done) : Type 0 where
-  pub shape : Shape
-  pub lines : List (List ℕ)
-  pub card : IsCardText shape lines text done
+-- The text of a script that ran: it was read to its end with no answer, and then it was answered by a card of the shape
+-- that was read, line by line as the lines were read.
+pub record IsRunText (octets : List ℕ) (text : List ℕ) (done : Done) : Type 0 where
+  pub reading : ScriptReading
+  pub read : EndsAt reading_rules 0 unread (lines_of octets) [] reading
+  pub card : IsCardText reading.shape reading.lines text done
 
 -- The text for the octets of a whole script, and how the run ends. A script that can't run has the text of its reading
--- and ends early. A script that runs has the text of some card and some lines: that these are the ones that were read is
--- the contract of the parts, since what is left of a machine after a run has no clause.
+-- and ends early.
 abbrev pub IsPortsText : List ℕ → List ℕ → Done → Type 0
-IsPortsText octets text done =
-    ((done ≡ Ended) × IsReadingText octets text Ended) ⊎ (IsReadingText octets [] Whole × IsClosedText text done)
+IsPortsText octets text done = ((done ≡ Ended) × IsReadingText octets text Ended) ⊎ IsRunText octets text done

@@ -1,5 +1,6 @@
 -- Definitions that only private functions and proofs use.
 pub mod ReadingLaws
+pub mod Reading
 pub mod FirstLines
 pub mod Told
 pub mod Arrivals

@@ -10,6 +10,7 @@ mod at_once;
 mod busy_ports;
 mod closing_lines;
 mod in_order;
+pub mod laws;
 mod port_arrivals;
 mod ports;
 mod script;

@@ -1,14 +1,14 @@
 //! `upc ports`: a script whose cells arrive at ports that are threads of their own.
 
-ghost use Rattle.std.specs.Prelude.{◌≡◌, ◌≢◌, ◌<◌, [], Err, IfOk, IfSome, OnErr, OnOk, length};
+ghost use Rattle.std.specs.Prelude.{◌≡◌, ◌≢◌, ◌<◌, ◌++◌, ℕ, List, [], Err, IfOk, IfSome, OnErr, OnOk, length};
 ghost use Rattle.text_io.specs.Devices.{Adds};
 ghost use Rattle.text_io.specs.Failures.{write_failures};
 ghost use Rattle.text_io.specs.Printing.{IsFront};
 ghost use Rattle.text_io.specs.Serving.{IsServed};
 ghost use Rattle.port_card.specs.Names.{AreFor};
-ghost use Rattle.upc_ports.specs.PortsText.{IsCardText, IsClosedText, IsPortsText};
+ghost use Rattle.upc_ports.specs.PortsText.{IsCardText, IsPortsText};
 ghost use Rattle.upc_ports.specs.ScriptAnswers.{AnswersScript};
-ghost use Rattle.upc_ports.specs.inner.Script.{AnswersCard, AnswersFirst, AnswersLater, HoldsLines, OfLines};
+ghost use Rattle.upc_ports.specs.inner.Script.{AnswersCard, AnswersFirst, AnswersLater, OfLines};
 
 use crate::at_once::{AtOnce, run_at_once};
 use crate::busy_ports::seats_of;
@@ -158,7 +158,6 @@ fn answer_alone<G: Gate + Sync, R: Threads + Wait + Sync>(
 }
 
 /// Runs a script that was read, and returns its text.
-#[tactic(auto, using(crate::proofs::CutLemmas::lines_ended))]
 fn run_lines<G: Gate + Sync, R: Threads + Wait + Sync, O: Output>(
     rt: &R,
     alloc: Global,
@@ -166,12 +165,12 @@ fn run_lines<G: Gate + Sync, R: Threads + Wait + Sync, O: Output>(
     output: &mut O,
     gate: &G,
 ) -> Result<Done, RunFault>
-    ensures text { O.is_known → IfOk result (λ done. Adds
-        (λ text. OfLines script.now.lines.items (λ lines. IsCardText script.now.shape lines text done))
-        (O.held output.old) (O.held output.new)) }
-    ensures holds { HoldsLines script.now.lines.items }
+    ensures text { IfOk result (λ done. (text : List ℕ)
+        × (O.is_known → O.held output.new ≡ O.held output.old ++ text)
+        × OfLines script.now.lines.items (λ lines. IsCardText script.now.shape lines text done)) }
     ensures front { O.is_known → OnErr result
-        (Adds (IsFront IsClosedText) (O.held output.old) (O.held output.new)) }
+        (OfLines script.now.lines.items (λ lines.
+        Adds (IsFront (IsCardText script.now.shape lines)) (O.held output.old) (O.held output.new))) }
     ensures fault { result ≢ Err RunFault.ReadFailed }
     ensures writing { O.failures output.new ≡ write_failures result (O.failures output.old) }
 {

@@ -1,9 +1,9 @@
 //! The script of `upc ports`, which is read as a whole before any of it runs.
 
-ghost use Rattle.std.specs.Prelude.{◌≡◌, true};
+ghost use Rattle.std.specs.Prelude.{◌≡◌};
 ghost use Rattle.text_io.specs.Words.{is_silent, words_of};
 ghost use Rattle.upc_ports.specs.PortsText.{unread};
-ghost use Rattle.upc_ports.specs.inner.Script.{ends_with_feed};
+ghost use Rattle.upc_ports.specs.inner.Reading.{IsStoredReading};
 
 use card_core::Shape;
 use std::alloc::{AllocError, Global};
@@ -34,13 +34,12 @@ pub struct Script {
     pub shape: Shape,
     /// The later lines with words, each ended with a line feed.
     pub lines: Vec<u8>,
-    ghost whole: { ends_with_feed lines.items ≡ true },
 }
 
 impl Script {
     /// Returns a script of which nothing was read.
     pub fn new(alloc: Global) -> Script
-        ensures { record { opened = result.is_open; shape = result.shape; kept = result.lines.items } ≡ unread }
+        ensures { IsStoredReading result.is_open result.shape result.lines.items unread }
     {
         Script {
             is_open: false,
@@ -57,18 +56,16 @@ impl Script {
 }
 
 impl Machine for Script {
-    ghost use Rattle.std.specs.Prelude.{◌≡◌};
     ghost use Rattle.upc_ports.specs.PortsText.{ScriptReading, reading_rules};
+    ghost use Rattle.upc_ports.specs.inner.Reading.{IsStoredReading};
     ghost use Rattle.upc_ports.specs.inner.ReadingLaws.{reading-total};
 
     ghost World = { ScriptReading };
 
-    ghost shows = { λ script world.
-        world ≡ record { opened = script.is_open; shape = script.shape; kept = script.lines.items } };
+    ghost shows = { λ script reading. IsStoredReading script.is_open script.shape script.lines.items reading };
 
     ghost rules = { reading_rules };
 
-    #[tactic(auto, using(crate::proofs::CutLemmas::one_line_more))]
     fn answer(&mut self, line: &[u8], answers: &mut Vec<u8>) -> Result<Turn, AllocError> {
         if is_silent(line) {
             return Ok(Turn::GoesOn);

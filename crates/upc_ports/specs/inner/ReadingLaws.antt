@@ -27,7 +27,7 @@ opened_by reading (Some shape) = shaped reading shape (shape_fault shape)
 
 reads-words : (opened : Bool) (reading : ScriptReading) (said : List ℕ) → (text : List ℕ) × (next : Option ScriptReading) × ReadsWords opened reading said text next
 reads-words false reading said = opened_by reading (card_line_shape (words_of said))
-reads-words true reading said = ([], Some (record reading { kept = reading.kept ++ said ++ 10 ∷ [] }), (refl, refl))
+reads-words true reading said = ([], Some (record reading { lines = reading.lines ++ said ∷ [] }), (refl, refl))
 
 closes : (opened : Bool) → (text : List ℕ) × (done : Done) × ReadCloses opened text done
 closes false = (no_card, Ended, (refl, refl))

@@ -1,5 +1,5 @@
 -- The answers to the two parts of a script: the lines before its first cell line, and those from there on.
-use Rattle.std.specs.Prelude.{◌≡◌, ℕ, ◌==◌, Bool, true, List, [], ◌∷◌, ◌++◌, codes}
+use Rattle.std.specs.Prelude.{◌≡◌, ℕ, List, ◌++◌, codes}
 use Rattle.gen_arena.specs.declared.id.Id.{Id}
 use Rattle.upc_cell.specs.declared.side.Side.{Side}
 use Rattle.upc_ports.specs.ScriptAnswers.{AnswersEach, AnswersScript}
@@ -9,16 +9,6 @@ use Rattle.upc_ports.specs.inner.FirstLines.{from_first_cell}
 -- This holds of the lines of the octets.
 abbrev pub OfLines : List ℕ → (List (List ℕ) → Type 0) → Type 0
 OfLines octets Holds = (each : List (List ℕ)) → AreLinesOf octets each → Holds each
-
--- The octets are the text of some lines.
-abbrev pub HoldsLines : List ℕ → Type 0
-HoldsLines octets = (lines : List (List ℕ)) × AreLinesOf octets lines
-
--- The last octet, if there is one, is a line feed.
-abbrev pub ends_with_feed : List ℕ → Bool
-ends_with_feed [] = true
-ends_with_feed (octet ∷ []) = octet == 10
-ends_with_feed (octet ∷ next ∷ octets) = ends_with_feed (next ∷ octets)
 
 -- The text answers the lines before the first cell line, whatever programs are loaded afterwards. The octets `later` are
 -- the lines from there on.

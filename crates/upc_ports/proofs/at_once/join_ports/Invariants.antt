@@ -1,5 +1,5 @@
 -- If all threads so far had memory, their answers keep their promises.
-use Rattle.std.proofs.Common.{◌≡◌, ◌≤◌, IsOk, length, map, vec_capacity}
+use Rattle.std.proofs.Common.{◌≤◌, IsOk, length, map, vec_capacity}
 use Rattle.std.specs.List.{AllZip}
 use Rattle.upc_ports.specs.inner.AtOnce.{KeepsPromise}
 use Rattle.upc_ports.proofs.at_once.join_ports.Given as goal

@@ -1,6 +1,6 @@
 -- The lines before the first cell line are answered, one after another.
-use Rattle.std.proofs.Common.{◌++◌, List, ℕ, [], ap, append-nil, append_assoc, sym, ◌∙◌}
-use Rattle.upc_ports.proofs.FirstLemmas.{first-begun, first-found, first-more, first-none}
+use Rattle.std.proofs.Common.{◌++◌, List, ℕ, ap, append_assoc, sym, ◌∙◌}
+use Rattle.upc_ports.proofs.FirstLemmas.{first-found, first-more, first-none}
 use Rattle.upc_ports.proofs.ports.answer_first.Goals as goal
 
 pub returns-then-is_cell_line : goal.returns-then-is_cell_line

@@ -1,32 +1,35 @@
 -- Before the first write, the empty text is a prefix of some text. Then the whole text is written, or a prefix of it.
-use Rattle.std.proofs.Common.{◌≡◌, List, ℕ, IfOk, subst, sym, ◌∙◌}
+use Rattle.std.proofs.Common.{List, ℕ, subst, sym, ◌∙◌}
 use Rattle.text_io.specs.Devices.{Adds}
 use Rattle.upc_ports.specs.inner.Script.{AnswersCard, OfLines}
 use Rattle.upc_ports.proofs.CardTexts.{last-front, last-given, ok-of}
-use Rattle.upc_ports.proofs.CutLemmas.{lines_ended}
 use Rattle.text_io.specs.declared.ending.Done.TheVariants.{Whole}
 use Rattle.text_io.proofs.Public.{nothing-begins}
-use Rattle.upc_ports.specs.PortsText.{IsClosedText}
-use Rattle.upc_ports.proofs.PortsTexts.{some-closed}
+use Rattle.upc_ports.specs.PortsText.{IsCardText}
+use Rattle.upc_ports.proofs.SomeAnswers.{some-card}
 use Rattle.upc_ports.proofs.ports.run_lines.Goals as goal
 
 pub returns-in_default-clause-front : goal.returns-in_default-clause-front
-returns-in_default-clause-front g c = λ _.
-    nothing-begins IsClosedText (g.O.Output.held c.args.output.now) ((some-closed Whole).0, Whole, (some-closed Whole).1)
+returns-in_default-clause-front g c = λ _ lines are.
+    let shape = c.args.script.now.shape in
+    let some = some-card shape lines in
+    nothing-begins (IsCardText shape lines) (g.O.Output.held c.args.output.now) (some.0, Whole, some.1)
 
 pub returns-then-is_err-clause-front : goal.returns-then-is_err-clause-front
-returns-then-is_err-clause-front g c = λ _.
-    nothing-begins IsClosedText (g.O.Output.held c.args.output.now) ((some-closed Whole).0, Whole, (some-closed Whole).1)
+returns-then-is_err-clause-front g c = λ _ lines are.
+    let shape = c.args.script.now.shape in
+    let some = some-card shape lines in
+    nothing-begins (IsCardText shape lines) (g.O.Output.held c.args.output.now) (some.0, Whole, some.1)
 
 pub returns-clause-text : goal.returns-clause-text
-returns-clause-text g c = λ known.
+returns-clause-text g c =
     let shape = c.args.script.now.shape in
     let octets = c.args.script.now.lines.items in
     let card = subst (λ (xs : List ℕ). Adds (λ text. OfLines xs (λ each. AnswersCard shape.side each text)) c.new-answers.result.items c.answer_alone.new.answers.items)
     c.deref.ensures.value c.in-Ok.ensures.answers in
     let more = ok-of c.add_closing.result (sym c.is_err.ensures.value ∙ c.if-is_err.false) c.add_closing.ensures in
-    last-given shape octets _ _ c.new-answers.result.items c.answer_alone.new.answers.items c.add_closing.new.answers.items c.in-Ok.closing.lines.items c.in-Ok.closing.uneven
-    c.done_after.result c.give_last.result card c.new-answers.ensures.items c.in-Ok.ensures.within more (c.give_last.ensures.given known) c.give_last.ensures.done c.done_after.ensures
+    last-given g.O.Output.is_known shape octets _ _ c.new-answers.result.items c.answer_alone.new.answers.items c.add_closing.new.answers.items c.in-Ok.closing.lines.items c.in-Ok.closing.uneven
+    c.done_after.result c.give_last.result card c.new-answers.ensures.items c.in-Ok.ensures.within more c.give_last.ensures.given c.give_last.ensures.done c.done_after.ensures
 
 pub returns-clause-front : goal.returns-clause-front
 returns-clause-front g c = λ known.
@@ -36,4 +39,4 @@ returns-clause-front g c = λ known.
     c.deref.ensures.value c.in-Ok.ensures.answers in
     let more = ok-of c.add_closing.result (sym c.is_err.ensures.value ∙ c.if-is_err.false) c.add_closing.ensures in
     last-front shape octets _ _ c.new-answers.result.items c.answer_alone.new.answers.items c.add_closing.new.answers.items c.in-Ok.closing.lines.items c.in-Ok.closing.uneven
-    c.give_last.result (lines_ended octets c.args.script.now.whole) card c.new-answers.ensures.items c.in-Ok.ensures.within more (c.give_last.ensures.front known)
+    c.give_last.result card c.new-answers.ensures.items c.in-Ok.ensures.within more (c.give_last.ensures.front known)

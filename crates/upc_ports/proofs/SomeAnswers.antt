@@ -1,0 +1,126 @@
+-- Each line of a running script has an answer, and each list of lines has a text.
+use Rattle.std.proofs.Common.{◌≡◌, ℕ, ◌==◌, Bool, true, false, List, [], ◌∷◌, ◌++◌, length, codes, Option, Some, None, refl, sym, append-nil}
+use Rattle.std.specs.Option.{MatchOption}
+use Rattle.std.specs.Prelude.{MatchBool}
+use Rattle.gen_arena.specs.declared.id.Id.{Id}
+use Rattle.card_core.specs.declared.answer.Answer.TheVariants.{NoConnection as NoConnectionAnswer}
+use Rattle.card_core.specs.declared.fault.DeskFault.{DeskFault}
+use Rattle.card_core.specs.declared.fault.DeskFault.TheVariants.{NoConnection, NoProgram, ProgramsFull}
+use Rattle.card_core.specs.declared.reply.Reply.TheVariants as reply
+use Rattle.card_core.specs.declared.shape.Shape.{Shape}
+use Rattle.leaky.specs.declared.gcra.GcraFault.{GcraFault}
+use Rattle.text_io.specs.Words.{words_of}
+use Rattle.text_io.specs.declared.ending.Done.TheVariants.{Whole}
+use Rattle.upc_cell.specs.declared.side.Side.{Side}
+use Rattle.upc_cell.specs.declared.vc.Vc.{Vc}
+use Rattle.upc_card_lines.specs.CardFaults.{gcra_fault, no_such_program}
+use Rattle.upc_card_lines.specs.Replies.{reply_text}
+use Rattle.upc_codes.proofs.Public.{reads-as}
+use Rattle.upc_codes.specs.Program.{ProgramReading, is_program, is_refused}
+use Rattle.upc_script.specs.ProgramNames.{program_named}
+use Rattle.upc_script.specs.ReplyTexts.{connection_name}
+use Rattle.upc_script.specs.Rates.{first_wanted_fault}
+use Rattle.upc_script.specs.ScriptCommands.{Command, load, retire, setup, reload, release, cut, cell, command_of}
+use Rattle.upc_script.specs.declared.script_words.Wanted.{Wanted}
+use Rattle.upc_words.specs.FaultLines.{bad_hex, bad_line, wrong_length, line}
+use Rattle.upc_words.specs.Hexadecimal.{octets_of_digits, cell_of_octets}
+use Rattle.upc_ports.specs.ClosingText.{closing_text}
+use Rattle.upc_ports.specs.LineAnswers.{MayReply, Refuses, Replies, RepliesToReading, RepliesToOctets, RepliesToNamed, MayObey, MayAnswerCell, MayAnswerOctets, MayAnswerCommand}
+use Rattle.upc_ports.specs.PortsText.{IsCardText}
+use Rattle.upc_ports.specs.ScriptAnswers.{AnswersEach}
+
+-- The desk may refuse a command with this fault.
+refuses : (command : Command) (names : List Id) (fault : DeskFault) (text : List ℕ) → MayReply command (reply.Refused fault)
+    → reply_text command (length names) (reply.Refused fault) ≡ Some text → (told : List ℕ) × Replies command names told names
+refuses command names fault text possible told =
+    (text, record { reply = reply.Refused fault; possible = possible; named = sym (append-nil names); told = told })
+
+-- The lines of two of its faults.
+abbrev no_program : List ℕ
+no_program = line (codes "fault desk " ++ codes "1 NoProgram")
+
+abbrev no_connection : List ℕ
+no_connection = line (codes "fault desk " ++ codes "2 NoConnection")
+
+named-some : (command : Command) (names : List Id) (found : Option Id) → ((text : List ℕ) × Replies command names text names)
+    → (text : List ℕ) × MatchOption found (Refuses no_such_program names text names) (λ id. Replies command names text names)
+named-some command names None some = (no_such_program, (refl, refl))
+named-some command names (Some id) some = some
+
+reading-some : (digits : List ℕ) (names : List Id) (reading : ProgramReading) → (text : List ℕ) × RepliesToReading digits reading names text names
+reading-some digits names (is_program code) = (
+  line (codes "fault desk " ++ codes "6 ProgramsFull"),
+  record { reply = reply.NotLoaded ProgramsFull code; possible = refl; named = sym (append-nil names); told = refl },
+)
+reading-some digits names (is_refused fault) = (fault, (refl, refl))
+
+load-some : (digits : List ℕ) (names : List Id) (found : Option (List ℕ))
+    → (text : List ℕ) × MatchOption found (Refuses bad_hex names text names) (λ octets. RepliesToOctets digits octets names text names)
+load-some digits names None = (bad_hex, (refl, refl))
+load-some digits names (Some octets) =
+    let reading = reads-as octets in
+    let told = reading-some digits names reading.0 in (told.0, (reading.0, reading.1, told.1))
+
+setup-some : (vc : Vc) (number : ℕ) (wanted : List Wanted) (names : List Id) (fault : Option GcraFault)
+    → (text : List ℕ) × MatchOption fault (RepliesToNamed (setup vc number wanted) number names text names) (λ f. Refuses (gcra_fault f) names text names)
+setup-some vc number wanted names None =
+    named-some (setup vc number wanted) names (program_named names number) (
+      line (codes "set " ++ connection_name vc),
+      record { reply = reply.SetUp (record { vc = vc; incarnation = 0 }); possible = refl; named = sym (append-nil names); told = refl },
+    )
+setup-some vc number wanted names (Some fault) = (gcra_fault fault, (refl, refl))
+
+-- A command of the desk.
+obey-some : (command : Command) (names : List Id) → (text : List ℕ) × MayObey command names text names
+obey-some (load digits) names = load-some digits names (octets_of_digits digits)
+obey-some (retire number) names =
+    named-some (retire number) names (program_named names number) (refuses (retire number) names NoProgram no_program tt refl)
+obey-some (setup vc number wanted) names = setup-some vc number wanted names (first_wanted_fault wanted)
+obey-some (reload vc number) names =
+    named-some (reload vc number) names (program_named names number) (refuses (reload vc number) names NoProgram no_program tt refl)
+obey-some (release vc) names = refuses (release vc) names NoConnection no_connection tt refl
+obey-some (cut vc) names = refuses (cut vc) names NoConnection no_connection tt refl
+obey-some (cell moment digits) names = (bad_line, (refl, refl))
+
+-- A cell line.
+cell-some : (side : Side) (all : List Id) (octets : List ℕ) (moment : ℕ) (is_cell : Bool)
+    → (text : List ℕ) × MatchBool is_cell (MayAnswerCell side all octets moment text) (text ≡ wrong_length (length octets))
+cell-some side all octets moment true = (
+  line (codes "fault arrive " ++ codes "1 NoConnection"),
+  record { answer = NoConnectionAnswer; possible = record { judged = tt; blames = tt }; told = refl },
+)
+cell-some side all octets moment false = (wrong_length (length octets), refl)
+
+digits-some : (side : Side) (all : List Id) (moment : ℕ) (found : Option (List ℕ))
+    → (text : List ℕ) × MatchOption found (text ≡ bad_hex) (λ octets. MayAnswerOctets side all (cell_of_octets octets) moment text)
+digits-some side all moment None = (bad_hex, refl)
+digits-some side all moment (Some octets) = cell-some side all (cell_of_octets octets) moment (length (cell_of_octets octets) == 52)
+
+command-some : (side : Side) (all : List Id) (names : List Id) (command : Command)
+    → (text : List ℕ) × MayAnswerCommand side all command names text names
+command-some side all names (cell moment digits) = let told = digits-some side all moment (octets_of_digits digits) in (told.0, (told.1, refl))
+command-some side all names (load digits) = obey-some (load digits) names
+command-some side all names (retire number) = obey-some (retire number) names
+command-some side all names (setup vc number wanted) = obey-some (setup vc number wanted) names
+command-some side all names (reload vc number) = obey-some (reload vc number) names
+command-some side all names (release vc) = obey-some (release vc) names
+command-some side all names (cut vc) = obey-some (cut vc) names
+
+line-some : (side : Side) (all : List Id) (names : List Id) (found : Option Command)
+    → (text : List ℕ) × MatchOption found (Refuses bad_line names text names) (λ command. MayAnswerCommand side all command names text names)
+line-some side all names None = (bad_line, (refl, refl))
+line-some side all names (Some command) = command-some side all names command
+
+each-some : (side : Side) (all : List Id) (names : List Id) (lines : List (List ℕ)) → (text : List ℕ) × AnswersEach side all lines names text names
+each-some side all names [] = ([], (refl, refl))
+each-some side all names (said ∷ lines) =
+    let here = line-some side all names (command_of side (words_of said)) in
+    let later = each-some side all names lines in (here.0 ++ later.0, (here.0, later.0, names, refl, here.1, later.1))
+
+-- A card of any shape has a text for any lines.
+pub some-card : (shape : Shape) (lines : List (List ℕ)) → (text : List ℕ) × IsCardText shape lines text Whole
+some-card shape lines =
+    let told = each-some shape.side [] [] lines in (
+      codes "ready\n" ++ told.0 ++ closing_text [] None,
+      record { answers = told.0; each = ([], told.1); closed = []; uneven = None; within = tt; whole = refl; ends = refl },
+    )
