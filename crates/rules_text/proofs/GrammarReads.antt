@@ -4,7 +4,7 @@ use Rattle.std.proofs.lemmas.Bool.{le-ltb, lt-leb, lt-ltb}
 use Rattle.bpf_code.specs.declared.instr.Size.{Size}
 use Rattle.match_code.specs.declared.part.Span.{Span}
 use Rattle.rules_text.specs.LineGrammar.{Awaited, GroupRead, LineContext, Reading, SaidRead, SubjectRead, awaits_start, awaits_unit, awaits_operator, awaits_offset, awaits_relation, awaits_mask, awaits_sign, awaits_constant, awaits_dots, awaits_high, awaits_comma, awaits_low, awaits_value, awaits_end, both_of, group_after_or, group_test, group_with, no_group, nothing_read, read_awaited, read_comma, read_constant, read_dots, read_high, read_low, read_mask, read_offset, read_operator, read_relation, read_sign, read_start, read_token, read_unit, range_of_one, read_value, said_at_end, says_line, subject_of, whole_test, with_block, with_close, with_head, with_list, with_open, with_range, with_unit}
-use Rattle.rules_text.specs.RuleGrammar.{FieldFits, HighFits, ListFits, MaskFits, PartFits, PartForm, RangeForm, SubjectFits, TestFits, TestForm, UnitFits, UnitForm, any_unit, oam_unit, user_unit, sign_unit, list_unit, not_unit, parenthesis_unit, one_unit, and_unit, one_part, or_part, field_tokens, high_tokens, list_tokens, mask_tokens, part_count, part_tokens, part_written, span_from, spans_written, subject_tokens, test_count, test_tokens, test_written, unit_count, unit_tokens, unit_written}
+use Rattle.rules_text.specs.RuleGrammar.{FieldFits, HighFits, ListFits, MaskFits, PartFits, PartForm, RangeForm, SubjectFits, TestFits, TestForm, UnitFits, UnitForm, any_unit, oam_unit, user_unit, sign_unit, list_unit, not_unit, parenthesis_unit, one_unit, and_unit, one_part, or_part, field_tokens, high_tokens, list_tokens, mask_tokens, part_count, units_tokens, part_written, span_from, spans_written, subject_tokens, test_count, test_tokens, test_written, unit_count, unit_tokens, unit_written}
 use Rattle.rules_text.specs.RulesRead.{FieldRead, SignRead, TestRead, any_cell, oam_cell, user_cell, comparing, compared, listed, block_line, rule_line, gfc_field, vpi_field, vci_field, pti_field, clp_field, octets_field}
 use Rattle.rules_text.specs.RuleTokens.{RuleFound, RuleToken, any_word, oam_word, user_word, not_word, and_word, or_word, field_word, size_word, number_word, arrow_mark, open_brace, open_parenthesis, close_parenthesis, mask_mark, comma_mark, dots_mark, sign_mark}
 use Rattle.rules_text.specs.TextOfRules.{said_from}
@@ -450,13 +450,13 @@ mutual
   part_reads : (context : LineContext) (part : PartForm) (begin : Awaited) (reading : Reading) (either : Option TestRead) (comparisons total : ℕ) (P : Reading → Type 0)
       → Begins context begin → PartFits context (context.blocks + length reading.around) part → total ≡ comparisons + part_count part → total ≤ 4096
       → ((last : ℕ) (end : Reading) → Ended context end (after_unit reading (record { either = either; both = Some (part_written part); negated = false }) last total) → P end)
-      → Reads context (at_state reading begin (record { either = either; both = None; negated = false }) [] comparisons) (part_tokens part) P
+      → Reads context (at_state reading begin (record { either = either; both = None; negated = false }) [] comparisons) (units_tokens part) P
   part_reads context (one_unit unit) begin reading either comparisons total P begins fits count bound h =
       unit_reads context unit begin reading either None false comparisons total P begins fits count bound h
   part_reads context (and_unit part unit) begin reading either comparisons total P begins fits count bound h =
       let equal : total ≡ comparisons + part_count part + unit_count unit = omega arith in
       let below : comparisons + part_count part ≤ 4096 = omega arith in
-      reads_append context (part_tokens part) (and_word ∷ unit_tokens unit) _ P
+      reads_append context (units_tokens part) (and_word ∷ unit_tokens unit) _ P
       (part_reads context part begin reading either comparisons (comparisons + part_count part) (λ next. Reads context next (and_word ∷ unit_tokens unit) P) begins fits.0 refl below (λ last end ended.
       λ column. (
         at_state (record reading { outermost = last }) awaits_unit (record { either = either; both = Some (part_written part); negated = false }) [] (comparisons + part_count part),
@@ -473,8 +473,8 @@ mutual
   test_reads context (or_part test part) begin reading comparisons total P begins fits count bound h =
       let equal : total ≡ comparisons + test_count test + part_count part = omega arith in
       let below : comparisons + test_count test ≤ 4096 = omega arith in
-      reads_append context (test_tokens test) (or_word ∷ part_tokens part) _ P
-      (test_reads context test begin reading comparisons (comparisons + test_count test) (λ next. Reads context next (or_word ∷ part_tokens part) P) begins fits.0 refl below (λ last end ended.
+      reads_append context (test_tokens test) (or_word ∷ units_tokens part) _ P
+      (test_reads context test begin reading comparisons (comparisons + test_count test) (λ next. Reads context next (or_word ∷ units_tokens part) P) begins fits.0 refl below (λ last end ended.
       λ column. (
         at_state (record reading { outermost = last }) awaits_unit (record { either = Some (test_written test); both = None; negated = false }) [] (comparisons + test_count test),
         ended column or_word refl ∙ or_step context column reading (group_written test) (record { either = Some (test_written test); both = None; negated = false }) last (comparisons + test_count test) (written_or test),

@@ -69,14 +69,14 @@ abbrev mutual
   unit_tokens (parenthesis_unit test) = open_parenthesis ∷ (test_tokens test ++ (close_parenthesis ∷ []))
 
   -- The tokens of a part.
-  pub part_tokens : PartForm → List RuleToken
-  part_tokens (one_unit unit) = unit_tokens unit
-  part_tokens (and_unit part unit) = part_tokens part ++ (and_word ∷ unit_tokens unit)
+  pub units_tokens : PartForm → List RuleToken
+  units_tokens (one_unit unit) = unit_tokens unit
+  units_tokens (and_unit part unit) = units_tokens part ++ (and_word ∷ unit_tokens unit)
 
   -- The tokens of a test.
   pub test_tokens : TestForm → List RuleToken
-  test_tokens (one_part part) = part_tokens part
-  test_tokens (or_part test part) = test_tokens test ++ (or_word ∷ part_tokens part)
+  test_tokens (one_part part) = units_tokens part
+  test_tokens (or_part test part) = test_tokens test ++ (or_word ∷ units_tokens part)
 
 -- The range of numbers that is written.
 abbrev pub span_from : ℕ → Option ℕ → Span
