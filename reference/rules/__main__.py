@@ -7,6 +7,7 @@ The last line is 'N passed, M failed'.
 import random
 import subprocess
 import sys
+import threading
 
 from policer.decoding import decoded
 from policer.machine import value_and_steps
@@ -42,7 +43,7 @@ def difference(program, text, random_source):
 
 
 def main():
-    """Compares."""
+    """Compares, and returns the exit status."""
     program = sys.argv[1]
     count = int(sys.argv[2]) if len(sys.argv) > 2 else 200
     seed = int(sys.argv[3]) if len(sys.argv) > 3 else 1
@@ -58,5 +59,16 @@ def main():
     return 1 if failed else 0
 
 
+def with_deep_stack(call):
+    """Calls where a test of 4096 parts may be as deep as that, and returns what it returns."""
+    sys.setrecursionlimit(100000)
+    threading.stack_size(512 * 1024 * 1024)
+    returned = []
+    thread = threading.Thread(target=lambda: returned.append(call()))
+    thread.start()
+    thread.join()
+    return returned[0] if returned else 1
+
+
 if __name__ == "__main__":
-    sys.exit(main())
+    sys.exit(with_deep_stack(main))
