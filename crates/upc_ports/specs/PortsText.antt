@@ -77,7 +77,7 @@ pub record IsCardText (shape : Shape) (lines : List (List ℕ)) (text : List ℕ
 
 -- The text of a script that ran: it was read to its end with no answer, and then it was answered by a card of the shape
 -- that was read, line by line as the lines were read.
-pub record IsRunText (octets : List ℕ) (text : List ℕ) (done : Done) : Type 0 where
+pub record IsScriptText (octets : List ℕ) (text : List ℕ) (done : Done) : Type 0 where
   pub reading : ScriptReading
   pub read : EndsAt reading_rules 0 unread (lines_of octets) [] reading
   pub card : IsCardText reading.shape reading.lines text done
@@ -85,4 +85,4 @@ pub record IsRunText (octets : List ℕ) (text : List ℕ) (done : Done) : Type 
 -- The text for the octets of a whole script, and how the run ends. A script that can't run has the text of its reading
 -- and ends early.
 abbrev pub IsPortsText : List ℕ → List ℕ → Done → Type 0
-IsPortsText octets text done = ((done ≡ Ended) × IsReadingText octets text Ended) ⊎ IsRunText octets text done
+IsPortsText octets text done = ((done ≡ Ended) × IsReadingText octets text Ended) ⊎ IsScriptText octets text done
