@@ -11,6 +11,7 @@ from .files import ROOT, crates, files_below, text_of
 # A word of a definition or a clause, or the dot of a path.
 WORD = re.compile(r"[^\s(){}\[\],.;:→×⊎λ|↦]+|\.")
 IMPORT = re.compile(r"^\s*(?:ghost )?use (Rattle\.[^\s;{]*?)(?:\.\{([^}]*)\}| as ([^\s;]+))?;?$", re.M)
+MUTUAL = re.compile(r"(?:(?:abbrev|unfoldable) )?mutual$")
 BEGINS = re.compile(r"(?:(?:abbrev|unfoldable) )*(pub )?(?:(record|data) )?([^\s(){}:]+)")
 # Ghost items of an impl that are obligations, and promise nothing that a clause doesn't.
 OBLIGATIONS = ("laws", "is_total", "total", "matches_partial_cmp", "matches_eq", "respects_eq")
@@ -42,8 +43,13 @@ class Module:
         self.read(source.split("\n"))
 
     def read(self, lines):
-        said, current, begun, indent = [], None, False, ""
+        said, current, begun, indent, block = [], None, False, "", False
         for at, line in enumerate(lines):
+            if MUTUAL.match(line):
+                indent, block, said, current = "  ", True, [], None
+                continue
+            if block and line.strip() and not line.startswith("  "):
+                indent, block = "", False
             if line.startswith("module "):
                 indent, said, current = "  ", [], None
                 continue

@@ -1,3 +1,4 @@
 pub mod TokenSteps
 pub mod ReadingSteps
 pub mod Values
+pub mod GrammarReads

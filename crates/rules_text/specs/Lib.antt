@@ -5,4 +5,6 @@ pub mod LineGrammar
 pub mod TextOfRules
 pub mod TextFaults
 pub mod ValuesRead
+pub mod RuleGrammar
+pub mod Laws
 pub mod inner

@@ -4,6 +4,7 @@
 mod compiler;
 mod fault;
 mod group;
+pub mod laws;
 mod lexer;
 mod line_reader;
 mod reader;

@@ -1,0 +1,546 @@
+-- The reader of lines reads each test of the grammar as what it means.
+use Rattle.std.proofs.Common.{◌≡◌, ℕ, suc, ◌+◌, ◌≤◌, ◌<◌, Bool, true, false, not, nat_lt, if◌then◌else◌, List, [], ◌∷◌, ◌++◌, length, map, Option, Some, None, Ok, refl, sym, ◌∙◌, subst, append_assoc, arith}
+use Rattle.std.proofs.lemmas.Bool.{le-ltb, lt-leb, lt-ltb}
+use Rattle.bpf_code.specs.declared.instr.Size.{Size}
+use Rattle.match_code.specs.declared.part.Span.{Span}
+use Rattle.rules_text.specs.LineGrammar.{Awaited, GroupRead, LineContext, Reading, SaidRead, SubjectRead, awaits_start, awaits_unit, awaits_operator, awaits_offset, awaits_relation, awaits_mask, awaits_sign, awaits_constant, awaits_dots, awaits_high, awaits_comma, awaits_low, awaits_value, awaits_end, both_of, group_after_or, group_test, group_with, no_group, nothing_read, read_awaited, read_comma, read_constant, read_dots, read_high, read_low, read_mask, read_offset, read_operator, read_relation, read_sign, read_start, read_token, read_unit, range_of_one, read_value, said_at_end, says_line, subject_of, whole_test, with_block, with_close, with_head, with_list, with_open, with_range, with_unit}
+use Rattle.rules_text.specs.RuleGrammar.{FieldFits, HighFits, ListFits, MaskFits, PartFits, PartForm, RangeForm, SubjectFits, TestFits, TestForm, UnitFits, UnitForm, any_unit, oam_unit, user_unit, sign_unit, list_unit, not_unit, parenthesis_unit, one_unit, and_unit, one_part, or_part, field_tokens, high_tokens, list_tokens, mask_tokens, part_count, units_tokens, part_written, span_from, spans_written, subject_tokens, test_count, test_tokens, test_written, unit_count, unit_tokens, unit_written}
+use Rattle.rules_text.specs.RulesRead.{FieldRead, SignRead, TestRead, any_cell, oam_cell, user_cell, comparing, compared, listed, block_line, rule_line, gfc_field, vpi_field, vci_field, pti_field, clp_field, octets_field}
+use Rattle.rules_text.specs.RuleTokens.{RuleFound, RuleToken, any_word, oam_word, user_word, not_word, and_word, or_word, field_word, size_word, number_word, arrow_mark, open_brace, open_parenthesis, close_parenthesis, mask_mark, comma_mark, dots_mark, sign_mark}
+use Rattle.rules_text.specs.TextOfRules.{said_from}
+use Rattle.rules_text.proofs.ReadingSteps.{said_end, said_more}
+use Rattle.rules_text.specs.Subjects.{header_read, most_of_field, octets_read}
+
+-- What was read, with these parts of it.
+abbrev pub at_state : Reading → Awaited → GroupRead → List Span → ℕ → Reading
+at_state reading awaited group spans comparisons = record reading { awaited = awaited; group = group; spans = spans; comparisons = comparisons }
+
+-- Reading the tokens at any columns ends where this holds.
+abbrev pub Reads : LineContext → Reading → List RuleToken → (Reading → Type 0) → Type 0
+Reads context reading [] P = P reading
+Reads context reading (token ∷ rest) P =
+    (column : ℕ) → (next : Reading) × (read_token context column reading token ≡ Ok next) × Reads context next rest P
+
+reads_append : (context : LineContext) (first rest : List RuleToken) (reading : Reading) (P : Reading → Type 0)
+    → Reads context reading first (λ next. Reads context next rest P) → Reads context reading (first ++ rest) P
+reads_append context [] rest reading P h = h
+reads_append context (token ∷ first) rest reading P h = λ column. ((h column).0, (h column).1, reads_append context first rest (h column).0 P (h column).2)
+
+-- Whether the token may come after a unit.
+abbrev is_operator : RuleToken → Bool
+is_operator and_word = true
+is_operator or_word = true
+is_operator close_parenthesis = true
+is_operator open_brace = true
+is_operator arrow_mark = true
+is_operator _ = false
+
+-- Whether a unit may begin with the token.
+abbrev pub is_first : RuleToken → Bool
+is_first any_word = true
+is_first oam_word = true
+is_first user_word = true
+is_first not_word = true
+is_first open_parenthesis = true
+is_first (field_word field) = true
+is_first (size_word size) = true
+is_first _ = false
+
+-- A token after a unit is read alike in both.
+abbrev Ended : LineContext → Reading → Reading → Type 0
+Ended context reading other = (column : ℕ) (token : RuleToken) → is_operator token ≡ true → read_token context column reading token ≡ read_token context column other token
+
+-- The first token of a unit is read here.
+abbrev pub Begins : LineContext → Awaited → Type 0
+Begins context begin = (column : ℕ) (reading : Reading) (token : RuleToken) → is_first token ≡ true → read_awaited begin context column reading token ≡ read_unit context column reading token
+
+false_true : {A : Type 0} → false ≡ true → A
+false_true e = absurd (cc)
+
+begins_unit : (context : LineContext) → Begins context awaits_unit
+unfolding read_awaited
+begins_unit context column reading token h = refl
+
+pub begins_start : (context : LineContext) → Begins context awaits_start
+unfolding read_awaited read_start
+begins_start context column reading any_word h = refl
+begins_start context column reading oam_word h = refl
+begins_start context column reading user_word h = refl
+begins_start context column reading not_word h = refl
+begins_start context column reading open_parenthesis h = refl
+begins_start context column reading (field_word field) h = refl
+begins_start context column reading (size_word size) h = refl
+begins_start context column reading _ h = false_true h
+
+-- One more unit.
+with_unit-ok : (reading : Reading) (test : TestRead) → reading.comparisons < 4096
+    → with_unit reading test ≡ Ok (record reading { comparisons = reading.comparisons + 1; group = group_with reading.group test; awaited = awaits_operator })
+unfolding with_unit
+with_unit-ok reading test h = rw (lt-leb 4096 reading.comparisons h) refl
+
+any_step : (context : LineContext) (column : ℕ) (reading : Reading) → read_unit context column reading any_word ≡ with_unit reading any_cell
+unfolding read_unit
+any_step context column reading = refl
+
+oam_step : (context : LineContext) (column : ℕ) (reading : Reading) → read_unit context column reading oam_word ≡ with_unit reading oam_cell
+unfolding read_unit
+oam_step context column reading = refl
+
+user_step : (context : LineContext) (column : ℕ) (reading : Reading) → read_unit context column reading user_word ≡ with_unit reading user_cell
+unfolding read_unit
+user_step context column reading = refl
+
+not_step : (context : LineContext) (column : ℕ) (reading : Reading) (begin : Awaited) (either both : Option TestRead) (denied : Bool) (comparisons : ℕ)
+    → read_unit context column (at_state reading begin (record { either = either; both = both; negated = denied }) [] comparisons) not_word
+    ≡ Ok (at_state reading awaits_unit (record { either = either; both = both; negated = not denied }) [] comparisons)
+unfolding read_unit
+not_step context column reading begin either both denied comparisons = refl
+
+open_step : (context : LineContext) (column : ℕ) (reading : Reading) (begin : Awaited) (group : GroupRead) (comparisons : ℕ) → context.blocks + length reading.around < 64
+    → read_unit context column (at_state reading begin group [] comparisons) open_parenthesis
+    ≡ Ok (at_state (record reading { around = group ∷ reading.around; outermost = (if nat_lt 0 (length reading.around) then reading.outermost else column) }) awaits_unit no_group [] comparisons)
+unfolding read_unit with_open
+open_step context column reading begin group comparisons h = rw (lt-leb 64 (context.blocks + length reading.around) h) refl
+
+close_step : (context : LineContext) (column : ℕ) (reading : Reading) (group inner : GroupRead) (around : List GroupRead) (test : TestRead) (comparisons : ℕ)
+    → group_test inner ≡ Some test
+    → read_token context column (at_state (record reading { around = group ∷ around }) awaits_operator inner [] comparisons) close_parenthesis
+    ≡ Ok (at_state (record reading { around = around }) awaits_operator (group_with group test) [] comparisons)
+unfolding read_awaited read_operator with_close
+close_step context column reading group inner around test comparisons e = rw e refl
+
+-- A field of the header where a unit begins.
+header_step : (context : LineContext) (column : ℕ) (reading : Reading) (begin : Awaited) (group : GroupRead) (comparisons : ℕ) (name : FieldRead) → header_read context.side name ≡ Ok name
+    → read_unit context column (at_state reading begin group [] comparisons) (field_word name) ≡ Ok (at_state reading (awaits_relation (subject_of name)) group [] comparisons)
+unfolding read_unit
+header_step context column reading begin group comparisons name e = rw e refl
+
+size_step : (context : LineContext) (column : ℕ) (reading : Reading) (begin : Awaited) (group : GroupRead) (comparisons : ℕ) (size : Size)
+    → read_unit context column (at_state reading begin group [] comparisons) (size_word size) ≡ Ok (at_state reading (awaits_offset size) group [] comparisons)
+unfolding read_unit
+size_step context column reading begin group comparisons size = refl
+
+offset_step : (context : LineContext) (column : ℕ) (reading : Reading) (group : GroupRead) (comparisons : ℕ) (size : Size) (at : ℕ) → octets_read size at ≡ Ok (octets_field size at)
+    → read_token context column (at_state reading (awaits_offset size) group [] comparisons) (number_word at) ≡ Ok (at_state reading (awaits_relation (subject_of (octets_field size at))) group [] comparisons)
+unfolding read_awaited read_offset
+offset_step context column reading group comparisons size at e = rw e refl
+
+-- The tokens of a field.
+header_reads : (context : LineContext) (begin : Awaited) (reading : Reading) (group : GroupRead) (comparisons : ℕ) (P : Reading → Type 0) (name : FieldRead)
+    → Begins context begin → header_read context.side name ≡ Ok name → P (at_state reading (awaits_relation (subject_of name)) group [] comparisons)
+    → Reads context (at_state reading begin group [] comparisons) (field_word name ∷ []) P
+header_reads context begin reading group comparisons P name begins e h =
+    λ column. (
+      at_state reading (awaits_relation (subject_of name)) group [] comparisons,
+      begins column (at_state reading begin group [] comparisons) (field_word name) refl ∙ header_step context column reading begin group comparisons name e,
+      h,
+    )
+
+field_reads : (context : LineContext) (begin : Awaited) (reading : Reading) (group : GroupRead) (comparisons : ℕ) (P : Reading → Type 0) (field : FieldRead)
+    → Begins context begin → FieldFits context field → P (at_state reading (awaits_relation (subject_of field)) group [] comparisons)
+    → Reads context (at_state reading begin group [] comparisons) (field_tokens field) P
+field_reads context begin reading group comparisons P gfc_field begins fits h = header_reads context begin reading group comparisons P gfc_field begins fits h
+field_reads context begin reading group comparisons P vpi_field begins fits h = header_reads context begin reading group comparisons P vpi_field begins fits h
+field_reads context begin reading group comparisons P vci_field begins fits h = header_reads context begin reading group comparisons P vci_field begins fits h
+field_reads context begin reading group comparisons P pti_field begins fits h = header_reads context begin reading group comparisons P pti_field begins fits h
+field_reads context begin reading group comparisons P clp_field begins fits h = header_reads context begin reading group comparisons P clp_field begins fits h
+field_reads context begin reading group comparisons P (octets_field size at) begins fits h =
+    λ column. (
+      at_state reading (awaits_offset size) group [] comparisons,
+      begins column (at_state reading begin group [] comparisons) (size_word size) refl ∙ size_step context column reading begin group comparisons size,
+      λ column. (at_state reading (awaits_relation (subject_of (octets_field size at))) group [] comparisons, offset_step context column reading group comparisons size at fits, h),
+    )
+
+-- Whether a comparison goes on with the token.
+abbrev is_compared : RuleToken → Bool
+is_compared (sign_mark sign) = true
+is_compared (number_word k) = true
+is_compared _ = false
+
+-- A token after a field is read alike in both.
+abbrev Compares : LineContext → Reading → Reading → Type 0
+Compares context reading other = (column : ℕ) (token : RuleToken) → is_compared token ≡ true → read_token context column reading token ≡ read_token context column other token
+
+unmasked : (context : LineContext) (reading : Reading) (group : GroupRead) (comparisons : ℕ) (field : FieldRead)
+    → Compares context (at_state reading (awaits_relation (subject_of field)) group [] comparisons) (at_state reading (awaits_sign (subject_of field)) group [] comparisons)
+unfolding read_awaited read_relation read_sign read_low
+unmasked context reading group comparisons field column (sign_mark sign) h = refl
+unmasked context reading group comparisons field column (number_word k) h = refl
+unmasked context reading group comparisons field column _ h = false_true h
+
+mask_begins : (context : LineContext) (column : ℕ) (reading : Reading) (group : GroupRead) (comparisons : ℕ) (field : FieldRead)
+    → read_token context column (at_state reading (awaits_relation (subject_of field)) group [] comparisons) mask_mark ≡ Ok (at_state reading (awaits_mask (subject_of field)) group [] comparisons)
+unfolding read_awaited read_relation
+mask_begins context column reading group comparisons field = refl
+
+mask_step : (context : LineContext) (column : ℕ) (reading : Reading) (group : GroupRead) (comparisons : ℕ) (field : FieldRead) (mask : ℕ) → mask ≤ most_of_field context.side field
+    → read_token context column (at_state reading (awaits_mask (subject_of field)) group [] comparisons) (number_word mask)
+    ≡ Ok (at_state reading (awaits_sign (record { field = field; mask = Some mask })) group [] comparisons)
+unfolding read_awaited read_mask
+mask_step context column reading group comparisons field mask h = rw (le-ltb (most_of_field context.side field) mask h) refl
+
+-- The tokens of a mask.
+mask_reads : (context : LineContext) (reading : Reading) (group : GroupRead) (comparisons : ℕ) (P : Reading → Type 0) (field : FieldRead) (mask : Option ℕ)
+    → MaskFits (most_of_field context.side field) mask
+    → ((next : Reading) → Compares context next (at_state reading (awaits_sign (record { field = field; mask = mask })) group [] comparisons) → P next)
+    → Reads context (at_state reading (awaits_relation (subject_of field)) group [] comparisons) (mask_tokens mask) P
+mask_reads context reading group comparisons P field None fits h = h _ (unmasked context reading group comparisons field)
+mask_reads context reading group comparisons P field (Some mask) fits h =
+    λ column. (
+      at_state reading (awaits_mask (subject_of field)) group [] comparisons,
+      mask_begins context column reading group comparisons field,
+      λ column. (
+        at_state reading (awaits_sign (record { field = field; mask = Some mask })) group [] comparisons,
+        mask_step context column reading group comparisons field mask fits,
+        h _ (λ column token is. refl),
+      ),
+    )
+
+-- The tokens of a field and its mask.
+subject_reads : (context : LineContext) (begin : Awaited) (reading : Reading) (group : GroupRead) (comparisons : ℕ) (P : Reading → Type 0) (subject : SubjectRead)
+    → Begins context begin → SubjectFits context subject
+    → ((next : Reading) → Compares context next (at_state reading (awaits_sign subject) group [] comparisons) → P next)
+    → Reads context (at_state reading begin group [] comparisons) (subject_tokens subject) P
+subject_reads context begin reading group comparisons P subject begins fits h =
+    reads_append context (field_tokens subject.field) (mask_tokens subject.mask) (at_state reading begin group [] comparisons) P
+    (field_reads context begin reading group comparisons (λ next. Reads context next (mask_tokens subject.mask) P) subject.field begins fits.field
+    (mask_reads context reading group comparisons P subject.field subject.mask fits.mask h))
+
+sign_step : (context : LineContext) (column : ℕ) (reading : Reading) (group : GroupRead) (comparisons : ℕ) (subject : SubjectRead) (sign : SignRead)
+    → read_token context column (at_state reading (awaits_sign subject) group [] comparisons) (sign_mark sign) ≡ Ok (at_state reading (awaits_constant subject sign) group [] comparisons)
+unfolding read_awaited read_sign
+sign_step context column reading group comparisons subject sign = refl
+
+constant_step : (context : LineContext) (column : ℕ) (reading : Reading) (group : GroupRead) (comparisons : ℕ) (subject : SubjectRead) (sign : SignRead) (k : ℕ)
+    → k ≤ most_of_field context.side subject.field → comparisons < 4096
+    → read_token context column (at_state reading (awaits_constant subject sign) group [] comparisons) (number_word k)
+    ≡ Ok (at_state reading awaits_operator (group_with group (comparing subject.field subject.mask (compared sign k))) [] (comparisons + 1))
+unfolding read_awaited read_constant with_unit
+constant_step context column reading group comparisons subject sign k fits h = rw (le-ltb (most_of_field context.side subject.field) k fits, lt-leb 4096 comparisons h) refl
+
+low_step : (context : LineContext) (column : ℕ) (reading : Reading) (group : GroupRead) (spans : List Span) (comparisons : ℕ) (subject : SubjectRead) (low : ℕ)
+    → low ≤ most_of_field context.side subject.field
+    → read_token context column (at_state reading (awaits_low subject) group spans comparisons) (number_word low) ≡ Ok (at_state reading (awaits_dots subject low) group spans comparisons)
+unfolding read_awaited read_low
+low_step context column reading group spans comparisons subject low fits = rw (le-ltb (most_of_field context.side subject.field) low fits) refl
+
+-- The first number of a list is read where a sign may come as it is after a comma.
+first_low : (context : LineContext) (column : ℕ) (reading : Reading) (group : GroupRead) (comparisons : ℕ) (subject : SubjectRead) (low : ℕ) → low ≤ most_of_field context.side subject.field
+    → read_token context column (at_state reading (awaits_sign subject) group [] comparisons) (number_word low) ≡ Ok (at_state reading (awaits_dots subject low) group [] comparisons)
+unfolding read_awaited read_sign read_low
+first_low context column reading group comparisons subject low fits = rw (le-ltb (most_of_field context.side subject.field) low fits) refl
+
+dots_step : (context : LineContext) (column : ℕ) (reading : Reading) (group : GroupRead) (spans : List Span) (comparisons : ℕ) (subject : SubjectRead) (low : ℕ)
+    → read_token context column (at_state reading (awaits_dots subject low) group spans comparisons) dots_mark ≡ Ok (at_state reading (awaits_high subject low) group spans comparisons)
+unfolding read_awaited read_dots
+dots_step context column reading group spans comparisons subject low = refl
+
+high_step : (context : LineContext) (column : ℕ) (reading : Reading) (group : GroupRead) (spans : List Span) (comparisons : ℕ) (subject : SubjectRead) (low high : ℕ)
+    → low ≤ high → high ≤ most_of_field context.side subject.field → comparisons < 4096
+    → read_token context column (at_state reading (awaits_high subject low) group spans comparisons) (number_word high)
+    ≡ Ok (at_state reading (awaits_comma subject (record { low = low; high = high })) group spans (comparisons + 1))
+unfolding read_awaited read_high with_range
+high_step context column reading group spans comparisons subject low high order fits h =
+    rw (le-ltb (most_of_field context.side subject.field) high fits, le-ltb high low order, lt-leb 4096 comparisons h) refl
+
+-- A list ends after the range that was read last.
+comma_ends : (context : LineContext) (reading : Reading) (group : GroupRead) (spans : List Span) (comparisons : ℕ) (subject : SubjectRead) (span : Span) → comparisons < 4096
+    → Ended context (at_state reading (awaits_comma subject span) group spans comparisons)
+    (at_state reading awaits_operator (group_with group (comparing subject.field subject.mask (listed (spans ++ span ∷ [])))) [] (comparisons + 1))
+unfolding read_awaited read_comma with_list with_unit
+comma_ends context reading group spans comparisons subject span h column and_word is = rw (lt-leb 4096 comparisons h) refl
+comma_ends context reading group spans comparisons subject span h column or_word is = rw (lt-leb 4096 comparisons h) refl
+comma_ends context reading group spans comparisons subject span h column close_parenthesis is = rw (lt-leb 4096 comparisons h) refl
+comma_ends context reading group spans comparisons subject span h column open_brace is = rw (lt-leb 4096 comparisons h) refl
+comma_ends context reading group spans comparisons subject span h column arrow_mark is = rw (lt-leb 4096 comparisons h) refl
+comma_ends context reading group spans comparisons subject span h column _ is = false_true is
+
+-- A range of one number is counted with the token after it.
+dots_ends : (context : LineContext) (reading : Reading) (group : GroupRead) (spans : List Span) (comparisons : ℕ) (subject : SubjectRead) (low : ℕ) → comparisons < 4096
+    → Ended context (at_state reading (awaits_dots subject low) group spans comparisons) (at_state reading (awaits_comma subject (range_of_one low)) group spans (comparisons + 1))
+unfolding read_awaited read_dots with_range read_comma with_list with_unit
+dots_ends context reading group spans comparisons subject low h column and_word is = rw (lt-leb 4096 comparisons h) refl
+dots_ends context reading group spans comparisons subject low h column or_word is = rw (lt-leb 4096 comparisons h) refl
+dots_ends context reading group spans comparisons subject low h column close_parenthesis is = rw (lt-leb 4096 comparisons h) refl
+dots_ends context reading group spans comparisons subject low h column open_brace is = rw (lt-leb 4096 comparisons h) refl
+dots_ends context reading group spans comparisons subject low h column arrow_mark is = rw (lt-leb 4096 comparisons h) refl
+dots_ends context reading group spans comparisons subject low h column _ is = false_true is
+
+comma_step : (context : LineContext) (column : ℕ) (reading : Reading) (group : GroupRead) (spans : List Span) (comparisons : ℕ) (subject : SubjectRead) (span : Span)
+    → read_token context column (at_state reading (awaits_comma subject span) group spans comparisons) comma_mark
+    ≡ Ok (at_state reading (awaits_low subject) group (spans ++ span ∷ []) comparisons)
+unfolding read_awaited read_comma
+comma_step context column reading group spans comparisons subject span = refl
+
+dots_comma : (context : LineContext) (column : ℕ) (reading : Reading) (group : GroupRead) (spans : List Span) (comparisons : ℕ) (subject : SubjectRead) (low : ℕ) → comparisons < 4096
+    → read_token context column (at_state reading (awaits_dots subject low) group spans comparisons) comma_mark
+    ≡ Ok (at_state reading (awaits_low subject) group (spans ++ range_of_one low ∷ []) (comparisons + 1))
+unfolding read_awaited read_dots with_range read_comma
+dots_comma context column reading group spans comparisons subject low h = rw (lt-leb 4096 comparisons h) refl
+
+-- The rest of a range.
+high_reads : (context : LineContext) (reading : Reading) (group : GroupRead) (spans : List Span) (comparisons : ℕ) (subject : SubjectRead) (P : Reading → Type 0) (low : ℕ) (high : Option ℕ)
+    → HighFits low (most_of_field context.side subject.field) high → comparisons < 4096
+    → ((end : Reading)
+    → ((column : ℕ) → read_token context column end comma_mark ≡ Ok (at_state reading (awaits_low subject) group (spans ++ span_from low high ∷ []) (comparisons + 1)))
+    → Ended context end (at_state reading (awaits_comma subject (span_from low high)) group spans (comparisons + 1))
+    → P end)
+    → Reads context (at_state reading (awaits_dots subject low) group spans comparisons) (high_tokens high) P
+high_reads context reading group spans comparisons subject P low None fits room h =
+    h _ (λ column. dots_comma context column reading group spans comparisons subject low room) (dots_ends context reading group spans comparisons subject low room)
+high_reads context reading group spans comparisons subject P low (Some high) fits room h =
+    λ column. (
+      at_state reading (awaits_high subject low) group spans comparisons,
+      dots_step context column reading group spans comparisons subject low,
+      λ column. (
+        at_state reading (awaits_comma subject (record { low = low; high = high })) group spans (comparisons + 1),
+        high_step context column reading group spans comparisons subject low high fits.0 fits.1 room,
+        h _ (λ column. comma_step context column reading group spans (comparisons + 1) subject (record { low = low; high = high })) (λ column token is. refl),
+      ),
+    )
+
+-- What was read after a list.
+abbrev after_list : Reading → GroupRead → SubjectRead → List Span → ℕ → Reading
+after_list reading group subject spans comparisons = at_state reading awaits_operator (group_with group (comparing subject.field subject.mask (listed spans))) [] comparisons
+
+list_moved : (context : LineContext) (end reading : Reading) (group : GroupRead) (subject : SubjectRead) (spans all : List Span) (count total : ℕ) → spans ≡ all → count ≡ total
+    → Ended context end (after_list reading group subject spans count) → Ended context end (after_list reading group subject all total)
+list_moved context end reading group subject spans all count total same equal h =
+    subst (λ (n : ℕ). Ended context end (after_list reading group subject all n)) equal
+    (subst (λ (xs : List Span). Ended context end (after_list reading group subject xs count)) same h)
+
+-- The tokens of a list, from where its first number is read.
+list_reads : (context : LineContext) (reading : Reading) (group : GroupRead) (subject : SubjectRead) (P : Reading → Type 0) (ranges : List RangeForm) (last : RangeForm) (start : Reading) (spans all : List Span) (comparisons total : ℕ)
+    → ((column low : ℕ) → low ≤ most_of_field context.side subject.field → read_token context column start (number_word low) ≡ Ok (at_state reading (awaits_dots subject low) group spans comparisons))
+    → ListFits (most_of_field context.side subject.field) ranges last
+    → all ≡ spans ++ spans_written ranges last → total ≡ comparisons + (length ranges + 2) → total ≤ 4096
+    → ((end : Reading) → Ended context end (after_list reading group subject all total) → P end)
+    → Reads context start (list_tokens ranges last) P
+list_reads context reading group subject P [] last start spans all comparisons total lows fits same count bound h =
+    let room : comparisons < 4096 = omega arith in
+    let next : comparisons + 1 < 4096 = omega arith in
+    let equal : comparisons + 1 + 1 ≡ total = omega arith in
+    λ column. (
+      at_state reading (awaits_dots subject last.low) group spans comparisons,
+      lows column last.low fits.low,
+      high_reads context reading group spans comparisons subject P last.low last.high fits.high room (λ end comma ends.
+          h end (list_moved context end reading group subject (spans ++ span_from last.low last.high ∷ []) all (comparisons + 1 + 1) total (sym same) equal
+          (λ column token is. ends column token is ∙ comma_ends context reading group spans (comparisons + 1) subject (span_from last.low last.high) next column token is))),
+    )
+list_reads context reading group subject P (range ∷ ranges) last start spans all comparisons total lows fits same count bound h =
+    let room : comparisons < 4096 = omega arith in
+    let equal : total ≡ comparisons + 1 + (length ranges + 2) = omega arith in
+    let joined : all ≡ (spans ++ span_from range.low range.high ∷ []) ++ spans_written ranges last = rw append_assoc same in
+    λ column. (
+      at_state reading (awaits_dots subject range.low) group spans comparisons,
+      lows column range.low fits.0.low,
+      reads_append context (high_tokens range.high) (comma_mark ∷ list_tokens ranges last) (at_state reading (awaits_dots subject range.low) group spans comparisons) P
+          (high_reads context reading group spans comparisons subject (λ next. Reads context next (comma_mark ∷ list_tokens ranges last) P) range.low range.high fits.0.high room (λ end comma ends.
+          λ column. (
+            at_state reading (awaits_low subject) group (spans ++ span_from range.low range.high ∷ []) (comparisons + 1),
+            comma column,
+            list_reads context reading group subject P ranges last (at_state reading (awaits_low subject) group (spans ++ span_from range.low range.high ∷ []) (comparisons + 1))
+                (spans ++ span_from range.low range.high ∷ []) all (comparisons + 1) total
+                (λ column low fits. low_step context column reading group (spans ++ span_from range.low range.high ∷ []) (comparisons + 1) subject low fits)
+                fits.1 joined equal bound h,
+          ))),
+    )
+
+-- What was read after a unit, with the column of a parenthesis that was opened before.
+abbrev after_unit : Reading → GroupRead → ℕ → ℕ → Reading
+after_unit reading group outermost comparisons = at_state (record reading { outermost = outermost }) awaits_operator group [] comparisons
+
+after_moved : (context : LineContext) (end reading : Reading) (group : GroupRead) (outermost count total : ℕ) → count ≡ total
+    → Ended context end (after_unit reading group outermost count) → Ended context end (after_unit reading group outermost total)
+after_moved context end reading group outermost count total equal h = subst (λ (n : ℕ). Ended context end (after_unit reading group outermost n)) equal h
+
+-- The group after a test.
+abbrev group_written : TestForm → GroupRead
+group_written (one_part part) = record { either = None; both = Some (part_written part); negated = false }
+group_written (or_part test part) = record { either = Some (test_written test); both = Some (part_written part); negated = false }
+
+written_test : (test : TestForm) → group_test (group_written test) ≡ Some (test_written test)
+written_test (one_part part) = refl
+written_test (or_part test part) = refl
+
+written_or : (test : TestForm) → group_after_or (group_written test) ≡ record { either = Some (test_written test); both = None; negated = false }
+written_or (one_part part) = refl
+written_or (or_part test part) = refl
+
+and_step : (context : LineContext) (column : ℕ) (reading : Reading) (group : GroupRead) (outermost comparisons : ℕ)
+    → read_token context column (after_unit reading group outermost comparisons) and_word ≡ Ok (at_state (record reading { outermost = outermost }) awaits_unit group [] comparisons)
+unfolding read_awaited read_operator
+and_step context column reading group outermost comparisons = refl
+
+or_step : (context : LineContext) (column : ℕ) (reading : Reading) (group next : GroupRead) (outermost comparisons : ℕ) → group_after_or group ≡ next
+    → read_token context column (after_unit reading group outermost comparisons) or_word ≡ Ok (at_state (record reading { outermost = outermost }) awaits_unit next [] comparisons)
+unfolding read_awaited read_operator
+or_step context column reading group next outermost comparisons e = rw e refl
+
+-- A word of one unit.
+word_reads : (context : LineContext) (begin : Awaited) (reading : Reading) (group : GroupRead) (comparisons total : ℕ) (P : Reading → Type 0) (token : RuleToken) (test : TestRead)
+    → Begins context begin → is_first token ≡ true
+    → ((column : ℕ) (other : Reading) → read_unit context column other token ≡ with_unit other test)
+    → total ≡ comparisons + 1 → total ≤ 4096
+    → ((last : ℕ) (end : Reading) → Ended context end (after_unit reading (group_with group test) last total) → P end)
+    → Reads context (at_state reading begin group [] comparisons) (token ∷ []) P
+word_reads context begin reading group comparisons total P token test begins first step count bound h =
+    let room : comparisons < 4096 = omega arith in
+    λ column. (
+      at_state reading awaits_operator (group_with group test) [] (comparisons + 1),
+      begins column (at_state reading begin group [] comparisons) token first ∙ step column (at_state reading begin group [] comparisons) ∙ with_unit-ok (at_state reading begin group [] comparisons) test room,
+      h reading.outermost _ (after_moved context _ reading (group_with group test) reading.outermost (comparisons + 1) total (sym count) (λ column token is. refl)),
+    )
+
+mutual
+  unit_reads : (context : LineContext) (unit : UnitForm) (begin : Awaited) (reading : Reading) (either both : Option TestRead) (denied : Bool) (comparisons total : ℕ) (P : Reading → Type 0)
+      → Begins context begin → UnitFits context (context.blocks + length reading.around) unit → total ≡ comparisons + unit_count unit → total ≤ 4096
+      → ((last : ℕ) (end : Reading) → Ended context end (after_unit reading (record { either = either; both = Some (both_of both (unit_written denied unit)); negated = false }) last total) → P end)
+      → Reads context (at_state reading begin (record { either = either; both = both; negated = denied }) [] comparisons) (unit_tokens unit) P
+  unit_reads context any_unit begin reading either both denied comparisons total P begins fits count bound h =
+      word_reads context begin reading (record { either = either; both = both; negated = denied }) comparisons total P any_word any_cell begins refl (any_step context) count bound h
+  unit_reads context oam_unit begin reading either both denied comparisons total P begins fits count bound h =
+      word_reads context begin reading (record { either = either; both = both; negated = denied }) comparisons total P oam_word oam_cell begins refl (oam_step context) count bound h
+  unit_reads context user_unit begin reading either both denied comparisons total P begins fits count bound h =
+      word_reads context begin reading (record { either = either; both = both; negated = denied }) comparisons total P user_word user_cell begins refl (user_step context) count bound h
+  unit_reads context (sign_unit subject sign k) begin reading either both denied comparisons total P begins fits count bound h =
+      let group : GroupRead = record { either = either; both = both; negated = denied } in
+      let room : comparisons < 4096 = omega arith in
+      let done = group_with group (comparing subject.field subject.mask (compared sign k)) in
+      reads_append context (subject_tokens subject) (sign_mark sign ∷ number_word k ∷ []) (at_state reading begin group [] comparisons) P
+      (subject_reads context begin reading group comparisons (λ next. Reads context next (sign_mark sign ∷ number_word k ∷ []) P) subject begins fits.0 (λ next compares.
+      λ column. (
+        at_state reading (awaits_constant subject sign) group [] comparisons,
+        compares column (sign_mark sign) refl ∙ sign_step context column reading group comparisons subject sign,
+        λ column. (
+          at_state reading awaits_operator done [] (comparisons + 1),
+          constant_step context column reading group comparisons subject sign k fits.1 room,
+          h reading.outermost _ (after_moved context _ reading done reading.outermost (comparisons + 1) total (sym count) (λ column token is. refl)),
+        ),
+      )))
+  unit_reads context (list_unit subject ranges last) begin reading either both denied comparisons total P begins fits count bound h =
+      let group : GroupRead = record { either = either; both = both; negated = denied } in
+      reads_append context (subject_tokens subject) (list_tokens ranges last) (at_state reading begin group [] comparisons) P
+      (subject_reads context begin reading group comparisons (λ next. Reads context next (list_tokens ranges last) P) subject begins fits.0 (λ next compares.
+      list_reads context reading group subject P ranges last next [] (spans_written ranges last) comparisons total
+      (λ column low fits. compares column (number_word low) refl ∙ first_low context column reading group comparisons subject low fits)
+      fits.1 refl count bound (λ end ended. h reading.outermost end ended)))
+  unit_reads context (not_unit unit) begin reading either both denied comparisons total P begins fits count bound h =
+      λ column. (
+        at_state reading awaits_unit (record { either = either; both = both; negated = not denied }) [] comparisons,
+        begins column (at_state reading begin (record { either = either; both = both; negated = denied }) [] comparisons) not_word refl ∙ not_step context column reading begin either both denied comparisons,
+        unit_reads context unit awaits_unit reading either both (not denied) comparisons total P (begins_unit context) fits count bound h,
+      )
+  unit_reads context (parenthesis_unit test) begin reading either both denied comparisons total P begins fits count bound h =
+      let group : GroupRead = record { either = either; both = both; negated = denied } in
+      let deeper : context.blocks + length reading.around + 1 ≡ context.blocks + suc (length reading.around) = omega arith in
+      λ column. (
+        at_state (record reading { around = group ∷ reading.around; outermost = (if nat_lt 0 (length reading.around) then reading.outermost else column) }) awaits_unit no_group [] comparisons,
+        begins column (at_state reading begin group [] comparisons) open_parenthesis refl ∙ open_step context column reading begin group comparisons fits.0,
+        reads_append context (test_tokens test) (close_parenthesis ∷ []) _ P
+            (test_reads context test awaits_unit (record reading { around = group ∷ reading.around; outermost = (if nat_lt 0 (length reading.around) then reading.outermost else column) }) comparisons total
+            (λ next. Reads context next (close_parenthesis ∷ []) P) (begins_unit context) (subst (λ (k : ℕ). TestFits context k test) deeper fits.1) count bound (λ last end ended.
+            λ column. (
+              after_unit reading (group_with group (test_written test)) last total,
+              ended column close_parenthesis refl ∙ close_step context column (record reading { outermost = last }) group (group_written test) reading.around (test_written test) total (written_test test),
+              h last _ (λ column token is. refl),
+            ))),
+      )
+
+  part_reads : (context : LineContext) (part : PartForm) (begin : Awaited) (reading : Reading) (either : Option TestRead) (comparisons total : ℕ) (P : Reading → Type 0)
+      → Begins context begin → PartFits context (context.blocks + length reading.around) part → total ≡ comparisons + part_count part → total ≤ 4096
+      → ((last : ℕ) (end : Reading) → Ended context end (after_unit reading (record { either = either; both = Some (part_written part); negated = false }) last total) → P end)
+      → Reads context (at_state reading begin (record { either = either; both = None; negated = false }) [] comparisons) (units_tokens part) P
+  part_reads context (one_unit unit) begin reading either comparisons total P begins fits count bound h =
+      unit_reads context unit begin reading either None false comparisons total P begins fits count bound h
+  part_reads context (and_unit part unit) begin reading either comparisons total P begins fits count bound h =
+      let equal : total ≡ comparisons + part_count part + unit_count unit = omega arith in
+      let below : comparisons + part_count part ≤ 4096 = omega arith in
+      reads_append context (units_tokens part) (and_word ∷ unit_tokens unit) _ P
+      (part_reads context part begin reading either comparisons (comparisons + part_count part) (λ next. Reads context next (and_word ∷ unit_tokens unit) P) begins fits.0 refl below (λ last end ended.
+      λ column. (
+        at_state (record reading { outermost = last }) awaits_unit (record { either = either; both = Some (part_written part); negated = false }) [] (comparisons + part_count part),
+        ended column and_word refl ∙ and_step context column reading (record { either = either; both = Some (part_written part); negated = false }) last (comparisons + part_count part),
+        unit_reads context unit awaits_unit (record reading { outermost = last }) either (Some (part_written part)) false (comparisons + part_count part) total P (begins_unit context) fits.1 equal bound h,
+      )))
+
+  test_reads : (context : LineContext) (test : TestForm) (begin : Awaited) (reading : Reading) (comparisons total : ℕ) (P : Reading → Type 0)
+      → Begins context begin → TestFits context (context.blocks + length reading.around) test → total ≡ comparisons + test_count test → total ≤ 4096
+      → ((last : ℕ) (end : Reading) → Ended context end (after_unit reading (group_written test) last total) → P end)
+      → Reads context (at_state reading begin no_group [] comparisons) (test_tokens test) P
+  test_reads context (one_part part) begin reading comparisons total P begins fits count bound h =
+      part_reads context part begin reading None comparisons total P begins fits count bound h
+  test_reads context (or_part test part) begin reading comparisons total P begins fits count bound h =
+      let equal : total ≡ comparisons + test_count test + part_count part = omega arith in
+      let below : comparisons + test_count test ≤ 4096 = omega arith in
+      reads_append context (test_tokens test) (or_word ∷ units_tokens part) _ P
+      (test_reads context test begin reading comparisons (comparisons + test_count test) (λ next. Reads context next (or_word ∷ units_tokens part) P) begins fits.0 refl below (λ last end ended.
+      λ column. (
+        at_state (record reading { outermost = last }) awaits_unit (record { either = Some (test_written test); both = None; negated = false }) [] (comparisons + test_count test),
+        ended column or_word refl ∙ or_step context column reading (group_written test) (record { either = Some (test_written test); both = None; negated = false }) last (comparisons + test_count test) (written_or test),
+        part_reads context part awaits_unit (record reading { outermost = last }) (Some (test_written test)) (comparisons + test_count test) total P (begins_unit context) fits.1 equal bound h,
+      )))
+
+arrow_step : (context : LineContext) (column : ℕ) (group : GroupRead) (outermost comparisons : ℕ) (test : TestRead) → group_test group ≡ Some test
+    → read_token context column (after_unit nothing_read group outermost comparisons) arrow_mark
+    ≡ Ok (record (after_unit nothing_read group outermost comparisons) { test = test; group = no_group; awaited = awaits_value })
+unfolding read_awaited read_operator with_head whole_test
+arrow_step context column group outermost comparisons test e = rw e refl
+
+value_step : (context : LineContext) (column : ℕ) (reading : Reading) (value : ℕ) → 0 < value
+    → read_token context column (record reading { awaited = awaits_value }) (number_word value)
+    ≡ Ok (record reading { test = any_cell; said = says_line (rule_line reading.test value); awaited = awaits_end })
+unfolding read_awaited read_value
+value_step context column reading value some = rw (lt-ltb 0 value some) refl
+
+block_step : (context : LineContext) (column : ℕ) (group : GroupRead) (outermost comparisons : ℕ) (test : TestRead) → group_test group ≡ Some test → context.blocks < 64
+    → read_token context column (after_unit nothing_read group outermost comparisons) open_brace
+    ≡ Ok (record (after_unit nothing_read group outermost comparisons) { said = says_line (block_line test); group = no_group; awaited = awaits_end })
+unfolding read_awaited read_operator with_block whole_test
+block_step context column group outermost comparisons test e h = rw (e, lt-leb 64 context.blocks h) refl
+
+-- Where this is said, reading ends.
+abbrev Says : SaidRead → Reading → Type 0
+Says said reading = said_at_end reading.awaited reading.said ≡ Ok said
+
+said_read : (context : LineContext) (number : ℕ) (found : List RuleFound) (reading : Reading) (column : ℕ) (said : SaidRead)
+    → Reads context reading (map (λ it. it.token) found) (Says said) → said_from context number reading column found ≡ Ok said
+said_read context number [] reading column said h = said_end context number column reading said h
+said_read context number (first ∷ rest) reading column said h =
+    said_more context number column reading (h first.column).0 first rest (h first.column).1 ∙ said_read context number rest (h first.column).0 first.after said (h first.column).2
+
+-- A line that begins with the tokens of a test says what it says after the test.
+line_begins : (context : LineContext) (number : ℕ) (found : List RuleFound) (test : TestForm) (rest : List RuleToken) (said : SaidRead)
+    → TestFits context context.blocks test → test_count test ≤ 4096 → map (λ it. it.token) found ≡ test_tokens test ++ rest
+    → ((last : ℕ) (end : Reading) → Ended context end (after_unit nothing_read (group_written test) last (test_count test)) → Reads context end rest (Says said))
+    → said_from context number nothing_read 1 found ≡ Ok said
+line_begins context number found test rest said fits bound same h =
+    let none : context.blocks ≡ context.blocks + length nothing_read.around = omega arith in
+    let count : test_count test ≡ 0 + test_count test = omega arith in
+    said_read context number found nothing_read 1 said
+    (subst (λ (tokens : List RuleToken). Reads context nothing_read tokens (Says said)) (sym same)
+    (reads_append context (test_tokens test) rest nothing_read (Says said)
+    (test_reads context test awaits_start nothing_read 0 (test_count test) (λ next. Reads context next rest (Says said)) (begins_start context)
+    (subst (λ (k : ℕ). TestFits context k test) none fits) count bound h)))
+
+-- A rule.
+pub rule_is_read : (context : LineContext) (number : ℕ) (found : List RuleFound) (test : TestForm) (value : ℕ)
+    → TestFits context context.blocks test → test_count test ≤ 4096 → 0 < value
+    → map (λ it. it.token) found ≡ test_tokens test ++ (arrow_mark ∷ number_word value ∷ [])
+    → said_from context number nothing_read 1 found ≡ Ok (says_line (rule_line (test_written test) value))
+rule_is_read context number found test value fits bound some same =
+    line_begins context number found test (arrow_mark ∷ number_word value ∷ []) (says_line (rule_line (test_written test) value)) fits bound same (λ last end ended.
+    λ column. (
+      _,
+      ended column arrow_mark refl ∙ arrow_step context column (group_written test) last (test_count test) (test_written test) (written_test test),
+      λ column. (_, value_step context column (record (after_unit nothing_read (group_written test) last (test_count test)) { test = test_written test; group = no_group; awaited = awaits_value }) value some, refl),
+    ))
+
+-- The head of a block.
+pub head_is_read : (context : LineContext) (number : ℕ) (found : List RuleFound) (test : TestForm)
+    → TestFits context context.blocks test → test_count test ≤ 4096 → context.blocks < 64
+    → map (λ it. it.token) found ≡ test_tokens test ++ (open_brace ∷ [])
+    → said_from context number nothing_read 1 found ≡ Ok (says_line (block_line (test_written test)))
+head_is_read context number found test fits bound room same =
+    line_begins context number found test (open_brace ∷ []) (says_line (block_line (test_written test))) fits bound same (λ last end ended.
+    λ column. (_, ended column open_brace refl ∙ block_step context column (group_written test) last (test_count test) (test_written test) (written_test test) room, refl))

@@ -1,0 +1,182 @@
+-- The grammar of tests: every way to write one, its tokens, and what it means. The reader of lines reads each of them as
+-- this, within its limits: the law `rules_are_read_as_they_are_written` says so.
+use Rattle.std.specs.Prelude.{◌≡◌, ◌+◌, ◌≤◌, ◌<◌, ℕ, Bool, not, false, List, [], ◌∷◌, ◌++◌, length, Option, Some, None, Ok}
+use Rattle.match_code.specs.declared.part.Span.{Span}
+use Rattle.rules_text.specs.LineGrammar.{LineContext, SubjectRead, negated_if}
+use Rattle.rules_text.specs.RulesRead.{FieldRead, octets_field, SignRead, TestRead, any_cell, oam_cell, user_cell, comparing, conjunction, disjunction, compared, listed}
+use Rattle.rules_text.specs.RuleTokens.{RuleToken, any_word, oam_word, user_word, not_word, and_word, or_word, field_word, size_word, number_word, open_parenthesis, close_parenthesis, mask_mark, comma_mark, dots_mark, sign_mark}
+use Rattle.rules_text.specs.Subjects.{header_read, most_of_field, octets_read}
+
+-- A range: a number, with `..` and another one if there is one.
+pub record RangeForm : Type 0 where
+  pub low : ℕ
+  pub high : Option ℕ
+
+mutual
+  -- A unit of a test. A list has ranges and a last one.
+  pub data UnitForm : Type 0 where
+    any_unit : UnitForm
+    oam_unit : UnitForm
+    user_unit : UnitForm
+    sign_unit : SubjectRead → SignRead → ℕ → UnitForm
+    list_unit : SubjectRead → List RangeForm → RangeForm → UnitForm
+    not_unit : UnitForm → UnitForm
+    parenthesis_unit : TestForm → UnitForm
+
+  -- Units that are joined by `and`.
+  pub data PartForm : Type 0 where
+    one_unit : UnitForm → PartForm
+    and_unit : PartForm → UnitForm → PartForm
+
+  -- Parts that are joined by `or`.
+  pub data TestForm : Type 0 where
+    one_part : PartForm → TestForm
+    or_part : TestForm → PartForm → TestForm
+
+-- The tokens of a field.
+abbrev pub field_tokens : FieldRead → List RuleToken
+field_tokens (octets_field size at) = size_word size ∷ number_word at ∷ []
+field_tokens field = field_word field ∷ []
+
+-- The tokens of a mask, if there is one.
+abbrev pub mask_tokens : Option ℕ → List RuleToken
+mask_tokens None = []
+mask_tokens (Some mask) = mask_mark ∷ number_word mask ∷ []
+
+-- The tokens of a field with its mask.
+abbrev pub subject_tokens : SubjectRead → List RuleToken
+subject_tokens subject = field_tokens subject.field ++ mask_tokens subject.mask
+
+-- The tokens after the first number of a range.
+abbrev pub high_tokens : Option ℕ → List RuleToken
+high_tokens None = []
+high_tokens (Some high) = dots_mark ∷ number_word high ∷ []
+
+-- The tokens of a list.
+abbrev pub list_tokens : List RangeForm → RangeForm → List RuleToken
+list_tokens [] last = number_word last.low ∷ high_tokens last.high
+list_tokens (range ∷ ranges) last = number_word range.low ∷ (high_tokens range.high ++ (comma_mark ∷ list_tokens ranges last))
+
+abbrev mutual
+  -- The tokens of a unit.
+  pub unit_tokens : UnitForm → List RuleToken
+  unit_tokens any_unit = any_word ∷ []
+  unit_tokens oam_unit = oam_word ∷ []
+  unit_tokens user_unit = user_word ∷ []
+  unit_tokens (sign_unit subject sign k) = subject_tokens subject ++ (sign_mark sign ∷ number_word k ∷ [])
+  unit_tokens (list_unit subject ranges last) = subject_tokens subject ++ list_tokens ranges last
+  unit_tokens (not_unit unit) = not_word ∷ unit_tokens unit
+  unit_tokens (parenthesis_unit test) = open_parenthesis ∷ (test_tokens test ++ (close_parenthesis ∷ []))
+
+  -- The tokens of a part.
+  pub units_tokens : PartForm → List RuleToken
+  units_tokens (one_unit unit) = unit_tokens unit
+  units_tokens (and_unit part unit) = units_tokens part ++ (and_word ∷ unit_tokens unit)
+
+  -- The tokens of a test.
+  pub test_tokens : TestForm → List RuleToken
+  test_tokens (one_part part) = units_tokens part
+  test_tokens (or_part test part) = test_tokens test ++ (or_word ∷ units_tokens part)
+
+-- The range of numbers that is written.
+abbrev pub span_from : ℕ → Option ℕ → Span
+span_from low None = record { low = low; high = low }
+span_from low (Some high) = record { low = low; high = high }
+
+-- The ranges of a list.
+abbrev pub spans_written : List RangeForm → RangeForm → List Span
+spans_written [] last = span_from last.low last.high ∷ []
+spans_written (range ∷ ranges) last = span_from range.low range.high ∷ spans_written ranges last
+
+abbrev mutual
+  -- What a unit means, denied if an odd number of `not` comes before it.
+  pub unit_written : Bool → UnitForm → TestRead
+  unit_written denied any_unit = negated_if denied any_cell
+  unit_written denied oam_unit = negated_if denied oam_cell
+  unit_written denied user_unit = negated_if denied user_cell
+  unit_written denied (sign_unit subject sign k) = negated_if denied (comparing subject.field subject.mask (compared sign k))
+  unit_written denied (list_unit subject ranges last) = negated_if denied (comparing subject.field subject.mask (listed (spans_written ranges last)))
+  unit_written denied (not_unit unit) = unit_written (not denied) unit
+  unit_written denied (parenthesis_unit test) = negated_if denied (test_written test)
+
+  -- What a part means.
+  pub part_written : PartForm → TestRead
+  part_written (one_unit unit) = unit_written false unit
+  part_written (and_unit part unit) = conjunction (part_written part) (unit_written false unit)
+
+  -- What a test means.
+  pub test_written : TestForm → TestRead
+  test_written (one_part part) = part_written part
+  test_written (or_part test part) = disjunction (test_written test) (part_written part)
+
+-- The field can be named at this side, and its octets are in the cell.
+abbrev pub FieldFits : LineContext → FieldRead → Type 0
+FieldFits context (octets_field size at) = octets_read size at ≡ Ok (octets_field size at)
+FieldFits context field = header_read context.side field ≡ Ok field
+
+-- The field can have the mask, if there is one.
+abbrev pub MaskFits : ℕ → Option ℕ → Type 0
+MaskFits most None = Unit {0}
+MaskFits most (Some mask) = mask ≤ most
+
+-- The field fits, and its mask.
+pub record SubjectFits (context : LineContext) (subject : SubjectRead) : Type 0 where
+  pub field : FieldFits context subject.field
+  pub mask : MaskFits (most_of_field context.side subject.field) subject.mask
+
+-- The second number of a range is within these bounds, if there is one.
+abbrev pub HighFits : ℕ → ℕ → Option ℕ → Type 0
+HighFits low most None = Unit {0}
+HighFits low most (Some high) = (low ≤ high) × (high ≤ most)
+
+-- The field can have the numbers of a range, which isn't empty.
+pub record RangeFits (most : ℕ) (range : RangeForm) : Type 0 where
+  pub low : range.low ≤ most
+  pub high : HighFits range.low most range.high
+
+-- The field can have the numbers of a list.
+abbrev pub ListFits : ℕ → List RangeForm → RangeForm → Type 0
+ListFits most [] last = RangeFits most last
+ListFits most (range ∷ ranges) last = RangeFits most range × ListFits most ranges last
+
+abbrev mutual
+  -- The numbers of a unit fit their fields, and with this many parentheses and blocks open at most 64 will be.
+  pub UnitFits : LineContext → ℕ → UnitForm → Type 0
+  UnitFits context deep any_unit = Unit {0}
+  UnitFits context deep oam_unit = Unit {0}
+  UnitFits context deep user_unit = Unit {0}
+  UnitFits context deep (sign_unit subject sign k) = SubjectFits context subject × (k ≤ most_of_field context.side subject.field)
+  UnitFits context deep (list_unit subject ranges last) = SubjectFits context subject × ListFits (most_of_field context.side subject.field) ranges last
+  UnitFits context deep (not_unit unit) = UnitFits context deep unit
+  UnitFits context deep (parenthesis_unit test) = (deep < 64) × TestFits context (deep + 1) test
+
+  -- The same of a part.
+  pub PartFits : LineContext → ℕ → PartForm → Type 0
+  PartFits context deep (one_unit unit) = UnitFits context deep unit
+  PartFits context deep (and_unit part unit) = PartFits context deep part × UnitFits context deep unit
+
+  -- The same of a test.
+  pub TestFits : LineContext → ℕ → TestForm → Type 0
+  TestFits context deep (one_part part) = PartFits context deep part
+  TestFits context deep (or_part test part) = TestFits context deep test × PartFits context deep part
+
+abbrev mutual
+  -- How many comparisons, words and ranges a unit has.
+  pub unit_count : UnitForm → ℕ
+  unit_count any_unit = 1
+  unit_count oam_unit = 1
+  unit_count user_unit = 1
+  unit_count (sign_unit subject sign k) = 1
+  unit_count (list_unit subject ranges last) = length ranges + 2
+  unit_count (not_unit unit) = unit_count unit
+  unit_count (parenthesis_unit test) = test_count test
+
+  -- How many a part has.
+  pub part_count : PartForm → ℕ
+  part_count (one_unit unit) = unit_count unit
+  part_count (and_unit part unit) = part_count part + unit_count unit
+
+  -- How many a test has.
+  pub test_count : TestForm → ℕ
+  test_count (one_part part) = part_count part
+  test_count (or_part test part) = test_count test + part_count part
