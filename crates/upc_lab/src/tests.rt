@@ -91,7 +91,7 @@ fn rules_are_answered_by_their_program_or_their_fault(rt: HostRuntime) -> Result
     expect(
         &rt,
         rt.alloc(),
-        (b"any -> 7\n", 100, 100),
+        (b"otherwise -> 7\n", 100, 100),
         (0, program, b""),
     )?;
     expect(
@@ -108,18 +108,18 @@ fn rules_are_answered_by_their_program_or_their_fault(rt: HostRuntime) -> Result
 fn a_device_that_fails_is_told_and_ends_with_status_3(rt: HostRuntime) -> Result<(), Fail> {
     let reading = b"upc-lab: reading failed\n".as_slice();
     let writing = b"upc-lab: writing failed\n".as_slice();
-    for takes in [0, 5, 9] {
+    for takes in [0, 5, 15] {
         expect(
             &rt,
             rt.alloc(),
-            (b"any -> 7\n", takes, 100),
+            (b"otherwise -> 7\n", takes, 100),
             (3, b"", reading),
         )?;
     }
     expect(
         &rt,
         rt.alloc(),
-        (b"any -> 7\n", 100, 5),
+        (b"otherwise -> 7\n", 100, 5),
         (3, b"accep", writing),
     )?;
     Ok(())
