@@ -331,7 +331,7 @@ int main(void)
 	                                       "0067000000000000", "0060000000000010", "0034000000000000",
 	                                       "0064000000000020", "0005000000000001", "0007000000000000",
 	                                       "00610000000000030016000000000000"};
-	static const char *const texts[] = {"any -> 7", "vpi", "vpi 1x -> 1", "any -> 0", "octet 52 = 1 -> 1",
+	static const char *const texts[] = {"otherwise -> 7", "vpi", "vpi 1x -> 1", "any -> 0", "octet 52 = 1 -> 1",
 	                                    "otherwise -> 1\nany -> 1", "any {\n}\n}",
 	                                    "((((((((((((((((((((((((((((((((((((((((((((((((((((((((((((((((("};
 	size_t k;
@@ -354,7 +354,7 @@ int main(void)
 	source("ret #1", 7);
 	for (k = 0; k < sizeof texts / sizeof *texts; k++)
 		rules(texts[k], texts[k], 8);
-	rules("any -> 7, in seven octets", "any -> 7", 7);
+	rules("otherwise -> 7, in seven octets", "otherwise -> 7", 7);
 	long_rules();
 	far_and_long();
 	kept_program();
