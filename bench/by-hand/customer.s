@@ -5,11 +5,12 @@
         jlt  #0x00100200, others
         jgt  #0x001007f0, others
         ldb  [3]
-        jset #0x08, above       ; payload types 4 to 7
-user:   jset #0x01, low
+        and  #0x0d              ; two bits of the payload type, which are 10 for types 4 and 5, and the loss priority
+        jeq  #0x08, oam
+        jeq  #0x09, oam
+        jset #0x01, low
         ret  #1
-above:  jset #0x04, user        ; payload types 6 and 7
-        ret  #2
+oam:    ret  #2
 low:    ret  #3
 others: ldb  [4]
         and  #0xf0
