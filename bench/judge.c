@@ -21,7 +21,7 @@ static uint32_t random_bits(void)
 
 static uint32_t refuse(upc_fault *fault, uint32_t kind, uint32_t number, size_t place)
 {
-	const upc_fault found = {kind, number, place, 0, 0};
+	const upc_fault found = {kind, number, place, 0, 0, 0};
 	*fault = found;
 	return number;
 }
@@ -34,7 +34,7 @@ static uint64_t later(uint64_t one, uint64_t other)
 __attribute__((noinline)) static uint32_t plain_judge(const upc_contract *contract, upc_levels *levels, uint32_t low,
                                                       uint64_t moment, uint32_t *verdict, upc_fault *fault)
 {
-	const upc_fault none = {0, 0, 0, 0, 0};
+	const upc_fault none = {0, 0, 0, 0, 0, 0};
 	uint32_t kind = contract->kind;
 	int meets = kind == UPC_VBR1 || (kind != UPC_CBR1 && low == 0);
 

@@ -8,7 +8,7 @@ use std::ptr::null_mut;
 /// The structs of `include/upc.h`, with the same fields in the same order.
 #[repr(C)]
 #[derive(Clone, Copy, Debug, Default)]
-pub struct Fault { kind: u32, number: u32, place: usize, word: u32, code: u32 }
+pub struct Fault { kind: u32, number: u32, place: usize, word: u32, code: u32, column: usize }
 
 #[repr(C)]
 pub struct Shape { pub side: u32, pub programs: u64, pub lines: u64, pub ports: u64, pub journal: u64 }

@@ -13,6 +13,7 @@ pub struct Fault {
     place: usize,
     word: u32,
     code: u32,
+    column: usize,
 }
 
 impl fmt::Display for Fault {
