@@ -1,4 +1,4 @@
-/* The library's upc_card_arrive on the traffic of bench/policing: random cells among 256 connections of two VBR.3 contracts
+/* The library's upc_card_arrive on the traffic of bench/policing.rt.in: random cells among 256 connections of two VBR.3 contracts
  * each, named by a program of four instructions. Prints the least time a cell of many rounds, and how many cells passed. What
  * Core::arrive takes, which it calls, bench/run prints. */
 #include <stdio.h>
