@@ -1,14 +1,23 @@
-"""What of the deep tier has passed here, so that its next call goes on after it.
+#!/usr/bin/env python3
+"""What of the deep tier has passed, so that its next call goes on after it.
 
-A note is a line of out/passed: the checksum of all that a part read. A note of other text counts for nothing.
+A note is a line with the checksum of all that a part read, and its name. Those of this machine are in out/passed. tests/passed is
+committed: it has those of other machines, as far as they are of the present files. A note of other text counts for nothing.
+
+    tools/notes.py                   writes tests/passed anew from both
 """
+import functools
 import hashlib
 import os
+import sys
 import threading
 
 import kit
 
-FILE = f"{kit.ROOT}/out/passed"
+HERE = f"{kit.ROOT}/out/passed"
+ELSEWHERE = f"{kit.ROOT}/tests/passed"
+# How much of a checksum a note has.
+DIGITS = 20
 writing = threading.Lock()
 
 
@@ -18,32 +27,64 @@ def sum_of(*texts):
     for it in (kit.logic(), *texts):
         octets = it if isinstance(it, bytes) else it.encode()
         summed.update(b"%d " % len(octets) + octets)
-    return summed.hexdigest()
+    return summed.hexdigest()[:DIGITS]
 
 
 def sum_of_files(*places):
-    """Returns the checksum of these files, and of those below these folders, without what was built."""
+    """Returns the checksum of these files, and of those below these folders, without what was built and without notes."""
     texts = []
     for place in places:
         for at, folders, names in os.walk(f"{kit.ROOT}/{place}") if os.path.isdir(f"{kit.ROOT}/{place}") else [(kit.ROOT, [], [place])]:
             folders[:] = sorted(it for it in folders if it not in ("out", "__pycache__"))
-            for name in sorted(names):
+            for name in sorted(it for it in names if f"{at}/{it}" != ELSEWHERE):
                 with open(f"{at}/{name}", "rb") as it:
                     texts += [os.path.relpath(f"{at}/{name}", kit.ROOT), it.read()]
     return sum_of(*texts)
 
 
+@functools.lru_cache(maxsize=None)
+def sum_of_crate(crate):
+    """Returns the checksum of what the prover reads of a crate and of those of this repository below it."""
+    parts = [f"crates/{crate.name}/{part}" for part in ("src", "specs", "proofs")]
+    files = sum_of_files(*(it for it in parts if os.path.isdir(f"{kit.ROOT}/{it}")))
+    below = [it for it in crate.deps if os.path.isdir(f"{kit.ROOT}/crates/{it.name}")]
+    return sum_of(repr(crate.said), files, *(sum_of_crate(it) for it in below))
+
+
+def notes_in(file):
+    """Returns the notes of a file: the name of each by its checksum."""
+    if not os.path.exists(file):
+        return {}
+    with open(file, encoding="utf-8") as it:
+        return {summed: name.rstrip("\n") for summed, _, name in (line.partition(" ") for line in it) if name}
+
+
 def passed():
     """Returns the checksums of what has passed."""
-    if not os.path.exists(FILE):
-        return set()
-    with open(FILE, encoding="utf-8") as it:
-        return {line.split()[0] for line in it if line.strip()}
+    return {**notes_in(ELSEWHERE), **notes_in(HERE)}.keys()
 
 
 def note(summed, what):
-    """Notes that this passed."""
+    """Notes that this passed here."""
     with writing:
-        os.makedirs(os.path.dirname(FILE), exist_ok=True)
-        with open(FILE, "a", encoding="utf-8") as it:
+        os.makedirs(os.path.dirname(HERE), exist_ok=True)
+        with open(HERE, "a", encoding="utf-8") as it:
             it.write(f"{summed} {what}\n")
+
+
+def write_for_others():
+    """Writes the last note of each name, by names. Edits that are no longer tried have none."""
+    last = {name: summed for file in (ELSEWHERE, HERE) for summed, name in notes_in(file).items()}
+    last = {name: summed for name, summed in last.items() if not name.endswith(".edit") or os.path.exists(path_of(name))}
+    with open(ELSEWHERE, "w", encoding="utf-8") as it:
+        it.writelines(f"{summed} {name}\n" for name, summed in sorted(last.items()))
+
+
+def path_of(name):
+    """Returns the file of a deep edit with the name of its notes."""
+    crate, _, edit = name.partition("/")
+    return f"{kit.ROOT}/crates/{crate}/must-fail-deep/{edit}"
+
+
+if __name__ == "__main__":
+    sys.exit(write_for_others())
