@@ -1,4 +1,5 @@
 pub mod Bits
 pub mod Spans
 pub mod Means
+pub mod Chains
 pub mod Follows

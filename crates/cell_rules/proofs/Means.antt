@@ -6,7 +6,8 @@ use Rattle.byteorder.specs.Endian.{big_number}
 use Rattle.bpf_code.specs.declared.instr.Size.{Size}
 use Rattle.bpf_interp.specs.Packet.{octets_loaded}
 use Rattle.std.proofs.Common.{drop}
-use Rattle.match_code.proofs.Public.{both_holds}
+use Rattle.match_code.proofs.Public.{all_of_holds, any_of_holds}
+use Rattle.match_code.specs.inner.Chains.{each_holds, some_holds}
 use Rattle.match_code.specs.PlainTests.{kept_bits, number_of, is_among, holds}
 use Rattle.match_code.specs.declared.part.Part.{Part}
 use Rattle.match_code.specs.declared.part.Span.{Span}
@@ -15,13 +16,13 @@ use Rattle.match_code.specs.declared.plain_test.PlainTest as plain
 use Rattle.upc_cell.specs.Header.{header_number, pti_of}
 use Rattle.upc_cell.specs.declared.side.Side.{Side}
 use Rattle.cell_rules.specs.Fields.{IsCell, number_in, is_so}
-use Rattle.cell_rules.specs.Tests.{is_met}
+use Rattle.cell_rules.specs.Tests.{is_met, all_are_met, one_is_met}
 use Rattle.cell_rules.specs.declared.field.Field.{Field}
 use Rattle.cell_rules.specs.declared.field.Field.TheVariants.{Gfc, Vpi, Vci, Pti, Clp, Octets}
 use Rattle.cell_rules.specs.declared.relation.Relation.{Relation}
 use Rattle.cell_rules.specs.declared.relation.Relation.TheVariants.{Equal, Unequal, Less, AtMost, Greater, AtLeast, In}
-use Rattle.cell_rules.specs.declared.test.Test.{Test, Any, Oam, User, Compare, Not', And', Or'}
-use Rattle.cell_rules.specs.PlainOf.{IsPartOf, IsAmongOf, IsNotOf, AreBothOf, IsEitherOf, IsCompareOf, IsPlainOf, most_of, unit_of, placed_span, span_of_one, span_below, span_up_to, some_spans}
+use Rattle.cell_rules.specs.declared.test.Test.{Test, Any, Oam, User, Compare, Not', AllOf', AnyOf', Row_of-Test, end_of-Test, more_of-Test}
+use Rattle.cell_rules.specs.PlainOf.{IsPartOf, IsAmongOf, IsAnyOf, IsNotOf, IsCompareOf, IsPlainOf, ArePlainOf, most_of, unit_of, placed_span, span_of_one, span_below, span_up_to, some_spans}
 use Rattle.cell_rules.proofs.Bits.{IsInHeader, gfc_in, vpi_in, vci_in, pti_in, clp_in, number_le, number_placed}
 use Rattle.cell_rules.proofs.Spans.{among_placed, among_there, only_is, below_is, up_to_is, above_is, at_least_is, some_is}
 
@@ -59,18 +60,13 @@ module _ (side : Side) (cell : List ℕ) (is : IsCell cell) where
       ap (λ (ss : List Span). is_among ss (number_of part cell)) of.1 ∙ field_means field mask part spans of.0
   among_means field mask spans _ of = absurd of
 
-  -- ---- not, both, either
+  -- ---- not, and one of several
   not_means : (Is : PlainTest → Type 0) (b : Bool) → ((t : PlainTest) → Is t → holds t cell ≡ b) → (test : PlainTest) → IsNotOf Is test → holds test cell ≡ not b
   not_means Is b each (plain.Not' p test) of = ap not (each test of)
   not_means Is b each _ of = absurd of
 
-  both_mean : (Is IsOther : PlainTest → Type 0) (b c : Bool) → ((t : PlainTest) → Is t → holds t cell ≡ b) → ((t : PlainTest) → IsOther t → holds t cell ≡ c) → (test : PlainTest) → AreBothOf Is IsOther test → holds test cell ≡ (b && c)
-  both_mean Is IsOther b c each every test of =
-      both_holds of.0 of.1 test cell of.4 ∙ (ap (λ x. x && holds of.1 cell) (each of.0 of.2) ∙ ap (λ x. b && x) (every of.1 of.3))
-
-  either_means : (Is IsOther : PlainTest → Type 0) (b c : Bool) → ((t : PlainTest) → Is t → holds t cell ≡ b) → ((t : PlainTest) → IsOther t → holds t cell ≡ c) → (test : PlainTest) → IsEitherOf Is IsOther test → holds test cell ≡ (b || c)
-  either_means Is IsOther b c each every (plain.Either' p one q other) of = ap (λ x. x || holds other cell) (each one of.0) ∙ ap (λ x. b || x) (every other of.1)
-  either_means Is IsOther b c each every _ of = absurd of
+  any_means : (tests : List PlainTest) (test : PlainTest) → IsAnyOf tests test → holds test cell ≡ some_holds tests cell
+  any_means tests test of = ap (λ (t : PlainTest). holds t cell) of.test_is ∙ (any_of_holds of.parts cell ∙ ap (λ (ts : List PlainTest). some_holds ts cell) of.parts_are)
 
   -- ---- comparisons
   compare_means : (field : Field) (mask : Option ℕ) (relation : Relation) (test : PlainTest) → IsCompareOf side field mask relation test → holds test cell ≡ is_so relation (kept_bits mask (number_in side field cell))
@@ -101,11 +97,24 @@ module _ (side : Side) (cell : List ℕ) (is : IsCell cell) where
   user_is = agree_below_at (λ n. bit_and n 4 == 0) (λ n. nat_le n 3) 8 (pti_of cell) refl pti_below
 
   -- ---- tests
-  pub plain_means : (of : Test) (test : PlainTest) → IsPlainOf side of test → holds test cell ≡ is_met side of cell
-  plain_means Any test so = ap (λ (t : PlainTest). holds t cell) so
-  plain_means Oam test so = among_means Pti (Some 6) (span_of_one 4 ∷ []) test so ∙ (only_is 4 (bit_and (pti_of cell) 6) ∙ oam_is)
-  plain_means User test so = among_means Pti (Some 4) (span_of_one 0 ∷ []) test so ∙ (only_is 0 (bit_and (pti_of cell) 4) ∙ user_is)
-  plain_means (Compare field mask relation) test so = compare_means field mask relation test so
-  plain_means (Not' p of) test so = not_means (IsPlainOf side of) (is_met side of cell) (plain_means of) test so
-  plain_means (And' p one q other) test so = both_mean (IsPlainOf side one) (IsPlainOf side other) (is_met side one cell) (is_met side other cell) (plain_means one) (plain_means other) test so
-  plain_means (Or' p one q other) test so = either_means (IsPlainOf side one) (IsPlainOf side other) (is_met side one cell) (is_met side other cell) (plain_means one) (plain_means other) test so
+  mutual
+    pub plain_means : (of : Test) (test : PlainTest) → IsPlainOf side of test → holds test cell ≡ is_met side of cell
+    plain_means Any test so = ap (λ (t : PlainTest). holds t cell) so
+    plain_means Oam test so = among_means Pti (Some 6) (span_of_one 4 ∷ []) test so ∙ (only_is 4 (bit_and (pti_of cell) 6) ∙ oam_is)
+    plain_means User test so = among_means Pti (Some 4) (span_of_one 0 ∷ []) test so ∙ (only_is 0 (bit_and (pti_of cell) 4) ∙ user_is)
+    plain_means (Compare field mask relation) test so = compare_means field mask relation test so
+    plain_means (Not' p of) test so = not_means (IsPlainOf side of) (is_met side of cell) (plain_means of) test so
+    plain_means (AllOf' shape of) test so = all_of_holds so.0 test cell so.2 ∙ all_mean of so.0 so.1
+    plain_means (AnyOf' shape of) test so = any_means so.0 test so.2 ∙ one_means of so.0 so.1
+
+    all_mean : {n : _} (of : Row_of-Test n) (tests : List PlainTest) → ArePlainOf side of tests → each_holds tests cell ≡ all_are_met side of cell
+    all_mean end_of-Test tests so = ap (λ (ts : List PlainTest). each_holds ts cell) so
+    all_mean (more_of-Test of more) [] so = absurd so
+    all_mean (more_of-Test of more) (test ∷ tests) so =
+        ap (λ b. b && each_holds tests cell) (plain_means of test so.0) ∙ ap (λ b. is_met side of cell && b) (all_mean more tests so.1)
+
+    one_means : {n : _} (of : Row_of-Test n) (tests : List PlainTest) → ArePlainOf side of tests → some_holds tests cell ≡ one_is_met side of cell
+    one_means end_of-Test tests so = ap (λ (ts : List PlainTest). some_holds ts cell) so
+    one_means (more_of-Test of more) [] so = absurd so
+    one_means (more_of-Test of more) (test ∷ tests) so =
+        ap (λ b. b || some_holds tests cell) (plain_means of test so.0) ∙ ap (λ b. is_met side of cell || b) (one_means more tests so.1)

@@ -3,3 +3,4 @@ pub mod Tests
 pub mod Rules
 pub mod Promise
 pub mod PlainOf
+pub mod inner

@@ -1,9 +1,10 @@
 -- The test on the numbers in a packet that a test of cells becomes. A field of the header is compared where it is in the
 -- word of the header: the bits of the word that the field has are kept, and the numbers are multiplied in place of a shift.
 use Rattle.std.specs.Prelude.{◌≡◌, ℕ, ◌-◌, ◌*◌, ◌%◌, ◌^◌, ◌==◌, min, nat_le, bit_and, if◌then◌else◌, List, [], ◌∷◌, map, Option, Some, None}
+use Rattle.std.specs.Global.{Vec}
 use Rattle.bpf_code.specs.declared.instr.Size.{Size}
 use Rattle.bpf_code.specs.declared.instr.Size.TheVariants.{Word}
-use Rattle.match_code.specs.Neighbours.{IsBothOf}
+use Rattle.match_code.specs.Neighbours.{IsAllOf}
 use Rattle.match_code.specs.Order.{IsOrderOf}
 use Rattle.match_code.specs.declared.lines.Line.{Line}
 use Rattle.match_code.specs.declared.lines.Line.TheVariants as line
@@ -19,7 +20,7 @@ use Rattle.cell_rules.specs.declared.relation.Relation.{Relation}
 use Rattle.cell_rules.specs.declared.relation.Relation.TheVariants.{Equal, Unequal, Less, AtMost, Greater, AtLeast, In}
 use Rattle.cell_rules.specs.declared.rules.RuleLine.{RuleLine}
 use Rattle.cell_rules.specs.declared.rules.RuleLine.TheVariants.{Rule, Block, End}
-use Rattle.cell_rules.specs.declared.test.Test.{Test}
+use Rattle.cell_rules.specs.declared.test.Test.{Test, Row_of-Test, end_of-Test, more_of-Test}
 use Rattle.cell_rules.specs.declared.test.Test as asked
 
 -- The largest number of a field of the header.
@@ -95,14 +96,16 @@ abbrev pub IsNotOf : (PlainTest → Type 0) → PlainTest → Type 0
 IsNotOf Is (plain.Not' p test) = Is test
 IsNotOf Is _ = ⊥
 
--- The test is that two others hold, which is one comparison if they are of neighbouring bits.
-abbrev pub AreBothOf : (PlainTest → Type 0) → (PlainTest → Type 0) → PlainTest → Type 0
-AreBothOf Is IsOther test = (one other : PlainTest) × Is one × IsOther other × IsBothOf one other test
+-- The first of these tests is as this says, and the others are as that says.
+abbrev pub IsFirst : (PlainTest → Type 0) → (List PlainTest → Type 0) → List PlainTest → Type 0
+IsFirst Is Are [] = ⊥
+IsFirst Is Are (test ∷ more) = Is test × Are more
 
--- The test is that one of two others holds.
-abbrev pub IsEitherOf : (PlainTest → Type 0) → (PlainTest → Type 0) → PlainTest → Type 0
-IsEitherOf Is IsOther (plain.Either' p one q other) = Is one × IsOther other
-IsEitherOf Is IsOther _ = ⊥
+-- The test is that one of these holds.
+pub record IsAnyOf (tests : List PlainTest) (test : PlainTest) : Type 0 where
+  pub parts : Vec PlainTest
+  pub test_is : test ≡ plain.AnyOf parts
+  pub parts_are : parts.items ≡ tests
 
 -- Spans of which there is at least one: an empty one where there is none.
 abbrev pub some_spans : List Span → List Span
@@ -123,15 +126,21 @@ IsCompareOf side field mask (Greater k) test = IsNotOf (IsAmongOf side field mas
 IsCompareOf side field mask (AtLeast k) test = IsNotOf (IsAmongOf side field mask (span_below k ∷ [])) test
 IsCompareOf side field mask (In first others) test = IsListOf side field mask (first ∷ others.items) test
 
--- The test that a test of cells becomes.
-abbrev pub IsPlainOf : Side → Test → PlainTest → Type 0
-IsPlainOf side asked.Any test = test ≡ plain.Always
-IsPlainOf side asked.Oam test = IsAmongOf side Pti (Some 6) (span_of_one 4 ∷ []) test
-IsPlainOf side asked.User test = IsAmongOf side Pti (Some 4) (span_of_one 0 ∷ []) test
-IsPlainOf side (asked.Compare field mask relation) test = IsCompareOf side field mask relation test
-IsPlainOf side (asked.Not' p of) test = IsNotOf (IsPlainOf side of) test
-IsPlainOf side (asked.And' p one q other) test = AreBothOf (IsPlainOf side one) (IsPlainOf side other) test
-IsPlainOf side (asked.Or' p one q other) test = IsEitherOf (IsPlainOf side one) (IsPlainOf side other) test
+abbrev mutual
+  -- The test that a test of cells becomes. Where each of several holds, comparisons of neighbouring bits are one.
+  pub IsPlainOf : Side → Test → PlainTest → Type 0
+  IsPlainOf side asked.Any test = test ≡ plain.Always
+  IsPlainOf side asked.Oam test = IsAmongOf side Pti (Some 6) (span_of_one 4 ∷ []) test
+  IsPlainOf side asked.User test = IsAmongOf side Pti (Some 4) (span_of_one 0 ∷ []) test
+  IsPlainOf side (asked.Compare field mask relation) test = IsCompareOf side field mask relation test
+  IsPlainOf side (asked.Not' p of) test = IsNotOf (IsPlainOf side of) test
+  IsPlainOf side (asked.AllOf' shape of) test = (tests : List PlainTest) × ArePlainOf side of tests × IsAllOf tests test
+  IsPlainOf side (asked.AnyOf' shape of) test = (tests : List PlainTest) × ArePlainOf side of tests × IsAnyOf tests test
+
+  -- The tests that these tests of cells become.
+  pub ArePlainOf : {n : _} → Side → Row_of-Test n → List PlainTest → Type 0
+  ArePlainOf side end_of-Test tests = tests ≡ []
+  ArePlainOf side (more_of-Test of more) tests = IsFirst (IsPlainOf side of) (ArePlainOf side more) tests
 
 -- The line that a line of rules becomes.
 abbrev pub IsPlainLine : Side → RuleLine → Line → Type 0

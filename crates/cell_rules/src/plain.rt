@@ -2,6 +2,7 @@
 
 ghost use Rattle.std.specs.Prelude.{◌≡◌, Some, [], ◌∷◌, map, IfOk};
 ghost use Rattle.cell_rules.specs.declared.field.Field.TheVariants.{Pti};
+ghost use Rattle.cell_rules.specs.inner.PlainTests.{ArePlainTests};
 ghost use Rattle.cell_rules.specs.PlainOf.{IsAmongOf, IsCompareOf, IsListOf, some_spans, IsPlainLine, IsPartOf, IsPlainOf, span_below, in_place, most_of, span_of_one, placed_mask, placed_span, unit_of};
 
 use crate::field::Field;
@@ -9,7 +10,7 @@ use crate::relation::Relation;
 use crate::rules::RuleLine;
 use crate::test::Test;
 use bpf_code::Size;
-use match_code::{Line, Part, PlainTest, Span, both, in_order};
+use match_code::{Line, Part, PlainTest, Span, all_of, in_order};
 use std::alloc::{AllocError, Global};
 use upc_cell::Side;
 
@@ -232,6 +233,7 @@ fn compared(
 }
 
 /// The test that a test of cells becomes.
+#[cycle(plain_of)]
 fn plain_of(alloc: Global, side: Side, test: &Test) -> Result<PlainTest, AllocError>
     ensures { IfOk result (IsPlainOf side test.now) }
 {
@@ -248,19 +250,25 @@ fn plain_of(alloc: Global, side: Side, test: &Test) -> Result<PlainTest, AllocEr
             let plain = plain_of(alloc, side, test)?;
             Ok(PlainTest::Not(Box::new(alloc, plain)?))
         }
-        Test::And(one, other) => {
-            let one = plain_of(alloc, side, one)?;
-            let other = plain_of(alloc, side, other)?;
-            let joined = both(alloc, one, other)?;
-            Ok(joined)
+        Test::AllOf(tests) => {
+            let plain = plain_tests(alloc, side, tests)?;
+            let test = all_of(alloc, plain)?;
+            Ok(test)
         }
-        Test::Or(one, other) => {
-            let one = plain_of(alloc, side, one)?;
-            let other = plain_of(alloc, side, other)?;
-            let one = Box::new(alloc, one)?;
-            Ok(PlainTest::Either(one, Box::new(alloc, other)?))
-        }
+        Test::AnyOf(tests) => Ok(PlainTest::AnyOf(plain_tests(alloc, side, tests)?)),
     }
+}
+
+/// The tests that tests of cells become.
+#[cycle(plain_of)]
+fn plain_tests(alloc: Global, side: Side, tests: &[Test]) -> Result<Vec<PlainTest>, AllocError>
+    ensures { IfOk result (λ plain. ArePlainTests side tests.now plain.items) }
+{
+    let mut plain = Vec::new(alloc);
+    for test in tests {
+        plain.push(plain_of(alloc, side, test)?)?;
+    }
+    Ok(plain)
 }
 
 /// The line that a line of rules becomes.

@@ -23,8 +23,8 @@ pub enum Test {
     },
     /// The test doesn't hold.
     Not(Box<Test>),
-    /// Both tests hold.
-    And(Box<Test>, Box<Test>),
-    /// One of the tests holds.
-    Or(Box<Test>, Box<Test>),
+    /// Each of these tests holds.
+    AllOf(Vec<Test>),
+    /// One of these tests holds.
+    AnyOf(Vec<Test>),
 }

@@ -1,6 +1,5 @@
 -- A comparison of neighbouring bits holds exactly if both comparisons do.
 use Rattle.std.proofs.Common.{◌≡◌, ℕ, suc, ◌+◌, ◌*◌, ◌/◌, ◌%◌, ◌^◌, ◌≤◌, ◌<◌, Bool, true, false, ◌&&◌, ◌||◌, nat_le, if◌then◌else◌, List, [], ◌∷◌, drop, Option, Some, None, inl, inr, refl, sym, ap, subst, ◌∙◌, arith, add-zero, bit_and, bit_or}
-use Rattle.std.specs.Option.{MatchOption}
 use Rattle.std.specs.Int.{trailing_zeros, w32}
 use Rattle.std.proofs.lemmas.Option.{same_Some}
 use Rattle.std.proofs.lemmas.Bool.{and_parts, eqb-true, ltb-true, leb-true, le-leb, cases_order}
@@ -11,12 +10,12 @@ use Rattle.bpf_code.specs.declared.instr.Size.{Size}
 use Rattle.bpf_interp.specs.Packet.{octets_loaded}
 use Rattle.match_code.specs.PlainTests.{holds, is_among, is_in, kept_bits, number_of}
 use Rattle.match_code.specs.BitTests.{above_unit}
-use Rattle.match_code.specs.Neighbours.{HasBoth, IsBothOf, IsSingle, are_neighbours, joined_by, joined_single, joined_singles, single_in, single_of}
+use Rattle.match_code.specs.Neighbours.{IsSingle, are_neighbours, joined_by, joined_single, joined_singles, single_in, single_of}
 use Rattle.match_code.specs.TestCode.{is_same_load}
 use Rattle.match_code.specs.declared.part.Part.{Part}
 use Rattle.match_code.specs.declared.part.Single.{Single}
 use Rattle.match_code.specs.declared.part.Span.{Span}
-use Rattle.match_code.specs.declared.plain_test.PlainTest.{PlainTest, Always, Among, Has, Not', Both', Either'}
+use Rattle.match_code.specs.declared.plain_test.PlainTest.{PlainTest, Always, Among, Not', AllOf', AnyOf'}
 use Rattle.match_code.proofs.Loads.{octets_are}
 
 -- ---- bits above and below a power of two
@@ -195,10 +194,9 @@ single_by part (Some mask) first [] packet single m e =
 single_holds : (test : PlainTest) (packet : List ℕ) (single : Single) → single_of test ≡ Some single → holds test packet ≡ is_in_single single (number_there single.part packet)
 single_holds Always packet single e = absurd cc
 single_holds (Among part first others) packet single e = single_by part part.mask first others.items packet single refl e
-single_holds (Has part bits) packet single e = absurd cc
 single_holds (Not' p test) packet single e = absurd cc
-single_holds (Both' p one q other) packet single e = absurd cc
-single_holds (Either' p one q other) packet single e = absurd cc
+single_holds (AllOf' shape tests) packet single e = absurd cc
+single_holds (AnyOf' shape tests) packet single e = absurd cc
 
 made_holds : (single : Single) (test : PlainTest) (packet : List ℕ) → IsSingle single test → holds test packet ≡ is_in_single single (number_there single.part packet)
 made_holds single (Among part first others) packet is =
@@ -245,17 +243,7 @@ joined_says one other packet (Some s) (Some t) single p q e =
     chosen s t packet (are_neighbours s t) (are_neighbours t s) single refl refl e
     ∙ (ap (λ x. x && is_in_single t (number_there t.part packet)) (sym (single_holds one packet s p)) ∙ ap (λ x. holds one packet && x) (sym (single_holds other packet t q)))
 
-has_both : (one other test : PlainTest) (packet : List ℕ) → HasBoth one other test → holds test packet ≡ (holds one packet && holds other packet)
-has_both one other (Both' p first q second) packet has =
-    ap (λ (t : PlainTest). holds t packet && holds second packet) has.0 ∙ ap (λ (t : PlainTest). holds one packet && holds t packet) has.1
-has_both one other _ packet has = absurd has
-
-made_by : (one other test : PlainTest) (packet : List ℕ) (left_at_join : Option Single) → joined_single one other ≡ left_at_join → MatchOption left_at_join (HasBoth one other test) (λ single. IsSingle single test)
-    → holds test packet ≡ (holds one packet && holds other packet)
-made_by one other test packet None e is = has_both one other test packet is
-made_by one other test packet (Some single) e is =
+-- A neighbour that is joined to a test says what both say.
+pub joined_holds : (one other test : PlainTest) (packet : List ℕ) (single : Single) → joined_single one other ≡ Some single → IsSingle single test → holds test packet ≡ (holds one packet && holds other packet)
+joined_holds one other test packet single e is =
     made_holds single test packet is ∙ joined_says one other packet (single_of one) (single_of other) single refl refl e
-
--- The test that both tests hold.
-pub both_holds : (one other test : PlainTest) (packet : List ℕ) → IsBothOf one other test → holds test packet ≡ (holds one packet && holds other packet)
-both_holds one other test packet is = made_by one other test packet (joined_single one other) refl is

@@ -6,6 +6,8 @@ pub mod Spans
 pub mod Loads
 pub mod JoinedSingles
 pub mod BitTests
+pub mod Chains
+pub mod AllOf
 pub mod Tests
 pub mod LinesFit
 pub mod LinesAccepted

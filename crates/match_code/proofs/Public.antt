@@ -1,10 +1,16 @@
 -- Lemmas for proofs of other crates.
-use Rattle.std.proofs.Common.{◌≡◌, ℕ, ◌&&◌, List}
+use Rattle.std.proofs.Common.{◌≡◌, ℕ, List, Vec, Global}
 use Rattle.match_code.specs.PlainTests.{holds}
-use Rattle.match_code.specs.Neighbours.{IsBothOf}
-use Rattle.match_code.specs.declared.plain_test.PlainTest.{PlainTest}
-use Rattle.match_code.proofs.JoinedSingles as left_at_join
+use Rattle.match_code.specs.Neighbours.{IsAllOf}
+use Rattle.match_code.specs.inner.Chains.{each_holds, some_holds}
+use Rattle.match_code.specs.declared.plain_test.PlainTest.{PlainTest, AnyOf}
+use Rattle.match_code.proofs.AllOf as all_of
+use Rattle.match_code.proofs.Chains as chains
 
--- The test that both tests hold, as `both` makes it, holds exactly if both do.
-pub both_holds : (one other test : PlainTest) (packet : List ℕ) → IsBothOf one other test → holds test packet ≡ (holds one packet && holds other packet)
-both_holds = left_at_join.both_holds
+-- The test that each of several tests holds, as `all_of` makes it, holds exactly if each does.
+pub all_of_holds : (tests : List PlainTest) (test : PlainTest) (packet : List ℕ) → IsAllOf tests test → holds test packet ≡ each_holds tests packet
+all_of_holds tests test packet is = all_of.all_of_holds packet tests test is
+
+-- The test that one of several tests holds, holds exactly if one does.
+pub any_of_holds : (tests : Vec PlainTest Global) (packet : List ℕ) → holds (AnyOf tests) packet ≡ some_holds tests.items packet
+any_of_holds = chains.holds_any

@@ -1,20 +1,19 @@
 -- The code of a test: where it leads, and with what in A.
-use Rattle.std.proofs.Common.{◌≡◌, ℕ, Bool, true, false, not, ◌&&◌, ◌||◌, if◌then◌else◌, List, ◌∷◌, length, Option, Some, None, refl, sym, ap, subst, ◌∙◌, arith}
+use Rattle.std.proofs.Common.{◌≡◌, ℕ, Bool, true, false, not, ◌&&◌, ◌||◌, ◌==◌, if◌then◌else◌, List, ◌∷◌, length, Option, Some, None, refl, sym, ap, subst, ◌∙◌, arith}
+use Rattle.std.proofs.lemmas.Bool.{eqb-true}
 use Rattle.bpf_code.specs.declared.instr.Instr.{Instr}
-use Rattle.bpf_code.specs.declared.instr.Test.TheVariants.{Set}
-use Rattle.match_code.specs.Labels.{Tested, branched}
+use Rattle.match_code.specs.Labels.{Tested}
 use Rattle.match_code.specs.inner.Suffixes.{suffix_at}
-use Rattle.match_code.specs.PlainTests.{kept_bits, number_of, is_among, holds}
-use Rattle.match_code.specs.TestCode.{turned, spans_code, left_at_join, known_after, held_for_bits, held_to_compare, loaded, with_load, bits_code, bits_loaded, with_octets, among_code, both_ways, either_way, test_code}
+use Rattle.match_code.specs.PlainTests.{kept_bits, number_of, is_among, holds, all_hold, one_holds}
+use Rattle.match_code.specs.TestCode.{turned, spans_code, left_on, left_more, known_after, known_after_chain, known_after_more, held_for_bits, held_to_compare, loaded, with_load, bits_code, bits_loaded, with_octets, among_code, turned_unless, before_parts, test_code, parts_code}
 use Rattle.match_code.specs.BitTests.{bits_of}
 use Rattle.match_code.specs.declared.bits.BitTest.{BitTest}
 use Rattle.match_code.specs.declared.part.Left.{Left}
 use Rattle.match_code.specs.declared.part.Part.{Part}
 use Rattle.match_code.specs.declared.part.Span.{Span}
-use Rattle.match_code.specs.declared.plain_test.PlainTest.{PlainTest, Always, Among, Has, Not', Both', Either'}
+use Rattle.match_code.specs.declared.plain_test.PlainTest.{PlainTest, Always, Among, Not', AllOf', AnyOf', Row_of-PlainTest, end_of-PlainTest, more_of-PlainTest}
 use Rattle.match_code.proofs.Suffixes.{Gives, gives_whole, gives_from_whole}
 use Rattle.match_code.proofs.Growing.{IsLabel, IsWell, Extends, extends_self, extends_more, gives_kept, label_kept}
-use Rattle.match_code.proofs.Branches.{branched_well, branched_front, branched_gives}
 use Rattle.match_code.proofs.Spans.{turned_well, as_side, spans_well, spans_front, spans_gives}
 use Rattle.match_code.proofs.Loads.{IsHeld, joined_left, joined_right, loaded_extends, loaded_gives, bits_loaded_extends, bits_loaded_gives}
 use Rattle.match_code.proofs.BitTests.{bits_say, bits_well, bits_front, bits_give}
@@ -101,112 +100,172 @@ module _ (part : Part) (first : Span) (others : List Span) (held : Option Part) 
       bits_give test code met unmet p q packet a value outcome (sym e ∙ (ap (λ n. is_among (first ∷ others) n) (sym kept) ∙ bits_say part.mask first others test is a)) given)
       (if outcome then held_for_bits held part else held_for_bits held part) (λ a h. held_either outcome (held_for_bits held part) packet a h)
 
--- ---- not, both, either
+-- ---- not
 
 turned_right : (packet : List ℕ) (held : Option Part) (x : Bool) (one other : Option Part) (code : List Instr) (met unmet : ℕ) (t : Tested)
     → IsRight packet held x (if x then one else other) code unmet met t → IsRight packet held (not x) (if not x then other else one) code met unmet (turned t)
 turned_right packet held true one other code met unmet t r = record { gives = r.gives }
 turned_right packet held false one other code met unmet t r = record { gives = r.gives }
 
-module _ (code : List Instr) (met unmet : ℕ) (second first : Tested) (v : IsWell code met unmet second) where
-  both_well : IsWell second.code second.ways.entry second.ways.unmet first → IsWell code met unmet (both_ways second first)
-  both_well w = record {
-    extends = extends_more code second.code first.code v.extends w.extends;
-    entry = w.entry;
-    met_is = label_kept second.code first.code second.ways.met w.extends v.met_is;
-    unmet_is = w.unmet_is;
-    met_leads = λ packet a value given. gives_kept packet second.code first.code second.ways.met a value w.extends v.met_is (v.met_leads packet a value given);
-    unmet_leads = λ packet a value given. w.unmet_leads packet a value (v.unmet_leads packet a value given);
+-- ---- chains
+
+-- Whether a chain goes on after a part with this outcome.
+abbrev outcome_on : Bool → Bool → Bool
+outcome_on true x = x
+outcome_on false x = not x
+
+-- Whether a chain goes on after each of these parts.
+abbrev goes_on : {n : _} → Bool → Row_of-PlainTest n → List ℕ → Bool
+goes_on on end_of-PlainTest packet = true
+goes_on on (more_of-PlainTest test more) packet = outcome_on on (holds test packet) && goes_on on more packet
+
+all_go : (n : _) (row : Row_of-PlainTest n) (packet : List ℕ) → goes_on true row packet ≡ all_hold row packet
+all_go n end_of-PlainTest packet = refl
+all_go n (more_of-PlainTest test more) packet = ap (λ b. holds test packet && b) (all_go _ more packet)
+
+not_and : (x y : Bool) → not (not x && y) ≡ (x || not y)
+not_and true y = refl
+not_and false y = refl
+
+one_stops : (n : _) (row : Row_of-PlainTest n) (packet : List ℕ) → not (goes_on false row packet) ≡ one_holds row packet
+one_stops n end_of-PlainTest packet = refl
+one_stops n (more_of-PlainTest test more) packet = not_and (holds test packet) (goes_on false more packet) ∙ ap (λ b. holds test packet || b) (one_stops _ more packet)
+
+module _ (test : PlainTest) (held : Option Part) (code : List Instr) (next end : ℕ) (p : IsLabel code next) (q : IsLabel code end) where
+  -- A part of a chain: where it goes on counts as met.
+  part_well : (on : Bool) → ((met unmet : ℕ) → IsLabel code met → IsLabel code unmet → IsWell code met unmet (test_code test held code met unmet))
+      → IsWell code next end (turned_unless on (test_code test held code (if on then next else end) (if on then end else next)))
+  part_well true w = w next end p q
+  part_well false w = turned_well code end next (test_code test held code end next) (w end next q p)
+
+  part_right : (packet : List ℕ) (on : Bool)
+      → ((met unmet : ℕ) → IsLabel code met → IsLabel code unmet
+      → IsRight packet held (holds test packet) (if holds test packet then (known_after test held).met else (known_after test held).unmet) code met unmet (test_code test held code met unmet))
+      → IsRight packet held (outcome_on on (holds test packet)) (if outcome_on on (holds test packet) then (left_on on (known_after test held)).met else (left_on on (known_after test held)).unmet)
+      code next end (turned_unless on (test_code test held code (if on then next else end) (if on then end else next)))
+  part_right packet true r = r next end p q
+  part_right packet false r =
+      turned_right packet held (holds test packet) (known_after test held).met (known_after test held).unmet code next end (test_code test held code end next) (r end next q p)
+
+-- A part in front of the parts after it.
+module _ (code : List Instr) (next end : ℕ) (later first : Tested) (v : IsWell code next end later) where
+  module _ (w : IsWell later.code later.ways.entry later.ways.unmet first) where
+    met_is_by : (b : Bool) → IsLabel first.code (if b then first.ways.met else later.ways.met)
+    met_is_by true = w.met_is
+    met_is_by false = label_kept later.code first.code later.ways.met w.extends v.met_is
+
+    met_leads_by : (b : Bool) → (b ≡ true → later.ways.entry ≡ later.ways.met) → (packet : List ℕ) (a value : ℕ) → Gives packet (suffix_at code next) a value
+        → Gives packet (suffix_at first.code (if b then first.ways.met else later.ways.met)) a value
+    met_leads_by true e packet a value given =
+        w.met_leads packet a value (subst (λ (label : ℕ). Gives packet (suffix_at later.code label) a value) (sym (e refl)) (v.met_leads packet a value given))
+    met_leads_by false e packet a value given = gives_kept packet later.code first.code later.ways.met a value w.extends v.met_is (v.met_leads packet a value given)
+
+    before_well : IsWell code next end (before_parts later first)
+    before_well = record {
+      extends = extends_more code later.code first.code v.extends w.extends;
+      entry = w.entry;
+      met_is = met_is_by (later.ways.entry == later.ways.met);
+      unmet_is = w.unmet_is;
+      met_leads = met_leads_by (later.ways.entry == later.ways.met) (eqb-true later.ways.entry later.ways.met);
+      unmet_leads = λ packet a value given. w.unmet_leads packet a value (v.unmet_leads packet a value given);
+    }
+
+  before_right : (packet : List ℕ) (held : Option Part) (x y : Bool) (one : Left) (on out : Option Part)
+      → IsRight packet one.met y (if y then on else out) code next end later
+      → IsRight packet held x (if x then one.met else one.unmet) later.code later.ways.entry later.ways.unmet first
+      → ((a : ℕ) → IsHeld packet one.unmet a → IsHeld packet out a)
+      → IsRight packet held (x && y) (if x && y then on else out) code next end (before_parts later first)
+  before_right packet held true y one on out r s kept = record {
+    gives = λ a value h goes. s.gives a value h (λ b hb. r.gives b value hb goes);
+  }
+  before_right packet held false y one on out r s kept = record {
+    gives = λ a value h goes. s.gives a value h (λ b hb. v.unmet_leads packet b value (goes b (kept b hb)));
   }
 
-  either_well : IsWell second.code second.ways.met second.ways.entry first → IsWell code met unmet (either_way second first)
-  either_well w = record {
-    extends = extends_more code second.code first.code v.extends w.extends;
-    entry = w.entry;
-    met_is = w.met_is;
-    unmet_is = label_kept second.code first.code second.ways.unmet w.extends v.unmet_is;
-    met_leads = λ packet a value given. w.met_leads packet a value (v.met_leads packet a value given);
-    unmet_leads = λ packet a value given. gives_kept packet second.code first.code second.ways.unmet a value w.extends v.unmet_is (v.unmet_leads packet a value given);
-  }
-
-  both_right : (packet : List ℕ) (held : Option Part) (x y : Bool) (one other : Left)
-      → IsRight packet one.met y (if y then other.met else other.unmet) code met unmet second
-      → IsRight packet held x (if x then one.met else one.unmet) second.code second.ways.entry second.ways.unmet first
-      → IsRight packet held (x && y) (if x && y then other.met else left_at_join one.unmet other.unmet) code met unmet (both_ways second first)
-  both_right packet held true true one other r s = record {
-    gives = λ a value h on. s.gives a value h (λ b hb. r.gives b value hb on);
-  }
-  both_right packet held true false one other r s = record {
-    gives = λ a value h on. s.gives a value h (λ b hb. r.gives b value hb (λ c hc. on c (joined_right one.unmet other.unmet packet c hc)));
-  }
-  both_right packet held false y one other r s = record {
-    gives = λ a value h on. s.gives a value h (λ b hb. v.unmet_leads packet b value (on b (joined_left one.unmet other.unmet packet b hb)));
-  }
-
-  either_right : (packet : List ℕ) (held : Option Part) (x y : Bool) (one other : Left)
-      → IsRight packet one.unmet y (if y then other.met else other.unmet) code met unmet second
-      → IsRight packet held x (if x then one.met else one.unmet) second.code second.ways.met second.ways.entry first
-      → IsRight packet held (x || y) (if x || y then left_at_join one.met other.met else other.unmet) code met unmet (either_way second first)
-  either_right packet held false true one other r s = record {
-    gives = λ a value h on. s.gives a value h (λ b hb. r.gives b value hb (λ c hc. on c (joined_right one.met other.met packet c hc)));
-  }
-  either_right packet held false false one other r s = record {
-    gives = λ a value h on. s.gives a value h (λ b hb. r.gives b value hb on);
-  }
-  either_right packet held true y one other r s = record {
-    gives = λ a value h on. s.gives a value h (λ b hb. v.met_leads packet b value (on b (joined_left one.met other.met packet b hb)));
-  }
+-- What A holds where a chain ends at a part, it holds where the chain ends at this part or a later one.
+kept_more : {n : _} (packet : List ℕ) (on : Bool) (row : Row_of-PlainTest n) (before : Left) (a : ℕ) → IsHeld packet before.unmet a → IsHeld packet (known_after_more on row before).unmet a
+kept_more packet on end_of-PlainTest before a h = h
+kept_more packet on (more_of-PlainTest test more) before a h =
+    let left = left_on on (known_after test before.met) in
+    kept_more packet on more (left_more before left) a (joined_left before.unmet left.unmet packet a h)
 
 -- ---- tests
 
-pub test_well : (test : PlainTest) (held : Option Part) (code : List Instr) (met unmet : ℕ) → IsLabel code met → IsLabel code unmet → IsWell code met unmet (test_code test held code met unmet)
-unfolding test_code
-test_well Always held code met unmet p q = record {
-  extends = extends_self code;
-  entry = p;
-  met_is = p;
-  unmet_is = q;
-  met_leads = λ packet a value given. given;
-  unmet_leads = λ packet a value given. given;
-}
-test_well (Among part first others) held code met unmet p q =
-    among_well part first others.items held code met unmet p q (bits_of part.mask first others.items)
-test_well (Has part bits) held code met unmet p q =
-    with_load_well held part code met unmet (branched Set bits code met unmet) (branched_well Set bits code met unmet p q)
-test_well (Not' at test) held code met unmet p q = turned_well code unmet met (test_code test held code unmet met) (test_well test held code unmet met q p)
-test_well (Both' at one to other) held code met unmet p q =
-    let second = test_code other (known_after one held).met code met unmet in
-    let v = test_well other (known_after one held).met code met unmet p q in
-    both_well code met unmet second (test_code one held second.code second.ways.entry second.ways.unmet) v
-    (test_well one held second.code second.ways.entry second.ways.unmet v.entry v.unmet_is)
-test_well (Either' at one to other) held code met unmet p q =
-    let second = test_code other (known_after one held).unmet code met unmet in
-    let v = test_well other (known_after one held).unmet code met unmet p q in
-    either_well code met unmet second (test_code one held second.code second.ways.met second.ways.entry) v
-    (test_well one held second.code second.ways.met second.ways.entry v.met_is v.entry)
+mutual
+  unfolding test_code
+  pub test_well : (test : PlainTest) (held : Option Part) (code : List Instr) (met unmet : ℕ) → IsLabel code met → IsLabel code unmet → IsWell code met unmet (test_code test held code met unmet)
+  test_well Always held code met unmet p q = record {
+    extends = extends_self code;
+    entry = p;
+    met_is = p;
+    unmet_is = q;
+    met_leads = λ packet a value given. given;
+    unmet_leads = λ packet a value given. given;
+  }
+  test_well (Among part first others) held code met unmet p q =
+      among_well part first others.items held code met unmet p q (bits_of part.mask first others.items)
+  test_well (Not' at test) held code met unmet p q = turned_well code unmet met (test_code test held code unmet met) (test_well test held code unmet met q p)
+  test_well (AllOf' shape tests) held code met unmet p q = parts_well true tests held code met unmet p q
+  test_well (AnyOf' shape tests) held code met unmet p q = turned_well code unmet met (parts_code false tests held code unmet met) (parts_well false tests held code unmet met q p)
+
+  parts_well : {n : _} (on : Bool) (row : Row_of-PlainTest n) (held : Option Part) (code : List Instr) (next end : ℕ) → IsLabel code next → IsLabel code end → IsWell code next end (parts_code on row held code next end)
+  parts_well on end_of-PlainTest held code next end p q = record {
+    extends = extends_self code;
+    entry = p;
+    met_is = p;
+    unmet_is = q;
+    met_leads = λ packet a value given. given;
+    unmet_leads = λ packet a value given. given;
+  }
+  parts_well on (more_of-PlainTest test more) held code next end p q =
+      let known = (left_on on (known_after test held)).met in
+      let later = parts_code on more known code next end in
+      let v = parts_well on more known code next end p q in
+      let t = test_code test held later.code (if on then later.ways.entry else later.ways.unmet) (if on then later.ways.unmet else later.ways.entry) in
+      before_well code next end later (turned_unless on t) v
+      (part_well test held later.code later.ways.entry later.ways.unmet v.entry v.unmet_is on (λ m u a b. test_well test held later.code m u a b))
 
 module _ (packet : List ℕ) (whole : length packet ≡ 52) where
-  pub test_right : (test : PlainTest) (held : Option Part) (code : List Instr) (met unmet : ℕ) → IsLabel code met → IsLabel code unmet
-      → IsRight packet held (holds test packet) (if holds test packet then (known_after test held).met else (known_after test held).unmet) code met unmet (test_code test held code met unmet)
-  unfolding test_code
-  test_right Always held code met unmet p q = record { gives = λ a value h on. on a h }
-  test_right (Among part first others) held code met unmet p q =
-      among_right part first others.items held code met unmet p q packet whole (bits_of part.mask first others.items) refl (is_among (first ∷ others.items) (number_of part packet)) refl
-  test_right (Has part bits) held code met unmet p q =
-      with_load_right held part code met unmet (branched Set bits code met unmet) (branched_well Set bits code met unmet p q) packet whole (holds (Has part bits) packet)
-      (branched_front Set bits code met unmet p q) (λ value given. branched_gives Set bits code met unmet p q packet (number_of part packet) value given)
-      (if holds (Has part bits) packet then Some part else Some part) (held_either (holds (Has part bits) packet) (Some part) packet (number_of part packet) refl)
-  test_right (Not' at test) held code met unmet p q =
-      turned_right packet held (holds test packet) (known_after test held).met (known_after test held).unmet code met unmet (test_code test held code unmet met) (test_right test held code unmet met q p)
-  test_right (Both' at one to other) held code met unmet p q =
-      let second = test_code other (known_after one held).met code met unmet in
-      let v = test_well other (known_after one held).met code met unmet p q in
-      both_right code met unmet second (test_code one held second.code second.ways.entry second.ways.unmet) v packet held (holds one packet) (holds other packet) (known_after one held) (known_after other (known_after one held).met)
-      (test_right other (known_after one held).met code met unmet p q)
-      (test_right one held second.code second.ways.entry second.ways.unmet v.entry v.unmet_is)
-  test_right (Either' at one to other) held code met unmet p q =
-      let second = test_code other (known_after one held).unmet code met unmet in
-      let v = test_well other (known_after one held).unmet code met unmet p q in
-      either_right code met unmet second (test_code one held second.code second.ways.met second.ways.entry) v packet held (holds one packet) (holds other packet) (known_after one held) (known_after other (known_after one held).unmet)
-      (test_right other (known_after one held).unmet code met unmet p q)
-      (test_right one held second.code second.ways.met second.ways.entry v.met_is v.entry)
+  mutual
+    unfolding test_code
+    pub test_right : (test : PlainTest) (held : Option Part) (code : List Instr) (met unmet : ℕ) → IsLabel code met → IsLabel code unmet
+        → IsRight packet held (holds test packet) (if holds test packet then (known_after test held).met else (known_after test held).unmet) code met unmet (test_code test held code met unmet)
+    test_right Always held code met unmet p q = record { gives = λ a value h on. on a h }
+    test_right (Among part first others) held code met unmet p q =
+        among_right part first others.items held code met unmet p q packet whole (bits_of part.mask first others.items) refl (is_among (first ∷ others.items) (number_of part packet)) refl
+    test_right (Not' at test) held code met unmet p q =
+        turned_right packet held (holds test packet) (known_after test held).met (known_after test held).unmet code met unmet (test_code test held code unmet met) (test_right test held code unmet met q p)
+    test_right (AllOf' shape tests) held code met unmet p q =
+        subst (λ (x : Bool). IsRight packet held x (if x then (known_after_chain true tests held).met else (known_after_chain true tests held).unmet) code met unmet (parts_code true tests held code met unmet))
+        (all_go _ tests packet) (chain_right true tests held code met unmet p q)
+    test_right (AnyOf' shape tests) held code met unmet p q =
+        let left = known_after_chain false tests held in
+        subst (λ (x : Bool). IsRight packet held x (if x then left.unmet else left.met) code met unmet (turned (parts_code false tests held code unmet met))) (one_stops _ tests packet)
+        (turned_right packet held (goes_on false tests packet) left.met left.unmet code met unmet (parts_code false tests held code unmet met) (chain_right false tests held code unmet met q p))
+
+    chain_right : {n : _} (on : Bool) (row : Row_of-PlainTest n) (held : Option Part) (code : List Instr) (next end : ℕ) → IsLabel code next → IsLabel code end
+        → IsRight packet held (goes_on on row packet) (if goes_on on row packet then (known_after_chain on row held).met else (known_after_chain on row held).unmet) code next end (parts_code on row held code next end)
+    chain_right on end_of-PlainTest held code next end p q = record { gives = λ a value h goes. goes a h }
+    chain_right on (more_of-PlainTest test more) held code next end p q =
+        let left = left_on on (known_after test held) in
+        let later = parts_code on more left.met code next end in
+        let v = parts_well on more left.met code next end p q in
+        let t = test_code test held later.code (if on then later.ways.entry else later.ways.unmet) (if on then later.ways.unmet else later.ways.entry) in
+        before_right code next end later (turned_unless on t) v packet held (outcome_on on (holds test packet)) (goes_on on more packet) left (known_after_more on more left).met (known_after_more on more left).unmet
+        (more_right on more left code next end p q)
+        (part_right test held later.code later.ways.entry later.ways.unmet v.entry v.unmet_is packet on (λ m u a b. test_right test held later.code m u a b))
+        (λ a h. kept_more packet on more left a h)
+
+    more_right : {n : _} (on : Bool) (row : Row_of-PlainTest n) (before : Left) (code : List Instr) (next end : ℕ) → IsLabel code next → IsLabel code end
+        → IsRight packet before.met (goes_on on row packet) (if goes_on on row packet then (known_after_more on row before).met else (known_after_more on row before).unmet) code next end (parts_code on row before.met code next end)
+    more_right on end_of-PlainTest before code next end p q = record { gives = λ a value h goes. goes a h }
+    more_right on (more_of-PlainTest test more) before code next end p q =
+        let left = left_on on (known_after test before.met) in
+        let both = left_more before left in
+        let later = parts_code on more left.met code next end in
+        let v = parts_well on more left.met code next end p q in
+        let t = test_code test before.met later.code (if on then later.ways.entry else later.ways.unmet) (if on then later.ways.unmet else later.ways.entry) in
+        before_right code next end later (turned_unless on t) v packet before.met (outcome_on on (holds test packet)) (goes_on on more packet) left (known_after_more on more both).met (known_after_more on more both).unmet
+        (more_right on more both code next end p q)
+        (part_right test before.met later.code later.ways.entry later.ways.unmet v.entry v.unmet_is packet on (λ m u a b. test_right test before.met later.code m u a b))
+        (λ a h. kept_more packet on more both a (joined_right before.unmet left.unmet packet a h))

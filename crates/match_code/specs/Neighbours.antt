@@ -1,5 +1,6 @@
--- Two comparisons of neighbouring bits as one.
+-- Two comparisons of neighbouring bits as one, and the test that each of several holds.
 use Rattle.std.specs.Prelude.{◌≡◌, ℕ, ◌%◌, ◌==◌, Bool, ◌&&◌, nat_lt, bit_or, if◌then◌else◌, List, [], ◌∷◌, Option, Some, None}
+use Rattle.std.specs.Global.{Vec}
 use Rattle.std.specs.Option.{MatchOption}
 use Rattle.match_code.specs.BitTests.{above_unit}
 use Rattle.match_code.specs.TestCode.{is_same_load}
@@ -57,11 +58,25 @@ IsSingle single (plain.Among part first others) =
     (part.size ≡ single.part.size) × (part.at ≡ single.part.at) × (part.mask ≡ Some single.mask) × (first ≡ single.span) × (others.items ≡ [])
 IsSingle single _ = ⊥
 
--- The test has these two as its parts.
-abbrev pub HasBoth : PlainTest → PlainTest → PlainTest → Type 0
-HasBoth one other (plain.Both' p first q second) = (first ≡ one) × (second ≡ other)
-HasBoth one other _ = ⊥
+-- The first of these parts is this test, and the others are as this says.
+abbrev pub BeginsWith : PlainTest → (List PlainTest → Type 0) → List PlainTest → Type 0
+BeginsWith test AreOthers [] = ⊥
+BeginsWith test AreOthers (part ∷ others) = (part ≡ test) × AreOthers others
 
--- The test is that both tests hold: one comparison if they are neighbours.
-abbrev pub IsBothOf : PlainTest → PlainTest → PlainTest → Type 0
-IsBothOf one other test = MatchOption (joined_single one other) (HasBoth one other test) (λ single. IsSingle single test)
+-- These are the parts that this test and those after it make: a test that is a neighbour of what comes just before it
+-- is joined to that.
+abbrev pub AreParts : PlainTest → List PlainTest → List PlainTest → Type 0
+AreParts last [] parts = parts ≡ last ∷ []
+AreParts last (test ∷ more) parts =
+    MatchOption (joined_single last test) (BeginsWith last (AreParts test more) parts)
+    (λ single. (joined : PlainTest) × IsSingle single joined × AreParts joined more parts)
+
+-- The test is that each of these parts holds. One part alone is the test itself.
+abbrev pub IsOfParts : List PlainTest → PlainTest → Type 0
+IsOfParts (part ∷ []) test = test ≡ part
+IsOfParts parts test = (tests : Vec PlainTest) × (test ≡ plain.AllOf tests) × (tests.items ≡ parts)
+
+-- The test is that each of these tests holds, where neighbours are one comparison.
+abbrev pub IsAllOf : List PlainTest → PlainTest → Type 0
+IsAllOf [] test = test ≡ plain.Always
+IsAllOf (first ∷ others) test = (parts : List PlainTest) × AreParts first others parts × IsOfParts parts test

@@ -1,10 +1,10 @@
 -- When a test on the numbers in a packet holds.
-use Rattle.std.specs.Prelude.{ℕ, Bool, true, false, not, ◌&&◌, ◌||◌, nat_le, nat_lt, bit_and, List, [], ◌∷◌, drop, Option, Some, None}
+use Rattle.std.specs.Prelude.{ℕ, Bool, true, false, not, ◌&&◌, ◌||◌, nat_le, bit_and, List, [], ◌∷◌, drop, Option, Some, None}
 use Rattle.byteorder.specs.Endian.{big_number}
 use Rattle.bpf_interp.specs.Packet.{octets_loaded}
 use Rattle.match_code.specs.declared.part.Part.{Part}
 use Rattle.match_code.specs.declared.part.Span.{Span}
-use Rattle.match_code.specs.declared.plain_test.PlainTest.{PlainTest}
+use Rattle.match_code.specs.declared.plain_test.PlainTest.{PlainTest, Row_of-PlainTest, end_of-PlainTest, more_of-PlainTest}
 use Rattle.match_code.specs.declared.plain_test.PlainTest as plain
 
 -- The bits of a number that a mask keeps.
@@ -25,11 +25,21 @@ abbrev pub is_among : List Span → ℕ → Bool
 is_among [] number = false
 is_among (span ∷ more) number = is_in span number || is_among more number
 
--- Whether the test holds of a packet.
-abbrev pub holds : PlainTest → List ℕ → Bool
-holds plain.Always packet = true
-holds (plain.Among part first others) packet = is_among (first ∷ others.items) (number_of part packet)
-holds (plain.Has part bits) packet = nat_lt 0 (bit_and (number_of part packet) bits)
-holds (plain.Not' p test) packet = not (holds test packet)
-holds (plain.Both' p one q other) packet = holds one packet && holds other packet
-holds (plain.Either' p one q other) packet = holds one packet || holds other packet
+abbrev mutual
+  -- Whether the test holds of a packet.
+  pub holds : PlainTest → List ℕ → Bool
+  holds plain.Always packet = true
+  holds (plain.Among part first others) packet = is_among (first ∷ others.items) (number_of part packet)
+  holds (plain.Not' p test) packet = not (holds test packet)
+  holds (plain.AllOf' shape tests) packet = all_hold tests packet
+  holds (plain.AnyOf' shape tests) packet = one_holds tests packet
+
+  -- Whether each of these tests holds.
+  pub all_hold : {n : _} → Row_of-PlainTest n → List ℕ → Bool
+  all_hold end_of-PlainTest packet = true
+  all_hold (more_of-PlainTest test more) packet = holds test packet && all_hold more packet
+
+  -- Whether one of these tests holds.
+  pub one_holds : {n : _} → Row_of-PlainTest n → List ℕ → Bool
+  one_holds end_of-PlainTest packet = false
+  one_holds (more_of-PlainTest test more) packet = holds test packet || one_holds more packet

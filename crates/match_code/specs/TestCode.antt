@@ -12,7 +12,7 @@ use Rattle.match_code.specs.declared.bits.BitTest.{BitTest}
 use Rattle.match_code.specs.declared.part.Left.{Left}
 use Rattle.match_code.specs.declared.part.Part.{Part}
 use Rattle.match_code.specs.declared.part.Span.{Span}
-use Rattle.match_code.specs.declared.plain_test.PlainTest.{PlainTest}
+use Rattle.match_code.specs.declared.plain_test.PlainTest.{PlainTest, Row_of-PlainTest, end_of-PlainTest, more_of-PlainTest}
 use Rattle.match_code.specs.declared.plain_test.PlainTest as plain
 
 -- Whether two masks are the same.
@@ -65,17 +65,40 @@ left_at_join None other = None
 left_at_join (Some one) None = None
 left_at_join (Some one) (Some other) = if is_same_part one other then Some one else None
 
--- What is known of A after a test.
-abbrev pub known_after : PlainTest → Option Part → Left
-known_after plain.Always held = record { met = held; unmet = held }
-known_after (plain.Among part first others) held =
-    let left = held_to_compare (bits_of part.mask first others.items) held part in record { met = left; unmet = left }
-known_after (plain.Has part bits) held = record { met = Some part; unmet = Some part }
-known_after (plain.Not' p test) held = record { met = (known_after test held).unmet; unmet = (known_after test held).met }
-known_after (plain.Both' p one q other) held =
-    record { met = (known_after other (known_after one held).met).met; unmet = left_at_join (known_after one held).unmet (known_after other (known_after one held).met).unmet }
-known_after (plain.Either' p one q other) held =
-    record { met = left_at_join (known_after one held).met (known_after other (known_after one held).unmet).met; unmet = (known_after other (known_after one held).unmet).unmet }
+-- What is known of A after a test, its two sides changed over.
+abbrev pub turned_left : Left → Left
+turned_left left = record { met = left.unmet; unmet = left.met }
+
+-- What is known of A after a part of a chain: first where the chain goes on, then where it ends. A chain of `and` goes on
+-- where a part is met, one of `or` where it isn't: `on` is that outcome.
+abbrev pub left_on : Bool → Left → Left
+left_on true left = left
+left_on false left = turned_left left
+
+-- What is known of A after one more part of a chain, where it goes on and where it ended at this part or before.
+abbrev pub left_more : Left → Left → Left
+left_more before left = record { met = left.met; unmet = left_at_join before.unmet left.unmet }
+
+abbrev mutual
+  -- What is known of A after a test.
+  pub known_after : PlainTest → Option Part → Left
+  known_after plain.Always held = record { met = held; unmet = held }
+  known_after (plain.Among part first others) held =
+      let left = held_to_compare (bits_of part.mask first others.items) held part in record { met = left; unmet = left }
+  known_after (plain.Not' p test) held = turned_left (known_after test held)
+  known_after (plain.AllOf' shape tests) held = known_after_chain true tests held
+  known_after (plain.AnyOf' shape tests) held = turned_left (known_after_chain false tests held)
+
+  -- What is known of A after a chain of these parts.
+  pub known_after_chain : {n : _} → Bool → Row_of-PlainTest n → Option Part → Left
+  known_after_chain on end_of-PlainTest held = record { met = held; unmet = held }
+  known_after_chain on (more_of-PlainTest test more) held = known_after_more on more (left_on on (known_after test held))
+
+  -- What is known of A after these further parts of a chain.
+  pub known_after_more : {n : _} → Bool → Row_of-PlainTest n → Left → Left
+  known_after_more on end_of-PlainTest before = before
+  known_after_more on (more_of-PlainTest test more) before =
+      known_after_more on more (left_more before (left_on on (known_after test before.met)))
 
 -- The mask of a part put in front of code.
 abbrev pub masked : Option ℕ → List Instr → List Instr
@@ -158,31 +181,38 @@ unfoldable pub among_code : Option BitTest → Option Part → Part → List Spa
 among_code None held part spans code met unmet = with_load held part (spans_code spans code met unmet)
 among_code (Some test) held part spans code met unmet = with_octets held part (bits_code test code met unmet)
 
--- Both tests: where the first is met, the second is tried.
-abbrev pub both_ways : Tested → Tested → Tested
-both_ways other one = record {
-  code = one.code;
-  ways = record { entry = one.ways.entry; met = other.ways.met; unmet = one.ways.unmet };
+-- The test of a part of a chain: the side at which the chain goes on counts as met.
+abbrev pub turned_unless : Bool → Tested → Tested
+turned_unless true t = t
+turned_unless false t = turned t
+
+-- A part of a chain in front of the parts after it.
+abbrev pub before_parts : Tested → Tested → Tested
+before_parts later first = record {
+  code = first.code;
+  ways = record {
+    entry = first.ways.entry;
+    met = if later.ways.entry == later.ways.met then first.ways.met else later.ways.met;
+    unmet = first.ways.unmet;
+  };
 }
 
--- One of two tests: where the first isn't met, the second is tried.
-abbrev pub either_way : Tested → Tested → Tested
-either_way other one = record {
-  code = one.code;
-  ways = record { entry = one.ways.entry; met = one.ways.met; unmet = other.ways.unmet };
-}
+unfoldable mutual
+  -- The code of a test put in front of code, where A holds this if anything is known of it, with the labels of its two
+  -- sides.
+  pub test_code : PlainTest → Option Part → List Instr → ℕ → ℕ → Tested
+  test_code plain.Always held code met unmet = record { code = code; ways = record { entry = met; met = met; unmet = unmet } }
+  test_code (plain.Among part first others) held code met unmet =
+      among_code (bits_of part.mask first others.items) held part (first ∷ others.items) code met unmet
+  test_code (plain.Not' p test) held code met unmet = turned (test_code test held code unmet met)
+  test_code (plain.AllOf' shape tests) held code met unmet = parts_code true tests held code met unmet
+  test_code (plain.AnyOf' shape tests) held code met unmet = turned (parts_code false tests held code unmet met)
 
--- The code of a test put in front of code, where A holds this if anything is known of it, with the labels of its two
--- sides.
-unfoldable pub test_code : PlainTest → Option Part → List Instr → ℕ → ℕ → Tested
-test_code plain.Always held code met unmet = record { code = code; ways = record { entry = met; met = met; unmet = unmet } }
-test_code (plain.Among part first others) held code met unmet =
-    among_code (bits_of part.mask first others.items) held part (first ∷ others.items) code met unmet
-test_code (plain.Has part bits) held code met unmet = with_load held part (branched Set bits code met unmet)
-test_code (plain.Not' p test) held code met unmet = turned (test_code test held code unmet met)
-test_code (plain.Both' p one q other) held code met unmet =
-    let second = test_code other (known_after one held).met code met unmet in
-    both_ways second (test_code one held second.code second.ways.entry second.ways.unmet)
-test_code (plain.Either' p one q other) held code met unmet =
-    let second = test_code other (known_after one held).unmet code met unmet in
-    either_way second (test_code one held second.code second.ways.met second.ways.entry)
+  -- The code of the parts of a chain, with the label after its last part and the label of its end. Where the chain goes on
+  -- after a part, the next is tried.
+  pub parts_code : {n : _} → Bool → Row_of-PlainTest n → Option Part → List Instr → ℕ → ℕ → Tested
+  parts_code on end_of-PlainTest held code next end = record { code = code; ways = record { entry = next; met = next; unmet = end } }
+  parts_code on (more_of-PlainTest test more) held code next end =
+      let later = parts_code on more (left_on on (known_after test held)).met code next end in
+      before_parts later (turned_unless on
+      (test_code test held later.code (if on then later.ways.entry else later.ways.unmet) (if on then later.ways.unmet else later.ways.entry)))

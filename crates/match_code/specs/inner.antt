@@ -4,3 +4,4 @@ pub mod Coding
 pub mod Suffixes
 pub mod Held
 pub mod Joining
+pub mod Chains

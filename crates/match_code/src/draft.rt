@@ -54,6 +54,11 @@ impl Draft {
         }
     }
 
+    /// Where memory comes from.
+    pub(crate) fn alloc(&self) -> Global {
+        *self.reversed.allocator()
+    }
+
     /// The number of instructions, which is the label of the first.
     pub(crate) fn len(&self) -> usize
         ensures count { result ≡ length self.now }

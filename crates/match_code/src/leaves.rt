@@ -160,7 +160,7 @@ fn put_octets(draft: &mut Draft, held: Option<Part>, part: Part) -> Result<(), A
 }
 
 /// Puts the load of a part in front, unless A holds it.
-pub(crate) fn put_load(draft: &mut Draft, held: Option<Part>, part: Part) -> Result<(), AllocError>
+fn put_load(draft: &mut Draft, held: Option<Part>, part: Part) -> Result<(), AllocError>
     ensures { OnOk result (draft.new ≡ loaded held part draft.old) }
 {
     if is_held(held, part) {

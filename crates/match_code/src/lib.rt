@@ -16,7 +16,7 @@ pub use bits::BitTest;
 pub use draft::Ways;
 pub use fault::CodeFault;
 pub use lines::{Line, generate};
-pub use neighbours::both;
+pub use neighbours::all_of;
 pub use order::in_order;
 pub use part::{Left, Part, Single, Span};
 pub use plain_test::PlainTest;

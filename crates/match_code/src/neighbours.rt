@@ -1,13 +1,14 @@
-//! Two comparisons of neighbouring bits as one.
+//! Two comparisons of neighbouring bits as one, and the test that each of several holds.
 
-ghost use Rattle.std.specs.Prelude.{◌≡◌, IfOk};
-ghost use Rattle.match_code.specs.Neighbours.{IsBothOf, are_neighbours, joined_by, joined_single, single_of};
+ghost use Rattle.std.specs.Prelude.{◌≡◌, [], ◌∷◌, ◌++◌, IfOk};
+ghost use Rattle.match_code.specs.Neighbours.{AreParts, IsAllOf, IsSingle, are_neighbours, joined_by, joined_single, single_of};
 
 use crate::bits::above_unit;
 use crate::leaves::is_same_load;
 use crate::part::{Part, Single, Span};
 use crate::plain_test::PlainTest;
 use std::alloc::{AllocError, Global};
+use std::mem;
 
 /// The comparison of masked bits with one span that a test is, if it is one.
 fn single_of(test: &PlainTest) -> Option<Single>
@@ -82,23 +83,55 @@ fn joined_single(one: &PlainTest, other: &PlainTest) -> Option<Single>
     }
 }
 
-/// The test that both tests hold. Comparisons of neighbouring bits, as those of a path and of a channel, become one.
-pub fn both(alloc: Global, one: PlainTest, other: PlainTest) -> Result<PlainTest, AllocError>
-    ensures { IfOk result (IsBothOf one other) }
+/// A comparison of masked bits with one span, as a test.
+fn compared(alloc: Global, single: Single) -> PlainTest
+    ensures { IsSingle single result }
 {
-    match joined_single(&one, &other) {
-        Some(single) => Ok(PlainTest::Among {
-            part: Part {
-                size: single.part.size,
-                at: single.part.at,
-                mask: Some(single.mask),
-            },
-            first: single.span,
-            others: Vec::new(alloc),
-        }),
-        None => {
-            let one = Box::new(alloc, one)?;
-            Ok(PlainTest::Both(one, Box::new(alloc, other)?))
+    PlainTest::Among {
+        part: Part {
+            size: single.part.size,
+            at: single.part.at,
+            mask: Some(single.mask),
+        },
+        first: single.span,
+        others: Vec::new(alloc),
+    }
+}
+
+/// The parts that a test and those after it make, each joined to the one before it if they are neighbours: those before
+/// the last, and the last.
+fn parts_of(
+    alloc: Global,
+    first: PlainTest,
+    others: Vec<PlainTest>,
+) -> Result<(Vec<PlainTest>, PlainTest), AllocError>
+    ensures { IfOk result (λ parts. AreParts first others.items (parts.0.items ++ parts.1 ∷ [])) }
+{
+    let mut parts = Vec::new(alloc);
+    let mut last = first;
+    for test in others {
+        match joined_single(&last, &test) {
+            Some(single) => last = compared(alloc, single),
+            None => parts.push(mem::replace(&mut last, test))?,
         }
     }
+    Ok((parts, last))
+}
+
+/// The test that each of these tests holds. Comparisons of neighbouring bits, as those of a path and of a channel, become
+/// one. A test that is left alone is itself. If there is none, the test always holds.
+pub fn all_of(alloc: Global, tests: Vec<PlainTest>) -> Result<PlainTest, AllocError>
+    ensures { IfOk result (IsAllOf tests.items) }
+{
+    let mut tests = tests;
+    if tests.is_empty() {
+        return Ok(PlainTest::Always);
+    }
+    let first = tests.remove(0);
+    let (mut parts, last) = parts_of(alloc, first, tests)?;
+    if parts.is_empty() {
+        return Ok(last);
+    }
+    parts.push(last)?;
+    Ok(PlainTest::AllOf(parts))
 }

@@ -16,17 +16,10 @@ pub enum PlainTest {
         /// The others, in the order in which they are tried.
         others: Vec<Span>,
     },
-    /// The number has one of these bits.
-    Has {
-        /// The number.
-        part: Part,
-        /// The bits.
-        bits: u32,
-    },
     /// The test doesn't hold.
     Not(Box<PlainTest>),
-    /// Both tests hold.
-    Both(Box<PlainTest>, Box<PlainTest>),
-    /// One of the tests holds.
-    Either(Box<PlainTest>, Box<PlainTest>),
+    /// Each of these tests holds. They are tried in order, up to the first that doesn't.
+    AllOf(Vec<PlainTest>),
+    /// One of these tests holds. They are tried in order, up to the first that does.
+    AnyOf(Vec<PlainTest>),
 }

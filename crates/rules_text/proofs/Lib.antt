@@ -2,3 +2,4 @@ pub mod TokenSteps
 pub mod ReadingSteps
 pub mod Values
 pub mod GrammarReads
+pub mod Chains

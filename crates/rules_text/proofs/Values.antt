@@ -4,7 +4,7 @@ use Rattle.bpf_code.specs.declared.instr.Instr.{Instr}
 use Rattle.cell_rules.specs.Fields.{is_so, number_in}
 use Rattle.cell_rules.specs.Promise.{FollowsRules}
 use Rattle.cell_rules.specs.Rules.{rules_value_from, value_of_rules}
-use Rattle.cell_rules.specs.Tests.{is_met}
+use Rattle.cell_rules.specs.Tests.{is_met, all_are_met, one_is_met}
 use Rattle.cell_rules.specs.declared.field.Field.{Field}
 use Rattle.cell_rules.specs.declared.field.Field.TheVariants.{Gfc, Vpi, Vci, Pti, Clp, Octets}
 use Rattle.cell_rules.specs.declared.relation.Relation.{Relation}
@@ -12,12 +12,12 @@ use Rattle.cell_rules.specs.declared.relation.Relation.TheVariants.{Equal, Unequ
 use Rattle.cell_rules.specs.declared.rules.RuleLine.{RuleLine}
 use Rattle.cell_rules.specs.declared.rules.RuleLine.TheVariants.{Rule, Block, End}
 use Rattle.cell_rules.specs.declared.rules.Rules.{Rules}
-use Rattle.cell_rules.specs.declared.test.Test.{Test}
+use Rattle.cell_rules.specs.declared.test.Test.{Test, Row_of-Test, end_of-Test, more_of-Test}
 use Rattle.cell_rules.specs.declared.test.Test as asked
 use Rattle.match_code.specs.PlainTests.{is_among, is_in, kept_bits}
 use Rattle.match_code.specs.declared.part.Span.{Span}
 use Rattle.upc_cell.specs.declared.side.Side.{Side}
-use Rattle.rules_text.specs.RulesRead.{field_read, line_read, relation_read, rules_read, test_read}
+use Rattle.rules_text.specs.RulesRead.{TestRead, conjunction, disjunction, all_read, field_read, joined_by_and, joined_by_or, line_read, one_read, relation_read, rules_read, test_read}
 use Rattle.rules_text.specs.TextFaults.{HasRules}
 use Rattle.rules_text.specs.ValuesRead.{FollowsText, field_number, lines_give, relation_holds, rules_give, test_holds}
 
@@ -50,20 +50,56 @@ field_same side Pti cell = refl
 field_same side Clp cell = refl
 field_same side (Octets octets) cell = refl
 
-test_same : (side : Side) (test : Test) (cell : List ℕ) → is_met side test cell ≡ test_holds side (test_read test) cell
-test_same side asked.Any cell = refl
-test_same side asked.Oam cell = refl
-test_same side asked.User cell = refl
-test_same side (asked.Compare field mask relation) cell =
-    relation_same relation (kept_bits mask (number_in side field cell))
-    ∙ ap (λ (n : ℕ). relation_holds (relation_read relation) (kept_bits mask n)) (field_same side field cell)
-test_same side (asked.Not' p test) cell = ap not (test_same side test cell)
-test_same side (asked.And' p one q other) cell =
-    ap (λ (t : Bool). t && is_met side other cell) (test_same side one cell)
-    ∙ ap (λ (t : Bool). test_holds side (test_read one) cell && t) (test_same side other cell)
-test_same side (asked.Or' p one q other) cell =
-    ap (λ (t : Bool). t || is_met side other cell) (test_same side one cell)
-    ∙ ap (λ (t : Bool). test_holds side (test_read one) cell || t) (test_same side other cell)
+and_true : (x : Bool) → x ≡ (x && true)
+and_true true = refl
+and_true false = refl
+
+or_false : (x : Bool) → x ≡ (x || false)
+or_false true = refl
+or_false false = refl
+
+and_grouped : (x y z : Bool) → ((x && y) && z) ≡ (x && (y && z))
+and_grouped true y z = refl
+and_grouped false y z = refl
+
+or_grouped : (x y z : Bool) → ((x || y) || z) ≡ (x || (y || z))
+or_grouped true y z = refl
+or_grouped false y z = refl
+
+module _ (side : Side) (cell : List ℕ) where
+  mutual
+    test_same : (test : Test) → is_met side test cell ≡ test_holds side (test_read test) cell
+    test_same asked.Any = refl
+    test_same asked.Oam = refl
+    test_same asked.User = refl
+    test_same (asked.Compare field mask relation) =
+        relation_same relation (kept_bits mask (number_in side field cell))
+        ∙ ap (λ (n : ℕ). relation_holds (relation_read relation) (kept_bits mask n)) (field_same side field cell)
+    test_same (asked.Not' p test) = ap not (test_same test)
+    test_same (asked.AllOf' shape tests) = all_same tests
+    test_same (asked.AnyOf' shape tests) = one_same tests
+
+    all_same : {n : _} (row : Row_of-Test n) → all_are_met side row cell ≡ test_holds side (all_read row) cell
+    all_same end_of-Test = refl
+    all_same (more_of-Test test more) = ap (λ b. b && all_are_met side more cell) (test_same test) ∙ sym (and_same more (test_read test))
+
+    and_same : {n : _} (row : Row_of-Test n) (before : TestRead) → test_holds side (joined_by_and before row) cell ≡ (test_holds side before cell && all_are_met side row cell)
+    and_same end_of-Test before = and_true (test_holds side before cell)
+    and_same (more_of-Test test more) before =
+        and_same more (conjunction before (test_read test))
+        ∙ (and_grouped (test_holds side before cell) (test_holds side (test_read test) cell) (all_are_met side more cell)
+        ∙ ap (λ b. test_holds side before cell && (b && all_are_met side more cell)) (sym (test_same test)))
+
+    one_same : {n : _} (row : Row_of-Test n) → one_is_met side row cell ≡ test_holds side (one_read row) cell
+    one_same end_of-Test = refl
+    one_same (more_of-Test test more) = ap (λ b. b || one_is_met side more cell) (test_same test) ∙ sym (or_same more (test_read test))
+
+    or_same : {n : _} (row : Row_of-Test n) (before : TestRead) → test_holds side (joined_by_or before row) cell ≡ (test_holds side before cell || one_is_met side row cell)
+    or_same end_of-Test before = or_false (test_holds side before cell)
+    or_same (more_of-Test test more) before =
+        or_same more (disjunction before (test_read test))
+        ∙ (or_grouped (test_holds side before cell) (test_holds side (test_read test) cell) (one_is_met side more cell)
+        ∙ ap (λ b. test_holds side before cell || (b || one_is_met side more cell)) (sym (test_same test)))
 
 chosen_same : (a b : Bool) (value other same : ℕ) → a ≡ b → other ≡ same → (if a then value else other) ≡ (if b then value else same)
 chosen_same a true value other same e f = rw e refl
@@ -77,10 +113,10 @@ lines_same : (side : Side) (lines : List RuleLine) (skipped otherwise : ℕ) (ce
     → rules_value_from side lines skipped otherwise cell ≡ lines_give side (map line_read lines) skipped otherwise cell
 lines_same side [] skipped otherwise cell = refl
 lines_same side (Rule test value ∷ rest) zero otherwise cell =
-    chosen_same (is_met side test cell) (test_holds side (test_read test) cell) value (rules_value_from side rest zero otherwise cell) (lines_give side (map line_read rest) zero otherwise cell) (test_same side test cell) (lines_same side rest zero otherwise cell)
+    chosen_same (is_met side test cell) (test_holds side (test_read test) cell) value (rules_value_from side rest zero otherwise cell) (lines_give side (map line_read rest) zero otherwise cell) (test_same side cell test) (lines_same side rest zero otherwise cell)
 lines_same side (Block test ∷ rest) zero otherwise cell =
     both_same (is_met side test cell) (test_holds side (test_read test) cell) (rules_value_from side rest zero otherwise cell) (lines_give side (map line_read rest) zero otherwise cell) (rules_value_from side rest 1 otherwise cell) (lines_give side (map line_read rest) 1 otherwise cell)
-    (test_same side test cell) (lines_same side rest zero otherwise cell) (lines_same side rest 1 otherwise cell)
+    (test_same side cell test) (lines_same side rest zero otherwise cell) (lines_same side rest 1 otherwise cell)
 lines_same side (End ∷ rest) zero otherwise cell = lines_same side rest zero otherwise cell
 lines_same side (Rule test value ∷ rest) (suc skipped) otherwise cell = lines_same side rest (suc skipped) otherwise cell
 lines_same side (Block test ∷ rest) (suc skipped) otherwise cell = lines_same side rest (suc (suc skipped)) otherwise cell

@@ -8,7 +8,7 @@ use Rattle.cell_rules.specs.declared.relation.Relation.TheVariants.{Equal, Unequ
 use Rattle.cell_rules.specs.declared.rules.RuleLine.{RuleLine}
 use Rattle.cell_rules.specs.declared.rules.RuleLine.TheVariants.{Rule, Block, End}
 use Rattle.cell_rules.specs.declared.rules.Rules.{Rules}
-use Rattle.cell_rules.specs.declared.test.Test.{Test}
+use Rattle.cell_rules.specs.declared.test.Test.{Test, Row_of-Test, end_of-Test, more_of-Test}
 use Rattle.cell_rules.specs.declared.test.Test as asked
 use Rattle.match_code.specs.declared.part.Span.{Span}
 use Rattle.upc_cell.specs.declared.side.Side.{Side}
@@ -77,15 +77,36 @@ relation_read (Greater k) = compared greater_sign k
 relation_read (AtLeast k) = compared at_least_sign k
 relation_read (In last others) = listed (others.items ++ last ∷ [])
 
--- A test as it is written.
-abbrev pub test_read : Test → TestRead
-test_read asked.Any = any_cell
-test_read asked.Oam = oam_cell
-test_read asked.User = user_cell
-test_read (asked.Compare field mask relation) = comparing (field_read field) mask (relation_read relation)
-test_read (asked.Not' p test) = negation (test_read test)
-test_read (asked.And' p one q other) = conjunction (test_read one) (test_read other)
-test_read (asked.Or' p one q other) = disjunction (test_read one) (test_read other)
+abbrev mutual
+  -- A test as it is written.
+  pub test_read : Test → TestRead
+  test_read asked.Any = any_cell
+  test_read asked.Oam = oam_cell
+  test_read asked.User = user_cell
+  test_read (asked.Compare field mask relation) = comparing (field_read field) mask (relation_read relation)
+  test_read (asked.Not' p test) = negation (test_read test)
+  test_read (asked.AllOf' shape tests) = all_read tests
+  test_read (asked.AnyOf' shape tests) = one_read tests
+
+  -- Tests that each hold, as `and` joins them: the first two, that with the third, and so on. Of none it is `any`.
+  pub all_read : {n : _} → Row_of-Test n → TestRead
+  all_read end_of-Test = any_cell
+  all_read (more_of-Test test more) = joined_by_and (test_read test) more
+
+  -- A test and those that `and` joins to it.
+  pub joined_by_and : {n : _} → TestRead → Row_of-Test n → TestRead
+  joined_by_and before end_of-Test = before
+  joined_by_and before (more_of-Test test more) = joined_by_and (conjunction before (test_read test)) more
+
+  -- Tests of which one holds, as `or` joins them in the same way. Of none it is `not any`.
+  pub one_read : {n : _} → Row_of-Test n → TestRead
+  one_read end_of-Test = negation any_cell
+  one_read (more_of-Test test more) = joined_by_or (test_read test) more
+
+  -- A test and those that `or` joins to it.
+  pub joined_by_or : {n : _} → TestRead → Row_of-Test n → TestRead
+  joined_by_or before end_of-Test = before
+  joined_by_or before (more_of-Test test more) = joined_by_or (disjunction before (test_read test)) more
 
 -- A line as it is written.
 abbrev pub line_read : RuleLine → LineRead

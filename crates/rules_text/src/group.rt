@@ -1,8 +1,9 @@
 //! Tests that are put together by `and`, `or` and `not`.
 
-ghost use Rattle.std.specs.Prelude.{◌≡◌, IfOk};
+ghost use Rattle.std.specs.Prelude.{◌≡◌, [], ◌∷◌, ◌++◌, IfOk};
+ghost use Rattle.cell_rules.specs.declared.test.Test.{AllOf, AnyOf};
 ghost use Rattle.rules_text.specs.LineGrammar.{both_of, either_of, group_after_not, group_after_or, group_test, group_with, negated_if, no_group};
-ghost use Rattle.rules_text.specs.RulesRead.{test_read};
+ghost use Rattle.rules_text.specs.RulesRead.{conjunction, disjunction, test_read};
 ghost use Rattle.rules_text.specs.inner.SeenReading.{group_seen, some_test_seen};
 
 use cell_rules::Test;
@@ -78,20 +79,58 @@ fn negated(alloc: Global, negated: bool, test: Test) -> Result<Test, AllocError>
     }
 }
 
-/// The test that all parts hold, and one more.
+/// These two tests.
+fn two(alloc: Global, one: Test, other: Test) -> Result<Vec<Test>, AllocError>
+    ensures { IfOk result (λ tests. tests.items ≡ one ∷ other ∷ []) }
+{
+    let mut tests = Vec::with_capacity(alloc, 2)?;
+    tests.push(one)?;
+    tests.push(other)?;
+    Ok(tests)
+}
+
+/// These tests and one more.
+fn one_more(tests: Vec<Test>, test: Test) -> Result<Vec<Test>, AllocError>
+    ensures { IfOk result (λ more. more.items ≡ tests.items ++ test ∷ []) }
+{
+    let mut tests = tests;
+    tests.push(test)?;
+    Ok(tests)
+}
+
+/// The test that each of these tests holds, and one more.
+fn one_more_of_all(alloc: Global, tests: Vec<Test>, test: Test) -> Result<Test, AllocError>
+    ensures { IfOk result (λ both. test_read both ≡ conjunction (test_read (AllOf tests)) (test_read test)) }
+{
+    if tests.is_empty() {
+        return Ok(Test::AllOf(two(alloc, Test::AllOf(tests), test)?));
+    }
+    Ok(Test::AllOf(one_more(tests, test)?))
+}
+
+/// The test that one of these tests holds, or one more.
+fn one_more_of_any(alloc: Global, tests: Vec<Test>, test: Test) -> Result<Test, AllocError>
+    ensures { IfOk result (λ either. test_read either ≡ disjunction (test_read (AnyOf tests)) (test_read test)) }
+{
+    if tests.is_empty() {
+        return Ok(Test::AnyOf(two(alloc, Test::AnyOf(tests), test)?));
+    }
+    Ok(Test::AnyOf(one_more(tests, test)?))
+}
+
+/// The test that all parts hold, and one more. A test that each of several holds has one more then, so that a chain is one
+/// list, however long it is.
 fn conjoined(alloc: Global, parts: Option<Test>, test: Test) -> Result<Test, AllocError>
     ensures { IfOk result (λ both. test_read both ≡ both_of (some_test_seen parts) (test_read test)) }
 {
     match parts {
         None => Ok(test),
-        Some(parts) => {
-            let parts = Box::new(alloc, parts)?;
-            Ok(Test::And(parts, Box::new(alloc, test)?))
-        }
+        Some(Test::AllOf(tests)) => one_more_of_all(alloc, tests, test),
+        Some(part) => Ok(Test::AllOf(two(alloc, part, test)?)),
     }
 }
 
-/// The test that one of two alternatives holds.
+/// The test that one of the alternatives holds, and one more. It is one list too.
 fn disjoined(
     alloc: Global,
     either: Option<Test>,
@@ -102,9 +141,16 @@ fn disjoined(
     match (either, both) {
         (None, both) => Ok(both),
         (Some(either), None) => Ok(Some(either)),
-        (Some(either), Some(both)) => {
-            let either = Box::new(alloc, either)?;
-            Ok(Some(Test::Or(either, Box::new(alloc, both)?)))
-        }
+        (Some(either), Some(both)) => Ok(Some(alternated(alloc, either, both)?)),
+    }
+}
+
+/// The test that one of the alternatives holds, or one more.
+fn alternated(alloc: Global, either: Test, both: Test) -> Result<Test, AllocError>
+    ensures { IfOk result (λ test. test_read test ≡ disjunction (test_read either) (test_read both)) }
+{
+    match either {
+        Test::AnyOf(tests) => one_more_of_any(alloc, tests, both),
+        either => Ok(Test::AnyOf(two(alloc, either, both)?)),
     }
 }
