@@ -37,6 +37,11 @@ tally_of_seat seat = total seat.tallies
 abbrev pub counted_on : SeatView → ℕ → Verdict → SeatView
 counted_on seat line verdict = record seat { tallies = slice_set seat.tallies line (counted (tally_on line seat) verdict) }
 
+-- The counts after an answer: one more cell with its verdict exactly if the cell was judged.
+abbrev pub counts_after : Tally → Option JudgedView → Tally
+counts_after counts None = counts
+counts_after counts (Some judged) = counted counts judged.verdict
+
 -- The seat after an answer: it counts the cell exactly if the cell was judged.
 abbrev pub seat_after : SeatView → Option JudgedView → SeatView
 seat_after seat None = seat

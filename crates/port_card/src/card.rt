@@ -47,7 +47,7 @@ impl<S: Ledgers> Card<S> {
     ghost use Rattle.card_core.specs.Shapes.{shape_fault};
     ghost use Rattle.card_core.specs.Sections.{told};
     ghost use Rattle.port_card.specs.Names.{AreFor};
-    ghost use Rattle.port_card.specs.Seats.{AreNewSeats, seat_after};
+    ghost use Rattle.port_card.specs.Seats.{AreNewSeats, counts_after, seat_after, tally_of_seat};
     ghost use Rattle.gen_arena.specs.Live.{live_value};
     ghost use Rattle.port_card.specs.Answers.{IsJudgedAnswer, BlamesRightly};
     ghost use Rattle.port_card.specs.inner.Given.{IsGivenBy};
@@ -131,6 +131,7 @@ impl<S: Ledgers> Card<S> {
     ) -> Answer
         // The seat counts the cell, on its line and by its verdict, exactly if the cell was judged.
         ensures tallied { seat.new ≡ seat_after seat.old (told result) }
+        ensures total { tally_of_seat seat.new ≡ counts_after (tally_of_seat seat.old) (told result) }
         ensures there { IfSome (told result) (λ judged. judged.line < self.now.lines) }
 
         ensures told { IfSome (told result) (IsJudgedAnswer cell.now moment) }
@@ -165,6 +166,7 @@ impl<S: Ledgers> Card<S> {
 
         // As `arrive`.
         ensures tallied { seat.new ≡ seat_after seat.old (told result) }
+        ensures total { tally_of_seat seat.new ≡ counts_after (tally_of_seat seat.old) (told result) }
         ensures there { IfSome (told result) (λ judged. judged.line ≡ seating.now.line) }
         ensures told { IfSome (told result) (IsJudgedAnswer cell.now moment) }
         ensures blames { BlamesRightly moment result }

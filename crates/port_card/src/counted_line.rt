@@ -31,7 +31,7 @@ impl<S: Ledgers> CountedLine<S> {
     ghost use Rattle.line_record.specs.Tally.{nothing, HasRoom};
     ghost use Rattle.card_core.specs.Sections.{holder, judging_refusal, IsUncut, IsUnready, MayBecomeReady, JudgesAt, told};
     ghost use Rattle.card_core.specs.Steps.{cell_after};
-    ghost use Rattle.port_card.specs.Seats.{seat_after};
+    ghost use Rattle.port_card.specs.Seats.{counts_after, seat_after, tally_of_seat};
     ghost use Rattle.port_card.specs.Answers.{BlamesRightly, IsOfSetup, IsOfRelease, IsOfCut};
     ghost use Rattle.port_card.specs.inner.Marks.{unused_marks};
 
@@ -72,6 +72,7 @@ impl<S: Ledgers> CountedLine<S> {
 
         // The seat counts the cell exactly if it was judged.
         ensures tallied { seat.new ≡ seat_after seat.old (told result) }
+        ensures total { tally_of_seat seat.new ≡ counts_after (tally_of_seat seat.old) (told result) }
 
         // The answer to a judged cell. The moment is the error only if it is too late or goes back.
         ensures there { IfSome (told result) (λ judged. judged.line ≡ seating.now.line) }

@@ -38,7 +38,7 @@ impl<S: Ledgers> Model for PortSeat<S> {
 impl<S: Ledgers> PortSeat<S> {
     ghost use Rattle.std.specs.Prelude.{◌≡◌, ◌<◌, length, slice_get, IfSome};
     ghost use Rattle.line_record.specs.Tally.{counted, total, HasRoom};
-    ghost use Rattle.port_card.specs.Seats.{new_seat, counted_on};
+    ghost use Rattle.port_card.specs.Seats.{new_seat, counted_on, tally_of_seat};
     ghost use Rattle.port_card.specs.inner.Marks.{unused_marks, counted_mark};
 
     /// A seat that has counted no cell. Returns none if an allocation fails.
@@ -109,6 +109,7 @@ impl<S: Ledgers> PortSeat<S> {
         requires room { HasRoom books.old }
         requires line_part { 0 < on_line.old.parts }
         ensures seat { self.new ≡ counted_on self.old line verdict }
+        ensures total { tally_of_seat self.new ≡ counted (tally_of_seat self.old) verdict }
         ensures books { books.new ≡ counted books.old verdict }
         ensures line { on_line.new ≡ counted_mark on_line.old verdict }
     {

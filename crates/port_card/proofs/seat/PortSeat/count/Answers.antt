@@ -5,7 +5,7 @@ use Rattle.std.proofs.lemmas.Option.{slice_get_read}
 use Rattle.line_record.specs.declared.tally.Tally.{Tally}
 use Rattle.line_record.specs.Tally.{counted, total, IsPartTally}
 use Rattle.line_record.proofs.Public.{totals_count}
-use Rattle.port_card.specs.Seats.{SeatView, counted_on}
+use Rattle.port_card.specs.Seats.{SeatView, counted_on, tally_of_seat}
 use Rattle.port_card.specs.inner.Marks.{MarksView}
 use Rattle.port_card.proofs.Counting.{room_on-line, counted-seat}
 use Rattle.port_card.proofs.seat.PortSeat.count.Goals as goal
@@ -56,3 +56,17 @@ returns-clause-seat g c =
     let seat = counted-seat c.self.inside.port c.from.result c.args.line items here c.count.new.self c.args.verdict
     c.from.ensures at c.count.ensures in
     seat ∙ ap (λ (s : SeatView). counted_on s c.args.line c.args.verdict) c.self.view_is
+
+pub returns-clause-total : goal.returns-clause-total
+returns-clause-total g c =
+    let items = c.self.inside.tallies.items in
+    let here = c.index_mut.result.now in
+    let verdict = c.args.verdict in
+    let there : c.args.line < length items =
+    subst (λ (s : SeatView). c.args.line < length s.tallies) (sym c.self.view_is) c.requires.there in
+    let within : c.from.result < length items = rw c.from.ensures there in
+    let at : slice_get items c.from.result ≡ Some here =
+    slice_get_read items (length items) c.from.result here refl within c.index_mut.ensures.value in
+    ap (λ (t : Tally). total (slice_set items c.from.result t)) c.count.ensures
+    ∙ totals_count items c.from.result here verdict at
+    ∙ ap (λ (s : SeatView). counted (tally_of_seat s) verdict) c.self.view_is
