@@ -1,0 +1,13 @@
+-- Lemmas for other crates.
+use Rattle.std.proofs.Common.{◌≡◌, ℕ, List}
+use Rattle.lab_programs.proofs.OneTrace as trace
+use Rattle.lab_programs.specs.Trace.{IsTraceText}
+use Rattle.text_io.specs.declared.ending.Done.{Done}
+
+-- An input has a trace.
+pub some-trace_text : (octets : List ℕ) → (text : List ℕ) × (done : Done) × IsTraceText octets text done
+some-trace_text = trace.some-trace_text
+
+-- It has only one.
+pub one-trace_text : (octets one other : List ℕ) (ends other_ends : Done) → IsTraceText octets one ends → IsTraceText octets other other_ends → (one ≡ other) × (ends ≡ other_ends)
+one-trace_text = trace.one-trace_text

@@ -1,0 +1,24 @@
+//! Laws of the definitions. Each function does nothing; its contract is the law.
+
+ghost use Rattle.std.specs.Prelude.{◌≡◌, ◌++◌, ℕ, List};
+ghost use Rattle.bpf_code.specs.declared.instr.Instr.{Instr};
+ghost use Rattle.lab_programs.specs.Trace.{IsTraceText, TellsTrace};
+ghost use Rattle.text_io.specs.declared.ending.Done.{Done as TheDone};
+ghost use Rattle.upc_programs.specs.Eval.{TellsValue};
+
+/// The last line of a cell's trace is the answer of `upc eval` to that cell.
+pub fn a_trace_ends_with_the_answer_of_eval()
+    ensures { (code : List Instr) (octets text : List ℕ) → TellsTrace code octets text
+        → (lines answer : List ℕ) × (text ≡ lines ++ answer) × TellsValue code octets answer }
+{}
+
+/// Each input has a trace.
+pub fn every_input_has_a_trace()
+    ensures { (octets : List ℕ) → (text : List ℕ) × (done : TheDone) × IsTraceText octets text done }
+{}
+
+/// An input has at most one trace, with one end.
+pub fn an_input_has_one_trace()
+    ensures { (octets one other : List ℕ) (ends other_ends : TheDone)
+        → IsTraceText octets one ends → IsTraceText octets other other_ends → (one ≡ other) × (ends ≡ other_ends) }
+{}

@@ -1,0 +1,13 @@
+//! The subcommands of `upc-lab` for those who write programs: `trace` shows each step of a program on each cell.
+#![tactic(auto)]
+
+mod answer_texts;
+mod arithmetic;
+pub mod laws;
+mod listed_lines;
+mod packet;
+mod registers;
+mod step_lines;
+mod tracing;
+
+pub use tracing::trace_cells;
