@@ -1,0 +1,4 @@
+-- The subcommand `size` of `upc-lab`. Read the modules in this order:
+pub mod CellRates
+pub mod Increments
+pub mod Sizing
