@@ -2,3 +2,4 @@
 pub mod CellRates
 pub mod Increments
 pub mod Sizing
+pub mod Advice
