@@ -1,1 +1,2 @@
 pub mod IncrementLemmas
+pub mod PointLemmas

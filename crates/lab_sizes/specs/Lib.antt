@@ -3,3 +3,6 @@ pub mod CellRates
 pub mod Increments
 pub mod Sizing
 pub mod Advice
+pub mod SizeWords
+pub mod SizeText
+pub mod inner

@@ -12,7 +12,7 @@ const TICKS: [u64; 10] = [
 ];
 
 /// Returns whether a rate is above the one asked for by more than one percent.
-fn is_above(sizes: Sizes) -> bool
+pub(crate) fn is_above(sizes: Sizes) -> bool
     ensures { result ≡ is_coarse sizes }
 {
     sizes.peak.coarse
