@@ -5,4 +5,5 @@ pub mod Sizing
 pub mod Advice
 pub mod SizeWords
 pub mod SizeText
+pub mod Senders
 pub mod inner

@@ -4,6 +4,7 @@
 mod advice;
 mod fault;
 mod figures;
+pub mod laws;
 mod size;
 mod size_text;
 mod size_words;

@@ -1,0 +1,31 @@
+-- A sender who keeps to his contract, and the bucket of his rate. Times are in nanoseconds.
+use Rattle.std.specs.Prelude.{ℕ, ◌+◌, ◌*◌, ◌/◌, ◌<◌, ◌≤◌, List, [], ◌∷◌, map, ⊤}
+use Rattle.leaky.specs.Bucket.{opening}
+use Rattle.leaky.specs.Bursts.{AllFill}
+use Rattle.leaky.specs.Moments.{GoesOn}
+use Rattle.leaky.specs.declared.gcra.Gcra.{Gcra}
+use Rattle.lab_sizes.specs.CellRates.{units_of}
+use Rattle.lab_sizes.specs.Increments.{IsFastEnough, one_cell}
+use Rattle.lab_sizes.specs.declared.figures.CellRate.{CellRate}
+
+-- At exactly this rate, from `start` on, the cell of this number (from 0) is due `number` cells later. It comes at that time or
+-- up to `cdvt` after it. Both sides are multiplied by the units of the rate, so that no number is rounded.
+pub record IsOnTime (rate : CellRate) (cdvt start number time : ℕ) : Type 0 where
+  pub due : units_of rate * start + number * one_cell rate ≤ units_of rate * time
+  pub late : units_of rate * time ≤ units_of rate * (start + cdvt) + number * one_cell rate
+
+-- Cells at these times, numbered from this number on, are on time.
+abbrev pub AreOnTime : CellRate → ℕ → ℕ → ℕ → List ℕ → Type 0
+AreOnTime rate cdvt start number [] = ⊤
+AreOnTime rate cdvt start number (time ∷ times) = IsOnTime rate cdvt start number time × AreOnTime rate cdvt start (number + 1) times
+
+-- No bucket whose increment is fast enough and whose limit is at least the cell delay variation tolerance refuses a cell of
+-- such a sender. Times don't go back, and a moment is the time in whole ticks.
+abbrev pub SendersOnTimeLoseNothing : Type 0
+SendersOnTimeLoseNothing = (rate : CellRate) (tick cdvt : ℕ) (gcra : Gcra) (start : ℕ) (times : List ℕ)
+    → 0 < tick → 0 < units_of rate
+    → IsFastEnough rate tick gcra.increment
+    → cdvt ≤ gcra.limit * tick
+    → GoesOn 0 times
+    → AreOnTime rate cdvt start 0 times
+    → AllFill gcra opening (map (λ time. time / tick) times)
