@@ -1,6 +1,6 @@
 -- A sender on time: what is ahead of each cell in the bucket is at most what the tolerance allows.
-use Rattle.std.proofs.Common.{◌≡◌, ℕ, ◌+◌, ◌-◌, ◌*◌, ◌/◌, ◌<◌, ◌≤◌, inl, inr, List, [], ◌∷◌, map, arith, subst, sym}
-use Rattle.std.proofs.Math.Nat.{div-mul-le_self, le_trans, lt-div-mul-add, lt_of_mul-lt-mul_right, mul-le-mul_left, mul-lt-mul_of_pos_left}
+use Rattle.std.proofs.Common.{◌≡◌, ℕ, ◌+◌, ◌-◌, ◌*◌, ◌/◌, ◌<◌, ◌≤◌, ◌⊎◌, inl, inr, List, [], ◌∷◌, length, map, refl, arith, subst, sym}
+use Rattle.std.proofs.Math.Nat.{div-mul-le_self, le_trans, lt-div-mul-add, lt_of_mul-lt-mul_right, mul-le-mul_left, mul-le-mul_right, mul-lt-mul_of_pos_left}
 use Rattle.std.proofs.lemmas.Bool.{cases_lt, le-leb}
 use Rattle.std.proofs.lemmas.Nat.{le-div}
 use Rattle.leaky.specs.Bucket.{Bucket, filled, level_at, opening}
@@ -9,22 +9,23 @@ use Rattle.leaky.specs.Moments.{GoesOn}
 use Rattle.leaky.specs.declared.gcra.Gcra.{Gcra}
 use Rattle.lab_sizes.specs.CellRates.{units_of}
 use Rattle.lab_sizes.specs.Increments.{IsFastEnough, one_cell}
-use Rattle.lab_sizes.specs.Senders.{AreOnTime, IsOnTime, SendersOnTimeLoseNothing}
+use Rattle.lab_sizes.specs.Senders.{AreOnTime, BurstsOnTimeLoseNothing, SendersOnTimeLoseNothing}
 use Rattle.lab_sizes.specs.declared.figures.CellRate.{CellRate}
 
--- The cell comes no earlier than the bucket allows. `ahead` is the theoretical arrival time, in ticks.
-early-enough : (units tick start cdvt number cell ahead moment limit time : ℕ) → 0 < units → 0 < tick
-    → ahead * (tick * units) ≤ units * (start + cdvt) + number * cell
+-- The cell comes no earlier than the bucket allows. `ahead` is the theoretical arrival time, in ticks. It is later than on time by
+-- `over` ticks, where earlier cells of a burst were sent faster than the rate of the bucket.
+early-enough : (units tick start cdvt number cell over ahead moment limit time : ℕ) → 0 < units → 0 < tick
+    → ahead * (tick * units) ≤ units * (start + cdvt) + number * cell + over * (tick * units)
     → units * start + number * cell ≤ units * time
-    → cdvt ≤ limit * tick → time < moment * tick + tick → ahead ≤ moment + limit
-early-enough units tick start cdvt number cell ahead moment limit time some each most due enough whole =
-    let a : units * cdvt ≤ units * (limit * tick) = mul-le-mul_left units enough in
+    → cdvt + over * tick ≤ limit * tick → time < moment * tick + tick → ahead ≤ moment + limit
+early-enough units tick start cdvt number cell over ahead moment limit time some each most due enough whole =
+    let a : units * (cdvt + over * tick) ≤ units * (limit * tick) = mul-le-mul_left units enough in
     let b : units * time < units * (moment * tick + tick) = mul-lt-mul_of_pos_left whole some in
     let c : ahead * (tick * units) < (moment + limit + 1) * (tick * units) = omega (arith, a, b, most, due) in
     let below : ahead < moment + limit + 1 = lt_of_mul-lt-mul_right (tick * units) c in
     omega (arith, below)
 
--- The next theoretical arrival time is later by at most one cell.
+-- The next theoretical arrival time is later by at most `cell`.
 next-ahead : (step cell bound level charged moment ticks : ℕ) → charged ≤ moment → (level + charged) * step ≤ bound → moment * step ≤ bound
     → ticks * step ≤ cell → (level - (moment - charged) + ticks + moment) * step ≤ bound + cell
 next-ahead step cell bound level charged moment ticks later most here fast =
@@ -37,31 +38,54 @@ next-ahead step cell bound level charged moment ticks later most here fast =
           subst (λ n. n * step ≤ bound + cell) is (omega (arith, most, fast))
     ]
 
-all-fill : (rate : CellRate) (tick cdvt : ℕ) (gcra : Gcra) (start : ℕ) → 0 < tick → 0 < units_of rate
-    → IsFastEnough rate tick gcra.increment → cdvt ≤ gcra.limit * tick
+-- A burst goes on. Each cell of it adds `excess` ticks more than the peak rate drains.
+all-fill : (rate : CellRate) (tick cdvt peak excess : ℕ) (gcra : Gcra) (start last : ℕ) → 0 < tick → 0 < units_of rate
+    → IsFastEnough rate tick peak → gcra.increment ≡ peak + excess → cdvt + last * excess * tick ≤ gcra.limit * tick
     → (times : List ℕ) (number earliest : ℕ) (bucket : Bucket) → bucket.charged ≤ earliest / tick
-    → (bucket.level + bucket.charged) * (tick * units_of rate) ≤ units_of rate * (start + cdvt) + number * one_cell rate
+    → (bucket.level + bucket.charged) * (tick * units_of rate) ≤ units_of rate * (start + cdvt) + number * one_cell rate + number * excess * (tick * units_of rate)
+    → (number + length times ≤ last + 1) ⊎ (excess ≡ 0)
     → GoesOn earliest times → AreOnTime rate cdvt start number times
     → AllFill gcra bucket (map (λ time. time / tick) times)
-all-fill rate tick cdvt gcra start each some fast enough [] number earliest bucket charged most goes on = tt
-all-fill rate tick cdvt gcra start each some fast enough (time ∷ times) number earliest bucket charged most goes on =
+all-fill rate tick cdvt peak excess gcra start last each some fast is enough [] number earliest bucket charged most few goes on = tt
+all-fill rate tick cdvt peak excess gcra start last each some fast is enough (time ∷ times) number earliest bucket charged most few goes on =
     let units = units_of rate in
     let moment = time / tick in
     let later : bucket.charged ≤ moment = le_trans charged (le-div (earliest / tick) time tick each (le_trans (div-mul-le_self earliest tick) goes.0)) in
     let whole : time < moment * tick + tick = lt-div-mul-add each in
+    let over : number * excess ≤ last * excess = elim few [
+      | inl within ↦ mul-le-mul_right excess (omega (arith, within))
+      | inr none ↦ rw none (omega arith)
+    ] in
+    let allowed : cdvt + number * excess * tick ≤ gcra.limit * tick = omega (arith, enough, mul-le-mul_right tick over) in
     let ahead : bucket.level + bucket.charged ≤ moment + gcra.limit =
-    early-enough units tick start cdvt number (one_cell rate) (bucket.level + bucket.charged) moment gcra.limit time some each most on.0.due enough whole in
+    early-enough units tick start cdvt number (one_cell rate) (number * excess) (bucket.level + bucket.charged) moment gcra.limit time
+    some each most on.0.due allowed whole in
     let low : level_at bucket moment ≤ gcra.limit = omega (arith, ahead, later) in
     let back : units * (moment * tick) ≤ units * time = mul-le-mul_left units (div-mul-le_self time tick) in
-    let here : moment * (tick * units) ≤ units * (start + cdvt) + number * one_cell rate = omega (arith, back, on.0.late) in
-    let step : gcra.increment * (tick * units) ≤ one_cell rate = omega (arith, fast) in
-    let next = next-ahead (tick * units) (one_cell rate) (units * (start + cdvt) + number * one_cell rate)
-    bucket.level bucket.charged moment gcra.increment later most here step in (
+    let here : moment * (tick * units) ≤ units * (start + cdvt) + number * one_cell rate + number * excess * (tick * units) = omega (arith, back, on.0.late) in
+    let step : gcra.increment * (tick * units) ≤ one_cell rate + excess * (tick * units) =
+    subst (λ n. n * (tick * units) ≤ one_cell rate + excess * (tick * units)) (sym is) (omega (arith, fast)) in
+    let next = next-ahead (tick * units) (one_cell rate + excess * (tick * units))
+    (units * (start + cdvt) + number * one_cell rate + number * excess * (tick * units))
+    bucket.level bucket.charged moment gcra.increment later most here step in
+    let fewer : (number + 1 + length times ≤ last + 1) ⊎ (excess ≡ 0) = elim few [
+      | inl within ↦ inl (omega (arith, within))
+      | inr none ↦ inr none
+    ] in (
       le-leb (level_at bucket moment) gcra.limit low,
-      all-fill rate tick cdvt gcra start each some fast enough times (number + 1) time (filled gcra bucket moment)
-          (omega arith) (omega (arith, next)) goes.1 on.1,
+      all-fill rate tick cdvt peak excess gcra start last each some fast is enough times (number + 1) time (filled gcra bucket moment)
+          (omega arith) (omega (arith, next)) fewer goes.1 on.1,
     )
 
 pub lose-nothing : SendersOnTimeLoseNothing
 lose-nothing rate tick cdvt gcra start times each some fast enough goes on =
-    all-fill rate tick cdvt gcra start each some fast enough times 0 0 opening (omega arith) (omega arith) goes on
+    all-fill rate tick cdvt gcra.increment 0 gcra start 0 each some fast (omega arith) (omega (arith, enough)) times 0 0 opening
+    (omega arith) (omega arith) (inr refl) goes on
+
+pub bursts-lose_nothing : BurstsOnTimeLoseNothing
+bursts-lose_nothing rate tick cdvt tolerance peak mbs gcra start times each some fast slower enough limit few goes on =
+    let excess = gcra.increment - peak in
+    let is : gcra.increment ≡ peak + excess = omega (arith, slower) in
+    let whole : ((mbs - 1) * excess + tolerance) * tick ≤ gcra.limit * tick = mul-le-mul_right tick limit in
+    all-fill rate tick cdvt peak excess gcra start (mbs - 1) each some fast is (omega (arith, whole, enough)) times 0 0 opening
+    (omega arith) (omega arith) (inl (omega (arith, few))) goes on

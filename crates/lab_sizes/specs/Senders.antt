@@ -1,8 +1,9 @@
 -- A sender who keeps to his contract, and the bucket of his rate. Times are in nanoseconds.
-use Rattle.std.specs.Prelude.{ℕ, ◌+◌, ◌*◌, ◌/◌, ◌<◌, ◌≤◌, List, [], ◌∷◌, map, ⊤}
+use Rattle.std.specs.Prelude.{ℕ, ◌+◌, ◌*◌, ◌/◌, ◌<◌, ◌≤◌, List, [], ◌∷◌, length, map, ⊤}
 use Rattle.leaky.specs.Bucket.{opening}
 use Rattle.leaky.specs.Bursts.{AllFill}
 use Rattle.leaky.specs.Moments.{GoesOn}
+use Rattle.leaky.specs.Tolerance.{tolerance_of}
 use Rattle.leaky.specs.declared.gcra.Gcra.{Gcra}
 use Rattle.lab_sizes.specs.CellRates.{units_of}
 use Rattle.lab_sizes.specs.Increments.{IsFastEnough, one_cell}
@@ -26,6 +27,20 @@ SendersOnTimeLoseNothing = (rate : CellRate) (tick cdvt : ℕ) (gcra : Gcra) (st
     → 0 < tick → 0 < units_of rate
     → IsFastEnough rate tick gcra.increment
     → cdvt ≤ gcra.limit * tick
+    → GoesOn 0 times
+    → AreOnTime rate cdvt start 0 times
+    → AllFill gcra opening (map (λ time. time / tick) times)
+
+-- The bucket of a sustained rate refuses no cell of a burst: `mbs` cells or fewer of such a sender at the peak rate, whose increment
+-- is `peak`. The limit is at least the burst tolerance and the ticks of the cell delay variation tolerance.
+abbrev pub BurstsOnTimeLoseNothing : Type 0
+BurstsOnTimeLoseNothing = (rate : CellRate) (tick cdvt tolerance peak mbs : ℕ) (gcra : Gcra) (start : ℕ) (times : List ℕ)
+    → 0 < tick → 0 < units_of rate
+    → IsFastEnough rate tick peak
+    → peak ≤ gcra.increment
+    → cdvt ≤ tolerance * tick
+    → tolerance_of mbs gcra.increment peak + tolerance ≤ gcra.limit
+    → length times ≤ mbs
     → GoesOn 0 times
     → AreOnTime rate cdvt start 0 times
     → AllFill gcra opening (map (λ time. time / tick) times)
