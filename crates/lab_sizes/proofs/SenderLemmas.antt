@@ -6,11 +6,14 @@ use Rattle.std.proofs.lemmas.Nat.{le-div}
 use Rattle.leaky.specs.Bucket.{Bucket, filled, level_at, opening}
 use Rattle.leaky.specs.Bursts.{AllFill}
 use Rattle.leaky.specs.Moments.{GoesOn}
+use Rattle.leaky.specs.Tolerance.{tolerance_of}
 use Rattle.leaky.specs.declared.gcra.Gcra.{Gcra}
 use Rattle.lab_sizes.specs.CellRates.{units_of}
 use Rattle.lab_sizes.specs.Increments.{IsFastEnough, one_cell}
-use Rattle.lab_sizes.specs.Senders.{AreOnTime, BurstsOnTimeLoseNothing, SendersOnTimeLoseNothing}
+use Rattle.lab_sizes.specs.Senders.{AdmitsBursts, AdmitsOnTime, AreOnTime, BurstsOnTimeLoseNothing, SendersOnTimeLoseNothing}
 use Rattle.lab_sizes.specs.declared.figures.CellRate.{CellRate}
+use Rattle.lab_sizes.specs.declared.figures.Figures.{Figures}
+use Rattle.lab_sizes.specs.declared.sizing.SizedRate.{SizedRate}
 
 -- The cell comes no earlier than the bucket allows. `ahead` is the theoretical arrival time, in ticks. It is later than on time by
 -- `over` ticks, where earlier cells of a burst were sent faster than the rate of the bucket.
@@ -89,3 +92,20 @@ bursts-lose_nothing rate tick cdvt tolerance peak mbs gcra start times each some
     let whole : ((mbs - 1) * excess + tolerance) * tick ≤ gcra.limit * tick = mul-le-mul_right tick limit in
     all-fill rate tick cdvt peak excess gcra start (mbs - 1) each some fast is (omega (arith, whole, enough)) times 0 0 opening
     (omega arith) (omega arith) (inl (omega (arith, few))) goes on
+
+-- The same of a bucket that was sized.
+pub admits-on_time : (figures : Figures) (rate : CellRate) (sized : SizedRate) → 0 < figures.tick → 0 < units_of rate
+    → IsFastEnough rate figures.tick sized.increment → figures.cdvt ≤ sized.limit * figures.tick → AdmitsOnTime figures rate sized
+admits-on_time figures rate sized each some fast enough gcra start times is goes on =
+    lose-nothing rate figures.tick figures.cdvt gcra start times each some
+    (subst (λ n. IsFastEnough rate figures.tick n) (sym is.0) fast) (subst (λ n. figures.cdvt ≤ n * figures.tick) (sym is.1) enough) goes on
+
+pub admits-bursts : (figures : Figures) (peak tolerance mbs : ℕ) (sized : SizedRate) → 0 < figures.tick → 0 < units_of figures.pcr
+    → IsFastEnough figures.pcr figures.tick peak → peak ≤ sized.increment → figures.cdvt ≤ tolerance * figures.tick
+    → tolerance_of mbs sized.increment peak + tolerance ≤ sized.limit → AdmitsBursts figures mbs sized
+admits-bursts figures peak tolerance mbs sized each some fast slower enough limit gcra start times is few goes on =
+    let wide : tolerance_of mbs gcra.increment peak + tolerance ≤ gcra.limit =
+    subst (λ n. tolerance_of mbs n peak + tolerance ≤ gcra.limit) (sym is.0)
+    (subst (λ n. tolerance_of mbs sized.increment peak + tolerance ≤ n) (sym is.1) limit) in
+    bursts-lose_nothing figures.pcr figures.tick figures.cdvt tolerance peak mbs gcra start times each some fast
+    (subst (λ n. peak ≤ n) (sym is.0) slower) enough wide few goes on

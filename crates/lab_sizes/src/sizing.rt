@@ -2,6 +2,8 @@
 
 ghost use Rattle.std.specs.Prelude.{◌≡◌, ◌^◌, ◌+◌, ◌*◌, ◌<◌, ◌≤◌, IfOk, IfSome, Ok, Some};
 ghost use Rattle.lab_sizes.specs.Increments.{IsFastEnough, IsGreatest, increment_of, one_cell, sent_in};
+ghost use Rattle.leaky.specs.Tolerance.{tolerance_of};
+ghost use Rattle.lab_sizes.specs.Senders.{AdmitsOnTime, AdmitsSustained};
 ghost use Rattle.lab_sizes.specs.CellRates.{units_of, units_per_cell};
 ghost use Rattle.lab_sizes.specs.Sizing.{AreGreatest, IsBucket, Tolerates, increment_in, limit_within, sized_rate, sizes_of, sizes_with, sustained_limit};
 
@@ -99,7 +101,8 @@ fn bucket(rate: CellRate, tick: u64, increment: u64, limit: u64) -> SizedRate
 
 /// Returns the limit, if a bucket may have it.
 fn within(limit: u64) -> Result<u64, SizeFault>
-    ensures { result ≡ limit_within limit }
+    ensures value { result ≡ limit_within limit }
+    ensures same { IfOk result (λ value. value ≡ limit) }
 {
     if limit > MOST_TICKS {
         return Err(SizeFault::TooLarge);
@@ -109,7 +112,9 @@ fn within(limit: u64) -> Result<u64, SizeFault>
 
 /// Returns the limit of the bucket of the sustained rate.
 fn burst_limit(mbs: u64, increment: u64, peak: u64, tolerance: u64) -> Result<u64, SizeFault>
-    ensures { result ≡ sustained_limit mbs increment peak tolerance }
+    ensures value { result ≡ sustained_limit mbs increment peak tolerance }
+    ensures limit { IfOk result (λ limit. limit ≡ tolerance_of mbs increment peak + tolerance) }
+    ensures slower { IfOk result (λ limit. peak ≤ increment) }
 {
     match burst_tolerance(mbs, increment, peak) {
         Ok(burst) => match burst.checked_add(tolerance) {
@@ -128,11 +133,13 @@ fn both(figures: Figures, peak: u64, tolerance: u64, asked: Sustained) -> Result
     requires units { 0 < units_of figures.pcr }
     requires some { 0 < peak }
     requires fast { IsFastEnough figures.pcr figures.tick peak }
+    requires tolerance { figures.cdvt ≤ tolerance * figures.tick }
     ensures value { result ≡ sizes_with figures peak tolerance (Some asked) }
     ensures peak { IfOk result (λ sizes. (sizes.peak.increment ≡ peak) × (sizes.peak.limit ≡ tolerance)) }
     ensures greatest { IfOk result (λ sizes. IfSome sizes.sustained (λ rate. IsGreatest asked.scr figures.tick rate.increment)) }
     ensures limit { IfOk result (λ sizes. IfSome sizes.sustained (λ rate. tolerance ≤ rate.limit)) }
     ensures bounded { IfOk result (λ sizes. IfSome sizes.sustained IsBucket) }
+    ensures admits { IfOk result (λ sizes. AdmitsSustained figures (Some asked) sizes.sustained) }
 {
     let increment = increment(asked.scr, figures.tick)?;
     let limit = burst_limit(asked.mbs, increment, peak, tolerance)?;
@@ -157,9 +164,11 @@ pub fn sized(figures: Figures) -> Result<Sizes, SizeFault>
     ensures sizes { result ≡ sizes_of figures }
     ensures peak_increment { IfOk result (λ sizes. IsGreatest figures.pcr figures.tick sizes.peak.increment) }
     ensures peak_limit { IfOk result (λ sizes. Tolerates figures.cdvt figures.tick sizes.peak) }
+    ensures peak_admits { IfOk result (λ sizes. AdmitsOnTime figures figures.pcr sizes.peak) }
     ensures peak_bounded { IfOk result (λ sizes. IsBucket sizes.peak) }
     ensures sustained_increment { IfOk result (λ sizes. AreGreatest figures.sustained figures.tick sizes.sustained) }
     ensures sustained_limit { IfOk result (λ sizes. IfSome sizes.sustained (Tolerates figures.cdvt figures.tick)) }
+    ensures sustained_admits { IfOk result (λ sizes. AdmitsSustained figures figures.sustained sizes.sustained) }
     ensures sustained_bounded { IfOk result (λ sizes. IfSome sizes.sustained IsBucket) }
 {
     if figures.tick == 0 || figures.tick > SECOND {
