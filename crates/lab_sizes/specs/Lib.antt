@@ -1,0 +1,9 @@
+-- The subcommand `size` of `upc-lab`. Read the modules in this order:
+pub mod CellRates
+pub mod Increments
+pub mod Sizing
+pub mod Advice
+pub mod SizeWords
+pub mod SizeText
+pub mod Senders
+pub mod inner

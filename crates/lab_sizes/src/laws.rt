@@ -1,0 +1,14 @@
+//! Laws of the definitions that this crate's contracts cite. Each function does nothing; its contract is the law.
+
+ghost use Rattle.lab_sizes.specs.Senders.{BurstsOnTimeLoseNothing, SendersOnTimeLoseNothing};
+
+/// A sender at exactly a rate, each of whose cells comes up to the cell delay variation tolerance late, loses no cell in a
+/// bucket of that rate.
+pub fn senders_on_time_lose_nothing()
+    ensures { SendersOnTimeLoseNothing }
+{}
+
+/// Nor does such a sender at the peak rate, for a burst of up to `mbs` cells, in the bucket of the sustained rate.
+pub fn bursts_on_time_lose_nothing()
+    ensures { BurstsOnTimeLoseNothing }
+{}
