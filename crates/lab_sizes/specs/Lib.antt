@@ -6,4 +6,5 @@ pub mod Advice
 pub mod SizeWords
 pub mod SizeText
 pub mod Senders
+pub mod SetupReading
 pub mod inner

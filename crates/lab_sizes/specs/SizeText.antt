@@ -1,12 +1,12 @@
 -- The output of `upc-lab size`. Each line with words is a contract, and its answer is the contract as `setup` of `upc run` takes
 -- it, and the rates that its buckets police.
-use Rattle.std.specs.Prelude.{◌≡◌, ℕ, ◌/◌, ◌%◌, nat_le, if◌then◌else◌, List, [], ◌∷◌, ◌++◌, codes, decimal, Option, Some, None, Result, Ok, Err}
+use Rattle.std.specs.Prelude.{◌≡◌, ℕ, ◌/◌, ◌%◌, nat_le, if◌then◌else◌, List, [], ◌++◌, codes, decimal, Option, Some, None, Result, Ok, Err}
 use Rattle.text_io.specs.Lines.{lines_of}
 use Rattle.text_io.specs.Printing.{Rules, Prints}
 use Rattle.text_io.specs.Words.{words_of, is_silent}
 use Rattle.text_io.specs.declared.ending.Done.{Done}
 use Rattle.text_io.specs.declared.ending.Done.TheVariants.{Whole}
-use Rattle.upc_words.specs.FaultLines.{line, too_long}
+use Rattle.upc_words.specs.FaultLines.{too_long}
 use Rattle.lab_sizes.specs.Advice.{better_tick_of, is_coarse}
 use Rattle.lab_sizes.specs.Sizing.{sizes_of}
 use Rattle.lab_sizes.specs.SizeWords.{figures_of}
