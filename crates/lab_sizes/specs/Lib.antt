@@ -4,6 +4,7 @@ pub mod Increments
 pub mod Sizing
 pub mod Advice
 pub mod SizeWords
+pub mod SizeFaults
 pub mod SizeText
 pub mod Senders
 pub mod SetupReading
