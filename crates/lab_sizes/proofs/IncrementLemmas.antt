@@ -3,7 +3,7 @@ use Rattle.std.proofs.Common.{◌≡◌, ◌∙◌, ℕ, ◌+◌, ◌*◌, ◌/�
 use Rattle.std.proofs.lemmas.Bool.Decides.{nat_tests}
 use Rattle.std.proofs.Math.Nat.{div-div-eq-div-mul, le-mul_of_pos_right, lt-mul-div-succ, mul-div-le, mul-le-mul_right, mul_assoc, mul_comm}
 use Rattle.lab_sizes.specs.CellRates.{units_of}
-use Rattle.lab_sizes.specs.Increments.{IsGreatest, increment_of, one_cell, sent_in}
+use Rattle.lab_sizes.specs.Increments.{IsGreatest, increment_of, one_cell}
 use Rattle.lab_sizes.specs.Sizing.{Tolerates, increment_in}
 use Rattle.lab_sizes.specs.declared.fault.SizeFault.{SizeFault}
 use Rattle.lab_sizes.specs.declared.fault.SizeFault.TheVariants.{TooFast, ZeroRate}

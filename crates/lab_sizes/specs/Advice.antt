@@ -1,5 +1,5 @@
 -- A tick at which the rates of a contract are close to those asked for.
-use Rattle.std.specs.Prelude.{ℕ, ◌||◌, not, Bool, true, false, List, [], ◌∷◌, Option, Some, None, Result, Ok, Err}
+use Rattle.std.specs.Prelude.{ℕ, ◌||◌, not, Bool, false, List, [], ◌∷◌, Option, Some, None, Result, Ok, Err}
 use Rattle.std.specs.List.{find}
 use Rattle.lab_sizes.specs.Sizing.{sizes_of}
 use Rattle.lab_sizes.specs.declared.fault.SizeFault.{SizeFault}

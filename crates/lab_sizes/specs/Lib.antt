@@ -4,6 +4,8 @@ pub mod Increments
 pub mod Sizing
 pub mod Advice
 pub mod SizeWords
+pub mod SizeFaults
 pub mod SizeText
 pub mod Senders
+pub mod SetupReading
 pub mod inner

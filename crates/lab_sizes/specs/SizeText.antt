@@ -1,37 +1,23 @@
 -- The output of `upc-lab size`. Each line with words is a contract, and its answer is the contract as `setup` of `upc run` takes
 -- it, and the rates that its buckets police.
-use Rattle.std.specs.Prelude.{◌≡◌, ℕ, ◌/◌, ◌%◌, nat_le, if◌then◌else◌, List, [], ◌∷◌, ◌++◌, codes, decimal, Option, Some, None, Result, Ok, Err}
+use Rattle.std.specs.Prelude.{◌≡◌, ℕ, ◌/◌, ◌%◌, nat_le, if◌then◌else◌, List, [], ◌++◌, codes, decimal, Option, Some, None, Result, Ok, Err}
 use Rattle.text_io.specs.Lines.{lines_of}
 use Rattle.text_io.specs.Printing.{Rules, Prints}
 use Rattle.text_io.specs.Words.{words_of, is_silent}
 use Rattle.text_io.specs.declared.ending.Done.{Done}
 use Rattle.text_io.specs.declared.ending.Done.TheVariants.{Whole}
-use Rattle.upc_words.specs.FaultLines.{line, too_long}
+use Rattle.upc_words.specs.FaultLines.{too_long}
+use Rattle.lab_sizes.specs.SizeFaults.{size_fault}
 use Rattle.lab_sizes.specs.Advice.{better_tick_of, is_coarse}
 use Rattle.lab_sizes.specs.Sizing.{sizes_of}
 use Rattle.lab_sizes.specs.SizeWords.{figures_of}
 use Rattle.lab_sizes.specs.declared.fault.SizeFault.{SizeFault}
-use Rattle.lab_sizes.specs.declared.fault.SizeFault.TheVariants as fault
 use Rattle.lab_sizes.specs.declared.figures.Figures.{Figures}
 use Rattle.lab_sizes.specs.declared.figures.Sustained.{Sustained}
 use Rattle.lab_sizes.specs.declared.figures.VbrKind.{VbrKind}
 use Rattle.lab_sizes.specs.declared.figures.VbrKind.TheVariants.{Vbr1, Vbr2, Vbr3}
 use Rattle.lab_sizes.specs.declared.sizing.SizedRate.{SizedRate}
 use Rattle.lab_sizes.specs.declared.sizing.Sizes.{Sizes}
-
--- The number and the name of a fault.
-abbrev pub size_fault_name : SizeFault → List ℕ
-size_fault_name fault.BadLine = codes "1 BadLine"
-size_fault_name fault.BadNumber = codes "2 BadNumber"
-size_fault_name fault.ZeroRate = codes "3 ZeroRate"
-size_fault_name fault.TooFast = codes "4 TooFast"
-size_fault_name fault.ZeroMbs = codes "5 ZeroMbs"
-size_fault_name fault.PeakSlower = codes "6 PeakSlower"
-size_fault_name fault.TooLarge = codes "7 TooLarge"
-
--- The answer to a line with a fault.
-abbrev pub size_fault : SizeFault → List ℕ
-size_fault kind = codes "fault size " ++ size_fault_name kind ++ codes "\n"
 
 -- The name of a kind.
 abbrev pub vbr_name : VbrKind → List ℕ

@@ -1,7 +1,6 @@
 -- The buckets of a contract, from its figures.
-use Rattle.std.specs.Prelude.{◌≡◌, ℕ, ◌+◌, ◌*◌, ◌^◌, ◌<◌, ◌≤◌, ◌==◌, nat_le, nat_lt, ◌&&◌, ◌||◌, not, Bool, true, false, if◌then◌else◌, List, [], ◌∷◌, Option, Some, None, Result, Ok, Err}
+use Rattle.std.specs.Prelude.{◌≡◌, ℕ, ◌+◌, ◌*◌, ◌^◌, ◌<◌, ◌≤◌, ◌==◌, nat_le, nat_lt, ◌&&◌, Bool, if◌then◌else◌, Option, Some, None, Result, Ok, Err}
 use Rattle.std.specs.Int.{div_ceil}
-use Rattle.std.specs.List.{find}
 use Rattle.leaky.specs.Tolerance.{tolerance_of}
 use Rattle.lab_sizes.specs.CellRates.{units_of}
 use Rattle.lab_sizes.specs.Increments.{IsGreatest, distance_at, increment_of, is_far, one_second, policed_at}

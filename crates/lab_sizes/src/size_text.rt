@@ -1,29 +1,15 @@
 //! The text of an answer. Each function appends to the answers.
 
 ghost use Rattle.std.specs.Prelude.{◌≡◌, ◌++◌, codes, decimal, Ok, OnOk};
-ghost use Rattle.lab_sizes.specs.SizeText.{advice_text, advised_text, bucket_text, contract_text, kind_name, percent_text, rate_text, rates_text, second_bucket_text, second_rate_text, size_fault, size_fault_name, sizes_text, tick_text};
+ghost use Rattle.lab_sizes.specs.SizeFaults.{size_fault};
+ghost use Rattle.lab_sizes.specs.SizeText.{advice_text, advised_text, bucket_text, contract_text, kind_name, percent_text, rate_text, rates_text, second_bucket_text, second_rate_text, sizes_text, tick_text};
 
 use crate::advice::{better_tick, is_above};
-use crate::fault::SizeFault;
+use crate::fault::{SizeFault, name_of};
 use crate::figures::{Figures, Sustained, VbrKind};
 use crate::sizing::{SizedRate, Sizes};
 use std::alloc::AllocError;
 use upc_words::{add_number, add_text};
-
-/// Returns the number and the name of a fault.
-fn name_of(fault: SizeFault) -> &'static [u8]
-    ensures { result.now ≡ size_fault_name fault }
-{
-    match fault {
-        SizeFault::BadLine => b"1 BadLine",
-        SizeFault::BadNumber => b"2 BadNumber",
-        SizeFault::ZeroRate => b"3 ZeroRate",
-        SizeFault::TooFast => b"4 TooFast",
-        SizeFault::ZeroMbs => b"5 ZeroMbs",
-        SizeFault::PeakSlower => b"6 PeakSlower",
-        SizeFault::TooLarge => b"7 TooLarge",
-    }
-}
 
 /// Appends the answer to a line with a fault.
 #[tactic(auto, using(std::proofs::lemmas::List::append_assoc))]
@@ -31,7 +17,7 @@ pub fn add_size_fault(answers: &mut Vec<u8>, fault: SizeFault) -> Result<(), All
     ensures { OnOk result (answers.new.items ≡ answers.old.items ++ size_fault fault) }
 {
     add_text(answers, b"fault size ")?;
-    add_text(answers, name_of(fault))?;
+    add_text(answers, name_of(fault).as_bytes())?;
     add_text(answers, b"\n")
 }
 

@@ -1,6 +1,6 @@
 -- The rules of `size` are total: each line has an answer. This law is in `specs/` because the `Machine` implementation of
 -- `size` cites it.
-use Rattle.std.proofs.Common.{List, ℕ, [], Some, refl}
+use Rattle.std.proofs.Common.{[], Some, refl}
 use Rattle.text_io.specs.Printing.{IsTotal}
 use Rattle.text_io.specs.Words.{words_of}
 use Rattle.text_io.specs.declared.ending.Done.TheVariants.{Whole}
