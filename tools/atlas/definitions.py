@@ -267,8 +267,9 @@ def hidden_types(definition):
         found = re.match(r"Rattle\.(\w+)\.specs\.declared\.", module)
         if found and found.group(1) in set(crates()) and re.match(r"[A-Z]", name) and "TheVariants" not in module:
             public = public_names(found.group(1))
-            # The members of a trait are the record `Ghosts` in the trait's module.
-            known_as = module.rpartition(".")[2] if name == "Ghosts" else name
+            # The members of a trait are the record `Ghosts` in the trait's module. Values of a type that a `Vec` of the type
+            # holds are a row of the type.
+            known_as = module.rpartition(".")[2] if name == "Ghosts" else name.removeprefix("Row_of-")
             if public is not None and known_as not in public[0]:
                 yield known_as
 
