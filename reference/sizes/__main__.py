@@ -1,7 +1,7 @@
 """Answers contracts, makes random ones, and compares the program with these answers.
 
     python3 -m sizes answer < INPUT                  prints the answers
-    python3 -m sizes make COUNT [SEED]               prints so many random lines
+    python3 -m sizes make COUNT [SEED]               prints COUNT random lines
     python3 -m sizes compare PROGRAM [COUNT] [SEED]  compares; PROGRAM is upc-lab
 
 The last line of a comparison is 'N passed, M failed'.

@@ -77,5 +77,5 @@ def a_line(source):
 
 
 def text_of(source, lines):
-    """Returns an input of so many lines."""
+    """Returns an input of this many lines."""
     return "".join(a_line(source) + source.choice(["\n", "\n", "\n", "\r\n"]) for _ in range(lines)).encode()
