@@ -2,3 +2,4 @@ pub mod Bits
 pub mod Spans
 pub mod Means
 pub mod Follows
+pub mod DecisionSteps

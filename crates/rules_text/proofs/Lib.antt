@@ -2,3 +2,5 @@ pub mod TokenSteps
 pub mod ReadingSteps
 pub mod Values
 pub mod GrammarReads
+pub mod DecisionsSame
+pub mod NumbersSaid

@@ -50,7 +50,7 @@ field_same side Pti cell = refl
 field_same side Clp cell = refl
 field_same side (Octets octets) cell = refl
 
-test_same : (side : Side) (test : Test) (cell : List ℕ) → is_met side test cell ≡ test_holds side (test_read test) cell
+pub test_same : (side : Side) (test : Test) (cell : List ℕ) → is_met side test cell ≡ test_holds side (test_read test) cell
 test_same side asked.Any cell = refl
 test_same side asked.Oam cell = refl
 test_same side asked.User cell = refl
