@@ -1,7 +1,7 @@
 -- Which line decides.
-use Rattle.std.proofs.Common.{◌≡◌, ℕ, zero, suc, ◌+◌, ◌-◌, ◌<◌, Bool, true, false, if◌then◌else◌, List, [], ◌∷◌, Option, Some, None, IfSome, refl, sym, ap, subst, ◌∙◌, arith}
+use Rattle.std.proofs.Common.{◌≡◌, ℕ, zero, suc, ◌+◌, ◌-◌, ◌<◌, Bool, true, false, if◌then◌else◌, List, [], ◌∷◌, Option, Some, None, IfSome, refl, ap, subst, arith}
 use Rattle.upc_cell.specs.declared.side.Side.{Side}
-use Rattle.cell_rules.specs.Decisions.{value_given, passed_after, decision_by, decision_from, decision_of, passed_at, IsTried, IsBefore, IsFirstDecision, TheFirstRuleDecides}
+use Rattle.cell_rules.specs.Decisions.{value_given, passed_after, decision_by, decision_from, decision_of, IsTried, IsEarlier, TheFirstRuleDecides}
 use Rattle.cell_rules.specs.Rules.{rules_value_from}
 use Rattle.cell_rules.specs.Tests.{is_met}
 use Rattle.cell_rules.specs.declared.deciding.Decision.{Decision}
@@ -88,19 +88,19 @@ module _ (side : Side) (otherwise : ℕ) (cell : List ℕ) where
       (subst (λ (l : RuleLine). value_given side l 0 cell ≡ None) is_rule (subst (λ (n : ℕ). value_given side line n cell ≡ None) is_zero e))
 
   first_by : (line : RuleLine) (rest : List RuleLine) (place passed : ℕ) (given : Option ℕ) (later : Decision) → value_given side line passed cell ≡ given
-      → ((at value : ℕ) (test : Test) → IsTried side rest (passed_after side line passed cell) cell at test value → IsBefore (place + 1 + at) later.line → is_met side test cell ≡ false)
-      → (at value : ℕ) (test : Test) → IsTried side (line ∷ rest) passed cell at test value → IsBefore (place + at) (decision_by given place later).line → is_met side test cell ≡ false
+      → ((at value : ℕ) (test : Test) → IsTried side rest (passed_after side line passed cell) cell at test value → IsEarlier (place + 1 + at) later.line → is_met side test cell ≡ false)
+      → (at value : ℕ) (test : Test) → IsTried side (line ∷ rest) passed cell at test value → IsEarlier (place + at) (decision_by given place later).line → is_met side test cell ≡ false
   first_by line rest place passed None later gives deep zero value test tried before =
       let same : line ≡ Rule test value = let e : Some line ≡ Some (Rule test value) = tried.0 in cc in
       none_given line passed value test same tried.1 gives
   first_by line rest place passed None later gives deep (suc at) value test tried before =
       let is : place + suc at ≡ place + 1 + at = omega arith in
-      deep at value test tried (subst (λ (n : ℕ). IsBefore n later.line) is before)
+      deep at value test tried (subst (λ (n : ℕ). IsEarlier n later.line) is before)
   first_by line rest place passed (Some found) later gives deep at value test tried before =
       let h : place + at < place = before in absurd (omega (arith, h))
 
   pub first : (lines : List RuleLine) (place passed at value : ℕ) (test : Test) → IsTried side lines passed cell at test value
-      → IsBefore (place + at) (decision_from side lines place passed otherwise cell).line → is_met side test cell ≡ false
+      → IsEarlier (place + at) (decision_from side lines place passed otherwise cell).line → is_met side test cell ≡ false
   first [] place passed at value test tried before = let no : None ≡ Some (Rule test value) = tried.0 in cc
   first (line ∷ rest) place passed at value test tried before =
       first_by line rest place passed (value_given side line passed cell) (decision_from side rest (place + 1) (passed_after side line passed cell) otherwise cell) refl
@@ -134,6 +134,6 @@ first_decides rules cell = record {
   first = λ place value test tried before.
       let is : place ≡ 0 + place = omega arith in
       first rules.side rules.otherwise cell rules.lines.items 0 0 place value test tried
-      (subst (λ (n : ℕ). IsBefore n (decision_of rules cell).line) is before);
+      (subst (λ (n : ℕ). IsEarlier n (decision_of rules cell).line) is before);
   others = λ none. others rules.side rules.otherwise cell rules.lines.items 0 0 none;
 }

@@ -54,9 +54,9 @@ IsTried side lines passed cell place test value =
     (slice_get lines place ≡ Some (Rule test value)) × (passed_at side lines passed cell place ≡ 0)
 
 -- The place is before the one that decided, if one did.
-abbrev pub IsBefore : ℕ → Option ℕ → Type 0
-IsBefore place None = Unit {0}
-IsBefore place (Some decided) = place < decided
+abbrev pub IsEarlier : ℕ → Option ℕ → Type 0
+IsEarlier place None = Unit {0}
+IsEarlier place (Some decided) = place < decided
 
 -- The decision has the value of the rules. The line is that of a rule whose test holds, and which isn't passed over: the first
 -- such rule. If there is none, the value is the one for all other cells.
@@ -65,7 +65,7 @@ pub record IsFirstDecision (rules : Rules) (cell : List ℕ) (decision : Decisio
   pub decides : IfSome decision.line (λ place. (test : Test) × IsTried rules.side rules.lines.items 0 cell place test decision.value
       × (is_met rules.side test cell ≡ true))
   pub first : (place value : ℕ) (test : Test) → IsTried rules.side rules.lines.items 0 cell place test value
-      → IsBefore place decision.line → is_met rules.side test cell ≡ false
+      → IsEarlier place decision.line → is_met rules.side test cell ≡ false
   pub others : decision.line ≡ None → decision.value ≡ rules.otherwise
 
 -- For all rules and cells.

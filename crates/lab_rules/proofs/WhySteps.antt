@@ -1,5 +1,5 @@
 -- The line `cells`, and the lines before it.
-use Rattle.std.proofs.Common.{◌≡◌, ℕ, ◌+◌, ◌<◌, ◌≤◌, ◌==◌, Bool, true, false, if◌then◌else◌, List, [], ◌∷◌, ◌++◌, codes, drop, take, length, get_or, Option, Some, None, option_map, refl, sym, ap, subst, ◌∙◌, arith, append-nil, append_assoc}
+use Rattle.std.proofs.Common.{◌≡◌, ℕ, ◌+◌, ◌<◌, ◌≤◌, ◌==◌, Bool, true, false, List, [], ◌∷◌, ◌++◌, codes, drop, take, length, get_or, Option, Some, None, option_map, refl, sym, ap, subst, ◌∙◌, arith, append-nil, append_assoc}
 use Rattle.std.proofs.lemmas.Bool.{eqb-true}
 use Rattle.std.proofs.lemmas.List.{drop_all, drop_more, take_all, take_more}
 use Rattle.std.specs.Bool.{MatchBool}
@@ -9,7 +9,7 @@ use Rattle.rules_text.specs.declared.reader.NumberedRules.{NumberedRules}
 use Rattle.text_io.specs.Answering.{Answers}
 use Rattle.text_io.specs.Words.{is_silent, words_of}
 use Rattle.text_io.specs.declared.machine.Turn.TheVariants.{GoesOn}
-use Rattle.lab_rules.specs.WhyText.{WhySteps, WhyWorld, among_cells, are_cells, before_cells, before_comment, fault_text, is_cells_line, some_rules, why_rules, with_rules_line}
+use Rattle.lab_rules.specs.WhyText.{WhySteps, WhyWorld, among_cells, are_cells, before_cells, before_comment, fault_answer, is_cells_line, some_rules, why_rules, with_rules_line}
 use Rattle.lab_rules.specs.inner.WhyLaws.{why_world}
 
 -- ---- the octets before a comment
@@ -36,10 +36,11 @@ pub looked_more : (line : List ℕ) (at : ℕ) → at < length line → IsLooked
 looked_more line at lt looked other =
     let cut = drop_more line at 0 lt in
     let octet = get_or line at 0 in
-    let rest = before_comment (drop (at + 1) line) in
-    (omega arith,
+    let rest = before_comment (drop (at + 1) line) in (
+      omega arith,
       looked.1 ∙ ap (λ (xs : List ℕ). take at line ++ xs) (ap before_comment cut ∙ octet_passed octet (drop (at + 1) line) other)
-      ∙ sym (append_assoc (take at line) (octet ∷ []) rest) ∙ ap (λ (xs : List ℕ). xs ++ rest) (sym (take_more line at 0 lt)))
+          ∙ sym (append_assoc (take at line) (octet ∷ []) rest) ∙ ap (λ (xs : List ℕ). xs ++ rest) (sym (take_more line at 0 lt)),
+    )
 
 pub looked_all : (line : List ℕ) (at : ℕ) → length line ≤ at → IsLooked line at → line ≡ before_comment line
 looked_all line at le looked =
@@ -77,7 +78,7 @@ several_line line cut word other more same words = several_words (words_of cut) 
 -- The answer to a line before the cells, which says that cells follow or doesn't.
 abbrev StepsBy : Bool → List ℕ → List ℕ → List ℕ → Option WhyWorld → Type 0
 StepsBy is text said here next = MatchBool is
-    ((here ≡ fault_text (numbered_in text)) × (next ≡ option_map among_cells (some_rules (numbered_in text))))
+    ((here ≡ fault_answer (numbered_in text)) × (next ≡ option_map among_cells (some_rules (numbered_in text))))
     ((here ≡ []) × (next ≡ Some (before_cells (with_rules_line text said))))
 
 taken_step : (is : Bool) (text line new : List ℕ) → is ≡ false → new ≡ with_rules_line text line → StepsBy is text line [] (Some (before_cells new))
@@ -86,9 +87,12 @@ taken_step false text line new e made = (refl, ap (λ (t : List ℕ). Some (befo
 
 rules_step : (answers text line new : List ℕ) → is_cells_line line ≡ false → new ≡ with_rules_line text line
     → Answers why_rules (λ world. world ≡ before_cells text) line GoesOn (λ world. world ≡ before_cells new) answers answers
-rules_step answers text line new other made =
-    ([], sym (append-nil answers), λ world sound shown.
-      (before_cells new, refl, subst (λ (w : WhyWorld). WhySteps w line [] (Some (before_cells new))) (sym shown) (taken_step (is_cells_line line) text line new other made)))
+rules_step answers text line new other made = (
+  [],
+  sym (append-nil answers),
+  λ world sound shown.
+      (before_cells new, refl, subst (λ (w : WhyWorld). WhySteps w line [] (Some (before_cells new))) (sym shown) (taken_step (is_cells_line line) text line new other made)),
+)
 
 pub rules_taken : (answers text line mid new : List ℕ) (numbered : Option NumberedRules) → numbered ≡ None → is_cells_line line ≡ false → mid ≡ text ++ line → new ≡ mid ++ codes "\r\n"
     → Answers why_rules (λ world. world ≡ why_world text numbered) line GoesOn (λ world. world ≡ why_world new numbered) answers answers

@@ -1,6 +1,6 @@
 -- The output of `upc-lab why`. The lines before the line `cells` are a text of rules, and each line after it is a cell. The answer to a
 -- cell is the line of the rule that decides it, and its value.
-use Rattle.std.specs.Prelude.{◌≡◌, ℕ, ◌==◌, Bool, true, false, if◌then◌else◌, List, [], ◌∷◌, ◌++◌, length, codes, decimal, slice_index, Option, Some, None, option_map, Result, Ok, Err, MatchBool}
+use Rattle.std.specs.Prelude.{◌≡◌, ℕ, ◌==◌, Bool, false, if◌then◌else◌, List, [], ◌∷◌, ◌++◌, length, codes, decimal, slice_index, Option, Some, None, option_map, Result, Ok, Err, MatchBool}
 use Rattle.std.specs.Str.{bytes_eq}
 use Rattle.cell_rules.specs.declared.deciding.Decision.{Decision}
 use Rattle.rules_text.specs.DecisionsRead.{rules_decide}
@@ -40,9 +40,9 @@ unfoldable pub with_rules_line : List ℕ → List ℕ → List ℕ
 with_rules_line text said = text ++ (said ++ codes "\r\n")
 
 -- The answer to a text of rules: nothing, or its fault.
-abbrev pub fault_text : Result NumberedRead RuleFault → List ℕ
-fault_text (Ok numbered) = []
-fault_text (Err fault) = rule_fault fault
+abbrev pub fault_answer : Result NumberedRead RuleFault → List ℕ
+fault_answer (Ok numbered) = []
+fault_answer (Err fault) = rule_fault fault
 
 -- The rules of a text, if it has no fault.
 abbrev pub some_rules : Result NumberedRead RuleFault → Option NumberedRead
@@ -85,7 +85,7 @@ why_text numbered words = if is_silent words then [] else cell_text numbered wor
 -- The answer to a line, and the next state (none if the line ends the run).
 abbrev pub WhySteps : WhyWorld → List ℕ → List ℕ → Option WhyWorld → Type 0
 WhySteps (before_cells text) said here next = MatchBool (is_cells_line said)
-    ((here ≡ fault_text (numbered_in text)) × (next ≡ option_map among_cells (some_rules (numbered_in text))))
+    ((here ≡ fault_answer (numbered_in text)) × (next ≡ option_map among_cells (some_rules (numbered_in text))))
     ((here ≡ []) × (next ≡ Some (before_cells (with_rules_line text said))))
 WhySteps (among_cells numbered) said here next = (here ≡ why_text numbered (words_of said)) × (next ≡ Some (among_cells numbered))
 
@@ -96,7 +96,7 @@ done_by (Some numbered) = Whole
 
 -- The end of the input. Without a line `cells` every line is one of the rules.
 abbrev pub WhyCloses : WhyWorld → List ℕ → Done → Type 0
-WhyCloses (before_cells text) here done = (here ≡ fault_text (numbered_in text)) × (done ≡ done_by (some_rules (numbered_in text)))
+WhyCloses (before_cells text) here done = (here ≡ fault_answer (numbered_in text)) × (done ≡ done_by (some_rules (numbered_in text)))
 WhyCloses (among_cells numbered) here done = (here ≡ []) × (done ≡ Whole)
 
 -- The rules of `why`.

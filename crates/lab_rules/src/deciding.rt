@@ -8,7 +8,7 @@ ghost use Rattle.text_io.specs.Answering.{Answers};
 ghost use Rattle.text_io.specs.Serving.{IsServed};
 ghost use Rattle.text_io.specs.Words.{words_of};
 ghost use Rattle.upc_words.specs.Hexadecimal.{octets_of_digits};
-ghost use Rattle.lab_rules.specs.WhyText.{IsWhyText, before_comment, decider_text, decision_text, done_by, fault_text, is_cells_line, some_rules, value_text, why_rules, why_text, word_text};
+ghost use Rattle.lab_rules.specs.WhyText.{IsWhyText, before_comment, decider_text, decision_text, done_by, fault_answer, is_cells_line, some_rules, value_text, why_rules, why_text, word_text};
 ghost use Rattle.lab_rules.specs.inner.WhyLaws.{why_world};
 
 use crate::fault_lines::add_rule_fault;
@@ -150,7 +150,7 @@ fn rules_or_fault(
     text: &[u8],
     answers: &mut Vec<u8>,
 ) -> Result<Option<NumberedRules>, AllocError>
-    ensures answer { OnOk result (answers.new.items ≡ answers.old.items ++ fault_text (numbered_in text.now)) }
+    ensures answer { OnOk result (answers.new.items ≡ answers.old.items ++ fault_answer (numbered_in text.now)) }
     ensures rules { IfOk result (λ found. option_map numbered_read found ≡ some_rules (numbered_in text.now)) }
 {
     match read_numbered(alloc, text) {

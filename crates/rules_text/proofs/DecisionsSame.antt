@@ -1,17 +1,15 @@
 -- Rules in memory decide as what they are written as, and the value of a decision is that of the rules.
 use Rattle.std.proofs.Common.{◌≡◌, ℕ, zero, suc, ◌+◌, ◌-◌, Bool, true, false, if◌then◌else◌, List, [], ◌∷◌, map, Option, Some, None, Result, Ok, refl, sym, ap, subst, ◌∙◌, arith}
 use Rattle.cell_rules.specs.Decisions.{value_given, passed_after, decision_by, decision_from, decision_of}
-use Rattle.cell_rules.specs.Fields.{IsCell}
-use Rattle.cell_rules.specs.Tests.{is_met}
 use Rattle.cell_rules.specs.declared.deciding.Decision.{Decision}
 use Rattle.cell_rules.specs.declared.rules.RuleLine.{RuleLine}
 use Rattle.cell_rules.specs.declared.rules.RuleLine.TheVariants.{Rule, Block, End}
 use Rattle.cell_rules.specs.declared.rules.Rules.{Rules}
 use Rattle.upc_cell.specs.declared.side.Side.{Side}
 use Rattle.rules_text.specs.DecisionsRead.{line_gives, line_passes, lines_decide, rules_decide}
-use Rattle.rules_text.specs.Laws.{CodeGivesWhatIsDecided, GivesDecided}
-use Rattle.rules_text.specs.RulesRead.{LineRead, rule_line, block_line, end_line, RulesRead, line_read, rules_read, test_read}
-use Rattle.rules_text.specs.ValuesRead.{FollowsText, lines_give, rules_give, test_holds}
+use Rattle.rules_text.specs.Laws.{CodeGivesWhatIsDecided}
+use Rattle.rules_text.specs.RulesRead.{LineRead, rule_line, block_line, end_line, RulesRead, line_read, rules_read}
+use Rattle.rules_text.specs.ValuesRead.{lines_give, rules_give, test_holds}
 use Rattle.bpf_interp.specs.Value.{Value}
 use Rattle.rules_text.specs.TextOfRules.{rules_in}
 use Rattle.rules_text.specs.declared.fault.RuleFault.{RuleFault}
@@ -81,7 +79,7 @@ pub code_decides : CodeGivesWhatIsDecided
 code_decides octets numbered code cell read follows is =
     let same = same_rules follows.rules numbered.rules (rules_in octets) follows.read (without_numbers octets numbered read) in
     let value : rules_give follows.rules cell ≡ (rules_decide numbered.rules cell).value =
-        ap (λ (rules : RulesRead). rules_give rules cell) same ∙ sym (decided_value numbered.rules cell) in
+    ap (λ (rules : RulesRead). rules_give rules cell) same ∙ sym (decided_value numbered.rules cell) in
     let given = follows.gives cell is in
     record {
       gives = (given.0, subst (λ (v : ℕ). Value code cell v given.0) value given.1);

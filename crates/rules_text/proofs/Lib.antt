@@ -4,3 +4,4 @@ pub mod Values
 pub mod GrammarReads
 pub mod DecisionsSame
 pub mod NumbersSaid
+pub mod Public

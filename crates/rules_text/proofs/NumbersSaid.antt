@@ -2,11 +2,11 @@
 use Rattle.std.proofs.Common.{◌≡◌, ℕ, ◌+◌, Bool, true, false, if◌then◌else◌, nat_lt, List, [], ◌∷◌, ◌++◌, length, Result, Ok, Err, refl, sym, ap, subst, ◌∙◌, arith, append_assoc}
 use Rattle.std.proofs.lemmas.List.{length_push}
 use Rattle.bpf_asm.specs.SourceLines.{source_lines}
-use Rattle.rules_text.specs.Laws.{AreNumbered, AreSaidAt, IsSaidAt, NumbersAreThoseOfTheLines}
+use Rattle.rules_text.specs.Laws.{AreSaidAt, IsSaidAt, NumbersAreThoseOfTheLines}
 use Rattle.rules_text.specs.LineGrammar.{LineContext, SaidRead, says_nothing, says_side, says_line, says_otherwise, nothing_read}
 use Rattle.rules_text.specs.RulesRead.{LineRead, rule_line, block_line, end_line}
 use Rattle.rules_text.specs.RuleTokens.{RuleFound, rule_tokens}
-use Rattle.rules_text.specs.TextOfRules.{NumberedRead, TextReading, context_of, no_text_read, numbered_at_end, numbered_from, numbered_in, placed_fault, read_then, said_from, text_with, text_with_line, text_with_tokens}
+use Rattle.rules_text.specs.TextOfRules.{NumberedRead, TextReading, context_of, no_text_read, numbered_from, placed_fault, read_then, said_from, text_with, text_with_line, text_with_tokens}
 use Rattle.rules_text.specs.declared.fault.RuleFault.{RuleFault}
 use Rattle.rules_text.specs.declared.fault.RuleKind.TheVariants.{AfterOtherwise, Unbalanced}
 use Rattle.rules_text.proofs.ReadingSteps.{rules_begun, without_numbers}

@@ -1,7 +1,7 @@
 use Rattle.std.proofs.Common.{◌≡◌, ◌++◌, ◌∙◌, ℕ, List, subst}
 use Rattle.std.specs.Result.{OnOk}
 use Rattle.cell_rules.specs.declared.deciding.Decision.{Decision}
-use Rattle.rules_text.proofs.DecisionsSame.{decision_same}
+use Rattle.rules_text.proofs.Public.{decision_same}
 use Rattle.lab_rules.specs.WhyText.{decision_text}
 use Rattle.lab_rules.proofs.deciding.answer_cell.Goals as goal
 

@@ -1,4 +1,4 @@
-use Rattle.std.proofs.Common.{◌∙◌, rules}
+use Rattle.std.proofs.Common.{rules}
 use Rattle.lab_rules.proofs.WhySteps.{one_word, silent_line, several_line}
 use Rattle.lab_rules.proofs.deciding.is_cells_line.Goals as goal
 
