@@ -3,3 +3,5 @@ pub mod Spans
 pub mod Means
 pub mod Chains
 pub mod Follows
+pub mod DecisionSteps
+pub mod MetTests

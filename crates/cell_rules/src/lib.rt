@@ -2,13 +2,16 @@
 #![tactic(auto)]
 
 mod compiler;
+mod deciding;
 mod field;
+pub mod laws;
 mod plain;
 mod relation;
 mod rules;
 mod test;
 
 pub use compiler::compile;
+pub use deciding::{Decision, decide};
 pub use field::{Field, Octets};
 pub use match_code::{CodeFault, Span};
 pub use relation::Relation;

@@ -1,3 +1,4 @@
 pub mod Answering
 pub mod FaultLineText
 pub mod Public
+pub mod WhySteps

@@ -1,8 +1,10 @@
-//! The subcommands of `upc-lab`: `rules` compiles a text of rules.
+//! The subcommands of `upc-lab`: `rules` compiles a text of rules, and `why` says which of them decides each cell.
 #![tactic(auto)]
 
 mod compiling;
+mod deciding;
 mod fault_lines;
 
 pub use compiling::compile_rules;
+pub use deciding::decide_cells;
 pub use fault_lines::add_rule_fault;

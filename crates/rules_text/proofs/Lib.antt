@@ -3,3 +3,6 @@ pub mod ReadingSteps
 pub mod Values
 pub mod GrammarReads
 pub mod Chains
+pub mod DecisionsSame
+pub mod NumbersSaid
+pub mod Public

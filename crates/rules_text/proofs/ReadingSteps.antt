@@ -1,15 +1,15 @@
 -- A line read token by token, and a text line by line.
 use Rattle.std.proofs.Common.{◌≡◌, ◌≢◌, inl, inr, IsErrAnd, IfErr, IfOk, ℕ, ◌+◌, true, false, List, [], ◌∷◌, Result, Ok, Err, refl, sym, ap, ◌∙◌, subst}
 use Rattle.bpf_asm.specs.SourceLines.{source_lines}
-use Rattle.cell_rules.specs.declared.rules.Rules.{Rules}
 use Rattle.rules_text.specs.LineGrammar.{LineContext, Reading, SaidRead, nothing_read, read_token, said_at_end}
-use Rattle.rules_text.specs.RulesRead.{RulesRead, rules_read}
+use Rattle.rules_text.specs.NumberedText.{numbered_read}
 use Rattle.rules_text.specs.RuleTokens.{RuleFound, rule_tokens}
 use Rattle.rules_text.specs.TextFaults.{IsFaultOf}
-use Rattle.rules_text.specs.TextOfRules.{TextReading, context_of, fault_column, no_text_read, placed_fault, rules_at_end, rules_from, rules_in, said_from, text_with, text_with_line}
+use Rattle.rules_text.specs.TextOfRules.{NumberedRead, TextReading, context_of, fault_column, no_text_read, placed_fault, numbered_at_end, numbered_from, numbered_in, rules_in, said_from, text_with, text_with_line}
 use Rattle.rules_text.specs.declared.fault.RuleFault.{RuleFault}
 use Rattle.rules_text.specs.declared.fault.RuleKind.{RuleKind}
 use Rattle.rules_text.specs.declared.fault.RuleKind.TheVariants.{BadLine, BadNumber, TooLarge, OutsideCell, AfterOtherwise, Unbalanced, TooDeep, TooLong, NoMemory}
+use Rattle.rules_text.specs.declared.reader.NumberedRules.{NumberedRules}
 use Rattle.rules_text.specs.inner.SeenFaults.{fault_seen}
 
 -- One more token.
@@ -40,19 +40,19 @@ said_early context number column reading kind e = rw e refl
 
 -- One more line.
 pub rules_more : (text next : TextReading) (number : ℕ) (line : List ℕ) (rest : List (List ℕ))
-    → text_with_line text number line ≡ Ok next → rules_from text number (line ∷ rest) ≡ rules_from next (number + 1) rest
-unfolding rules_from
+    → text_with_line text number line ≡ Ok next → numbered_from text number (line ∷ rest) ≡ numbered_from next (number + 1) rest
+unfolding numbered_from
 rules_more text next number line rest e = rw e refl
 
 -- A line with a fault.
 pub rules_fault : (text : TextReading) (number : ℕ) (line : List ℕ) (rest : List (List ℕ)) (fault : RuleFault)
-    → text_with_line text number line ≡ Err fault → rules_from text number (line ∷ rest) ≡ Err fault
-unfolding rules_from
+    → text_with_line text number line ≡ Err fault → numbered_from text number (line ∷ rest) ≡ Err fault
+unfolding numbered_from
 rules_fault text number line rest fault e = rw e refl
 
 -- The end of the text.
-pub rules_end : (text : TextReading) (number : ℕ) → rules_from text number [] ≡ rules_at_end text
-unfolding rules_from
+pub rules_end : (text : TextReading) (number : ℕ) → numbered_from text number [] ≡ numbered_at_end text
+unfolding numbered_from
 rules_end text number = refl
 
 -- A line without tokens.
@@ -121,18 +121,28 @@ early_same fault number column kind e bad =
     e ∙ seen ∙ ap (placed_fault number column) (sym bad)
 
 -- The rules of a text, from its first line on.
-pub rules_begun : (octets : List ℕ) → rules_in octets ≡ rules_from no_text_read 1 (source_lines octets)
-unfolding rules_in
+pub rules_begun : (octets : List ℕ) → numbered_in octets ≡ numbered_from no_text_read 1 (source_lines octets)
+unfolding numbered_in
 rules_begun octets = refl
 
 -- The rules at the end of the text are those of the whole text.
-pub rules_at_last : (returned : Result Rules RuleFault) (at_end whole : Result RulesRead RuleFault) → whole ≡ at_end
-    → IfOk returned (λ rules. at_end ≡ Ok (rules_read rules)) → IfOk returned (λ rules. whole ≡ Ok (rules_read rules))
-rules_at_last (Ok rules) at_end whole e h = e ∙ h
+pub rules_at_last : (returned : Result NumberedRules RuleFault) (at_end whole : Result NumberedRead RuleFault) → whole ≡ at_end
+    → IfOk returned (λ numbered. at_end ≡ Ok (numbered_read numbered)) → IfOk returned (λ numbered. whole ≡ Ok (numbered_read numbered))
+rules_at_last (Ok numbered) at_end whole e h = e ∙ h
 rules_at_last (Err fault) at_end whole e h = tt
 
 -- A fault at the end of the text is one of the whole text.
-pub fault_at_last : (returned : Result Rules RuleFault) (at_end whole : Result RulesRead RuleFault) → whole ≡ at_end
+pub fault_at_last : (returned : Result NumberedRules RuleFault) (at_end whole : Result NumberedRead RuleFault) → whole ≡ at_end
     → IfErr returned (λ fault. at_end ≡ Err fault) → IfErr returned (IsFaultOf whole)
-fault_at_last (Ok rules) at_end whole e h = tt
+fault_at_last (Ok numbered) at_end whole e h = tt
 fault_at_last (Err fault) at_end whole e h = inr (e ∙ h)
+
+-- The rules of a text, without the numbers of their lines.
+pub without_numbers : (octets : List ℕ) (numbered : NumberedRead) → numbered_in octets ≡ Ok numbered → rules_in octets ≡ Ok numbered.rules
+unfolding rules_in
+without_numbers octets numbered e = rw e refl
+
+-- A fault of a text is one whether or not lines are numbered.
+pub fault_without_numbers : (octets : List ℕ) (fault : RuleFault) → numbered_in octets ≡ Err fault → rules_in octets ≡ Err fault
+unfolding rules_in
+fault_without_numbers octets fault e = rw e refl

@@ -68,7 +68,7 @@ or_grouped false y z = refl
 
 module _ (side : Side) (cell : List ℕ) where
   mutual
-    test_same : (test : Test) → is_met side test cell ≡ test_holds side (test_read test) cell
+    pub test_same : (test : Test) → is_met side test cell ≡ test_holds side (test_read test) cell
     test_same asked.Any = refl
     test_same asked.Oam = refl
     test_same asked.User = refl

@@ -1,10 +1,17 @@
 -- What is proved of the definition itself.
-use Rattle.std.specs.Prelude.{◌≡◌, ◌≤◌, ◌<◌, ℕ, List, [], ◌∷◌, ◌++◌, map, Ok}
+use Rattle.std.specs.Prelude.{◌≡◌, ◌≤◌, ◌<◌, ◌+◌, ℕ, List, [], ◌∷◌, ◌++◌, length, map, Ok}
+use Rattle.bpf_asm.specs.SourceLines.{source_lines}
+use Rattle.bpf_code.specs.declared.instr.Instr.{Instr}
+use Rattle.bpf_interp.specs.Value.{Value}
+use Rattle.cell_rules.specs.Fields.{IsCell}
+use Rattle.cell_rules.specs.declared.deciding.Decision.{Decision}
+use Rattle.rules_text.specs.DecisionsRead.{rules_decide}
 use Rattle.rules_text.specs.LineGrammar.{LineContext, nothing_read, says_line}
 use Rattle.rules_text.specs.RuleGrammar.{TestFits, TestForm, test_count, test_tokens, test_written}
-use Rattle.rules_text.specs.RulesRead.{block_line, rule_line}
-use Rattle.rules_text.specs.RuleTokens.{RuleFound, arrow_mark, number_word, open_brace}
-use Rattle.rules_text.specs.TextOfRules.{said_from}
+use Rattle.rules_text.specs.RulesRead.{LineRead, block_line, rule_line}
+use Rattle.rules_text.specs.RuleTokens.{RuleFound, arrow_mark, number_word, open_brace, rule_tokens}
+use Rattle.rules_text.specs.TextOfRules.{NumberedRead, numbered_in, rules_in, said_from}
+use Rattle.rules_text.specs.ValuesRead.{FollowsText}
 
 -- A line that has the tokens of a test of the grammar, `->` and a value is the rule with this test and value, wherever its
 -- tokens are, if the numbers fit and the limits are kept.
@@ -23,3 +30,37 @@ HeadsAreReadAsTheyAreWritten =
     → TestFits context context.blocks test → test_count test ≤ 4096 → context.blocks < 64
     → map (λ it. it.token) found ≡ test_tokens test ++ (open_brace ∷ [])
     → said_from context number nothing_read 1 found ≡ Ok (says_line (block_line (test_written test)))
+
+-- The source line of this number, counted from 1, says this line of rules.
+abbrev pub IsSaidAt : List ℕ → ℕ → LineRead → Type 0
+IsSaidAt octets number said =
+    (before : List (List ℕ)) × (line : List ℕ) × (after : List (List ℕ)) × (context : LineContext)
+    × (source_lines octets ≡ before ++ line ∷ after) × (number ≡ length before + 1)
+    × (said_from context number nothing_read 1 (rule_tokens line) ≡ Ok (says_line said))
+
+-- The source lines of these numbers say these lines of rules: as many, in order.
+abbrev pub AreSaidAt : List ℕ → List ℕ → List LineRead → Type 0
+AreSaidAt octets [] [] = Unit {0}
+AreSaidAt octets (number ∷ numbers) (said ∷ lines) = IsSaidAt octets number said × AreSaidAt octets numbers lines
+AreSaidAt octets [] (said ∷ lines) = ⊥
+AreSaidAt octets (number ∷ numbers) [] = ⊥
+
+-- What is read with numbers are the rules of the text, each with the number of the source line that says it.
+pub record AreNumbered (octets : List ℕ) (numbered : NumberedRead) : Type 0 where
+  pub rules : rules_in octets ≡ Ok numbered.rules
+  pub numbers : AreSaidAt octets numbered.numbers numbered.rules.lines
+
+-- For every text.
+abbrev pub NumbersAreThoseOfTheLines : Type 0
+NumbersAreThoseOfTheLines = (octets : List ℕ) (numbered : NumberedRead) → numbered_in octets ≡ Ok numbered → AreNumbered octets numbered
+
+-- On this cell the machine gives the value that was decided, and no other.
+pub record GivesDecided (code : List Instr) (cell : List ℕ) (decision : Decision) : Type 0 where
+  pub gives : (steps : ℕ) × Value code cell decision.value steps
+  pub only : (value steps : ℕ) → Value code cell value steps → value ≡ decision.value
+
+-- A code that follows a text gives each cell the value that the text's rules decide.
+abbrev pub CodeGivesWhatIsDecided : Type 0
+CodeGivesWhatIsDecided =
+    (octets : List ℕ) (numbered : NumberedRead) (code : List Instr) (cell : List ℕ) → numbered_in octets ≡ Ok numbered → FollowsText octets code → IsCell cell
+    → GivesDecided code cell (rules_decide numbered.rules cell)

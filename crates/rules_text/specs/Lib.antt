@@ -4,7 +4,9 @@ pub mod Subjects
 pub mod LineGrammar
 pub mod TextOfRules
 pub mod TextFaults
+pub mod NumberedText
 pub mod ValuesRead
+pub mod DecisionsRead
 pub mod RuleGrammar
 pub mod Laws
 pub mod inner

@@ -39,6 +39,8 @@ pub record TextReading : Type 0 where
   pub side : Side
   -- the lines of rules so far
   pub lines : List LineRead
+  -- the numbers of these lines in the text, counted from 1
+  pub numbers : List ℕ
   -- the value where no rule gives one
   pub otherwise : ℕ
   -- how many blocks are open
@@ -56,6 +58,7 @@ abbrev pub no_text_read : TextReading
 no_text_read = record {
   side = Uni;
   lines = [];
+  numbers = [];
   otherwise = 0;
   blocks = 0;
   head_line = 0;
@@ -67,15 +70,21 @@ no_text_read = record {
 -- What was read, with one more line of rules, which begins at this place.
 abbrev pub with_line : TextReading → LineRead → ℕ → ℕ → TextReading
 with_line text (rule_line test value) line column =
-    record text { lines = text.lines ++ rule_line test value ∷ []; begun = true }
+    record text { lines = text.lines ++ rule_line test value ∷ []; numbers = text.numbers ++ line ∷ []; begun = true }
 with_line text (block_line test) line column = record text {
   lines = text.lines ++ block_line test ∷ [];
+  numbers = text.numbers ++ line ∷ [];
   blocks = text.blocks + 1;
   head_line = (if nat_lt 0 text.blocks then text.head_line else line);
   head_column = (if nat_lt 0 text.blocks then text.head_column else column);
   begun = true;
 }
-with_line text end_line line column = record text { lines = text.lines ++ end_line ∷ []; blocks = text.blocks - 1; begun = true }
+with_line text end_line line column = record text {
+  lines = text.lines ++ end_line ∷ [];
+  numbers = text.numbers ++ line ∷ [];
+  blocks = text.blocks - 1;
+  begun = true;
+}
 
 -- What was read, with what a line says that begins at this place.
 abbrev pub text_with : TextReading → ℕ → ℕ → SaidRead → TextReading
@@ -100,18 +109,27 @@ text_with_tokens text number (first ∷ rest) =
 unfoldable pub text_with_line : TextReading → ℕ → List ℕ → Result TextReading RuleFault
 text_with_line text number line = text_with_tokens text number (rule_tokens line)
 
+-- Rules, and for each of their lines the number of the source line that it is written in, counted from 1.
+pub record NumberedRead : Type 0 where
+  pub rules : RulesRead
+  pub numbers : List ℕ
+
 -- The rules, where the text ends. Each block must be closed.
-abbrev pub rules_at_end : TextReading → Result RulesRead RuleFault
-rules_at_end text =
+abbrev pub numbered_at_end : TextReading → Result NumberedRead RuleFault
+numbered_at_end text =
     if nat_lt 0 text.blocks then Err (placed_fault text.head_line text.head_column Unbalanced) else
-    Ok (record { side = text.side; lines = text.lines; otherwise = text.otherwise })
+    Ok (record { rules = record { side = text.side; lines = text.lines; otherwise = text.otherwise }; numbers = text.numbers })
 
 -- What the lines say, read on from here. The first of them has this number.
-unfoldable pub rules_from : TextReading → ℕ → List (List ℕ) → Result RulesRead RuleFault
-rules_from text number [] = rules_at_end text
-rules_from text number (line ∷ rest) =
-    read_then (text_with_line text number line) (λ fault. fault) (λ next. rules_from next (number + 1) rest)
+unfoldable pub numbered_from : TextReading → ℕ → List (List ℕ) → Result NumberedRead RuleFault
+numbered_from text number [] = numbered_at_end text
+numbered_from text number (line ∷ rest) =
+    read_then (text_with_line text number line) (λ fault. fault) (λ next. numbered_from next (number + 1) rest)
+
+-- The rules of a text and the numbers of their lines, or its first fault.
+unfoldable pub numbered_in : List ℕ → Result NumberedRead RuleFault
+numbered_in octets = numbered_from no_text_read 1 (source_lines octets)
 
 -- The rules of a text, or its first fault.
 unfoldable pub rules_in : List ℕ → Result RulesRead RuleFault
-rules_in octets = rules_from no_text_read 1 (source_lines octets)
+rules_in octets = read_then (numbered_in octets) (λ fault. fault) (λ numbered. Ok numbered.rules)

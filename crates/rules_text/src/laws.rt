@@ -1,6 +1,6 @@
 //! Laws of the definition of texts of rules. Each is the contract of a function that does nothing.
 
-ghost use Rattle.rules_text.specs.Laws.{HeadsAreReadAsTheyAreWritten, RulesAreReadAsTheyAreWritten};
+ghost use Rattle.rules_text.specs.Laws.{CodeGivesWhatIsDecided, HeadsAreReadAsTheyAreWritten, NumbersAreThoseOfTheLines, RulesAreReadAsTheyAreWritten};
 
 /// A line with the tokens of a test of the grammar, `->` and a value is read as this rule.
 pub fn rules_are_read_as_they_are_written()
@@ -10,4 +10,14 @@ pub fn rules_are_read_as_they_are_written()
 /// A line with the tokens of a test of the grammar and `{` is read as the head of this block.
 pub fn heads_are_read_as_they_are_written()
     ensures { HeadsAreReadAsTheyAreWritten }
+{}
+
+/// The number of a line of rules is that of the source line that says it.
+pub fn numbers_are_those_of_the_lines()
+    ensures { NumbersAreThoseOfTheLines }
+{}
+
+/// A code that follows a text gives each cell the value that the text's rules decide.
+pub fn code_gives_what_is_decided()
+    ensures { CodeGivesWhatIsDecided }
 {}

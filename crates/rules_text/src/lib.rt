@@ -12,4 +12,4 @@ mod subject;
 
 pub use compiler::compile_text;
 pub use fault::{RuleFault, RuleKind};
-pub use reader::read_rules;
+pub use reader::{NumberedRules, read_numbered, read_rules};

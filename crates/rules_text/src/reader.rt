@@ -2,10 +2,11 @@
 
 ghost use Rattle.std.specs.Prelude.{◌≡◌, ◌+◌, ◌≤◌, ◌<◌, ◌^◌, Ok, Err, IfOk, IfErr};
 ghost use Rattle.rules_text.specs.LineGrammar.{nothing_read};
-ghost use Rattle.rules_text.specs.RulesRead.{line_read, rules_read};
+ghost use Rattle.rules_text.specs.RulesRead.{line_read};
 ghost use Rattle.rules_text.specs.RuleTokens.{rule_tokens};
+ghost use Rattle.rules_text.specs.NumberedText.{HasNumbered, numbered_read};
 ghost use Rattle.rules_text.specs.TextFaults.{IsFaultOf, HasRules};
-ghost use Rattle.rules_text.specs.TextOfRules.{placed_fault, rules_at_end, rules_in, said_from, text_with, text_with_line, with_line};
+ghost use Rattle.rules_text.specs.TextOfRules.{numbered_at_end, numbered_in, placed_fault, rules_in, said_from, text_with, text_with_line, with_line};
 ghost use Rattle.rules_text.specs.declared.fault.RuleKind.TheVariants.{NoMemory};
 ghost use Rattle.rules_text.specs.inner.SeenReading.{context_seen, said_seen, text_seen};
 
@@ -16,6 +17,15 @@ use bpf_asm::next_line;
 use cell_rules::{RuleLine, Rules};
 use std::alloc::Global;
 use upc_cell::Side;
+
+/// Rules, and the source lines that they are written in.
+#[derive(Debug, Drop)]
+pub struct NumberedRules {
+    /// The rules.
+    pub rules: Rules,
+    /// For each line of the rules the number of its source line, counted from 1.
+    pub numbers: Vec<usize>,
+}
 
 /// The place of a token, both counted from 1.
 #[derive(Clone, Copy)]
@@ -29,6 +39,8 @@ struct Place {
 struct TextReader {
     /// The rules.
     rules: Rules,
+    /// The numbers of the source lines of their lines.
+    numbers: Vec<usize>,
     /// How many blocks are open.
     blocks: usize,
     /// The head of the outermost of them.
@@ -83,6 +95,7 @@ impl TextReader {
         }
         self.begun = true;
         self.rules.lines.push(line)?;
+        self.numbers.push(place.line)?;
         Ok(())
     }
 
@@ -141,27 +154,31 @@ impl TextReader {
     }
 
     /// The rules, once the whole text was read.
-    fn finish(self) -> Result<Rules, RuleFault>
-        ensures ok { IfOk result (λ rules. rules_at_end (text_seen self) ≡ Ok (rules_read rules)) }
-        ensures err { IfErr result (λ fault. rules_at_end (text_seen self) ≡ Err fault) }
+    fn finish(self) -> Result<NumberedRules, RuleFault>
+        ensures ok { IfOk result (λ numbered. numbered_at_end (text_seen self) ≡ Ok (numbered_read numbered)) }
+        ensures err { IfErr result (λ fault. numbered_at_end (text_seen self) ≡ Err fault) }
     {
         if self.blocks > 0 {
             return Err(fault_at(RuleKind::Unbalanced, self.head.line, self.head.column));
         }
-        Ok(self.rules)
+        Ok(NumberedRules {
+            rules: self.rules,
+            numbers: self.numbers,
+        })
     }
 }
 
-/// Reads a text of rules: returns the rules that are defined for it (`rules_in`).
+/// Reads a text of rules: returns the rules that are defined for it, with the numbers of the source lines that they are written in
+/// (`numbered_in`).
 ///
 /// # Errors
 ///
 /// The first fault that a reader meets who goes through the text from left to right. A parenthesis or a block that isn't
 /// closed is met at the end of its test or of the text, and has the place of its beginning. `NoMemory` if an allocation
 /// failed; it has no place.
-pub fn read_rules(alloc: Global, text: &[u8]) -> Result<Rules, RuleFault>
-    ensures rules { IfOk result (HasRules text.now) }
-    ensures fault { IfErr result (IsFaultOf (rules_in text.now)) }
+pub fn read_numbered(alloc: Global, text: &[u8]) -> Result<NumberedRules, RuleFault>
+    ensures rules { IfOk result (HasNumbered text.now) }
+    ensures fault { IfErr result (IsFaultOf (numbered_in text.now)) }
 {
     let mut reader = TextReader {
         rules: Rules {
@@ -169,6 +186,7 @@ pub fn read_rules(alloc: Global, text: &[u8]) -> Result<Rules, RuleFault>
             lines: Vec::new(alloc),
             otherwise: 0,
         },
+        numbers: Vec::new(alloc),
         blocks: 0,
         head: Place { line: 0, column: 0 },
         begun: false,
@@ -182,4 +200,17 @@ pub fn read_rules(alloc: Global, text: &[u8]) -> Result<Rules, RuleFault>
         left = rest;
     }
     reader.finish()
+}
+
+/// Reads a text of rules: returns the rules that are defined for it (`rules_in`).
+///
+/// # Errors
+///
+/// As [`read_numbered`] has them.
+pub fn read_rules(alloc: Global, text: &[u8]) -> Result<Rules, RuleFault>
+    ensures rules { IfOk result (HasRules text.now) }
+    ensures fault { IfErr result (IsFaultOf (rules_in text.now)) }
+{
+    let numbered = read_numbered(alloc, text)?;
+    Ok(numbered.rules)
 }

@@ -79,6 +79,7 @@ abbrev pub text_seen : TextReader → TextReading
 text_seen reader = record {
   side = reader.rules.side;
   lines = map line_read reader.rules.lines.items;
+  numbers = reader.numbers.items;
   otherwise = reader.rules.otherwise;
   blocks = reader.blocks;
   head_line = reader.head.line;

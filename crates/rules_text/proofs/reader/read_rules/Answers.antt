@@ -1,47 +1,13 @@
-use Rattle.std.proofs.Common.{sym, ap, ◌∙◌, arith}
-use Rattle.bpf_asm.specs.SourceLines.{source_lines}
+use Rattle.rules_text.specs.NumberedText.{numbered_read}
 use Rattle.rules_text.specs.TextFaults.{IsFaultOf}
-use Rattle.rules_text.specs.TextOfRules.{rules_at_end, rules_from, rules_in}
-use Rattle.rules_text.specs.inner.SeenReading.{text_seen}
-use Rattle.rules_text.proofs.ReadingSteps.{rules_begun, rules_more, rules_fault, rules_end, rules_at_last, fault_at_last, fault_onward, returned_fault}
+use Rattle.rules_text.specs.TextOfRules.{rules_in}
+use Rattle.rules_text.proofs.ReadingSteps.{without_numbers, fault_without_numbers, fault_onward, returned_fault}
 use Rattle.rules_text.proofs.reader.read_rules.Goals as goal
 
-pub loop-line-init : goal.loop-line-init
-loop-line-init c = record { counted = omega arith; blocks = omega arith; rest = rw c.new.ensures.items (sym (rules_begun c.args.text.now)) }
-
-pub returns-in_err-read_line-clause-fault : goal.returns-in_err-read_line-clause-fault
-returns-in_err-read_line-clause-fault c =
-    let text = text_seen c.loop-line.reader in
-    let line = c.in-Some.line.now in
-    let rest = source_lines c.in-Some.rest.now in
-    returned_fault c.from_residual.result c.in_err-read_line.field-0.0 (IsFaultOf (rules_in c.args.text.now)) c.from_residual.ensures.1
-    (fault_onward _ _ _ (λ e. sym c.loop-line.invariant.rest ∙ ap (rules_from text c.loop-line.number) c.in-Some.ensures.lines ∙ rules_fault text c.loop-line.number line rest _ e) c.in_err-read_line.ensures.err)
-
-pub loop-line-preserved : goal.loop-line-preserved
-loop-line-preserved c =
-    let text = text_seen c.loop-line.reader in
-    let next = text_seen c.read_line.new.self in
-    let line = c.in-Some.line.now in
-    let rest = source_lines c.in-Some.rest.now in
-    record {
-      counted = omega (arith, c.in-Some.ensures.shorter);
-      blocks = omega arith;
-      rest =
-          sym (rules_more text next c.loop-line.number line rest c.in_ok-read_line.ensures.ok)
-          ∙ ap (rules_from text c.loop-line.number) (sym c.in-Some.ensures.lines)
-          ∙ c.loop-line.invariant.rest;
-    }
+pub returns-in_err-numbered-clause-fault : goal.returns-in_err-numbered-clause-fault
+returns-in_err-numbered-clause-fault c =
+    returned_fault c.from_residual.result c.in_err-numbered.field-0.0 (IsFaultOf (rules_in c.args.text.now)) c.from_residual.ensures.1
+    (fault_onward _ _ _ (fault_without_numbers c.args.text.now _) c.in_err-numbered.ensures.fault)
 
 pub returns-clause-rules : goal.returns-clause-rules
-returns-clause-rules c =
-    let text = text_seen c.loop-line.reader in
-    rules_at_last c.finish.result (rules_at_end text) (rules_in c.args.text.now)
-    (sym c.loop-line.invariant.rest ∙ ap (rules_from text c.loop-line.number) c.in_default.ensures.lines ∙ rules_end text c.loop-line.number)
-    c.finish.ensures.ok
-
-pub returns-clause-fault : goal.returns-clause-fault
-returns-clause-fault c =
-    let text = text_seen c.loop-line.reader in
-    fault_at_last c.finish.result (rules_at_end text) (rules_in c.args.text.now)
-    (sym c.loop-line.invariant.rest ∙ ap (rules_from text c.loop-line.number) c.in_default.ensures.lines ∙ rules_end text c.loop-line.number)
-    c.finish.ensures.err
+returns-clause-rules c = without_numbers c.args.text.now (numbered_read c.in_ok-numbered.numbered) c.in_ok-numbered.ensures.rules

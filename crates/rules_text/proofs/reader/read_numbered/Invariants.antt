@@ -1,15 +1,15 @@
 -- The rest of the text, read on from here, has the rules of the whole text.
 use Rattle.std.proofs.Common.{◌≡◌, ◌+◌, ◌≤◌, length}
 use Rattle.bpf_asm.specs.SourceLines.{source_lines}
-use Rattle.rules_text.specs.TextOfRules.{rules_from, rules_in}
+use Rattle.rules_text.specs.TextOfRules.{numbered_from, numbered_in}
 use Rattle.rules_text.specs.inner.SeenReading.{text_seen}
-use Rattle.rules_text.proofs.reader.read_rules.Given as goal
+use Rattle.rules_text.proofs.reader.read_numbered.Given as goal
 
 abbrev pub invariant-loop-line : goal.invariant-loop-line
 invariant-loop-line l = record {
   counted : l.number + length l.left ≤ length l.text + 1;
   blocks : l.reader.blocks + 1 ≤ l.number;
-  rest : rules_from (text_seen l.reader) l.number (source_lines l.left) ≡ rules_in l.text;
+  rest : numbered_from (text_seen l.reader) l.number (source_lines l.left) ≡ numbered_in l.text;
 }
 
 abbrev pub decreases-loop-line : goal.decreases-loop-line

@@ -1,0 +1,13 @@
+-- Rules in memory, with the numbers of the source lines that they are written in.
+use Rattle.std.specs.Prelude.{◌≡◌, ℕ, List, Ok}
+use Rattle.rules_text.specs.RulesRead.{rules_read}
+use Rattle.rules_text.specs.TextOfRules.{NumberedRead, numbered_in}
+use Rattle.rules_text.specs.declared.reader.NumberedRules.{NumberedRules}
+
+-- The rules as they are written, and the numbers.
+abbrev pub numbered_read : NumberedRules → NumberedRead
+numbered_read numbered = record { rules = rules_read numbered.rules; numbers = numbered.numbers.items }
+
+-- The text has these rules, written in these lines.
+abbrev pub HasNumbered : List ℕ → NumberedRules → Type 0
+HasNumbered octets numbered = numbered_in octets ≡ Ok (numbered_read numbered)

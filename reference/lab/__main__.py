@@ -1,0 +1,54 @@
+"""Compares `upc-lab trace` and `upc-lab list` with the reference on random inputs of `upc eval`.
+
+    python3 -m lab UPC UPC_LAB [COUNT] [SEED]
+
+The steps of a trace are those of the reference's machine, and its other lines those of `upc eval`. A listing assembles to the
+program that is listed. The last line is 'N passed, M failed'.
+"""
+import re
+import sys
+
+from lab.tracing import TraceDialogue
+from policer.dialogue import answered
+from policer.eval_dialogue import EvalDialogue
+from trials.comparing import edges_of, first_difference, input_of, of_program
+
+
+def without_spelling(output):
+    """Returns the output of `trace` without the instructions, and its status."""
+    return re.sub(rb"(?m)^(L\d+): .* ; ", rb"\1 ; ", output[0]), *output[1:]
+
+
+def wrong_trace(lab, text):
+    """Returns the first difference of a trace, or None."""
+    ours = without_spelling(of_program(lab, "trace", text))
+    theirs = (*answered(text, TraceDialogue()), b"")
+    return None if ours == theirs else first_difference(ours, theirs)
+
+
+def wrong_list(upc, lab, text):
+    """Returns what is wrong with the listing of the program in the first line of an input, or None."""
+    first = text.split(b"\n")[0] + b"\n"
+    ours, theirs = of_program(lab, "list", first), (*answered(first, EvalDialogue()), b"")
+    if not theirs[0].startswith(b"accepted"):
+        return None if ours == theirs else first_difference(ours, theirs)
+    again = of_program(upc, "check", ours[0])[0]
+    wanted = theirs[0] + first.split()[0].lower() + b"\n"
+    return None if again == wanted else f"upc check of the listing prints {again[:80]}"
+
+
+def main(upc, lab, count="200", seed="1"):
+    """Compares, and returns the exit status."""
+    failed, numbers = 0, range(-len(edges_of("eval")), int(count))
+    for number in numbers:
+        text = input_of("eval", seed, number)
+        for name, wrong in (("trace", wrong_trace(lab, text)), ("list", wrong_list(upc, lab, text))):
+            if wrong:
+                failed += 1
+                print(f"{name}, input {number} of seed {seed}: {wrong}")
+    print(f"{2 * len(numbers) - failed} passed, {failed} failed")
+    return 1 if failed else 0
+
+
+if __name__ == "__main__":
+    sys.exit(main(*sys.argv[1:]))
