@@ -4,7 +4,7 @@ use mathlib.Core.Former.{Count}
 use Rattle.upc_cell.specs.declared.side.Side.{Side}
 use Rattle.cell_rules.specs.Tests.{is_met, all_are_met, one_is_met}
 use Rattle.cell_rules.specs.inner.MetTests.{each_is_met, some_is_met}
-use Rattle.cell_rules.specs.declared.test.Test.{Test, AllOf, AllOf', AnyOf, AnyOf', Row_of-Test, end_of-Test, more_of-Test, items-the_row-Test, items_hidden-the_row-Test-0}
+use Rattle.cell_rules.specs.declared.test.Test.{Test, AllOf, AllOf', AnyOf, Row_of-Test, end_of-Test, more_of-Test, items-the_row-Test, items_hidden-the_row-Test-0}
 
 -- The parts of a test of which each holds. Those of one of which one holds are taken from it with the same parts.
 abbrev row_of : Test → (n : Count) × Row_of-Test n

@@ -17,14 +17,14 @@ use Rattle.rules_text.proofs.ReadingSteps.{without_numbers}
 use Rattle.rules_text.proofs.Values.{test_same}
 
 gives_same : (side : Side) (line : RuleLine) (passed : ℕ) (cell : List ℕ) → value_given side line passed cell ≡ line_gives side (line_read line) passed cell
-gives_same side (Rule test value) zero cell = ap (λ (b : Bool). if b then Some value else None) (test_same side test cell)
+gives_same side (Rule test value) zero cell = ap (λ (b : Bool). if b then Some value else None) (test_same side cell test)
 gives_same side (Rule test value) (suc passed) cell = refl
 gives_same side (Block test) passed cell = refl
 gives_same side End passed cell = refl
 
 passes_same : (side : Side) (line : RuleLine) (passed : ℕ) (cell : List ℕ) → passed_after side line passed cell ≡ line_passes side (line_read line) passed cell
 passes_same side (Rule test value) passed cell = refl
-passes_same side (Block test) zero cell = ap (λ (b : Bool). if b then 0 else 1) (test_same side test cell)
+passes_same side (Block test) zero cell = ap (λ (b : Bool). if b then 0 else 1) (test_same side cell test)
 passes_same side (Block test) (suc passed) cell = refl
 passes_same side End passed cell = refl
 
