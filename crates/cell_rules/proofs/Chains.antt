@@ -6,7 +6,7 @@ use Rattle.match_code.specs.Neighbours.{IsAllOf}
 use Rattle.match_code.specs.declared.plain_test.PlainTest.{PlainTest}
 use Rattle.match_code.specs.declared.plain_test.PlainTest as plain
 use Rattle.upc_cell.specs.declared.side.Side.{Side}
-use Rattle.cell_rules.specs.PlainOf.{IsAnyOf, IsPlainOf, ArePlainOf}
+use Rattle.cell_rules.specs.PlainOf.{IsPlainOf, ArePlainOf}
 use Rattle.cell_rules.specs.inner.PlainTests.{ArePlainTests}
 use Rattle.cell_rules.specs.declared.test.Test.{Test, AllOf, AllOf', AnyOf, Row_of-Test, end_of-Test, more_of-Test, items-the_row-Test, items_hidden-the_row-Test-0}
 
