@@ -1,5 +1,5 @@
 -- The test that each of several tests holds, as `all_of` makes it.
-use Rattle.std.proofs.Common.{◌≡◌, ℕ, Bool, true, false, ◌&&◌, List, [], ◌∷◌, ◌++◌, length, take, drop, get_or, ◌<◌, Option, Some, None, Vec, Global, refl, sym, ap, subst, ◌∙◌, append_assoc, arith}
+use Rattle.std.proofs.Common.{◌≡◌, ℕ, Bool, true, false, ◌&&◌, List, [], ◌∷◌, ◌++◌, length, take, drop, get_or, ◌<◌, Option, Some, None, Vec, Global, refl, sym, ap, subst, ◌∙◌, arith}
 use Rattle.std.specs.Option.{MatchOption}
 use Rattle.match_code.specs.PlainTests.{holds}
 use Rattle.match_code.specs.Neighbours.{AreParts, BeginsWith, IsAllOf, IsOfParts, IsSingle, joined_single}

@@ -1,5 +1,5 @@
 -- Comparisons that are tests of bits, and their code.
-use Rattle.std.proofs.Common.{◌≡◌, ℕ, zero, suc, ◌+◌, ◌*◌, ◌/◌, ◌%◌, ◌^◌, ◌≤◌, ◌<◌, ◌==◌, Bool, true, false, not, ◌&&◌, ◌||◌, nat_le, nat_lt, if◌then◌else◌, List, [], ◌∷◌, length, Option, Some, None, inl, inr, ◌⊎◌, refl, sym, ap, subst, ◌∙◌, arith, bit_and}
+use Rattle.std.proofs.Common.{◌≡◌, ℕ, zero, suc, ◌*◌, ◌/◌, ◌%◌, ◌^◌, ◌≤◌, ◌<◌, ◌==◌, Bool, true, false, not, ◌&&◌, nat_le, nat_lt, if◌then◌else◌, List, [], ◌∷◌, length, Option, Some, None, inl, inr, ◌⊎◌, refl, sym, ap, subst, ◌∙◌, arith, bit_and}
 use Rattle.std.specs.Int.{trailing_zeros, w32}
 use Rattle.std.proofs.Math.Nat.{suc-mul}
 use Rattle.std.proofs.lemmas.Bool.{and_parts, eqb-true, ltb-true, leb-true}
@@ -11,7 +11,7 @@ use Rattle.bpf_code.specs.declared.instr.Test.TheVariants.{Set}
 use Rattle.match_code.specs.Labels.{Tested, branched}
 use Rattle.match_code.specs.inner.Suffixes.{suffix_at}
 use Rattle.match_code.specs.PlainTests.{is_in, is_among, kept_bits}
-use Rattle.match_code.specs.BitTests.{above_unit, bits_in, bits_from, bits_of}
+use Rattle.match_code.specs.BitTests.{above_unit, bits_in, bits_of}
 use Rattle.match_code.specs.TestCode.{turned, bits_code}
 use Rattle.match_code.specs.declared.bits.BitTest.{BitTest}
 use Rattle.match_code.specs.declared.part.Span.{Span}

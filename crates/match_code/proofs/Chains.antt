@@ -1,11 +1,11 @@
 -- The parts of a chain, as the definitions go through them and as loops do.
-use Rattle.std.proofs.Common.{◌≡◌, ℕ, zero, suc, ◌+◌, ◌<◌, Bool, true, false, ◌&&◌, ◌||◌, if◌then◌else◌, List, [], ◌∷◌, ◌++◌, length, take, drop, get_or, Option, Vec, Global, refl, sym, ap, subst, ◌∙◌, arith}
-use Rattle.std.proofs.lemmas.List.{drop_more, take_more}
+use Rattle.std.proofs.Common.{◌≡◌, ℕ, zero, suc, ◌+◌, ◌<◌, Bool, true, false, ◌&&◌, ◌||◌, List, [], ◌∷◌, length, take, drop, get_or, Option, Vec, Global, refl, sym, ap, subst, ◌∙◌, arith}
+use Rattle.std.proofs.lemmas.List.{drop_more}
 use mathlib.Core.Former.{Count}
 use Rattle.bpf_code.specs.declared.instr.Instr.{Instr}
 use Rattle.match_code.specs.Labels.{Tested}
 use Rattle.match_code.specs.PlainTests.{holds, all_hold, one_holds}
-use Rattle.match_code.specs.TestCode.{turned, turned_left, left_on, left_more, known_after, known_after_chain, known_after_more, before_parts, turned_unless, test_code, parts_code}
+use Rattle.match_code.specs.TestCode.{turned, turned_left, left_more, known_after, known_after_chain, known_after_more, test_code, parts_code}
 use Rattle.match_code.specs.inner.Chains.{each_holds, some_holds, known_after_part, left_by_more, left_by_chain, held_before, part_code, chain_code}
 use Rattle.match_code.specs.inner.Making.{IsMade}
 use Rattle.match_code.specs.declared.draft.Ways.{Ways}
@@ -131,7 +131,7 @@ made_part on tests first at left test held code next end c1 c2 w1 w2 lt e there 
     let known = ap (λ n. held_before on tests first n) (sym e) ∙ held_step on tests first at test lt in
     let cut = drop_more tests at test lt ∙ ap (λ n. one ∷ drop n tests) e in
     let same = tested_is (chain_code on (drop left tests) (held_before on tests first left) code next end) c1 w1 before
-        ∙ ap (λ (h : Option Part). chain_code on (drop left tests) h code next end) known in
+    ∙ ap (λ (h : Option Part). chain_code on (drop left tests) h code next end) known in
     let placed = subst (λ (t : Tested). IsMade (part_code on test held t) c2 w2) same made in
     let rest = chain_code on (drop left tests) (known_after_part on one (held_before on tests first at)).met code next end in
     let found = subst (λ (h : Option Part). IsMade (part_code on test h rest) c2 w2) here placed in

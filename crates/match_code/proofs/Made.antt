@@ -1,5 +1,5 @@
 -- What the functions that put code in front return is what the definitions say.
-use Rattle.std.proofs.Common.{◌≡◌, ℕ, ◌+◌, ◌-◌, ◌<◌, List, [], ◌∷◌, length, drop, get_or, refl, sym, ap, subst, ◌∙◌}
+use Rattle.std.proofs.Common.{◌≡◌, ℕ, ◌+◌, ◌-◌, ◌<◌, Option, List, [], ◌∷◌, length, drop, get_or, refl, sym, ap, subst, ◌∙◌}
 use Rattle.std.proofs.lemmas.List.{drop_more}
 use Rattle.bpf_code.specs.declared.instr.By.TheVariants.{Imm}
 use Rattle.bpf_code.specs.declared.instr.Instr.{Instr}
@@ -36,24 +36,24 @@ tested_is t code ways made =
     λ i. record { code = p i; ways = q i }
 
 -- No spans.
-pub made_no_spans : (spans : List Span) (code : List Instr) (met unmet : ℕ) → spans ≡ [] → IsMade (spans_code spans code met unmet) code (record { entry = unmet; met = met; unmet = unmet })
+pub made_no_spans : (mask : Option ℕ) (spans : List Span) (code : List Instr) (met unmet : ℕ) → spans ≡ [] → IsMade (spans_code mask spans code met unmet) code (record { entry = unmet; met = met; unmet = unmet })
 unfolding spans_code
-made_no_spans spans code met unmet e =
-    subst (λ (xs : List Span). IsMade (spans_code xs code met unmet) code (record { entry = unmet; met = met; unmet = unmet })) (sym e)
+made_no_spans mask spans code met unmet e =
+    subst (λ (xs : List Span). IsMade (spans_code mask xs code met unmet) code (record { entry = unmet; met = met; unmet = unmet })) (sym e)
     (record { code_is = refl; ways_are = refl })
 
 -- One more span.
-pub made_span : (spans : List Span) (span : Span) (more : List Span) (code : List Instr) (met unmet : ℕ) (c1 c2 : List Instr) (w1 w2 : Ways) → spans ≡ span ∷ more
-    → IsMade (spans_code more code met unmet) c1 w1 → IsMade (spans_from span (record { code = c1; ways = w1 })) c2 w2 → IsMade (spans_code spans code met unmet) c2 w2
+pub made_span : (mask : Option ℕ) (spans : List Span) (span : Span) (more : List Span) (code : List Instr) (met unmet : ℕ) (c1 c2 : List Instr) (w1 w2 : Ways) → spans ≡ span ∷ more
+    → IsMade (spans_code mask more code met unmet) c1 w1 → IsMade (spans_from mask span (record { code = c1; ways = w1 })) c2 w2 → IsMade (spans_code mask spans code met unmet) c2 w2
 unfolding spans_code
-made_span spans span more code met unmet c1 c2 w1 w2 e before made =
-    let same = tested_is (spans_code more code met unmet) c1 w1 before in
-    let there = subst (λ (t : Tested). IsMade (spans_from span t) c2 w2) same made in
-    subst (λ (xs : List Span). IsMade (spans_code xs code met unmet) c2 w2) (sym e) there
+made_span mask spans span more code met unmet c1 c2 w1 w2 e before made =
+    let same = tested_is (spans_code mask more code met unmet) c1 w1 before in
+    let there = subst (λ (t : Tested). IsMade (spans_from mask span t) c2 w2) same made in
+    subst (λ (xs : List Span). IsMade (spans_code mask xs code met unmet) c2 w2) (sym e) there
 
 -- One more span, taken from the end.
-pub made_span_at : (spans : List Span) (i left : ℕ) (d : Span) (code : List Instr) (met unmet : ℕ) (c1 c2 : List Instr) (w1 w2 : Ways) → i < length spans → i + 1 ≡ left
-    → IsMade (spans_code (drop left spans) code met unmet) c1 w1 → IsMade (spans_from (get_or spans i d) (record { code = c1; ways = w1 })) c2 w2 → IsMade (spans_code (drop i spans) code met unmet) c2 w2
-made_span_at spans i left d code met unmet c1 c2 w1 w2 within next before made =
+pub made_span_at : (mask : Option ℕ) (spans : List Span) (i left : ℕ) (d : Span) (code : List Instr) (met unmet : ℕ) (c1 c2 : List Instr) (w1 w2 : Ways) → i < length spans → i + 1 ≡ left
+    → IsMade (spans_code mask (drop left spans) code met unmet) c1 w1 → IsMade (spans_from mask (get_or spans i d) (record { code = c1; ways = w1 })) c2 w2 → IsMade (spans_code mask (drop i spans) code met unmet) c2 w2
+made_span_at mask spans i left d code met unmet c1 c2 w1 w2 within next before made =
     let cut = drop_more spans i d within ∙ ap (λ n. get_or spans i d ∷ drop n spans) next in
-    made_span (drop i spans) (get_or spans i d) (drop left spans) code met unmet c1 c2 w1 w2 cut before made
+    made_span mask (drop i spans) (get_or spans i d) (drop left spans) code met unmet c1 c2 w1 w2 cut before made

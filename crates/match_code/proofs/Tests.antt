@@ -1,7 +1,10 @@
 -- The code of a test: where it leads, and with what in A.
-use Rattle.std.proofs.Common.{◌≡◌, ℕ, Bool, true, false, not, ◌&&◌, ◌||◌, ◌==◌, if◌then◌else◌, List, ◌∷◌, length, Option, Some, None, refl, sym, ap, subst, ◌∙◌, arith}
+use Rattle.std.proofs.Common.{◌≡◌, ℕ, Bool, true, false, not, ◌&&◌, ◌||◌, ◌==◌, if◌then◌else◌, List, ◌∷◌, length, drop, Option, Some, None, refl, sym, ap, subst, ◌∙◌, arith}
 use Rattle.std.proofs.lemmas.Bool.{eqb-true}
+use Rattle.std.proofs.lemmas.Nat.{and_le_r}
+use Rattle.byteorder.specs.Endian.{big_number}
 use Rattle.bpf_code.specs.declared.instr.Instr.{Instr}
+use Rattle.bpf_interp.specs.Packet.{octets_loaded}
 use Rattle.match_code.specs.Labels.{Tested}
 use Rattle.match_code.specs.inner.Suffixes.{suffix_at}
 use Rattle.match_code.specs.PlainTests.{kept_bits, number_of, is_among, holds, all_hold, one_holds}
@@ -14,7 +17,7 @@ use Rattle.match_code.specs.declared.part.Span.{Span}
 use Rattle.match_code.specs.declared.plain_test.PlainTest.{PlainTest, Always, Among, Not', AllOf', AnyOf', Row_of-PlainTest, end_of-PlainTest, more_of-PlainTest}
 use Rattle.match_code.proofs.Suffixes.{Gives, gives_whole, gives_from_whole}
 use Rattle.match_code.proofs.Growing.{IsLabel, IsWell, Extends, extends_self, extends_more, gives_kept, label_kept}
-use Rattle.match_code.proofs.Spans.{turned_well, as_side, spans_well, spans_front, spans_gives}
+use Rattle.match_code.proofs.Spans.{IsBelow, turned_well, as_side, spans_well, spans_front, spans_gives}
 use Rattle.match_code.proofs.Loads.{IsHeld, joined_left, joined_right, loaded_extends, loaded_gives, bits_loaded_extends, bits_loaded_gives}
 use Rattle.match_code.proofs.BitTests.{bits_say, bits_well, bits_front, bits_give}
 
@@ -77,11 +80,16 @@ held_either false left packet a h = h
 
 -- ---- comparisons
 
+-- A number with bits of a mask is at most the mask.
+below : (mask : Option ℕ) (n : ℕ) → IsBelow mask (kept_bits mask n)
+below None n = tt
+below (Some mask) n = and_le_r n mask
+
 module _ (part : Part) (first : Span) (others : List Span) (held : Option Part) (code : List Instr) (met unmet : ℕ) (p : IsLabel code met) (q : IsLabel code unmet) where
   among_well : (test : Option BitTest) → IsWell code met unmet (among_code test held part (first ∷ others) code met unmet)
   unfolding among_code
   among_well None =
-      with_load_well held part code met unmet (spans_code (first ∷ others) code met unmet) (spans_well code met unmet p q (first ∷ others))
+      with_load_well held part code met unmet (spans_code part.mask (first ∷ others) code met unmet) (spans_well part.mask code met unmet p q (first ∷ others))
   among_well (Some test) =
       with_octets_well held part code met unmet (bits_code test code met unmet) (bits_well test code met unmet p q)
 
@@ -89,9 +97,9 @@ module _ (part : Part) (first : Span) (others : List Span) (held : Option Part) 
       → IsRight packet held outcome (if outcome then held_to_compare test held part else held_to_compare test held part) code met unmet (among_code test held part (first ∷ others) code met unmet)
   unfolding among_code
   among_right packet whole None is outcome e =
-      with_load_right held part code met unmet (spans_code (first ∷ others) code met unmet) (spans_well code met unmet p q (first ∷ others)) packet whole outcome
-      (spans_front code met unmet p q first others)
-      (λ value given. spans_gives code met unmet p q (first ∷ others) packet (number_of part packet) value (as_side packet (number_of part packet) value outcome (is_among (first ∷ others) (number_of part packet)) code met unmet (sym e) given))
+      with_load_right held part code met unmet (spans_code part.mask (first ∷ others) code met unmet) (spans_well part.mask code met unmet p q (first ∷ others)) packet whole outcome
+      (spans_front part.mask code met unmet p q first others)
+      (λ value given. spans_gives part.mask code met unmet p q (first ∷ others) packet (number_of part packet) value (below part.mask (big_number (octets_loaded part.size) (drop part.at packet))) (as_side packet (number_of part packet) value outcome (is_among (first ∷ others) (number_of part packet)) code met unmet (sym e) given))
       (if outcome then Some part else Some part) (held_either outcome (Some part) packet (number_of part packet) refl)
   among_right packet whole (Some test) is outcome e =
       with_octets_right held part code met unmet (bits_code test code met unmet) (bits_well test code met unmet p q) packet whole outcome
@@ -193,6 +201,7 @@ kept_more packet on (more_of-PlainTest test more) before a h =
 
 mutual
   unfolding test_code
+
   pub test_well : (test : PlainTest) (held : Option Part) (code : List Instr) (met unmet : ℕ) → IsLabel code met → IsLabel code unmet → IsWell code met unmet (test_code test held code met unmet)
   test_well Always held code met unmet p q = record {
     extends = extends_self code;
@@ -228,6 +237,7 @@ mutual
 module _ (packet : List ℕ) (whole : length packet ≡ 52) where
   mutual
     unfolding test_code
+
     pub test_right : (test : PlainTest) (held : Option Part) (code : List Instr) (met unmet : ℕ) → IsLabel code met → IsLabel code unmet
         → IsRight packet held (holds test packet) (if holds test packet then (known_after test held).met else (known_after test held).unmet) code met unmet (test_code test held code met unmet)
     test_right Always held code met unmet p q = record { gives = λ a value h on. on a h }

@@ -1,5 +1,5 @@
 -- The code that decides a test.
-use Rattle.std.specs.Prelude.{ℕ, Bool, true, false, ◌&&◌, ◌==◌, bit_and, if◌then◌else◌, List, [], ◌∷◌, length, Option, Some, None}
+use Rattle.std.specs.Prelude.{ℕ, Bool, true, false, ◌&&◌, ◌==◌, nat_le, bit_and, if◌then◌else◌, List, [], ◌∷◌, length, Option, Some, None}
 use Rattle.bpf_code.specs.declared.instr.By.TheVariants.{Imm}
 use Rattle.bpf_code.specs.declared.instr.Instr.{Instr}
 use Rattle.bpf_code.specs.declared.instr.Instr.TheVariants.{LoadAbs, Alu}
@@ -126,12 +126,19 @@ bounded_from upper lower = record {
 abbrev pub with_lower : ℕ → Tested → Tested
 with_lower low upper = bounded_from upper (branched Ge low upper.code upper.ways.entry upper.ways.unmet)
 
--- The test of a span put in front of code: one comparison where the span is one number or begins at 0, otherwise two.
-unfoldable pub span_code : Span → List Instr → ℕ → ℕ → Tested
-span_code span code met unmet =
+-- Whether no number with bits of this mask is above this one. Nothing is known of a number without a mask.
+abbrev pub is_top : Option ℕ → ℕ → Bool
+is_top None high = false
+is_top (Some mask) high = nat_le mask high
+
+-- The test of a span put in front of code, for a number of which a mask may keep some bits: one comparison where the span is
+-- one number, begins at 0 or ends with the largest number that there can be, otherwise two.
+unfoldable pub span_code : Option ℕ → Span → List Instr → ℕ → ℕ → Tested
+span_code mask span code met unmet =
     if span.low == span.high then branched Eq span.low code met unmet else (
-    if span.low == 0 then turned (branched Gt span.high code unmet met) else
-    with_lower span.low (turned (branched Gt span.high code unmet met)))
+    if span.low == 0 then turned (branched Gt span.high code unmet met) else (
+    if is_top mask span.high then branched Ge span.low code met unmet else
+    with_lower span.low (turned (branched Gt span.high code unmet met))))
 
 -- The labels of a span in front of the test of further spans.
 abbrev pub before_spans : Tested → Tested → Tested
@@ -145,13 +152,13 @@ before_spans more first = record {
 }
 
 -- A span in front of the test of further spans: where it doesn't hold the number, they are tried.
-unfoldable pub spans_from : Span → Tested → Tested
-spans_from span more = before_spans more (span_code span more.code more.ways.met more.ways.entry)
+unfoldable pub spans_from : Option ℕ → Span → Tested → Tested
+spans_from mask span more = before_spans more (span_code mask span more.code more.ways.met more.ways.entry)
 
 -- The test of spans put in front of code.
-unfoldable pub spans_code : List Span → List Instr → ℕ → ℕ → Tested
-spans_code [] code met unmet = record { code = code; ways = record { entry = unmet; met = met; unmet = unmet } }
-spans_code (span ∷ more) code met unmet = spans_from span (spans_code more code met unmet)
+unfoldable pub spans_code : Option ℕ → List Span → List Instr → ℕ → ℕ → Tested
+spans_code mask [] code met unmet = record { code = code; ways = record { entry = unmet; met = met; unmet = unmet } }
+spans_code mask (span ∷ more) code met unmet = spans_from mask span (spans_code mask more code met unmet)
 
 -- The load of a part in front of a test of it.
 unfoldable pub with_load : Option Part → Part → Tested → Tested
@@ -178,7 +185,7 @@ with_octets held part t = record {
 
 -- A comparison of the part put in front of code: a test of bits where it is one.
 unfoldable pub among_code : Option BitTest → Option Part → Part → List Span → List Instr → ℕ → ℕ → Tested
-among_code None held part spans code met unmet = with_load held part (spans_code spans code met unmet)
+among_code None held part spans code met unmet = with_load held part (spans_code part.mask spans code met unmet)
 among_code (Some test) held part spans code met unmet = with_octets held part (bits_code test code met unmet)
 
 -- The test of a part of a chain: the side at which the chain goes on counts as met.

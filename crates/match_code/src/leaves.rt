@@ -4,7 +4,7 @@ ghost use Rattle.std.specs.Prelude.{◌≡◌, IfOk, OnOk, ◌∷◌};
 ghost use Rattle.bpf_interp.specs.Packet.{octets_loaded};
 ghost use Rattle.match_code.specs.BitTests.{bits_of};
 ghost use Rattle.match_code.specs.Labels.{Tested};
-ghost use Rattle.match_code.specs.TestCode.{is_same_mask, is_same_load, is_same_part, is_held, is_covered, is_loaded, whole_of, held_for_bits, held_to_compare, left_at_join, loaded, masked, bits_loaded, span_code, spans_code, spans_from, bits_code, among_code};
+ghost use Rattle.match_code.specs.TestCode.{is_same_mask, is_same_load, is_same_part, is_held, is_covered, is_loaded, whole_of, held_for_bits, held_to_compare, left_at_join, loaded, masked, bits_loaded, is_top, span_code, spans_code, spans_from, bits_code, among_code};
 ghost use Rattle.match_code.specs.inner.Making.{IsMade};
 
 use crate::bits::{BitTest, bits_of};
@@ -177,13 +177,32 @@ fn put_load(draft: &mut Draft, held: Option<Part>, part: Part) -> Result<(), All
     })
 }
 
-/// Puts the test of a span in front.
+/// Whether no number with bits of this mask is above this one.
+fn is_top(mask: Option<u32>, high: u32) -> bool
+    ensures { result ≡ is_top mask high }
+{
+    match mask {
+        None => false,
+        Some(mask) => mask <= high,
+    }
+}
+
+/// Puts the test of a span in front, for a number of which this mask keeps some bits.
 #[tactic(auto, unfolding(crate::specs::TestCode::span_code))]
-fn put_span(draft: &mut Draft, span: Span, met: usize, unmet: usize) -> Result<Ways, AllocError>
-    ensures { IfOk result (IsMade (span_code span draft.old met unmet) draft.new) }
+fn put_span(
+    draft: &mut Draft,
+    mask: Option<u32>,
+    span: Span,
+    met: usize,
+    unmet: usize,
+) -> Result<Ways, AllocError>
+    ensures { IfOk result (IsMade (span_code mask span draft.old met unmet) draft.new) }
 {
     if span.low == span.high {
         return draft.branch(Test::Eq, span.low, met, unmet);
+    }
+    if span.low != 0 && is_top(mask, span.high) {
+        return draft.branch(Test::Ge, span.low, met, unmet);
     }
     let upper = draft.branch(Test::Gt, span.high, unmet, met)?;
     if span.low == 0 {
@@ -203,10 +222,15 @@ fn put_span(draft: &mut Draft, span: Span, met: usize, unmet: usize) -> Result<W
 
 /// Puts a span in front of the test of further spans.
 #[tactic(auto, unfolding(crate::specs::TestCode::spans_from))]
-fn put_before(draft: &mut Draft, span: Span, more: Ways) -> Result<Ways, AllocError>
-    ensures { IfOk result (IsMade (spans_from span (record { code = draft.old; ways = more })) draft.new) }
+fn put_before(
+    draft: &mut Draft,
+    mask: Option<u32>,
+    span: Span,
+    more: Ways,
+) -> Result<Ways, AllocError>
+    ensures { IfOk result (IsMade (spans_from mask span (record { code = draft.old; ways = more })) draft.new) }
 {
-    let first = put_span(draft, span, more.met, more.entry)?;
+    let first = put_span(draft, mask, span, more.met, more.entry)?;
     let unmet = if more.entry == more.unmet {
         first.unmet
     } else {
@@ -222,12 +246,13 @@ fn put_before(draft: &mut Draft, span: Span, more: Ways) -> Result<Ways, AllocEr
 /// Puts the test of spans in front.
 fn put_spans(
     draft: &mut Draft,
+    mask: Option<u32>,
     first: Span,
     others: &[Span],
     met: usize,
     unmet: usize,
 ) -> Result<Ways, AllocError>
-    ensures { IfOk result (IsMade (spans_code (first ∷ others.now) draft.old met unmet) draft.new) }
+    ensures { IfOk result (IsMade (spans_code mask (first ∷ others.now) draft.old met unmet) draft.new) }
 {
     let mut ways = Ways {
         entry: unmet,
@@ -237,9 +262,9 @@ fn put_spans(
     let mut left = others.len();
     while left > 0 {
         left -= 1;
-        ways = put_before(draft, others[left], ways)?;
+        ways = put_before(draft, mask, others[left], ways)?;
     }
-    let ways = put_before(draft, first, ways)?;
+    let ways = put_before(draft, mask, first, ways)?;
     Ok(ways)
 }
 
@@ -283,7 +308,7 @@ pub(crate) fn put_among(
             })
         }
         None => {
-            let ways = put_spans(draft, first, others, met, unmet)?;
+            let ways = put_spans(draft, part.mask, first, others, met, unmet)?;
             put_load(draft, held, part)?;
             Ok(Ways {
                 entry: draft.len(),

@@ -1,5 +1,5 @@
 -- A chain with one more part, as it is written.
-use Rattle.std.proofs.Common.{◌≡◌, ℕ, ◌<◌, List, [], ◌∷◌, ◌++◌, length, Vec, Global, refl, sym, ap, ◌∙◌, arith}
+use Rattle.std.proofs.Common.{◌≡◌, ◌<◌, List, [], ◌∷◌, ◌++◌, length, Vec, Global, refl, sym, ap, ◌∙◌, arith}
 use mathlib.Core.Former.{Count}
 use Rattle.cell_rules.specs.declared.test.Test.{Test, AllOf, AllOf', AnyOf, Row_of-Test, end_of-Test, more_of-Test, items-the_row-Test, items_hidden-the_row-Test-0}
 use Rattle.rules_text.specs.RulesRead.{TestRead, any_cell, negation, conjunction, disjunction, test_read, all_read, one_read, joined_by_and, joined_by_or}

@@ -1,4 +1,4 @@
-use Rattle.std.proofs.Common.{◌∷◌, ◌∙◌, sym, ap}
+use Rattle.std.proofs.Common.{◌∷◌, ◌∙◌, ap}
 use Rattle.match_code.specs.inner.Joining.{joined_spans}
 use Rattle.match_code.proofs.InOrder.{ordered}
 use Rattle.match_code.proofs.order.in_order.Goals as goal

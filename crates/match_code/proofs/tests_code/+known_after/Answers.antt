@@ -1,4 +1,4 @@
-use Rattle.std.proofs.Common.{◌≡◌, true, false, List, ◌∙◌, sym, ap, arith}
+use Rattle.std.proofs.Common.{true, false, List, ◌∙◌, sym, ap, arith}
 use Rattle.match_code.specs.TestCode.{known_after, left_more, turned_left}
 use Rattle.match_code.specs.inner.Chains.{left_by_chain}
 use Rattle.match_code.specs.declared.part.Left.{Left}
