@@ -1,4 +1,5 @@
-"""Compares the compiled code of random rules with the evaluator, on cells at the bounds of their comparisons.
+"""Compares the compiled code of random rules with the evaluator, on cells at the bounds of their comparisons, and what is said of which
+rule decides each.
 
     python3 -m rules PROGRAM [COUNT] [SEED]      PROGRAM is upc-lab
 
@@ -13,14 +14,39 @@ from policer.decoding import decoded
 from policer.machine import value_and_steps
 
 from rules.making import cells_for, text_of
-from rules.meaning import value_of
+from rules.meaning import decision_of, value_of
 from rules.reader import Fault, read_rules
 
 
-def answered(program, text):
-    """Returns what the program answers to a text."""
-    run = subprocess.run([program, "rules"], input=text, stdout=subprocess.PIPE, check=False)
+def answered(program, text, subcommand="rules"):
+    """Returns what a subcommand of the program answers to a text."""
+    run = subprocess.run([program, subcommand], input=text, stdout=subprocess.PIPE, check=False)
     return run.stdout.decode()
+
+
+def shown(decision):
+    """Returns the answer of `why` to a cell."""
+    number, value = decision
+    return f"otherwise value {value}\n" if number is None else f"line {number} value {value}\n"
+
+
+def difference_of_why(program, text, random_source):
+    """Returns what differs between `why` and the reference, or None."""
+    # The line feed ends the last line, if none does.
+    text += b"\n"
+    try:
+        reader = read_rules(text)
+    except Fault as fault:
+        cells, wanted = [], fault.shown()
+    else:
+        cells = cells_for(reader, random_source)
+        wanted = "".join(shown(decision_of(reader, cell)) for cell in cells)
+    lines = "".join(f"{cell.hex()}\n" for cell in cells)
+    answer = answered(program, text + b" cells # of the rules\n" + lines.encode(), "why")
+    if answer == wanted:
+        return None
+    at = next((at for at, (one, other) in enumerate(zip(answer.split("\n"), wanted.split("\n"))) if one != other), 0)
+    return f"{answer.split(chr(10))[at]!r} and not {wanted.split(chr(10))[at]!r}" + (f" on {cells[at].hex()}" if at < len(cells) else "")
 
 
 def difference(program, text, random_source):
@@ -51,7 +77,7 @@ def main():
     for number in range(count):
         random_source = random.Random(f"{seed} {number}")
         text = text_of(random_source)
-        found = difference(program, text, random_source)
+        found = difference(program, text, random_source) or difference_of_why(program, text, random_source)
         if found:
             failed += 1
             print(f"{seed} {number}: {found}\n{text.decode(errors='replace')}")

@@ -1,4 +1,4 @@
-"""The value of rules on a cell, as docs/RULES.md has it."""
+"""The value of rules on a cell, and the rule that decides it, as docs/RULES.md has it."""
 
 
 def number_in(nni, field, cell):
@@ -38,17 +38,22 @@ def is_met(nni, test, cell):
     return {"=": number == k, "!=": number != k, "<": number < k, "<=": number <= k, ">": number > k, ">=": number >= k}[test[3]]
 
 
-def value_of(reader, cell):
-    """Returns the value of the rules on the cell."""
+def decision_of(reader, cell):
+    """Returns the source line of the rule that decides the cell, None if no rule does, and the value."""
     at = 0
     while at < len(reader.rules):
         line = reader.rules[at]
         if line[0] == "rule" and is_met(reader.nni, line[1], cell):
-            return line[2]
+            return line[3], line[2]
         if line[0] == "block" and not is_met(reader.nni, line[1], cell):
             depth = 1
             while depth:
                 at += 1
                 depth += {"block": 1, "end": -1}.get(reader.rules[at][0], 0)
         at += 1
-    return reader.otherwise
+    return None, reader.otherwise
+
+
+def value_of(reader, cell):
+    """Returns the value of the rules on the cell."""
+    return decision_of(reader, cell)[1]

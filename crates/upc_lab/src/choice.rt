@@ -19,6 +19,8 @@ use upc_choice::{Stop, stop_for};
 pub enum Subcommand {
     /// Compile a text of rules, and print the octets of their program.
     Rules,
+    /// Read a text of rules and then cells, and print which rule decides each cell.
+    Why,
 }
 
 /// Reads the words after the program's name: the name of one subcommand. The forms of help that `clap` has request help. Any
@@ -57,12 +59,19 @@ fn own_command<'a>(alloc: Global) -> Result<Command<'a>, AllocError>
     ensures { IfOk result (λ command. app_of command ≡ lab_app) }
 {
     let command = bare_command(alloc);
-    with_subcommand(
+    let command = with_subcommand(
         alloc,
         command,
         "rules",
         "Compile rules for cells and print the octets of their program",
         "Example: printf 'vpi 1 and vci 32..127 -> 1\\n' | upc-lab rules",
+    )?;
+    with_subcommand(
+        alloc,
+        command,
+        "why",
+        "Read rules, a line `cells` and cells, and print which rule decides each",
+        "Example: (cat examples/customer.rules; echo cells; tail -n +2 examples/customer.eval) | upc-lab why",
     )
 }
 
@@ -118,6 +127,7 @@ fn named(name: &str) -> Option<Subcommand>
 {
     match name {
         "rules" => Some(Subcommand::Rules),
+        "why" => Some(Subcommand::Why),
         _ => None,
     }
 }

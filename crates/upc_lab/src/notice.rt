@@ -13,5 +13,7 @@ pub fn awaited(subcommand: Subcommand) -> &'static str
 {
     match subcommand {
         Subcommand::Rules => "upc-lab rules: reading rules from the terminal, to its end",
+        Subcommand::Why =>
+            "upc-lab why: reading rules, a line `cells` and cells from the terminal, to its end",
     }
 }

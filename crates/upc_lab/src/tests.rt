@@ -1,4 +1,4 @@
-//! Tests of the command line, and of `rules` over devices that move little or fail.
+//! Tests of the command line, of `rules` over devices that move little or fail, and of `why`.
 //!
 //! Whole texts and their answers are data: examples/, and what tests/rules makes.
 
@@ -46,6 +46,28 @@ fn run_words(
     })
 }
 
+#[test]
+fn cells_are_answered_by_the_lines_that_decide_them(rt: HostRuntime) -> Result<(), Fail> {
+    for (octets, status, written) in [
+        (
+            b"# one\nclp 1 -> 7\ncells # two\n00000001\n\n00000000\n".as_slice(),
+            0,
+            b"line 2 value 7\notherwise value 0\n".as_slice(),
+        ),
+        (b"cells\nno\n", 0, b"fault script 3 BadHex\n"),
+        (b"any -> 7", 0, b""),
+        (
+            b"any > 7\ncells\n00000001\n",
+            1,
+            b"fault rules 1 BadLine 1 5\n",
+        ),
+    ] {
+        let left = run_words(rt.alloc(), "why", octets, 1000, 1000)?;
+        assert_eq!(rt; (left.status, left.written.as_slice()), (status, written));
+    }
+    Ok(())
+}
+
 /// Expects this status, output and message of `rules`.
 fn expect<R: Abort>(
     rt: &R,
@@ -67,6 +89,8 @@ fn a_subcommand_is_chosen_by_its_name_alone(rt: HostRuntime) -> Result<(), Fail>
     for (line, is_chosen) in [
         ("rules", true),
         ("rules --", true),
+        ("why", true),
+        ("why --", true),
         ("", false),
         ("--", false),
         ("rules rules", false),
@@ -132,6 +156,7 @@ fn help_is_written_and_nothing_is_read(rt: HostRuntime) -> Result<(), Fail> {
         ("-h", "standard input"),
         ("help rules", "upc-lab rules"),
         ("rules --help", "vpi 1"),
+        ("help why", "upc-lab why"),
     ] {
         let left = run_words(rt.alloc(), line, b"any -> 7\n", 0, 10000)?;
         assert!(rt; left.status == 0 && left.told.is_empty(), "{line}");
