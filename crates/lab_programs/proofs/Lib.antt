@@ -4,4 +4,10 @@ pub mod OneState
 pub mod TraceSteps
 pub mod TraceValue
 pub mod OneTrace
+pub mod Fits
+pub mod CommentedLines
+pub mod ListSteps
+pub mod ListMeaning
+pub mod WholeListing
+pub mod OneListing
 pub mod Public

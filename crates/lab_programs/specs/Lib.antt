@@ -1,4 +1,5 @@
 -- The subcommands of `upc-lab` for those who write programs. Read the modules in this order:
 pub mod Comments
 pub mod Trace
+pub mod ListedProgram
 pub mod inner

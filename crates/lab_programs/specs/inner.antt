@@ -2,3 +2,5 @@
 pub mod Registers
 pub mod SoFar
 pub mod TraceLaws
+pub mod ListLaws
+pub mod TurnWorlds

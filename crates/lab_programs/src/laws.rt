@@ -1,9 +1,14 @@
 //! Laws of the definitions. Each function does nothing; its contract is the law.
 
 ghost use Rattle.std.specs.Prelude.{◌≡◌, ◌++◌, ℕ, List};
+ghost use Rattle.bpf_asm.specs.Meaning.{IsMeaning};
 ghost use Rattle.bpf_code.specs.declared.instr.Instr.{Instr};
+ghost use Rattle.lab_programs.specs.ListedProgram.{IsListText, ListsLine};
 ghost use Rattle.lab_programs.specs.Trace.{IsTraceText, TellsTrace};
+ghost use Rattle.text_io.specs.Lines.{lines_of};
 ghost use Rattle.text_io.specs.declared.ending.Done.{Done as TheDone};
+ghost use Rattle.text_io.specs.declared.ending.Done.TheVariants.{Whole};
+ghost use Rattle.upc_programs.specs.Check.{TellsSource, accepted_text};
 ghost use Rattle.upc_programs.specs.Eval.{TellsValue};
 
 /// The last line of a cell's trace is the answer of `upc eval` to that cell.
@@ -21,4 +26,23 @@ pub fn every_input_has_a_trace()
 pub fn an_input_has_one_trace()
     ensures { (octets one other : List ℕ) (ends other_ends : TheDone)
         → IsTraceText octets one ends → IsTraceText octets other other_ends → (one ≡ other) × (ends ≡ other_ends) }
+{}
+
+/// The output of a whole run of `list` lists the program of a line of the input, and is a source that means this program.
+/// So `upc check` answers it with the octets of the program, unless it is over the limit of a source.
+pub fn a_whole_listing_means_the_program()
+    ensures { (input text : List ℕ) → IsListText input text Whole
+        → (code : List Instr) × ListsLine (lines_of input) text code × IsMeaning text code
+        × TellsSource text (accepted_text code) Whole }
+{}
+
+/// Each input has an output of `list`.
+pub fn every_input_has_a_listing()
+    ensures { (octets : List ℕ) → (text : List ℕ) × (done : TheDone) × IsListText octets text done }
+{}
+
+/// An input has at most one output of `list`, with one end.
+pub fn an_input_has_one_listing()
+    ensures { (octets one other : List ℕ) (ends other_ends : TheDone)
+        → IsListText octets one ends → IsListText octets other other_ends → (one ≡ other) × (ends ≡ other_ends) }
 {}

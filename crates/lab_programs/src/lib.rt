@@ -1,13 +1,16 @@
-//! The subcommands of `upc-lab` for those who write programs: `trace` shows each step of a program on each cell.
+//! The subcommands of `upc-lab` for those who write programs: `list` lists a program, and `trace` shows each step of a
+//! program on each cell.
 #![tactic(auto)]
 
 mod answer_texts;
 mod arithmetic;
 pub mod laws;
 mod listed_lines;
+mod listing;
 mod packet;
 mod registers;
 mod step_lines;
 mod tracing;
 
+pub use listing::{add_listing, list_program};
 pub use tracing::trace_cells;

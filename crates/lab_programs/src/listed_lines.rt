@@ -16,7 +16,7 @@ pub(crate) fn first_line(text: &[u8]) -> &[u8]
 }
 
 /// The text after its first line, if there is one.
-fn after_line(text: &[u8]) -> &[u8]
+pub(crate) fn after_line(text: &[u8]) -> &[u8]
     ensures { source_lines result.now ≡ drop 1 (source_lines text.now) }
 {
     match next_line(text) {

@@ -1,0 +1,49 @@
+-- The rules of `list` are total: each line has an answer in each world. These laws are in `specs/` because the `Machine`
+-- implementation of `list` cites them.
+use Rattle.std.proofs.Common.{ℕ, Bool, true, false, List, [], ◌∷◌, Option, Some, None, refl}
+use Rattle.std.specs.Option.{MatchOption}
+use Rattle.lab_programs.specs.ListedProgram.{IsListAnswer, ListCloses, ListSteps, ListedLine, ListsOrEnds, ListsProgram, list_rules, program_listing}
+use Rattle.text_io.proofs.Public.{silent-or}
+use Rattle.text_io.specs.Answering.{EndsBy}
+use Rattle.text_io.specs.Printing.{IsTotal}
+use Rattle.text_io.specs.Words.{words_of, is_silent}
+use Rattle.text_io.specs.declared.ending.Done.{Done}
+use Rattle.text_io.specs.declared.ending.Done.TheVariants.{Whole, Ended}
+use Rattle.upc_codes.proofs.Public.{reads-as}
+use Rattle.upc_codes.specs.Program.{ProgramReading, is_program, is_refused}
+use Rattle.upc_words.specs.FaultLines.{bad_line, bad_hex, no_program}
+use Rattle.upc_words.specs.Hexadecimal.{octets_of_digits}
+
+lists-reading : (reading : ProgramReading) → (text : List ℕ) × (next : Option Bool) × IsListAnswer reading text next
+lists-reading (is_program code) = (program_listing code, Some true, (refl, refl))
+lists-reading (is_refused fault) = (fault, None, (refl, refl))
+
+lists-program : (octets : List ℕ) → (text : List ℕ) × (next : Option Bool) × ListsProgram octets text next
+lists-program octets =
+    let read = reads-as octets in
+    let told = lists-reading read.0 in
+    (told.0, told.1, (read.0, read.1, told.2))
+
+lists-word : (octets : Option (List ℕ)) → (text : List ℕ) × (next : Option Bool) × MatchOption octets (EndsBy bad_hex text next) (λ found. ListsProgram found text next)
+lists-word None = (bad_hex, None, (refl, refl))
+lists-word (Some octets) = lists-program octets
+
+listed-line : (words : List (List ℕ)) → (text : List ℕ) × (next : Option Bool) × ListedLine words text next
+listed-line [] = (bad_line, None, (refl, refl))
+listed-line (word ∷ []) = lists-word (octets_of_digits word)
+listed-line (word ∷ other ∷ words) = (bad_line, None, (refl, refl))
+
+lists-words : (world : Bool) (words : List (List ℕ)) → (text : List ℕ) × (next : Option Bool) × ListsOrEnds world words text next
+lists-words false words = listed-line words
+lists-words true words = (bad_line, None, (refl, refl))
+
+list-can_step : (world : Bool) (said : List ℕ) → (text : List ℕ) × (next : Option Bool) × ListSteps world said text next
+list-can_step world said = silent-or (ListsOrEnds world (words_of said)) world (is_silent (words_of said)) (lists-words world (words_of said))
+
+list-can_close : (world : Bool) → (text : List ℕ) × (done : Done) × ListCloses world text done
+list-can_close false = (no_program, Ended, (refl, refl))
+list-can_close true = ([], Whole, (refl, refl))
+
+-- The rules of `list` are total.
+pub list-total : IsTotal list_rules
+list-total = record { keeps = λ world said text after sound steps. tt; step = λ world said sound. list-can_step world said; close = λ world sound. list-can_close world }
