@@ -1,6 +1,6 @@
 -- The subcommand of `upc-lab` that the command line names, and the errors of the command line, by clap's definitions for a simple
 -- command.
-use Rattle.std.specs.Prelude.{◌≡◌, List, [], ◌∷◌, Option, Some, true, fold, find, codes, option_map}
+use Rattle.std.specs.Prelude.{◌≡◌, List, [], ◌∷◌, ◌++◌, Option, Some, true, fold, find, codes, option_map}
 use Rattle.std.specs.Str.{bytes_eq}
 use Rattle.clap.specs.Walk.{Text}
 use Rattle.clap.specs.Simple.{App, new_app, on_top}
@@ -8,17 +8,26 @@ use Rattle.clap.specs.Kinds.{Kinds}
 use Rattle.clap.specs.Faults.{fault_of}
 use Rattle.upc_choice.specs.Choice.{IsEnd, with_name}
 use Rattle.upc_lab.specs.declared.choice.Subcommand.{Subcommand}
-use Rattle.upc_lab.specs.declared.choice.Subcommand.TheVariants.{Rules, Why}
+use Rattle.upc_lab.specs.declared.choice.Subcommand.TheVariants as lab
 
--- The name of each subcommand.
+-- The names of the subcommands for rules.
+abbrev pub rules_subcommands : List (Text × Subcommand)
+rules_subcommands = (codes "rules", lab.Rules) ∷ (codes "why", lab.Why) ∷ []
+
+-- The name of each subcommand: those for rules, those for programs, and that for contracts.
 abbrev pub lab_subcommands : List (Text × Subcommand)
-lab_subcommands = (codes "rules", Rules) ∷ (codes "why", Why) ∷ []
+lab_subcommands =
+    rules_subcommands ++ (codes "list", lab.List) ∷ (codes "trace", lab.Trace) ∷ (codes "size", lab.Size) ∷ []
 
 -- The command without its subcommands. It wants one of them.
 abbrev pub lab_alone : App
 lab_alone = on_top (λ top. record top { subcommand_required = true }) (new_app (codes "upc-lab"))
 
--- The command `upc-lab`: these subcommands, and no option except help, which every command has.
+-- The command with the subcommands for rules alone.
+abbrev pub rules_app : App
+rules_app = fold (λ app row. with_name app row.0) lab_alone rules_subcommands
+
+-- The command `upc-lab`: its subcommands, and no option except help, which every command has.
 unfoldable pub lab_app : App
 lab_app = fold (λ app row. with_name app row.0) lab_alone lab_subcommands
 

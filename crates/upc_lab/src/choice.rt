@@ -7,7 +7,7 @@ ghost use Rattle.clap.specs.Simple.{app_of};
 ghost use Rattle.clap.specs.Kinds.{FailsBy};
 ghost use Rattle.upc_choice.specs.Choice.{with_name};
 ghost use Rattle.upc_choice.specs.Stopping.{IsStopFor, StopsAt};
-ghost use Rattle.upc_lab.specs.LabWords.{NamesLab, lab_alone, lab_app, lab_faults_in, lab_line, lab_named};
+ghost use Rattle.upc_lab.specs.LabWords.{NamesLab, lab_alone, lab_app, lab_faults_in, lab_line, lab_named, rules_app};
 ghost use Rattle.upc_lab.specs.inner.FoundName.{lab_name_in};
 
 use clap::{Command, Error};
@@ -21,6 +21,12 @@ pub enum Subcommand {
     Rules,
     /// Read a text of rules and then cells, and print which rule decides each cell.
     Why,
+    /// Print the listing of a program, with the octets of each instruction.
+    List,
+    /// Run a program on cells, and print each step.
+    Trace,
+    /// Print the buckets of contracts, and the rates that they police.
+    Size,
 }
 
 /// Reads the words after the program's name: the name of one subcommand. The forms of help that `clap` has request help. Any
@@ -66,12 +72,44 @@ fn own_command<'a>(alloc: Global) -> Result<Command<'a>, AllocError>
         "Compile rules for cells and print the octets of their program",
         "Example: printf 'vpi 1 and vci 32..127 -> 1\\n' | upc-lab rules",
     )?;
-    with_subcommand(
+    let command = with_subcommand(
         alloc,
         command,
         "why",
         "Read rules, a line `cells` and cells, and print which rule decides each",
         "Example: (cat examples/customer.rules; echo cells; tail -n +2 examples/customer.eval) | upc-lab why",
+    )?;
+    with_program_subcommands(alloc, command)
+}
+
+#[tactic(auto, unfolding(crate::specs::LabWords::lab_app))]
+fn with_program_subcommands<'a>(
+    alloc: Global,
+    command: Command<'a>,
+) -> Result<Command<'a>, AllocError>
+    requires { app_of command ≡ rules_app }
+    ensures { IfOk result (λ command. app_of command ≡ lab_app) }
+{
+    let command = with_subcommand(
+        alloc,
+        command,
+        "list",
+        "List a program in hexadecimal, with the octets of each instruction",
+        "Example: echo 0006000000000007 | upc-lab list",
+    )?;
+    let command = with_subcommand(
+        alloc,
+        command,
+        "trace",
+        "Run a program in hexadecimal on cells, and print each step",
+        "Example: upc-lab trace < examples/customer.eval",
+    )?;
+    with_subcommand(
+        alloc,
+        command,
+        "size",
+        "Print the buckets of contracts on paper, and the rates that they police",
+        "Example: echo cbr1 pcr 353207 cdvt 250us tick 100ns | upc-lab size",
     )
 }
 
@@ -79,7 +117,7 @@ fn bare_command<'a>(alloc: Global) -> Command<'a>
     ensures { app_of result ≡ lab_alone }
 {
     Command::new(alloc, "upc-lab")
-        .about("Rules for classes of ATM cells, and the programs of upc that they are compiled to")
+        .about("Rules for classes of ATM cells, the programs of upc, and the contracts that it polices")
         .after_help("All read standard input, to its end.")
         .subcommand_required(true)
 }
@@ -128,6 +166,9 @@ fn named(name: &str) -> Option<Subcommand>
     match name {
         "rules" => Some(Subcommand::Rules),
         "why" => Some(Subcommand::Why),
+        "list" => Some(Subcommand::List),
+        "trace" => Some(Subcommand::Trace),
+        "size" => Some(Subcommand::Size),
         _ => None,
     }
 }

@@ -1,4 +1,4 @@
-//! `upc-lab`: a program for those who write rules, over standard input and standard output.
+//! `upc-lab`: a program for those who write rules and programs, over standard input and standard output.
 #![tactic(auto)]
 
 mod choice;
@@ -10,7 +10,9 @@ mod tests;
 
 pub use choice::{Subcommand, choose};
 pub use invocation::carry_out;
+pub use lab_programs::{list_program, trace_cells};
 pub use lab_rules::{compile_rules, decide_cells};
+pub use lab_sizes::size_contracts;
 pub use notice::awaited;
 use std::io::IsTerminal;
 use std::process::ExitCode;
