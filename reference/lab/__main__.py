@@ -9,8 +9,10 @@ import re
 import sys
 
 from lab.tracing import TraceDialogue
+from policer.decoding import decoded
 from policer.dialogue import answered
 from policer.eval_dialogue import EvalDialogue
+from policer.hexadecimal import octets_of
 from trials.comparing import edges_of, first_difference, input_of, of_program
 
 
@@ -32,9 +34,9 @@ def wrong_list(upc, lab, text):
     ours, theirs = of_program(lab, "list", first), (*answered(first, EvalDialogue()), b"")
     if not theirs[0].startswith(b"accepted"):
         return None if ours == theirs else first_difference(ours, theirs)
-    again = of_program(upc, "check", ours[0])[0]
-    wanted = theirs[0] + first.split()[0].lower() + b"\n"
-    return None if again == wanted else f"upc check of the listing prints {again[:80]}"
+    again = of_program(upc, "check", ours[0])[0].split(b"\n")
+    is_same = again[0] + b"\n" == theirs[0] and decoded(octets_of(again[1])) == decoded(octets_of(first.split()[0]))
+    return None if is_same else f"upc check of the listing prints {again[0]}"
 
 
 def main(upc, lab, count="200", seed="1"):
