@@ -1,5 +1,5 @@
 -- The texts of the answerers of a script's lines are one answer for each line, in order.
-use Rattle.std.proofs.Common.{◌≡◌, ℕ, zero, suc, ◌+◌, Bool, true, false, List, [], ◌∷◌, ◌++◌, All, length, Option, Some, None, Result, Ok, Err, OnOk, refl, ap, sym, subst, ◌∙◌}
+use Rattle.std.proofs.Common.{◌≡◌, ℕ, zero, suc, ◌+◌, Bool, true, false, List, [], ◌∷◌, ◌++◌, All, length, map, Option, Some, None, refl, ap, sym, subst, ◌∙◌}
 use Rattle.std.specs.Prelude.{MatchBool, MatchOption, slice_get, slice_set}
 use Rattle.std.specs.Option.{IsSomeAnd}
 use Rattle.std.specs.List.{AllZip}
@@ -8,6 +8,8 @@ use Rattle.std.proofs.lemmas.List.Elements.{All-get_or, All-nil, All-push, All-r
 use Rattle.std.proofs.lemmas.Option.{get_or_from_slice_get, slice_get_within}
 use Rattle.std.proofs.lemmas.Slice.Zip.{AllZip-left}
 use Rattle.gen_arena.specs.declared.id.Id.{Id}
+use Rattle.line_record.specs.declared.tally.Tally.{Tally}
+use Rattle.line_record.specs.Tally.{nothing, plus, total}
 use Rattle.upc_cell.specs.Connection.{vc_of}
 use Rattle.upc_cell.specs.declared.side.Side.{Side}
 use Rattle.text_io.specs.Words.{words_of}
@@ -26,6 +28,9 @@ use Rattle.upc_ports.specs.inner.DeskTexts.{TellsEach, MayObeyLine}
 use Rattle.upc_ports.specs.inner.Script.{AnswersLater, OfLines}
 use Rattle.text_io.specs.Devices.{Adds}
 use Rattle.upc_ports.specs.inner.InOrder.{AllTell, IsTextOfAnswerer, TellsCell, cell_at, given_text}
+use Rattle.upc_ports.specs.inner.Told.{cell_counts, cells_counts}
+use Rattle.upc_ports.proofs.CountsLemmas.{nothing-plus, plus-nothing, plus-regroup}
+use Rattle.upc_ports.proofs.DealtCounts.{dealt_counts, dealt-all, dealt-none, dealt-one}
 use Rattle.upc_ports.proofs.DeskLemmas.{desk-answered}
 use Rattle.upc_ports.proofs.ToldLemmas.{fault-answered, told-answered}
 
@@ -238,11 +243,16 @@ same-left side last now next all arrivals texts answerer names names' text same 
   texts_tell = step.tells;
 }
 
--- The line of a cell has an answer.
+-- The line of a cell has an answer, and its counts are those of the stored cell.
+record CellStep (side : Side) (all names : List Id) (n k : ℕ) (arrivals : List (List ToldCell)) (line text : List ℕ) : Type 0 where
+  one : ToldCell
+  there : cell_at (slice_get arrivals n) k ≡ Some one
+  answer : MayAnswerLine side all (words_of line) names text names (cell_counts one)
+
 cell-answered : (side : Side) (all names : List Id) (last now next : Dealt) (arrivals : List (List ToldCell)) (texts : List (List ℕ))
     (here line text : List ℕ) → Answered side last arrivals → Grows next last → (deals : DealsCell side here line now next)
     → IsTextOfAnswerer side all arrivals texts (Port (port_of (vc_of side here) (length now.arrivals)) (length deals.own)) text
-    → MayAnswerLine side all (words_of line) names text names
+    → CellStep side all names (port_of (vc_of side here) (length now.arrivals)) (length deals.own) arrivals line text
 cell-answered side all names last now next arrivals texts here line text answered grown deals tells =
     let n = port_of (vc_of side here) (length now.arrivals) in
     let own = deals.own in
@@ -251,7 +261,34 @@ cell-answered side all names last now next arrivals texts here line text answere
     let last_own = grown.ports n (own ++ line ∷ []) there in
     let told = told-port side last.arrivals arrivals n (length own) ((own ++ line ∷ []) ++ last_own.more) line answered.cells answered.ports last_own.there
     (get-behind own last_own.more line) in
-    told-answered side all names line told.0 text told.2 (subst (λ (found : Option ToldCell). TellsCell side all found text) told.1 tells)
+    record {
+      one = told.0;
+      there = told.1;
+      answer = told-answered side all names line told.0 text told.2 (subst (λ (found : Option ToldCell). TellsCell side all found text) told.1 tells);
+    }
+
+-- The answers to the lines that are left, and the counts of their cells: with those of the lines before they are the counts of
+-- all cells.
+record Rest (side : Side) (all : List Id) (arrivals : List (List ToldCell)) (lines : List (List ℕ)) (now last : Dealt) (names names' : List Id)
+    (text : List ℕ) : Type 0 where
+  counts : Tally
+  sum : plus (dealt_counts now.arrivals arrivals) counts ≡ dealt_counts last.arrivals arrivals
+  each : AnswersEach side all lines names text names' counts
+
+-- The counts with a line before the others: a cell's, or none.
+sum-one : (now next last : Dealt) (arrivals : List (List ToldCell)) (one others : Tally)
+    → dealt_counts next.arrivals arrivals ≡ plus (dealt_counts now.arrivals arrivals) one
+    → plus (dealt_counts next.arrivals arrivals) others ≡ dealt_counts last.arrivals arrivals
+    → plus (dealt_counts now.arrivals arrivals) (plus one others) ≡ dealt_counts last.arrivals arrivals
+sum-one now next last arrivals one others is sum =
+    sym (plus-regroup (dealt_counts now.arrivals arrivals) one others) ∙ ap (λ (t : Tally). plus t others) (sym is) ∙ sum
+
+sum-none : (now next last : Dealt) (arrivals : List (List ToldCell)) (others : Tally) → next.arrivals ≡ now.arrivals
+    → plus (dealt_counts next.arrivals arrivals) others ≡ dealt_counts last.arrivals arrivals
+    → plus (dealt_counts now.arrivals arrivals) (plus nothing others) ≡ dealt_counts last.arrivals arrivals
+sum-none now next last arrivals others same sum =
+    sum-one now next last arrivals nothing others
+    (ap (λ (ports : List (List (List ℕ))). dealt_counts ports arrivals) same ∙ sym (plus-nothing (dealt_counts now.arrivals arrivals))) sum
 
 tells-none : (side : Side) (names names' : List Id) (rest : List (List ℕ)) → TellsEach side [] names rest names' → names' ≡ names
 tells-none side names names' [] tells = tells
@@ -300,38 +337,41 @@ desk-step side last now next all arrivals texts told (own ∷ rest) line names n
 found-left : (side : Side) (all : List Id) (arrivals : List (List ToldCell)) (texts : List (List ℕ)) (line : List ℕ) (lines : List (List ℕ)) (now next last : Dealt)
     (names names' : List Id) (text : List ℕ) → is_cell_line (words_of line) ≡ true → (found : CellLine) → IsCellLine (command_of side (words_of line)) found
     → DealsFound side line found now next → Answered side last arrivals → Grows next last → Left side last now all arrivals texts names names' text
-    → ((mid : List Id) (later : List ℕ) → Left side last next all arrivals texts mid names' later → AnswersEach side all lines mid later names')
-    → AnswersEach side all (line ∷ lines) names text names'
+    → ((mid : List Id) (later : List ℕ) → Left side last next all arrivals texts mid names' later → Rest side all arrivals lines next last mid names' later)
+    → Rest side all arrivals (line ∷ lines) now last names names' text
 found-left side all arrivals texts line lines now next last names names' text cell (Comes moment here) brings deals answered grown left goes_on =
     let answerer = Port (port_of (vc_of side here) (length now.arrivals)) (length deals.own) in
     let next_order : next.order ≡ now.order ++ answerer ∷ [] = ap (λ (d : Dealt). d.order) deals.dealt in
     let next_desk : next.desk ≡ now.desk = ap (λ (d : Dealt). d.desk) deals.dealt in
-    let step = step-from side last now next all arrivals texts answerer names names' text next_order grown left in (
-      step.here,
-      step.later,
-      names,
-      step.cut,
-      cell-answered side all names last now next arrivals texts here line step.here answered grown deals step.one,
-      goes_on names step.later (same-left side last now next all arrivals texts answerer names names' text next_desk left step),
-    )
+    let step = step-from side last now next all arrivals texts answerer names names' text next_order grown left in
+    let told = cell-answered side all names last now next arrivals texts here line step.here answered grown deals step.one in
+    let rest = goes_on names step.later (same-left side last now next all arrivals texts answerer names names' text next_desk left step) in
+    let more : dealt_counts next.arrivals arrivals ≡ plus (dealt_counts now.arrivals arrivals) (cell_counts told.one) =
+    ap (λ (d : Dealt). dealt_counts d.arrivals arrivals) deals.dealt
+    ∙ dealt-one now.arrivals arrivals (port_of (vc_of side here) (length now.arrivals)) deals.own line told.one deals.there told.there in
+    record {
+      counts = plus (cell_counts told.one) rest.counts;
+      sum = sum-one now next last arrivals (cell_counts told.one) rest.counts more rest.sum;
+      each = (step.here, step.later, names, cell_counts told.one, rest.counts, step.cut, refl, told.answer, rest.each);
+    }
 found-left side all arrivals texts line lines now next last names names' text cell (IsFaulty fault) brings deals answered grown left goes_on =
     let next_order : next.order ≡ now.order ++ Fault fault ∷ [] = ap (λ (d : Dealt). d.order) deals in
     let next_desk : next.desk ≡ now.desk = ap (λ (d : Dealt). d.desk) deals in
-    let step = step-from side last now next all arrivals texts (Fault fault) names names' text next_order grown left in (
-      step.here,
-      step.later,
-      names,
-      step.cut,
-      subst (λ (t : List ℕ). MayAnswerLine side all (words_of line) names t names) (sym step.one) (fault-answered side all names line fault cell brings),
-      goes_on names step.later (same-left side last now next all arrivals texts (Fault fault) names names' text next_desk left step),
-    )
+    let step = step-from side last now next all arrivals texts (Fault fault) names names' text next_order grown left in
+    let rest = goes_on names step.later (same-left side last now next all arrivals texts (Fault fault) names names' text next_desk left step) in
+    let answer = subst (λ (t : List ℕ). MayAnswerLine side all (words_of line) names t names nothing) (sym step.one) (fault-answered side all names line fault cell brings) in
+    record {
+      counts = plus nothing rest.counts;
+      sum = sum-none now next last arrivals rest.counts (ap (λ (d : Dealt). d.arrivals) deals) rest.sum;
+      each = (step.here, step.later, names, nothing, rest.counts, step.cut, refl, answer, rest.each);
+    }
 
 line-left : (side : Side) (all : List Id) (arrivals : List (List ToldCell)) (texts : List (List ℕ)) (line : List ℕ) (lines : List (List ℕ)) (now next last : Dealt)
     (names names' : List Id) (text : List ℕ) (is : Bool) → is_cell_line (words_of line) ≡ is
     → MatchBool is (DealsCellLine side line now next) (DealsDeskLine line now next) → Answered side last arrivals → Grows next last
     → Left side last now all arrivals texts names names' text
-    → ((mid : List Id) (later : List ℕ) → Left side last next all arrivals texts mid names' later → AnswersEach side all lines mid later names')
-    → AnswersEach side all (line ∷ lines) names text names'
+    → ((mid : List Id) (later : List ℕ) → Left side last next all arrivals texts mid names' later → Rest side all arrivals lines next last mid names' later)
+    → Rest side all arrivals (line ∷ lines) now last names names' text
 line-left side all arrivals texts line lines now next last names names' text true cell deals answered grown left goes_on =
     found-left side all arrivals texts line lines now next last names names' text cell deals.found deals.brings deals.dealt answered grown left goes_on
 line-left side all arrivals texts line lines now next last names names' text false other deals answered grown left goes_on =
@@ -344,32 +384,43 @@ line-left side all arrivals texts line lines now next last names names' text fal
     let tells = subst (λ (xs : List (List ℕ)). TellsEach side xs names left.rest names') same left.tells in
     let desk = desk-step side last now next all arrivals texts left.told left.rest line names names' text grown.desk left.texts_are left.counted next_desk
     grown.desk_is tells step in
-    (step.here, step.later, desk.mid, step.cut, desk-answered side all (words_of line) names step.here desk.mid other desk.answer, goes_on desk.mid step.later desk.left)
+    let rest = goes_on desk.mid step.later desk.left in
+    let answer = desk-answered side all (words_of line) names step.here desk.mid other desk.answer in
+    record {
+      counts = plus nothing rest.counts;
+      sum = sum-none now next last arrivals rest.counts (ap (λ (d : Dealt). d.arrivals) deals) rest.sum;
+      each = (step.here, step.later, desk.mid, nothing, rest.counts, step.cut, refl, answer, rest.each);
+    }
 
 -- The lines that are left have their answers.
 answers-left : (side : Side) (all : List Id) (arrivals : List (List ToldCell)) (texts : List (List ℕ)) (lines : List (List ℕ)) (now last : Dealt)
     (names names' : List Id) (text : List ℕ) → DealsAll side lines now last → Answered side last arrivals
-    → Left side last now all arrivals texts names names' text → AnswersEach side all lines names text names'
+    → Left side last now all arrivals texts names names' text → Rest side all arrivals lines now last names names' text
 answers-left side all arrivals texts [] now last names names' text deals answered left =
     let none : [] ≡ left.order = append_cancel_left now.order [] left.order (append-nil now.order ∙ ap (λ (d : Dealt). d.order) (sym deals) ∙ left.order_is) in
-    let free : [] ≡ left.desk = append_cancel_left now.desk [] left.desk (append-nil now.desk ∙ ap (λ (d : Dealt). d.desk) (sym deals) ∙ left.desk_is) in (
-      subst (λ (xs : List Answerer). AllTell side all arrivals texts xs text) (sym none) left.texts_tell,
-      tells-none side names names' left.rest (subst (λ (xs : List (List ℕ)). TellsEach side xs names left.rest names') (sym free) left.tells),
-    )
+    let free : [] ≡ left.desk = append_cancel_left now.desk [] left.desk (append-nil now.desk ∙ ap (λ (d : Dealt). d.desk) (sym deals) ∙ left.desk_is) in
+    record {
+      counts = nothing;
+      sum = plus-nothing (dealt_counts now.arrivals arrivals) ∙ ap (λ (d : Dealt). dealt_counts d.arrivals arrivals) (sym deals);
+      each = (
+        subst (λ (xs : List Answerer). AllTell side all arrivals texts xs text) (sym none) left.texts_tell,
+        tells-none side names names' left.rest (subst (λ (xs : List (List ℕ)). TellsEach side xs names left.rest names') (sym free) left.tells),
+        refl,
+      );
+    }
 answers-left side all arrivals texts (line ∷ lines) now last names names' text (next, deals, more) answered left =
     line-left side all arrivals texts line lines now next last names names' text (is_cell_line (words_of line)) refl deals answered (all-grows side lines next last more) left
     (λ mid later still. answers-left side all arrivals texts lines next last mid names' later more answered still)
 
--- The lines of a script, from the first that was assigned on.
+-- The lines of a script, from the first that was assigned on. Their counts are those of all cells of all ports.
 pub all-answered : (side : Side) (all : List Id) (arrivals : List (List ToldCell)) (texts : List (List ℕ)) (lines : List (List ℕ)) (ports : ℕ) (last : Dealt)
     (names : List Id) (text : List ℕ) → DealsAll side lines (none_dealt ports) last → AllZip (AnswersPort side) last.arrivals arrivals
-    → TellsEach side last.desk names texts all → AllTell side all arrivals texts last.order text → AnswersEach side all lines names text all
+    → TellsEach side last.desk names texts all → AllTell side all arrivals texts last.order text
+    → AnswersEach side all lines names text all (total (map cells_counts arrivals))
 all-answered side all arrivals texts lines ports last names text deals answers tells texts_tell =
-    answers-left side all arrivals texts lines (none_dealt ports) last names all text deals
-    (record {
-      cells = all-cells side lines (none_dealt ports) last deals (All-replicate (All (HasCell side)) ports [] (All-nil (HasCell side)));
-      ports = answers;
-    })
+    let cells = all-cells side lines (none_dealt ports) last deals (All-replicate (All (HasCell side)) ports [] (All-nil (HasCell side))) in
+    let told = answers-left side all arrivals texts lines (none_dealt ports) last names all text deals
+    (record { cells = cells; ports = answers })
     (record {
       told = [];
       rest = texts;
@@ -381,16 +432,20 @@ all-answered side all arrivals texts lines ports last names text deals answers t
       order = last.order;
       order_is = refl;
       texts_tell = texts_tell;
-    })
+    }) in
+    let counts : told.counts ≡ total (map cells_counts arrivals) =
+    sym (nothing-plus told.counts) ∙ ap (λ (t : Tally). plus t told.counts) (sym (dealt-none ports arrivals)) ∙ told.sum
+    ∙ dealt-all side last.arrivals arrivals cells answers in
+    subst (λ (t : Tally). AnswersEach side all lines names text all t) counts told.each
 
 -- The same for what was appended, with the sides and lists as the code has them.
 pub later-answered : (side dealing : Side) (octets : List ℕ) (ports : ℕ) (last : Dealt) (order : List Answerer) (arrivals : List (List (List ℕ))) (desk : List (List ℕ))
-    (told told' : List (List ToldCell)) (texts texts' : List (List ℕ)) (names all all' : List Id) (old new : List ℕ) → dealing ≡ side → last.order ≡ order
+    (told told' : List (List ToldCell)) (texts texts' : List (List ℕ)) (names all all' : List Id) (counts : Tally) (old new : List ℕ) → dealing ≡ side → last.order ≡ order
     → last.arrivals ≡ arrivals → last.desk ≡ desk → told ≡ told' → texts ≡ texts' → all ≡ all' → OfLines octets (λ each. DealsAll dealing each (none_dealt ports) last)
     → AllZip (AnswersPort side) arrivals told → TellsEach side desk names texts all → Adds (AllTell dealing all' told' texts' order) old new
-    → Adds (λ text. OfLines octets (λ each. AnswersLater side each names text)) old new
-later-answered side dealing octets ports last order arrivals desk told told' texts texts' names all all' old new same_side same_order same_arrivals same_desk same_told same_texts same_all
-    deals answers tells (text, adds, tell) =
+    → total (map cells_counts told) ≡ counts → Adds (λ text. OfLines octets (λ each. AnswersLater side each names text counts)) old new
+later-answered side dealing octets ports last order arrivals desk told told' texts texts' names all all' counts old new same_side same_order same_arrivals same_desk same_told same_texts same_all
+    deals answers tells (text, adds, tell) counted =
     let tell1 = subst (λ (s : Side). AllTell s all' told' texts' order text) same_side tell in
     let tell2 = subst (λ (xs : List Answerer). AllTell side all' told' texts' xs text) (sym same_order) tell1 in
     let tell3 = subst (λ (xs : List (List ToldCell)). AllTell side all' xs texts' last.order text) (sym same_told) tell2 in
@@ -400,14 +455,10 @@ later-answered side dealing octets ports last order arrivals desk told told' tex
       adds,
       λ each are. (
         all,
-        all-answered side all told texts each ports last names text
+        subst (λ (t : Tally). AnswersEach side all each names text all t) counted
+            (all-answered side all told texts each ports last names text
             (subst (λ (s : Side). DealsAll s each (none_dealt ports) last) same_side (deals each are))
             (subst (λ (xs : List (List (List ℕ))). AllZip (AnswersPort side) xs told) (sym same_arrivals) answers)
-            (subst (λ (xs : List (List ℕ)). TellsEach side xs names texts all) (sym same_desk) tells) tell5,
+            (subst (λ (xs : List (List ℕ)). TellsEach side xs names texts all) (sym same_desk) tells) tell5),
       ),
     )
-
--- A fact that doesn't depend on the result of a call.
-pub always-ok : {T E X : Type 0} (result : Result T E) → X → OnOk result X
-always-ok (Ok value) here = here
-always-ok (Err fault) here = tt

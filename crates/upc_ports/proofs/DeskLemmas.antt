@@ -22,6 +22,9 @@ use Rattle.upc_script.specs.Rates.{first_wanted_fault}
 use Rattle.upc_script.specs.declared.script_words.Wanted.{Wanted}
 use Rattle.upc_script.specs.ScriptCommands.{Command, load, retire, setup, reload, release, cut, cell, command_of, cell_of_words, load_of, retire_of, setup_of, reload_of, release_of, cut_of, seat_of, setup_with, reload_with, only_vc, contracts_of}
 use Rattle.upc_script.specs.ScriptWords.{number_of_digits, program_of}
+use Rattle.line_record.specs.Tally.{nothing, plus}
+use Rattle.line_record.specs.declared.tally.Tally.{Tally}
+use Rattle.upc_ports.proofs.CountsLemmas.{nothing-plus, plus-regroup}
 use Rattle.upc_ports.specs.LineAnswers.{MayAnswerCommand, MayAnswerLine, MayObey, MayReply, Refuses, Replies, RepliesToNamed, RepliesToOctets, loaded_id}
 use Rattle.upc_ports.specs.ScriptAnswers.{AnswersEach}
 use Rattle.upc_dealing.specs.Dealing.{is_cell_line}
@@ -173,21 +176,21 @@ no-cell side [] is = refl
 no-cell side (name ∷ words) is =
     ap (λ b. is_cell (if b then cell_of_words words else others side name words)) is ∙ others-no side name words
 
--- The desk's answer to a line that isn't a cell line is one that the line may have.
+-- The desk's answer to a line that isn't a cell line is one that the line may have. It counts no cell.
 no-cell-answered : (side : Side) (all : List Id) (found : Option Command) (names : List Id) (text : List ℕ) (names' : List Id) → is_cell found ≡ false
     → MatchOption found (Refuses bad_line names text names') (λ command. MayObey command names text names')
-    → MatchOption found (Refuses bad_line names text names') (λ command. MayAnswerCommand side all command names text names')
-no-cell-answered side all None names text names' apart told = told
+    → MatchOption found (Refuses bad_line names text names' × (nothing ≡ nothing)) (λ command. MayAnswerCommand side all command names text names' nothing)
+no-cell-answered side all None names text names' apart told = (told, refl)
 no-cell-answered side all (Some (cell moment digits)) names text names' apart told = let is : true ≡ false = apart in cc
-no-cell-answered side all (Some (load digits)) names text names' apart told = told
-no-cell-answered side all (Some (retire number)) names text names' apart told = told
-no-cell-answered side all (Some (setup vc number wanted)) names text names' apart told = told
-no-cell-answered side all (Some (reload vc number)) names text names' apart told = told
-no-cell-answered side all (Some (release vc)) names text names' apart told = told
-no-cell-answered side all (Some (cut vc)) names text names' apart told = told
+no-cell-answered side all (Some (load digits)) names text names' apart told = (told, refl)
+no-cell-answered side all (Some (retire number)) names text names' apart told = (told, refl)
+no-cell-answered side all (Some (setup vc number wanted)) names text names' apart told = (told, refl)
+no-cell-answered side all (Some (reload vc number)) names text names' apart told = (told, refl)
+no-cell-answered side all (Some (release vc)) names text names' apart told = (told, refl)
+no-cell-answered side all (Some (cut vc)) names text names' apart told = (told, refl)
 
 pub desk-answered : (side : Side) (all : List Id) (words : List (List ℕ)) (names : List Id) (text : List ℕ) (names' : List Id) → is_cell_line words ≡ false
-    → MayObeyLine side words names text names' → MayAnswerLine side all words names text names'
+    → MayObeyLine side words names text names' → MayAnswerLine side all words names text names' nothing
 desk-answered side all words names text names' apart told =
     no-cell-answered side all (command_of side words) names text names' (no-cell side words apart) told
 
@@ -211,18 +214,24 @@ bad-cell side (name ∷ words) is never =
     same ∙ no-command words (λ moment digits found. never moment digits (same ∙ found))
 
 -- Answers to some lines, followed by those to the next.
-pub each-append : (side : Side) (all : List Id) (xs ys : List (List ℕ)) (names mid names' : List Id) (one other : List ℕ)
-    → AnswersEach side all xs names one mid → AnswersEach side all ys mid other names' → AnswersEach side all (xs ++ ys) names (one ++ other) names'
-each-append side all [] ys names mid names' one other told more =
-    subst (λ (t : List ℕ). AnswersEach side all ys names (t ++ other) names') (sym told.0)
-    (subst (λ (ids : List Id). AnswersEach side all ys ids other names') told.1 more)
-each-append side all (x ∷ xs) ys names mid names' one other (here, rest, next, parted, answer, later) more = (
+pub each-append : (side : Side) (all : List Id) (xs ys : List (List ℕ)) (names mid names' : List Id) (one other : List ℕ) (counts more_counts : Tally)
+    → AnswersEach side all xs names one mid counts → AnswersEach side all ys mid other names' more_counts
+    → AnswersEach side all (xs ++ ys) names (one ++ other) names' (plus counts more_counts)
+each-append side all [] ys names mid names' one other counts more_counts told more =
+    let same : more_counts ≡ plus counts more_counts = sym (ap (λ (t : Tally). plus t more_counts) told.2 ∙ nothing-plus more_counts) in
+    subst (λ (t : Tally). AnswersEach side all ys names (one ++ other) names' t) same
+    (subst (λ (t : List ℕ). AnswersEach side all ys names (t ++ other) names' more_counts) (sym told.0)
+    (subst (λ (ids : List Id). AnswersEach side all ys ids other names' more_counts) told.1 more))
+each-append side all (x ∷ xs) ys names mid names' one other counts more_counts (here, rest, next, first, others, parted, summed, answer, later) more = (
   here,
   rest ++ other,
   next,
+  first,
+  plus others more_counts,
   ap (λ (t : List ℕ). t ++ other) parted ∙ append_assoc here rest other,
+  ap (λ (t : Tally). plus t more_counts) summed ∙ plus-regroup first others more_counts,
   answer,
-  each-append side all xs ys next mid names' rest other later more,
+  each-append side all xs ys next mid names' rest other others more_counts later more,
 )
 
 -- One more text of the desk.

@@ -2,6 +2,8 @@
 use Rattle.std.proofs.Common.{◌≡◌, ℕ, true, false, List, [], ◌∷◌, ◌++◌, refl, ap, sym, subst, ◌∙◌, if◌then◌else◌}
 use Rattle.std.proofs.lemmas.List.{append-nil, append_assoc}
 use Rattle.gen_arena.specs.declared.id.Id.{Id}
+use Rattle.line_record.specs.Tally.{nothing}
+use Rattle.line_record.specs.declared.tally.Tally.{Tally}
 use Rattle.upc_cell.specs.declared.side.Side.{Side}
 use Rattle.text_io.specs.Words.{words_of}
 use Rattle.upc_ports.specs.ScriptAnswers.{AnswersEach}
@@ -10,6 +12,7 @@ use Rattle.upc_ports.specs.inner.FirstLines.{from_first_cell}
 use Rattle.upc_ports.specs.inner.DeskTexts.{MayObeyLine}
 use Rattle.upc_ports.specs.inner.Script.{AnswersFirst, AnswersLater, OfLines}
 use Rattle.upc_dealing.proofs.Public.{NoneBefore, starts_with, no_lines}
+use Rattle.upc_ports.proofs.CountsLemmas.{nothing-plus}
 use Rattle.upc_ports.proofs.DeskLemmas.{desk-answered, each-append}
 
 -- The lines so far were answered, and none of them is a cell line.
@@ -19,7 +22,7 @@ pub record IsFirst (side : Side) (whole : List (List ℕ)) (rest : List ℕ) (na
   pub all : whole ≡ first ++ left
   pub are : AreLinesOf rest left
   pub same : from_first_cell left ≡ from_first_cell whole
-  pub answers : (ids : List Id) → AnswersEach side ids first names text names'
+  pub answers : (ids : List Id) → AnswersEach side ids first names text names' nothing
 
 pub first-begun : (side : Side) (whole : List (List ℕ)) (octets : List ℕ) (names : List Id) → AreLinesOf octets whole
     → IsFirst side whole octets names names []
@@ -29,7 +32,7 @@ first-begun side whole octets names are = record {
   all = refl;
   are = are;
   same = refl;
-  answers = λ ids. (refl, refl);
+  answers = λ ids. (refl, refl, refl);
 }
 
 pub first-more : (side : Side) (whole : List (List ℕ)) (rest line later : List ℕ) (names mid names' : List Id) (text here : List ℕ)
@@ -45,8 +48,8 @@ first-more side whole rest line later names mid names' text here cut none other 
       all = first.all ∙ ap (λ (xs : List (List ℕ)). first.first ++ xs) next.all ∙ sym (append_assoc first.first (line ∷ []) next.others);
       are = next.left;
       same = sym passed ∙ ap from_first_cell (sym next.all) ∙ first.same;
-      answers = λ ids. each-append side ids first.first (line ∷ []) names mid names' text here (first.answers ids)
-          (here, [], names', sym (append-nil here), desk-answered side ids (words_of line) mid here names' other told, (refl, refl));
+      answers = λ ids. each-append side ids first.first (line ∷ []) names mid names' text here nothing nothing (first.answers ids)
+          (here, [], names', nothing, nothing, sym (append-nil here), refl, desk-answered side ids (words_of line) mid here names' other told, (refl, refl, refl));
     }
 
 -- The first cell line was found, or no line is left.
@@ -77,11 +80,13 @@ first-none side whole rest names names' text none first =
     first-done side whole rest names names' text first (empty ∙ ap from_first_cell (sym empty))
 
 -- The lines before the first cell line and those from there on are the whole script.
-pub both-answered : (side : Side) (each : List (List ℕ)) (later : List ℕ) (names names' : List Id) (one other : List ℕ) → AnswersFirst side each later names names' one
-    → OfLines later (λ rest. AnswersLater side rest names' other) → AnswersLater side each names (one ++ other)
-both-answered side each later names names' one other first rest =
+pub both-answered : (side : Side) (each : List (List ℕ)) (later : List ℕ) (names names' : List Id) (one other : List ℕ) (counts : Tally)
+    → AnswersFirst side each later names names' one → OfLines later (λ rest. AnswersLater side rest names' other counts)
+    → AnswersLater side each names (one ++ other) counts
+both-answered side each later names names' one other counts first rest =
     let after = rest (from_first_cell each) first.left in (
       after.0,
-      subst (λ (xs : List (List ℕ)). AnswersEach side after.0 xs names (one ++ other) after.0) (sym first.whole)
-          (each-append side after.0 first.first (from_first_cell each) names names' after.0 one other (first.answers after.0) after.1),
+      subst (λ (xs : List (List ℕ)). AnswersEach side after.0 xs names (one ++ other) after.0 counts) (sym first.whole)
+          (subst (λ (t : Tally). AnswersEach side after.0 (first.first ++ from_first_cell each) names (one ++ other) after.0 t) (nothing-plus counts)
+          (each-append side after.0 first.first (from_first_cell each) names names' after.0 one other nothing counts (first.answers after.0) after.1)),
     )

@@ -1,8 +1,10 @@
 pub mod ReadLines
 pub mod ReadingText
 pub mod InOrderLemmas
+pub mod CountsLemmas
 pub mod DeskLemmas
 pub mod ToldLemmas
+pub mod DealtCounts
 pub mod DealtLemmas
 pub mod AtOnceLemmas
 pub mod FirstLemmas

@@ -25,7 +25,8 @@ use Rattle.upc_script.specs.declared.script_words.Wanted.{Wanted}
 use Rattle.upc_words.specs.FaultLines.{bad_hex, bad_line, wrong_length, line}
 use Rattle.upc_words.specs.Hexadecimal.{octets_of_digits, cell_of_octets}
 use Rattle.upc_ports.specs.ClosingText.{closing_text}
-use Rattle.upc_ports.specs.LineAnswers.{MayReply, Refuses, Replies, RepliesToReading, RepliesToOctets, RepliesToNamed, MayObey, MayAnswerCell, MayAnswerOctets, MayAnswerCommand}
+use Rattle.line_record.specs.Tally.{nothing}
+use Rattle.upc_ports.specs.LineAnswers.{Faults, MayReply, Refuses, Replies, RepliesToReading, RepliesToOctets, RepliesToNamed, MayObey, MayAnswerCell, MayAnswerOctets, MayAnswerCommand}
 use Rattle.upc_ports.specs.PortsText.{IsCardText}
 use Rattle.upc_ports.specs.ScriptAnswers.{AnswersEach}
 
@@ -84,43 +85,46 @@ obey-some (cell moment digits) names = (bad_line, (refl, refl))
 
 -- A cell line.
 cell-some : (side : Side) (all : List Id) (octets : List ℕ) (moment : ℕ) (is_cell : Bool)
-    → (text : List ℕ) × MatchBool is_cell (MayAnswerCell side all octets moment text) (text ≡ wrong_length (length octets))
+    → (text : List ℕ) × MatchBool is_cell (MayAnswerCell side all octets moment text nothing) (Faults (wrong_length (length octets)) text nothing)
 cell-some side all octets moment true = (
   line (codes "fault arrive " ++ codes "1 NoConnection"),
-  record { answer = NoConnectionAnswer; possible = record { judged = tt; blames = tt }; told = refl },
+  record { answer = NoConnectionAnswer; possible = record { judged = tt; blames = tt }; told = refl; counted = refl },
 )
-cell-some side all octets moment false = (wrong_length (length octets), refl)
+cell-some side all octets moment false = (wrong_length (length octets), (refl, refl))
 
 digits-some : (side : Side) (all : List Id) (moment : ℕ) (found : Option (List ℕ))
-    → (text : List ℕ) × MatchOption found (text ≡ bad_hex) (λ octets. MayAnswerOctets side all (cell_of_octets octets) moment text)
-digits-some side all moment None = (bad_hex, refl)
+    → (text : List ℕ) × MatchOption found (Faults bad_hex text nothing) (λ octets. MayAnswerOctets side all (cell_of_octets octets) moment text nothing)
+digits-some side all moment None = (bad_hex, (refl, refl))
 digits-some side all moment (Some octets) = cell-some side all (cell_of_octets octets) moment (length (cell_of_octets octets) == 52)
 
+obeyed-some : (command : Command) (names : List Id) → (text : List ℕ) × (MayObey command names text names × (nothing ≡ nothing))
+obeyed-some command names = let told = obey-some command names in (told.0, (told.1, refl))
+
 command-some : (side : Side) (all : List Id) (names : List Id) (command : Command)
-    → (text : List ℕ) × MayAnswerCommand side all command names text names
+    → (text : List ℕ) × MayAnswerCommand side all command names text names nothing
 command-some side all names (cell moment digits) = let told = digits-some side all moment (octets_of_digits digits) in (told.0, (told.1, refl))
-command-some side all names (load digits) = obey-some (load digits) names
-command-some side all names (retire number) = obey-some (retire number) names
-command-some side all names (setup vc number wanted) = obey-some (setup vc number wanted) names
-command-some side all names (reload vc number) = obey-some (reload vc number) names
-command-some side all names (release vc) = obey-some (release vc) names
-command-some side all names (cut vc) = obey-some (cut vc) names
+command-some side all names (load digits) = obeyed-some (load digits) names
+command-some side all names (retire number) = obeyed-some (retire number) names
+command-some side all names (setup vc number wanted) = obeyed-some (setup vc number wanted) names
+command-some side all names (reload vc number) = obeyed-some (reload vc number) names
+command-some side all names (release vc) = obeyed-some (release vc) names
+command-some side all names (cut vc) = obeyed-some (cut vc) names
 
 line-some : (side : Side) (all : List Id) (names : List Id) (found : Option Command)
-    → (text : List ℕ) × MatchOption found (Refuses bad_line names text names) (λ command. MayAnswerCommand side all command names text names)
-line-some side all names None = (bad_line, (refl, refl))
+    → (text : List ℕ) × MatchOption found (Refuses bad_line names text names × (nothing ≡ nothing)) (λ command. MayAnswerCommand side all command names text names nothing)
+line-some side all names None = (bad_line, ((refl, refl), refl))
 line-some side all names (Some command) = command-some side all names command
 
-each-some : (side : Side) (all : List Id) (names : List Id) (lines : List (List ℕ)) → (text : List ℕ) × AnswersEach side all lines names text names
-each-some side all names [] = ([], (refl, refl))
+each-some : (side : Side) (all : List Id) (names : List Id) (lines : List (List ℕ)) → (text : List ℕ) × AnswersEach side all lines names text names nothing
+each-some side all names [] = ([], (refl, refl, refl))
 each-some side all names (said ∷ lines) =
     let here = line-some side all names (command_of side (words_of said)) in
-    let later = each-some side all names lines in (here.0 ++ later.0, (here.0, later.0, names, refl, here.1, later.1))
+    let later = each-some side all names lines in (here.0 ++ later.0, (here.0, later.0, names, nothing, nothing, refl, refl, here.1, later.1))
 
 -- A card of any shape has a text for any lines.
 pub some-card : (shape : Shape) (lines : List (List ℕ)) → (text : List ℕ) × IsCardText shape lines text Whole
 some-card shape lines =
     let told = each-some shape.side [] [] lines in (
-      codes "ready\n" ++ told.0 ++ closing_text [] None,
-      record { answers = told.0; each = ([], told.1); closed = []; uneven = None; within = tt; whole = refl; ends = refl },
+      codes "ready\n" ++ told.0 ++ closing_text nothing None,
+      record { answers = told.0; counts = nothing; each = ([], told.1); uneven = None; within = tt; whole = refl; ends = refl },
     )

@@ -12,6 +12,8 @@ use Rattle.upc_cell.specs.Connection.{vc_of}
 use Rattle.upc_cell.specs.declared.side.Side.{Side}
 use Rattle.upc_cell.specs.declared.side.Side.TheVariants.{Uni, Nni}
 use Rattle.upc_cell.specs.declared.vc.Vc.{Vc}
+use Rattle.line_record.specs.Tally.{nothing}
+use Rattle.line_record.specs.declared.tally.Tally.{Tally}
 use Rattle.card_core.specs.Sections.{told}
 use Rattle.card_core.specs.Steps.{cell_after}
 use Rattle.card_core.specs.declared.answer.Answer.{Answer}
@@ -24,7 +26,7 @@ use Rattle.upc_card_lines.specs.Replies.{answer_text}
 use Rattle.upc_script.specs.ProgramNames.{number_of_program}
 use Rattle.upc_script.specs.ReplyTexts.{judging_text, verdict_text}
 use Rattle.upc_script.specs.ScriptCommands.{Command, cell, command_of}
-use Rattle.upc_ports.specs.LineAnswers.{MayAnswerCommand, MayAnswerLine, MayAnswerCell, MayAnswerOctets, Refuses}
+use Rattle.upc_ports.specs.LineAnswers.{Faults, MayAnswerCommand, MayAnswerLine, MayAnswerCell, MayAnswerOctets, Refuses}
 use Rattle.upc_dealing.specs.declared.cell_line.CellLineFault.{CellLineFault}
 use Rattle.upc_dealing.specs.declared.cell_line.CellLineFault.TheVariants.{BadLine, BadHex, WrongLength}
 use Rattle.upc_dealing.specs.declared.cell_line.CellLine.TheVariants.{IsFaulty}
@@ -33,7 +35,8 @@ use Rattle.upc_ports.specs.inner.Arrivals.{AnswersPort, HasCell, IsToldFrom, IsS
 use Rattle.upc_dealing.specs.CellLine.{IsCellLine, fault_text}
 use Rattle.upc_dealing.specs.Dealing.{is_cell_line}
 use Rattle.upc_ports.specs.inner.InOrder.{TellsCell}
-use Rattle.upc_ports.specs.inner.Told.{answer_kept, header_of, ruled, shown_cell}
+use Rattle.upc_ports.specs.inner.Told.{answer_kept, cell_counts, header_of, ruled, shown_cell}
+use Rattle.upc_ports.proofs.CountsLemmas.{same-counts}
 use Rattle.upc_ports.proofs.DeskLemmas.{bad-cell}
 
 -- The header decides the connection.
@@ -71,56 +74,59 @@ same-answer all vc octets moment whole JournalFull judged = refl
 same-answer all vc octets moment whole NoMemory judged = refl
 
 -- A line whose command is a cell of 52 octets.
-polices-line : (side : Side) (all names : List Id) (words : List (List ℕ)) (moment : ℕ) (digits octets here : List ℕ) (text : List ℕ)
+polices-line : (side : Side) (all names : List Id) (words : List (List ℕ)) (moment : ℕ) (digits octets here : List ℕ) (text : List ℕ) (counts : Tally)
     → command_of side words ≡ Some (cell moment digits) → octets_of_digits digits ≡ Some octets → cell_of_octets octets ≡ here → length here ≡ 52
-    → MayAnswerCell side all here moment text → MayAnswerLine side all words names text names
-polices-line side all names words moment digits octets here text is spelled same whole polices =
-    let at : MayAnswerOctets side all here moment text =
-    subst (λ n. MatchBool (n == 52) (MayAnswerCell side all here moment text) (text ≡ wrong_length (length here))) (sym whole) polices in
-    let of_octets : MayAnswerOctets side all (cell_of_octets octets) moment text =
-    subst (λ (xs : List ℕ). MayAnswerOctets side all xs moment text) (sym same) at in
-    let of_digits = subst (λ (found : Option (List ℕ)). MatchOption found (text ≡ bad_hex) (λ xs. MayAnswerOctets side all (cell_of_octets xs) moment text)) (sym spelled) of_octets in
-    subst (λ (found : Option Command). MatchOption found (Refuses bad_line names text names) (λ command. MayAnswerCommand side all command names text names))
+    → MayAnswerCell side all here moment text counts → MayAnswerLine side all words names text names counts
+polices-line side all names words moment digits octets here text counts is spelled same whole polices =
+    let at : MayAnswerOctets side all here moment text counts =
+    subst (λ n. MatchBool (n == 52) (MayAnswerCell side all here moment text counts) (Faults (wrong_length (length here)) text counts)) (sym whole) polices in
+    let of_octets : MayAnswerOctets side all (cell_of_octets octets) moment text counts =
+    subst (λ (xs : List ℕ). MayAnswerOctets side all xs moment text counts) (sym same) at in
+    let of_digits = subst (λ (found : Option (List ℕ)). MatchOption found (Faults bad_hex text counts) (λ xs. MayAnswerOctets side all (cell_of_octets xs) moment text counts)) (sym spelled) of_octets in
+    subst (λ (found : Option Command). MatchOption found (Refuses bad_line names text names × (counts ≡ nothing)) (λ command. MayAnswerCommand side all command names text names counts))
     (sym is) (of_digits, refl)
 
 pub told-answered : (side : Side) (all names : List Id) (line : List ℕ) (one : ToldCell) (text : List ℕ) → IsStoredOf side line one
-    → TellsCell side all (Some one) text → MayAnswerLine side all (words_of line) names text names
+    → TellsCell side all (Some one) text → MayAnswerLine side all (words_of line) names text names (cell_counts one)
 told-answered side all names line one text is tells =
     let digits = is.brings.0 in
     let word = is.brings.2 in
     let shown = shown_cell (header_of is.cell) in
     let tells' : answer_text all (vc_of side shown) (answer_kept shown (ruled is.answer)) ≡ Some text =
     subst (λ (t : ToldCell). answer_text all (vc_of side (shown_cell t.header)) (answer_kept (shown_cell t.header) t.told) ≡ Some text) is.kept tells in
-    polices-line side all names (words_of line) is.moment digits word.0 is.cell text is.brings.1 word.1 word.2 word.3
+    polices-line side all names (words_of line) is.moment digits word.0 is.cell text (cell_counts one) is.brings.1 word.1 word.2 word.3
     (record {
       answer = is.answer;
       possible = is.possible;
       told = sym (same-answer all (vc_of side is.cell) is.cell is.moment word.3 is.answer is.possible.judged)
           ∙ ap (λ (vc : Vc). answer_text all vc (answer_kept shown (ruled is.answer))) (sym (same-vc side is.cell)) ∙ tells';
+      counted = ap cell_counts is.kept ∙ same-counts is.cell is.answer;
     })
 
 -- A line whose command is a cell of another number of octets.
 wrong-answered : (side : Side) (all names : List Id) (words : List (List ℕ)) (moment : ℕ) (digits octets : List ℕ) (count : ℕ)
     → command_of side words ≡ Some (cell moment digits) → octets_of_digits digits ≡ Some octets → length (cell_of_octets octets) ≡ count → count ≢ 52
-    → MayAnswerLine side all words names (wrong_length count) names
+    → MayAnswerLine side all words names (wrong_length count) names nothing
 wrong-answered side all names words moment digits octets count is spelled counted other =
     let here = cell_of_octets octets in
     let differs : (length here == 52) ≡ false = grind (arith, nat_tests, counted, other) in
-    let at : MayAnswerOctets side all here moment (wrong_length count) =
-    subst (λ whole. MatchBool whole (MayAnswerCell side all here moment (wrong_length count)) (wrong_length count ≡ wrong_length (length here))) (sym differs) (ap wrong_length (sym counted)) in
-    let of_digits = subst (λ (found : Option (List ℕ)). MatchOption found (wrong_length count ≡ bad_hex) (λ xs. MayAnswerOctets side all (cell_of_octets xs) moment (wrong_length count))) (sym spelled) at in
-    subst (λ (found : Option Command). MatchOption found (Refuses bad_line names (wrong_length count) names) (λ command. MayAnswerCommand side all command names (wrong_length count) names))
+    let at : MayAnswerOctets side all here moment (wrong_length count) nothing =
+    subst (λ whole. MatchBool whole (MayAnswerCell side all here moment (wrong_length count) nothing) (Faults (wrong_length (length here)) (wrong_length count) nothing)) (sym differs)
+    (ap wrong_length (sym counted), refl) in
+    let of_digits = subst (λ (found : Option (List ℕ)). MatchOption found (Faults bad_hex (wrong_length count) nothing) (λ xs. MayAnswerOctets side all (cell_of_octets xs) moment (wrong_length count) nothing)) (sym spelled) at in
+    subst (λ (found : Option Command). MatchOption found (Refuses bad_line names (wrong_length count) names × (nothing ≡ nothing))
+    (λ command. MayAnswerCommand side all command names (wrong_length count) names nothing))
     (sym is) (of_digits, refl)
 
 -- A cell line without a cell.
 pub fault-answered : (side : Side) (all names : List Id) (line : List ℕ) (fault : CellLineFault) → is_cell_line (words_of line) ≡ true
-    → IsCellLine (command_of side (words_of line)) (IsFaulty fault) → MayAnswerLine side all (words_of line) names (fault_text fault) names
+    → IsCellLine (command_of side (words_of line)) (IsFaulty fault) → MayAnswerLine side all (words_of line) names (fault_text fault) names nothing
 fault-answered side all names line BadLine is found =
-    subst (λ (command : Option Command). MatchOption command (Refuses bad_line names bad_line names) (λ c. MayAnswerCommand side all c names bad_line names))
-    (sym (bad-cell side (words_of line) is found)) (refl, refl)
+    subst (λ (command : Option Command). MatchOption command (Refuses bad_line names bad_line names × (nothing ≡ nothing)) (λ c. MayAnswerCommand side all c names bad_line names nothing))
+    (sym (bad-cell side (words_of line) is found)) ((refl, refl), refl)
 fault-answered side all names line BadHex is found =
-    let spelled = subst (λ (octets : Option (List ℕ)). MatchOption octets (bad_hex ≡ bad_hex) (λ xs. MayAnswerOctets side all (cell_of_octets xs) found.0 bad_hex)) (sym found.1.2) refl in
-    subst (λ (command : Option Command). MatchOption command (Refuses bad_line names bad_hex names) (λ c. MayAnswerCommand side all c names bad_hex names))
+    let spelled = subst (λ (octets : Option (List ℕ)). MatchOption octets (Faults bad_hex bad_hex nothing) (λ xs. MayAnswerOctets side all (cell_of_octets xs) found.0 bad_hex nothing)) (sym found.1.2) (refl, refl) in
+    subst (λ (command : Option Command). MatchOption command (Refuses bad_line names bad_hex names × (nothing ≡ nothing)) (λ c. MayAnswerCommand side all c names bad_hex names nothing))
     (sym found.1.1) (spelled, refl)
 fault-answered side all names line (WrongLength count) is found =
     wrong-answered side all names (words_of line) found.0 found.1.0 found.1.2.0 count found.1.1 found.1.2.1 found.1.2.2 found.1.2.3

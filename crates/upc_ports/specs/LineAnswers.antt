@@ -2,6 +2,9 @@
 -- behind locks: its state when a line is answered isn't known, so any reply of the right kind may come. The ids of the
 -- programs are known, in the order in which they were loaded: only the desk loads programs, line by line.
 use Rattle.std.specs.Prelude.{◌≡◌, ℕ, ◌==◌, List, [], ◌∷◌, ◌++◌, length, Some, MatchOption, MatchBool, IfSome, ⊤}
+use Rattle.line_record.specs.Tally.{nothing}
+use Rattle.line_record.specs.declared.tally.Tally.{Tally}
+use Rattle.port_card.specs.Seats.{counts_after}
 use Rattle.gen_arena.specs.declared.id.Id.{Id}
 use Rattle.upc_cell.specs.Connection.{vc_of}
 use Rattle.upc_cell.specs.declared.side.Side.{Side}
@@ -87,29 +90,40 @@ pub record MayAnswer (octets : List ℕ) (moment : ℕ) (answer : Answer) : Type
   pub judged : IfSome (told answer) (IsJudgedAnswer octets moment)
   pub blames : BlamesRightly moment answer
 
+-- The counts of an answer: one cell with its verdict if the cell is judged, otherwise none.
+abbrev pub counts_of : Answer → Tally
+counts_of answer = counts_after nothing (told answer)
+
 -- The text is the line of an answer that the cell may have, on the connection of its own header. `all` are the ids of
--- all programs that the script loads; a judged cell's program has a name only if it is one of these.
-pub record MayAnswerCell (side : Side) (all : List Id) (octets : List ℕ) (moment : ℕ) (text : List ℕ) : Type 0 where
+-- all programs that the script loads; a judged cell's program has a name only if it is one of these. The counts are those of
+-- this answer.
+pub record MayAnswerCell (side : Side) (all : List Id) (octets : List ℕ) (moment : ℕ) (text : List ℕ) (counts : Tally) : Type 0 where
   pub answer : Answer
   pub possible : MayAnswer octets moment answer
   pub told : answer_text all (vc_of side octets) answer ≡ Some text
+  pub counted : counts ≡ counts_of answer
+
+-- The answer is this fault, and no cell is counted.
+abbrev pub Faults : List ℕ → List ℕ → Tally → Type 0
+Faults fault text counts = (text ≡ fault) × (counts ≡ nothing)
 
 -- A cell has 52 octets; any other number is an error.
-abbrev pub MayAnswerOctets : Side → List Id → List ℕ → ℕ → List ℕ → Type 0
-MayAnswerOctets side all octets moment text =
-    MatchBool (length octets == 52) (MayAnswerCell side all octets moment text) (text ≡ wrong_length (length octets))
+abbrev pub MayAnswerOctets : Side → List Id → List ℕ → ℕ → List ℕ → Tally → Type 0
+MayAnswerOctets side all octets moment text counts =
+    MatchBool (length octets == 52) (MayAnswerCell side all octets moment text counts) (Faults (wrong_length (length octets)) text counts)
 
 -- The answers to a cell line.
-abbrev pub MayAnswerDigits : Side → List Id → ℕ → List ℕ → List ℕ → Type 0
-MayAnswerDigits side all moment digits text =
-    MatchOption (octets_of_digits digits) (text ≡ bad_hex) (λ octets. MayAnswerOctets side all (cell_of_octets octets) moment text)
+abbrev pub MayAnswerDigits : Side → List Id → ℕ → List ℕ → List ℕ → Tally → Type 0
+MayAnswerDigits side all moment digits text counts =
+    MatchOption (octets_of_digits digits) (Faults bad_hex text counts) (λ octets. MayAnswerOctets side all (cell_of_octets octets) moment text counts)
 
--- The answers to a command. A cell loads no program.
-abbrev pub MayAnswerCommand : Side → List Id → Command → List Id → List ℕ → List Id → Type 0
-MayAnswerCommand side all (cell moment digits) names text names' = MayAnswerDigits side all moment digits text × (names' ≡ names)
-MayAnswerCommand side all command names text names' = MayObey command names text names'
+-- The answers to a command. A cell loads no program, and a command of the desk counts no cell.
+abbrev pub MayAnswerCommand : Side → List Id → Command → List Id → List ℕ → List Id → Tally → Type 0
+MayAnswerCommand side all (cell moment digits) names text names' counts = MayAnswerDigits side all moment digits text counts × (names' ≡ names)
+MayAnswerCommand side all command names text names' counts = MayObey command names text names' × (counts ≡ nothing)
 
 -- The answers to a line with these words. If they are no command, the answer is BadLine.
-abbrev pub MayAnswerLine : Side → List Id → List (List ℕ) → List Id → List ℕ → List Id → Type 0
-MayAnswerLine side all words names text names' =
-    MatchOption (command_of side words) (Refuses bad_line names text names') (λ command. MayAnswerCommand side all command names text names')
+abbrev pub MayAnswerLine : Side → List Id → List (List ℕ) → List Id → List ℕ → List Id → Tally → Type 0
+MayAnswerLine side all words names text names' counts =
+    MatchOption (command_of side words) (Refuses bad_line names text names' × (counts ≡ nothing))
+    (λ command. MayAnswerCommand side all command names text names' counts)

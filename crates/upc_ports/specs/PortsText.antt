@@ -1,7 +1,7 @@
 -- The text of `upc ports`. The whole script is read before any of it runs: its first line with words opens a card, and
 -- each later one is a line of that card's script. If the script can't run, the whole text is one fault line.
 use Rattle.std.specs.Prelude.{◌≡◌, ◌<◌, ◌⊎◌, ℕ, Bool, true, false, List, [], ◌∷◌, ◌++◌, codes, Option, Some, IfSome, MatchOption, MatchBool}
-use Rattle.line_record.specs.Line.{LineView}
+use Rattle.line_record.specs.declared.tally.Tally.{Tally}
 use Rattle.card_core.specs.Shapes.{shape_fault}
 use Rattle.card_core.specs.declared.shape.Shape.{Shape}
 use Rattle.upc_cell.specs.declared.side.Side.TheVariants.{Uni}
@@ -63,16 +63,17 @@ abbrev pub IsReadingText : List ℕ → List ℕ → Done → Type 0
 IsReadingText octets text done = Prints reading_rules 0 unread (lines_of octets) text done
 
 -- The text of a card of this shape whose script has these later lines with words, and how the run ends. The text is the
--- answer to the line that opened the card, one answer for each later line, in the script's order, and the totals of the
--- closed card or its first uneven line. Only which of its possible answers a line gets is left open: cells and desk lines
--- run at the same time, and their order isn't fixed.
+-- answer to the line that opened the card, one answer for each later line, in the script's order, and the totals or the
+-- first uneven line of the closed card. The totals are the numbers of the cells that these answers say are judged, by their
+-- verdicts. Only which of its possible answers a line gets is left open: cells and desk lines run at the same time, and
+-- their order isn't fixed.
 pub record IsCardText (shape : Shape) (lines : List (List ℕ)) (text : List ℕ) (done : Done) : Type 0 where
   pub answers : List ℕ
-  pub each : AnswersScript shape.side lines answers
-  pub closed : List LineView
+  pub counts : Tally
+  pub each : AnswersScript shape.side lines answers counts
   pub uneven : Option ℕ
   pub within : IfSome uneven (λ number. number < shape.lines)
-  pub whole : text ≡ codes "ready\n" ++ answers ++ closing_text closed uneven
+  pub whole : text ≡ codes "ready\n" ++ answers ++ closing_text counts uneven
   pub ends : done ≡ done_of uneven
 
 -- The text of a script that ran: it was read to its end with no answer, and then it was answered by a card of the shape

@@ -1,26 +1,22 @@
 //! The ports and the desk of a card, which run at the same time, each port on a thread of its own.
 
-ghost use Rattle.std.specs.Prelude.{◌≡◌, ◌≤◌, [], IfOk, length, map, vec_len, vec_capacity};
+ghost use Rattle.std.specs.Prelude.{◌≡◌, ◌≤◌, [], All, IfOk, length, map, vec_len, vec_capacity};
 ghost use Rattle.std.specs.List.{AllZip};
+ghost use Rattle.line_record.specs.Tally.{nothing};
+ghost use Rattle.port_card.specs.Seats.{tally_of_seat};
 ghost use Rattle.upc_ports.specs.inner.AtOnce.{KeepsPromise};
 ghost use Rattle.upc_ports.specs.inner.Arrivals.{AnswersPort};
 ghost use Rattle.upc_ports.specs.inner.DeskTexts.{TellsEach};
 
 use crate::busy_ports::BusyPort;
 use crate::port_arrivals::arrive_from_each;
+use crate::port_job::{PortJob, jobs_of};
 use crate::script_desk::{ScriptDesk, answer_each};
 use port_card::{Card, Gate, Ledgers, PortSeat};
 use std::alloc::{AllocError, Global};
 use std::sync::Wait;
 use std::thread::{self, Promise, PromisedHandle, Scope, Threads};
 use upc_cell::Side;
-
-/// The seat of a port, and the lines of its cells.
-#[derive(Drop)]
-struct PortJob<'a, 'l, S: Ledgers> {
-    seat: PortSeat<S>,
-    lines: &'a [&'l [u8]],
-}
 
 /// What the thread of a port promises: the answers to these lines, on a card of this side.
 #[derive(Clone, Copy)]
@@ -45,30 +41,6 @@ pub struct AtOnce<S: Ledgers> {
     pub ports: Vec<BusyPort<S>>,
     pub told: Vec<Vec<u8>>,
     pub desk: ScriptDesk<S>,
-}
-
-/// Gives each seat the lines of its cells.
-fn jobs_of<'a, 'l, S: Ledgers>(
-    alloc: Global,
-    seats: Vec<PortSeat<S>>,
-    arrivals: &'a [Vec<&'l [u8]>],
-) -> Result<Vec<PortJob<'a, 'l, S>>, AllocError>
-    requires { length seats.items ≡ length arrivals.now }
-    ensures { IfOk result (λ jobs. map (λ job. map (λ line. line.now) job.lines.now) jobs.items
-        ≡ map (λ own. map (λ line. line.now) own.items) arrivals.now) }
-{
-    let mut jobs = Vec::with_capacity(alloc, arrivals.len())?;
-    let mut seats = seats.into_iter();
-    for own in arrivals {
-        let Some(seat) = seats.next() else {
-            unreachable!()
-        };
-        jobs.push(PortJob {
-            seat,
-            lines: own.as_slice(),
-        })?;
-    }
-    Ok(jobs)
 }
 
 /// Starts a thread for each job, into a list that has room for them. Returns the threads, or, if one can't be started,
@@ -97,10 +69,12 @@ fn start_ports<
 {
     let mut running = running;
     for job in jobs {
-        let PortJob { seat, lines } = job;
-        let promise = AnswersTo { side, lines };
+        let promise = AnswersTo {
+            side,
+            lines: job.lines,
+        };
         match scope.spawn_with(promise, move || {
-            arrive_from_each(rt, alloc, card, seat, side, lines, gate)
+            arrive_from_each(rt, alloc, card, job, side, gate)
         }) {
             Ok(thread) => running.push_reserved(thread),
             Err(_) => return Err(running),
@@ -195,7 +169,8 @@ pub fn run_at_once<'l, S: Ledgers + Send + Sync, G: Gate + Sync, R: Threads + Wa
     desk: ScriptDesk<S>,
     lines: &[&[u8]],
 ) -> Result<AtOnce<S>, AllocError>
-    requires { length seats.items ≡ length arrivals.now }
+    requires one_each { length seats.items ≡ length arrivals.now }
+    requires unused { All (λ seat. tally_of_seat seat ≡ nothing) seats.items }
     ensures ports { IfOk result (λ done. AllZip (AnswersPort card.now.side) (map (λ own. map (λ line. line.now) own.items) arrivals.now)
         (map (λ port. port.arrivals.items) done.ports.items)) }
     ensures desk { IfOk result (λ done. TellsEach card.now.side (map (λ line. line.now) lines.now)

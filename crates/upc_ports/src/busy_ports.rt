@@ -1,16 +1,19 @@
 //! Ports after the arrival of their cells.
 
 ghost use Rattle.std.specs.Prelude.{◌≡◌, IfOk, map};
+ghost use Rattle.port_card.specs.Seats.{tally_of_seat};
+ghost use Rattle.upc_ports.specs.inner.Told.{cells_counts};
 
 use crate::told::ToldCell;
 use port_card::{Ledgers, PortSeat};
 use std::alloc::{AllocError, Global};
 
-/// The seat of a port with its answered cells, in the script's order.
+/// The seat of a port with its answered cells, in the script's order. The seat has counted exactly these cells.
 #[derive(Drop)]
 pub struct BusyPort<S: Ledgers> {
     pub seat: PortSeat<S>,
     pub arrivals: Vec<ToldCell>,
+    ghost counted: { tally_of_seat seat ≡ cells_counts arrivals.items },
 }
 
 /// Returns the seats, without their cells.

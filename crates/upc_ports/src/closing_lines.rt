@@ -1,6 +1,7 @@
 //! The result of closing a card: the totals of the verdicts, or the first line that is uneven.
 
 ghost use Rattle.std.specs.Prelude.{◌≡◌, ◌++◌, OnOk};
+ghost use Rattle.port_card.specs.Closing.{lines_total};
 ghost use Rattle.upc_words.specs.FaultLines.{line};
 ghost use Rattle.upc_ports.specs.ClosingText.{closing_text, done_of, totals_line, uneven_line};
 
@@ -36,7 +37,7 @@ fn add_uneven(answers: &mut Vec<u8>, number: u16) -> Result<(), AllocError>
 /// Adds the totals, or the first uneven line.
 pub fn add_closing(answers: &mut Vec<u8>, closing: &Closing) -> Result<(), AllocError>
     ensures { OnOk result (answers.new.items
-        ≡ answers.old.items ++ closing_text closing.now.lines.items closing.now.uneven) }
+        ≡ answers.old.items ++ closing_text (lines_total closing.now.lines.items) closing.now.uneven) }
 {
     match closing.uneven {
         Some(number) => add_uneven(answers, number),

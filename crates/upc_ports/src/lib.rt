@@ -12,6 +12,7 @@ mod closing_lines;
 mod in_order;
 pub mod laws;
 mod port_arrivals;
+mod port_job;
 mod ports;
 mod script;
 mod script_desk;

@@ -1,9 +1,13 @@
 //! The cells of a port, which arrive on the port's own thread.
 
 ghost use Rattle.std.specs.Prelude.{◌≡◌, ◌++◌, IfOk, OnOk, map, option_to_list};
+ghost use Rattle.line_record.specs.Tally.{plus};
+ghost use Rattle.port_card.specs.Seats.{tally_of_seat};
+ghost use Rattle.upc_ports.specs.inner.Told.{told_counts};
 ghost use Rattle.upc_ports.specs.inner.Arrivals.{AnswersPort, IsToldFrom};
 
 use crate::busy_ports::BusyPort;
+use crate::port_job::PortJob;
 use crate::told::{ToldCell, told_cell};
 use port_card::{Card, Gate, Ledgers, PortSeat};
 use std::alloc::{AllocError, Global};
@@ -22,7 +26,8 @@ fn arrive_from<S: Ledgers, G: Gate, R: Wait>(
     line: &[u8],
     gate: &G,
 ) -> Result<Option<ToldCell>, AllocError>
-    ensures { IfOk result (IsToldFrom side line.now) }
+    ensures told { IfOk result (IsToldFrom side line.now) }
+    ensures counted { IfOk result (λ told. tally_of_seat seat.new ≡ plus (tally_of_seat seat.old) (told_counts told)) }
 {
     match read_cell_line(alloc, side, line)? {
         CellLine::Comes(moment, cell) => {
@@ -46,18 +51,18 @@ fn add_told(arrivals: &mut Vec<ToldCell>, told: Option<ToldCell>) -> Result<(), 
     }
 }
 
-/// Lets the cells of a port's lines arrive, one by one.
+/// Lets the cells of a port's lines arrive, one by one, each once.
 pub fn arrive_from_each<S: Ledgers, G: Gate, R: Wait>(
     rt: &R,
     alloc: Global,
     card: &Card<S>,
-    mut seat: PortSeat<S>,
+    job: PortJob<'_, '_, S>,
     side: Side,
-    lines: &[&[u8]],
     gate: &G,
 ) -> Result<BusyPort<S>, AllocError>
-    ensures { IfOk result (λ port. AnswersPort side (map (λ line. line.now) lines.now) port.arrivals.items) }
+    ensures { IfOk result (λ port. AnswersPort side (map (λ line. line.now) job.entry.lines.now) port.arrivals.items) }
 {
+    let PortJob { mut seat, lines } = job;
     let mut arrivals = Vec::with_capacity(alloc, lines.len())?;
     for line in lines {
         let told = arrive_from(rt, alloc, card, &mut seat, side, line, gate)?;

@@ -1,11 +1,14 @@
 //! `upc ports`: a script whose cells arrive at ports that are threads of their own.
 
-ghost use Rattle.std.specs.Prelude.{◌≡◌, ◌≢◌, ◌<◌, ◌++◌, ℕ, List, [], Err, IfOk, IfSome, OnErr, OnOk, length};
+ghost use Rattle.std.specs.Prelude.{◌≡◌, ◌≢◌, ◌<◌, ◌++◌, ℕ, List, [], All, Err, IfOk, IfSome, OnErr, OnOk, length};
+ghost use Rattle.line_record.specs.Tally.{nothing};
 ghost use Rattle.text_io.specs.Devices.{Adds};
 ghost use Rattle.text_io.specs.Failures.{write_failures};
 ghost use Rattle.text_io.specs.Printing.{IsFront};
 ghost use Rattle.text_io.specs.Serving.{IsServed};
+ghost use Rattle.port_card.specs.Closing.{lines_total, seats_total};
 ghost use Rattle.port_card.specs.Names.{AreFor};
+ghost use Rattle.port_card.specs.Seats.{tally_of_seat};
 ghost use Rattle.upc_ports.specs.PortsText.{IsCardText, IsPortsText};
 ghost use Rattle.upc_ports.specs.ScriptAnswers.{AnswersScript};
 ghost use Rattle.upc_ports.specs.inner.Script.{AnswersCard, AnswersFirst, AnswersLater, OfLines};
@@ -16,7 +19,6 @@ use crate::closing_lines::{add_closing, done_after};
 use crate::in_order::add_in_order;
 use crate::script::Script;
 use crate::script_desk::ScriptDesk;
-use card_core::Shape;
 use port_card::{Blanks, Card, Closing, Gate, Ledgers, NoWait, PortSeat};
 use std::alloc::{AllocError, Global};
 use std::marker::Brand;
@@ -49,7 +51,8 @@ fn answer_first<'a, S: Ledgers, R: Wait>(
     Ok(rest)
 }
 
-/// Answers the lines from the first cell line on, and returns the seats.
+/// Answers the lines from the first cell line on, and returns the seats. They have counted exactly the cells that the
+/// answers say are judged.
 fn answer_later<S: Ledgers + Send + Sync, G: Gate + Sync, R: Threads + Wait + Sync>(
     rt: &R,
     card: &Card<S>,
@@ -59,9 +62,10 @@ fn answer_later<S: Ledgers + Send + Sync, G: Gate + Sync, R: Threads + Wait + Sy
     gate: &G,
     answers: &mut Vec<u8>,
 ) -> Result<Vec<PortSeat<S>>, AllocError>
-    requires { 0 < length seats.items }
-    ensures { OnOk result (Adds
-        (λ text. OfLines lines.now (λ each. AnswersLater card.now.side each desk.names text))
+    requires some { 0 < length seats.items }
+    requires unused { All (λ seat. tally_of_seat seat ≡ nothing) seats.items }
+    ensures { IfOk result (λ used. Adds
+        (λ text. OfLines lines.now (λ each. AnswersLater card.now.side each desk.names text (seats_total used.items)))
         answers.old.items answers.new.items) }
 {
     let alloc = desk.alloc;
@@ -96,9 +100,10 @@ fn answer_lines_on<S: Ledgers + Send + Sync, G: Gate + Sync, R: Threads + Wait +
     answers: &mut Vec<u8>,
 ) -> Result<Vec<PortSeat<S>>, AllocError>
     requires some { 0 < length seats.items }
+    requires unused { All (λ seat. tally_of_seat seat ≡ nothing) seats.items }
     requires unnamed { desk.names ≡ [] }
-    ensures { OnOk result (Adds
-        (λ text. OfLines lines.now (λ each. AnswersScript card.now.side each text))
+    ensures { IfOk result (λ used. Adds
+        (λ text. OfLines lines.now (λ each. AnswersScript card.now.side each text (seats_total used.items)))
         answers.old.items answers.new.items) }
 {
     let mut desk = desk;
@@ -106,33 +111,61 @@ fn answer_lines_on<S: Ledgers + Send + Sync, G: Gate + Sync, R: Threads + Wait +
     answer_later(rt, card, seats, desk, later, gate, answers)
 }
 
-/// Answers a whole script, and closes its card.
-fn answer_script<S: Ledgers + Send + Sync, G: Gate + Sync, R: Threads + Wait + Sync>(
-    rt: &R,
+/// A card that was opened for a script.
+#[derive(Drop)]
+struct Opened<S: Ledgers> {
+    card: Card<S>,
+    seats: Vec<PortSeat<S>>,
+    desk: ScriptDesk<S>,
+}
+
+/// Opens the card that the script asks for. Nothing is loaded on it, and its seats have counted no cell.
+fn open_card<S: Ledgers>(
     alloc: Global,
-    shape: Shape,
+    script: &Script,
     blanks: Blanks,
-    lines: &[u8],
-    gate: &G,
-    answers: &mut Vec<u8>,
-) -> Result<Closing, AllocError>
+) -> Result<Opened<S>, AllocError>
     requires names { blanks ≡ S.names }
-    requires for_shape { AreFor shape S.names }
-    ensures answers { OnOk result (Adds
-        (λ text. OfLines lines.now (λ each. AnswersCard shape.side each text))
-        answers.old.items answers.new.items) }
-    ensures within { IfOk result (λ closing. IfSome closing.uneven (λ number. number < shape.lines)) }
+    requires for_shape { AreFor script.now.shape S.names }
+    ensures shape { IfOk result (λ opened. opened.card ≡ script.now.shape) }
+    ensures one_each { IfOk result (λ opened. length opened.seats.items ≡ script.now.shape.ports) }
+    ensures some { IfOk result (λ opened. 0 < length opened.seats.items) }
+    ensures unused { IfOk result (λ opened. All (λ seat. tally_of_seat seat ≡ nothing) opened.seats.items) }
+    ensures unnamed { IfOk result (λ opened. opened.desk.names ≡ []) }
 {
-    let Ok((card, seats, desk)) = Card::<S>::new(alloc, shape, blanks) else {
+    let Ok((card, seats, desk)) = Card::<S>::new(alloc, script.shape, blanks) else {
         return Err(AllocError);
     };
     let desk = ScriptDesk {
         desk,
-        names: Names::new(alloc, shape.programs as usize)?,
+        names: Names::new(alloc, script.shape.programs as usize)?,
         alloc,
     };
+    Ok(Opened { card, seats, desk })
+}
+
+/// Answers a whole script, and closes its card. The lines of the closed card have counted exactly the cells that the
+/// answers say are judged.
+fn answer_script<S: Ledgers + Send + Sync, G: Gate + Sync, R: Threads + Wait + Sync>(
+    rt: &R,
+    alloc: Global,
+    script: &Script,
+    blanks: Blanks,
+    gate: &G,
+    answers: &mut Vec<u8>,
+) -> Result<Closing, AllocError>
+    requires names { blanks ≡ S.names }
+    requires for_shape { AreFor script.now.shape S.names }
+    ensures answers { IfOk result (λ closing. Adds
+        (λ text. OfLines script.now.lines.items (λ each.
+        AnswersCard script.now.shape.side each text (lines_total closing.lines.items)))
+        answers.old.items answers.new.items) }
+    ensures lines { IfOk result (λ closing. length closing.lines.items ≡ script.now.shape.lines) }
+    ensures within { IfOk result (λ closing. IfSome closing.uneven (λ number. number < script.now.shape.lines)) }
+{
+    let Opened { card, seats, desk } = open_card::<S>(alloc, script, blanks)?;
     add_ready(answers)?;
-    let seats = answer_lines_on(rt, &card, seats, desk, lines, gate, answers)?;
+    let seats = answer_lines_on(rt, &card, seats, desk, &script.lines, gate, answers)?;
     match card.close(alloc, seats) {
         Ok(closing) => Ok(closing),
         Err(_) => Err(AllocError),
@@ -143,18 +176,20 @@ fn answer_script<S: Ledgers + Send + Sync, G: Gate + Sync, R: Threads + Wait + S
 fn answer_alone<G: Gate + Sync, R: Threads + Wait + Sync>(
     rt: &R,
     alloc: Global,
-    shape: Shape,
-    lines: &[u8],
+    script: &Script,
     gate: &G,
     answers: &mut Vec<u8>,
 ) -> Result<Closing, AllocError>
-    ensures answers { OnOk result (Adds
-        (λ text. OfLines lines.now (λ each. AnswersCard shape.side each text))
+    // As `answer_script`.
+    ensures answers { IfOk result (λ closing. Adds
+        (λ text. OfLines script.now.lines.items (λ each.
+        AnswersCard script.now.shape.side each text (lines_total closing.lines.items)))
         answers.old.items answers.new.items) }
-    ensures within { IfOk result (λ closing. IfSome closing.uneven (λ number. number < shape.lines)) }
+    ensures lines { IfOk result (λ closing. length closing.lines.items ≡ script.now.shape.lines) }
+    ensures within { IfOk result (λ closing. IfSome closing.uneven (λ number. number < script.now.shape.lines)) }
 {
-    let blanks = Blanks::new(shape.lines, shape.ports);
-    answer_script::<Brand, G, R>(rt, alloc, shape, blanks, lines, gate, answers)
+    let blanks = Blanks::new(script.shape.lines, script.shape.ports);
+    answer_script::<Brand, G, R>(rt, alloc, script, blanks, gate, answers)
 }
 
 /// Runs a script that was read, and returns its text.
@@ -175,8 +210,7 @@ fn run_lines<G: Gate + Sync, R: Threads + Wait + Sync, O: Output>(
     ensures writing { O.failures output.new ≡ write_failures result (O.failures output.old) }
 {
     let mut answers = Vec::new(alloc);
-    let shape = script.shape;
-    let Ok(closing) = answer_alone(rt, alloc, shape, &script.lines, gate, &mut answers) else {
+    let Ok(closing) = answer_alone(rt, alloc, script, gate, &mut answers) else {
         return Err(RunFault::NoMemory);
     };
     if add_closing(&mut answers, &closing).is_err() {

@@ -1,6 +1,8 @@
 -- The stored part of an answered cell: its header, and what the line of its answer shows.
-use Rattle.std.specs.Prelude.{ℕ, List, [], ◌∷◌, replicate, slice_index, Result, Ok, Err}
+use Rattle.std.specs.Prelude.{ℕ, List, [], ◌∷◌, map, replicate, slice_index, Option, Some, None, Result, Ok, Err}
 use Rattle.line_record.specs.declared.fault.LineFault.TheVariants.{TooLate, Back, Full, NoMemory as LineNoMemory}
+use Rattle.line_record.specs.Tally.{nothing, counted, total}
+use Rattle.line_record.specs.declared.tally.Tally.{Tally}
 use Rattle.card_core.specs.Sections.{answer_to}
 use Rattle.card_core.specs.declared.answer.Answer.{Answer}
 use Rattle.card_core.specs.declared.answer.Answer.TheVariants.{Judged, NoConnection, Released, Stale, MomentTooLate, MomentBack, JournalFull, NoMemory}
@@ -48,3 +50,20 @@ judgement_by ruling = record {
 abbrev pub answer_kept : List ℕ → Result Ruling Unjudged → Answer
 answer_kept cell (Ok ruling) = answer_to cell (Ok (judgement_by ruling))
 answer_kept cell (Err reason) = answer_to cell (Err reason)
+
+-- The counts of a stored answer: one cell with its verdict if the cell was judged, otherwise none.
+abbrev pub ruling_counts : Result Ruling Unjudged → Tally
+ruling_counts (Ok ruling) = counted nothing ruling.verdict
+ruling_counts (Err reason) = nothing
+
+abbrev pub cell_counts : ToldCell → Tally
+cell_counts cell = ruling_counts cell.told
+
+-- The counts of what was stored of a line, if anything was.
+abbrev pub told_counts : Option ToldCell → Tally
+told_counts None = nothing
+told_counts (Some cell) = cell_counts cell
+
+-- The counts of several cells.
+abbrev pub cells_counts : List ToldCell → Tally
+cells_counts cells = total (map cell_counts cells)

@@ -1,7 +1,6 @@
 -- Before the first write, the empty text is a prefix of some text. Then the whole text is written, or a prefix of it.
-use Rattle.std.proofs.Common.{List, ℕ, subst, sym, ◌∙◌}
-use Rattle.text_io.specs.Devices.{Adds}
-use Rattle.upc_ports.specs.inner.Script.{AnswersCard, OfLines}
+use Rattle.std.proofs.Common.{sym, ◌∙◌}
+use Rattle.port_card.specs.Closing.{lines_total}
 use Rattle.upc_ports.proofs.CardTexts.{last-front, last-given, ok-of}
 use Rattle.text_io.specs.declared.ending.Done.TheVariants.{Whole}
 use Rattle.text_io.proofs.Public.{nothing-begins}
@@ -25,18 +24,16 @@ pub returns-clause-text : goal.returns-clause-text
 returns-clause-text g c =
     let shape = c.args.script.now.shape in
     let octets = c.args.script.now.lines.items in
-    let card = subst (λ (xs : List ℕ). Adds (λ text. OfLines xs (λ each. AnswersCard shape.side each text)) c.new-answers.result.items c.answer_alone.new.answers.items)
-    c.deref.ensures.value c.in-Ok.ensures.answers in
+    let counts = lines_total c.in-Ok.closing.lines.items in
     let more = ok-of c.add_closing.result (sym c.is_err.ensures.value ∙ c.if-is_err.false) c.add_closing.ensures in
-    last-given g.O.Output.is_known shape octets _ _ c.new-answers.result.items c.answer_alone.new.answers.items c.add_closing.new.answers.items c.in-Ok.closing.lines.items c.in-Ok.closing.uneven
-    c.done_after.result c.give_last.result card c.new-answers.ensures.items c.in-Ok.ensures.within more c.give_last.ensures.given c.give_last.ensures.done c.done_after.ensures
+    last-given g.O.Output.is_known shape octets _ _ c.new-answers.result.items c.answer_alone.new.answers.items c.add_closing.new.answers.items counts c.in-Ok.closing.uneven
+    c.done_after.result c.give_last.result c.in-Ok.ensures.answers c.new-answers.ensures.items c.in-Ok.ensures.within more c.give_last.ensures.given c.give_last.ensures.done c.done_after.ensures
 
 pub returns-clause-front : goal.returns-clause-front
 returns-clause-front g c = λ known.
     let shape = c.args.script.now.shape in
     let octets = c.args.script.now.lines.items in
-    let card = subst (λ (xs : List ℕ). Adds (λ text. OfLines xs (λ each. AnswersCard shape.side each text)) c.new-answers.result.items c.answer_alone.new.answers.items)
-    c.deref.ensures.value c.in-Ok.ensures.answers in
+    let counts = lines_total c.in-Ok.closing.lines.items in
     let more = ok-of c.add_closing.result (sym c.is_err.ensures.value ∙ c.if-is_err.false) c.add_closing.ensures in
-    last-front shape octets _ _ c.new-answers.result.items c.answer_alone.new.answers.items c.add_closing.new.answers.items c.in-Ok.closing.lines.items c.in-Ok.closing.uneven
-    c.give_last.result card c.new-answers.ensures.items c.in-Ok.ensures.within more (c.give_last.ensures.front known)
+    last-front shape octets _ _ c.new-answers.result.items c.answer_alone.new.answers.items c.add_closing.new.answers.items counts c.in-Ok.closing.uneven
+    c.give_last.result c.in-Ok.ensures.answers c.new-answers.ensures.items c.in-Ok.ensures.within more (c.give_last.ensures.front known)
