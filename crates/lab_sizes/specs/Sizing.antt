@@ -60,7 +60,7 @@ both_sized figures ticks tolerance asked increment limit = record {
   sustained = Some (sized_rate asked.scr figures.tick increment limit);
 }
 
--- The buckets, where the peak rate has this increment and the tolerance has so many ticks.
+-- The buckets, where the peak rate has this increment and the tolerance this many ticks.
 abbrev pub sizes_with : Figures → ℕ → ℕ → Option Sustained → Result Sizes SizeFault
 sizes_with figures ticks tolerance None = followed (limit_within tolerance) (λ limit. Ok (peak_alone figures ticks limit))
 sizes_with figures ticks tolerance (Some asked) =
