@@ -3,7 +3,7 @@ use Rattle.std.specs.Prelude.{ℕ, List, ◌++◌, codes}
 use Rattle.text_io.specs.declared.ending.RunFault.{RunFault}
 use Rattle.text_io.specs.declared.ending.RunFault.TheVariants.{ReadFailed, WriteFailed, NoMemory}
 use Rattle.upc_lab.specs.declared.choice.Subcommand.{Subcommand}
-use Rattle.upc_lab.specs.declared.choice.Subcommand.TheVariants.{Rules, Why}
+use Rattle.upc_lab.specs.declared.choice.Subcommand.TheVariants.{Rules, Why, Asm}
 
 -- The message for each failure.
 abbrev pub lab_failure_line : RunFault → List ℕ
@@ -15,11 +15,13 @@ lab_failure_line NoMemory = codes "upc-lab: out of memory\n"
 abbrev pub lab_name_of : Subcommand → List ℕ
 lab_name_of Rules = codes "rules"
 lab_name_of Why = codes "why"
+lab_name_of Asm = codes "asm"
 
 -- What a subcommand waits for.
 abbrev pub lab_input_of : Subcommand → List ℕ
 lab_input_of Rules = codes "reading rules from the terminal, to its end"
 lab_input_of Why = codes "reading rules, a line `cells` and cells from the terminal, to its end"
+lab_input_of Asm = codes "reading rules from the terminal, to its end"
 
 -- The name of the subcommand, and what it waits for.
 abbrev pub lab_notice : Subcommand → List ℕ

@@ -1,12 +1,14 @@
 -- The output of each subcommand of `upc-lab`.
 use Rattle.std.specs.Prelude.{ℕ, List}
+use Rattle.lab_rules.specs.AsmText.{MayBeAsmText}
 use Rattle.lab_rules.specs.RulesText.{MayBeRulesText}
 use Rattle.lab_rules.specs.WhyText.{IsWhyText}
 use Rattle.text_io.specs.declared.ending.Done.{Done}
 use Rattle.upc_lab.specs.declared.choice.Subcommand.{Subcommand}
-use Rattle.upc_lab.specs.declared.choice.Subcommand.TheVariants.{Rules, Why}
+use Rattle.upc_lab.specs.declared.choice.Subcommand.TheVariants.{Rules, Why, Asm}
 
 -- The output for a whole input, and how the run ends.
 abbrev pub IsLabText : Subcommand → List ℕ → List ℕ → Done → Type 0
 IsLabText Rules = MayBeRulesText
 IsLabText Why = IsWhyText
+IsLabText Asm = MayBeAsmText

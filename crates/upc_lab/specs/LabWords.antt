@@ -8,11 +8,11 @@ use Rattle.clap.specs.Kinds.{Kinds}
 use Rattle.clap.specs.Faults.{fault_of}
 use Rattle.upc_choice.specs.Choice.{IsEnd, with_name}
 use Rattle.upc_lab.specs.declared.choice.Subcommand.{Subcommand}
-use Rattle.upc_lab.specs.declared.choice.Subcommand.TheVariants.{Rules, Why}
+use Rattle.upc_lab.specs.declared.choice.Subcommand.TheVariants.{Rules, Why, Asm}
 
 -- The name of each subcommand.
 abbrev pub lab_subcommands : List (Text × Subcommand)
-lab_subcommands = (codes "rules", Rules) ∷ (codes "why", Why) ∷ []
+lab_subcommands = (codes "rules", Rules) ∷ (codes "why", Why) ∷ (codes "asm", Asm) ∷ []
 
 -- The command without its subcommands. It wants one of them.
 abbrev pub lab_alone : App

@@ -21,6 +21,8 @@ pub enum Subcommand {
     Rules,
     /// Read a text of rules and then cells, and print which rule decides each cell.
     Why,
+    /// Compile a text of rules, and print the source of their program.
+    Asm,
 }
 
 /// Reads the words after the program's name: the name of one subcommand. The forms of help that `clap` has request help. Any
@@ -66,12 +68,19 @@ fn own_command<'a>(alloc: Global) -> Result<Command<'a>, AllocError>
         "Compile rules for cells and print the octets of their program",
         "Example: printf 'vpi 1 and vci 32..127 -> 1\\n' | upc-lab rules",
     )?;
-    with_subcommand(
+    let command = with_subcommand(
         alloc,
         command,
         "why",
         "Read rules, a line `cells` and cells, and print which rule decides each",
         "Example: (cat examples/customer.rules; echo cells; tail -n +2 examples/customer.eval) | upc-lab why",
+    )?;
+    with_subcommand(
+        alloc,
+        command,
+        "asm",
+        "Compile rules for cells and print their program in assembly, with the rules as comments",
+        "Example: upc-lab asm < examples/customer.rules",
     )
 }
 
@@ -128,6 +137,7 @@ fn named(name: &str) -> Option<Subcommand>
     match name {
         "rules" => Some(Subcommand::Rules),
         "why" => Some(Subcommand::Why),
+        "asm" => Some(Subcommand::Asm),
         _ => None,
     }
 }

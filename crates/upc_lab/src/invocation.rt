@@ -9,7 +9,7 @@ ghost use Rattle.upc_lab.specs.LabMessages.{lab_failure_line};
 ghost use Rattle.upc_lab.specs.LabText.{IsLabText};
 
 use crate::choice::Subcommand;
-use lab_rules::{compile_rules, decide_cells};
+use lab_rules::{assemble_rules, compile_rules, decide_cells};
 use std::alloc::Global;
 use text_io::{Done, Input, Output, RunFault, give_all};
 use upc_choice::Stop;
@@ -52,6 +52,7 @@ fn run<I: Input, O: Output>(
     match subcommand {
         Subcommand::Rules => compile_rules(alloc, input, output),
         Subcommand::Why => decide_cells(alloc, input, output),
+        Subcommand::Asm => assemble_rules(alloc, input, output),
     }
 }
 

@@ -10,7 +10,7 @@ mod tests;
 
 pub use choice::{Subcommand, choose};
 pub use invocation::carry_out;
-pub use lab_rules::{compile_rules, decide_cells};
+pub use lab_rules::{assemble_rules, compile_rules, decide_cells};
 pub use notice::awaited;
 use std::io::IsTerminal;
 use std::process::ExitCode;

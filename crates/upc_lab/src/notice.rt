@@ -15,5 +15,6 @@ pub fn awaited(subcommand: Subcommand) -> &'static str
         Subcommand::Rules => "upc-lab rules: reading rules from the terminal, to its end",
         Subcommand::Why =>
             "upc-lab why: reading rules, a line `cells` and cells from the terminal, to its end",
+        Subcommand::Asm => "upc-lab asm: reading rules from the terminal, to its end",
     }
 }
