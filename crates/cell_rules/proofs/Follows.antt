@@ -72,3 +72,7 @@ lines_more side rules i rule lines new line lt is are of made =
 pub if_ok : {T E : Type 0} (r : Result T E) (P Q : T → Type 0) → ((v : T) → P v → Q v) → IfOk r P → IfOk r Q
 if_ok (Ok v) P Q f h = f v h
 if_ok (Err e) P Q f h = tt
+
+pub if_ok_both : {T E : Type 0} (r : Result T E) (P Q S : T → Type 0) → ((v : T) → P v → Q v → S v) → IfOk r P → IfOk r Q → IfOk r S
+if_ok_both (Ok v) P Q S f h g = f v h g
+if_ok_both (Err e) P Q S f h g = tt

@@ -3,6 +3,7 @@
 ghost use Rattle.std.specs.Prelude.{◌≡◌, ◌<◌, ◌≤◌, List, length, Err, IfOk};
 ghost use Rattle.bpf_verify.specs.Accepted.{IsAccepted};
 ghost use Rattle.match_code.specs.LineCode.{lines_code};
+ghost use Rattle.match_code.specs.LinePlaces.{line_lengths};
 ghost use Rattle.match_code.specs.declared.lines.Line.{Line};
 ghost use Rattle.cell_rules.specs.Promise.{FollowsRules};
 ghost use Rattle.cell_rules.specs.PlainOf.{ArePlainLines};
@@ -10,7 +11,7 @@ ghost use Rattle.cell_rules.specs.PlainOf.{ArePlainLines};
 use crate::plain::line_of;
 use crate::rules::{RuleLine, Rules};
 use bpf_code::Instr;
-use match_code::{CodeFault, Line, generate};
+use match_code::{CodeFault, Line, PlacedCode, generate, generate_placed};
 use std::alloc::{AllocError, Global};
 use upc_cell::Side;
 
@@ -41,6 +42,26 @@ pub fn compile(alloc: Global, rules: &Rules) -> Result<Vec<Instr>, CodeFault>
 {
     match lines_of(alloc, rules.side, &rules.lines) {
         Ok(lines) => generate(alloc, &lines, rules.otherwise),
+        Err(_) => Err(CodeFault::NoMemory),
+    }
+}
+
+/// Compiles rules: returns a code that gives each cell their value, and where the code of each of their lines begins.
+///
+/// # Errors
+///
+/// As [`compile`] has them.
+pub fn compile_placed(alloc: Global, rules: &Rules) -> Result<PlacedCode, CodeFault>
+    ensures accepted { IfOk result (λ placed. IsAccepted placed.code.items) }
+    ensures value { IfOk result (λ placed. FollowsRules rules.now placed.code.items) }
+    ensures code { IfOk result (λ placed. (lines : List Line) × ArePlainLines rules.now.side rules.now.lines.items lines
+        × (placed.code.items ≡ lines_code lines rules.now.otherwise)
+        × (placed.lengths.items ≡ line_lengths lines rules.now.otherwise)) }
+    ensures too_long { result ≡ Err CodeFault.TooLong → (lines : List Line)
+        × ArePlainLines rules.now.side rules.now.lines.items lines × (4096 < length (lines_code lines rules.now.otherwise)) }
+{
+    match lines_of(alloc, rules.side, &rules.lines) {
+        Ok(lines) => generate_placed(alloc, &lines, rules.otherwise),
         Err(_) => Err(CodeFault::NoMemory),
     }
 }

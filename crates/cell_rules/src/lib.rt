@@ -10,10 +10,10 @@ mod relation;
 mod rules;
 mod test;
 
-pub use compiler::compile;
+pub use compiler::{compile, compile_placed};
 pub use deciding::{Decision, decide};
 pub use field::{Field, Octets};
-pub use match_code::{CodeFault, Span};
+pub use match_code::{CodeFault, PlacedCode, Span};
 pub use relation::Relation;
 pub use rules::{RuleLine, Rules};
 pub use test::Test;

@@ -2,4 +2,7 @@
 pub mod RuleFaults
 pub mod RulesText
 pub mod WhyText
+pub mod CommentLines
+pub mod AsmText
+pub mod AsmLaws
 pub mod inner

@@ -13,7 +13,7 @@ use upc_programs::add_program;
 use upc_words::add_too_long;
 
 /// The maximum number of octets of a text of rules.
-const MOST_RULES_OCTETS: u32 = 1048576;
+pub(crate) const MOST_RULES_OCTETS: u32 = 1048576;
 
 /// Answers a text: the program of its rules, or its fault.
 fn answer_text(alloc: Global, text: &[u8], answers: &mut Vec<u8>) -> Result<Done, AllocError>

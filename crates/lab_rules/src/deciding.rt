@@ -48,7 +48,7 @@ fn is_cells_line(line: &[u8]) -> bool
 }
 
 /// The number of the source line of the line of rules at a place.
-fn number_at(numbers: &[usize], place: usize) -> usize
+pub(crate) fn number_at(numbers: &[usize], place: usize) -> usize
     ensures { result ≡ slice_index numbers.now place }
 {
     match numbers.get(place) {

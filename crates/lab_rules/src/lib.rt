@@ -1,10 +1,14 @@
 //! The subcommands of `upc-lab`: `rules` compiles a text of rules, and `why` says which of them decides each cell.
 #![tactic(auto)]
 
+mod annotating;
+mod assembling;
 mod compiling;
 mod deciding;
 mod fault_lines;
+pub mod laws;
 
+pub use assembling::assemble_rules;
 pub use compiling::compile_rules;
 pub use deciding::decide_cells;
 pub use fault_lines::add_rule_fault;

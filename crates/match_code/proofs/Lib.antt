@@ -12,5 +12,6 @@ pub mod Tests
 pub mod LinesFit
 pub mod LinesAccepted
 pub mod Coding
+pub mod LengthSteps
 pub mod InOrder
 pub mod Public

@@ -7,4 +7,5 @@ pub mod Promise
 pub mod BitTests
 pub mod TestCode
 pub mod LineCode
+pub mod LinePlaces
 pub mod inner

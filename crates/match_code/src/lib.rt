@@ -15,7 +15,7 @@ mod tests_code;
 pub use bits::BitTest;
 pub use draft::Ways;
 pub use fault::CodeFault;
-pub use lines::{Line, generate};
+pub use lines::{Line, PlacedCode, generate, generate_placed};
 pub use neighbours::all_of;
 pub use order::in_order;
 pub use part::{Left, Part, Single, Span};

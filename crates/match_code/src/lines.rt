@@ -2,6 +2,7 @@
 
 ghost use Rattle.std.specs.Prelude.{◌≡◌, ◌<◌, ◌≤◌, ℕ, [], ◌∷◌, length, Err, IfOk, OnOk, None, Some, slice_get};
 ghost use Rattle.match_code.specs.LineCode.{Coded, left_after, first_after, later_after, line_code, lines_coded, begun, lines_code};
+ghost use Rattle.match_code.specs.LinePlaces.{lengths_from, line_lengths};
 ghost use Rattle.match_code.specs.inner.Held.{held_at};
 ghost use Rattle.match_code.specs.Promise.{Classifies};
 ghost use Rattle.match_code.specs.inner.Coding.{coded_of};
@@ -139,18 +140,31 @@ fn left_after(line: &Line, held: Option<Part>) -> Option<Part>
     }
 }
 
+/// The code of all lines, and where that of each begins.
+#[derive(Drop)]
+struct PlacedCoding {
+    /// The code.
+    coding: Coding,
+    /// For each line, how many instructions the code has from its first on.
+    lengths: Vec<usize>,
+}
+
 /// The code of all lines, from the last to the first.
-fn put_lines(alloc: Global, lines: &[Line], otherwise: u32) -> Result<Coding, AllocError>
-    ensures { IfOk result (λ coding. coded_of coding ≡ lines_coded lines.now None otherwise) }
+fn put_lines(alloc: Global, lines: &[Line], otherwise: u32) -> Result<PlacedCoding, AllocError>
+    ensures code { IfOk result (λ coded. coded_of coded.coding ≡ lines_coded lines.now None otherwise) }
+    ensures lengths { IfOk result (λ coded. coded.lengths.items ≡ line_lengths lines.now otherwise) }
 {
     let helds = helds(alloc, lines)?;
     let mut coding = first_coding(alloc, otherwise)?;
+    let mut lengths = Vec::new(alloc);
     let mut left = lines.len();
     while left > 0 {
         left -= 1;
         put_line(&mut coding, &lines[left], helds[left])?;
+        lengths.push(coding.draft.len())?;
     }
-    Ok(coding)
+    lengths.reverse();
+    Ok(PlacedCoding { coding, lengths })
 }
 
 /// The code without lines: the last return.
@@ -167,12 +181,16 @@ fn first_coding(alloc: Global, otherwise: u32) -> Result<Coding, AllocError>
 }
 
 /// The code of lines, however long it is.
-fn whole_code(alloc: Global, lines: &[Line], otherwise: u32) -> Result<Vec<Instr>, AllocError>
-    ensures { IfOk result (λ code. code.items ≡ lines_code lines.now otherwise) }
+fn whole_code(alloc: Global, lines: &[Line], otherwise: u32) -> Result<PlacedCode, AllocError>
+    ensures code { IfOk result (λ placed. placed.code.items ≡ lines_code lines.now otherwise) }
+    ensures lengths { IfOk result (λ placed. placed.lengths.items ≡ line_lengths lines.now otherwise) }
 {
-    let coding = put_lines(alloc, lines, otherwise)?;
-    let code = begun(coding)?;
-    Ok(code)
+    let placed = put_lines(alloc, lines, otherwise)?;
+    let code = begun(placed.coding)?;
+    Ok(PlacedCode {
+        code,
+        lengths: placed.lengths,
+    })
 }
 
 /// The code from its first instruction on. If the lines don't begin there, puts `ja` in front.
@@ -192,12 +210,50 @@ fn begun(coding: Coding) -> Result<Vec<Instr>, AllocError>
     Ok(draft.into_code())
 }
 
-/// Makes the code that gives the value of lines on every packet of 52 octets, with this value where no rule gives one.
+/// A code, and where that of each line begins.
+#[derive(Debug, Drop)]
+pub struct PlacedCode {
+    /// The instructions.
+    pub code: Vec<Instr>,
+    /// For each line the number of instructions from the first of its own to the last of the code. A line without code has the
+    /// number of the line after it, or 1, which is the return where no rule gives a value.
+    pub lengths: Vec<usize>,
+}
+
+/// Makes the code that gives the value of lines on every packet of 52 octets, with this value where no rule gives one, and says where
+/// the code of each line begins (`line_lengths`).
 ///
 /// # Errors
 ///
 /// `TooLong` exactly if the code that is defined for the lines (`lines_code`) has more than 4096 instructions, and
 /// `NoMemory` if an allocation failed.
+pub fn generate_placed(
+    alloc: Global,
+    lines: &[Line],
+    otherwise: u32,
+) -> Result<PlacedCode, CodeFault>
+    ensures accepted { IfOk result (λ placed. IsAccepted placed.code.items) }
+    ensures value { IfOk result (λ placed. Classifies lines.now otherwise placed.code.items) }
+    ensures code { IfOk result (λ placed. placed.code.items ≡ lines_code lines.now otherwise) }
+    ensures lengths { IfOk result (λ placed. placed.lengths.items ≡ line_lengths lines.now otherwise) }
+    ensures too_long { result ≡ Err CodeFault.TooLong → 4096 < length (lines_code lines.now otherwise) }
+    ensures short { IfOk result (λ placed. length (lines_code lines.now otherwise) ≤ 4096) }
+{
+    let placed = match whole_code(alloc, lines, otherwise) {
+        Ok(placed) => placed,
+        Err(_) => return Err(CodeFault::NoMemory),
+    };
+    if placed.code.len() > MOST_INSTRUCTIONS {
+        return Err(CodeFault::TooLong);
+    }
+    Ok(placed)
+}
+
+/// Makes the code that gives the value of lines on every packet of 52 octets, with this value where no rule gives one.
+///
+/// # Errors
+///
+/// As [`generate_placed`] has them.
 pub fn generate(alloc: Global, lines: &[Line], otherwise: u32) -> Result<Vec<Instr>, CodeFault>
     ensures accepted { IfOk result (λ code. IsAccepted code.items) }
     ensures value { IfOk result (λ code. Classifies lines.now otherwise code.items) }
@@ -205,12 +261,8 @@ pub fn generate(alloc: Global, lines: &[Line], otherwise: u32) -> Result<Vec<Ins
     ensures too_long { result ≡ Err CodeFault.TooLong → 4096 < length (lines_code lines.now otherwise) }
     ensures short { IfOk result (λ code. length (lines_code lines.now otherwise) ≤ 4096) }
 {
-    let code = match whole_code(alloc, lines, otherwise) {
-        Ok(code) => code,
-        Err(_) => return Err(CodeFault::NoMemory),
-    };
-    if code.len() > MOST_INSTRUCTIONS {
-        return Err(CodeFault::TooLong);
+    match generate_placed(alloc, lines, otherwise) {
+        Ok(PlacedCode { code, lengths: _ }) => Ok(code),
+        Err(fault) => Err(fault),
     }
-    Ok(code)
 }

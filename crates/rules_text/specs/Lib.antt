@@ -6,6 +6,7 @@ pub mod TextOfRules
 pub mod TextFaults
 pub mod NumberedText
 pub mod ValuesRead
+pub mod PlacesOfText
 pub mod DecisionsRead
 pub mod RuleGrammar
 pub mod Laws

@@ -4,13 +4,14 @@ ghost use Rattle.std.specs.Prelude.{List, IfOk, IfErr};
 ghost use Rattle.bpf_verify.specs.Accepted.{IsAccepted};
 ghost use Rattle.cell_rules.specs.Promise.{FollowsRules};
 ghost use Rattle.cell_rules.specs.declared.rules.Rules.{Rules};
+ghost use Rattle.rules_text.specs.PlacesOfText.{IsNumberedCode};
 ghost use Rattle.rules_text.specs.TextFaults.{HasRules, IsCompilingFault};
 ghost use Rattle.rules_text.specs.ValuesRead.{FollowsText};
 
 use crate::fault::{RuleFault, RuleKind, fault_at};
-use crate::reader::read_rules;
+use crate::reader::{read_numbered, read_rules};
 use bpf_code::Instr;
-use cell_rules::{CodeFault, compile};
+use cell_rules::{CodeFault, PlacedCode, compile, compile_placed};
 use std::alloc::Global;
 
 /// Compiles a text of rules: returns a code that gives each cell the value of the rules.
@@ -29,6 +30,38 @@ pub fn compile_text(alloc: Global, text: &[u8]) -> Result<Vec<Instr>, RuleFault>
     let rules = read_rules(alloc, text)?;
     match compile(alloc, &rules) {
         Ok(code) => Ok(code),
+        Err(CodeFault::TooLong) => Err(fault_at(RuleKind::TooLong, 0, 0)),
+        Err(CodeFault::NoMemory) => Err(fault_at(RuleKind::NoMemory, 0, 0)),
+    }
+}
+
+/// The code of a text of rules, and which source line each part of it is of.
+#[derive(Debug, Drop)]
+pub struct NumberedCode {
+    /// The code, and where that of each line of rules begins.
+    pub placed: PlacedCode,
+    /// For each line of rules the number of its source line, counted from 1.
+    pub numbers: Vec<usize>,
+}
+
+/// Compiles a text of rules: returns a code that gives each cell the value of the rules, with the place of each line's code and the
+/// number of its source line.
+///
+/// # Errors
+///
+/// As [`compile_text`] has them.
+pub fn compile_numbered(alloc: Global, text: &[u8]) -> Result<NumberedCode, RuleFault>
+    ensures accepted { IfOk result (λ made. IsAccepted made.placed.code.items) }
+    ensures text { IfOk result (λ made. FollowsText text.now made.placed.code.items) }
+    ensures places { IfOk result (IsNumberedCode text.now) }
+    ensures fault { IfErr result (IsCompilingFault text.now) }
+{
+    let numbered = read_numbered(alloc, text)?;
+    match compile_placed(alloc, &numbered.rules) {
+        Ok(placed) => Ok(NumberedCode {
+            placed,
+            numbers: numbered.numbers,
+        }),
         Err(CodeFault::TooLong) => Err(fault_at(RuleKind::TooLong, 0, 0)),
         Err(CodeFault::NoMemory) => Err(fault_at(RuleKind::NoMemory, 0, 0)),
     }

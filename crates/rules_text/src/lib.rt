@@ -10,6 +10,6 @@ mod line_reader;
 mod reader;
 mod subject;
 
-pub use compiler::compile_text;
+pub use compiler::{NumberedCode, compile_numbered, compile_text};
 pub use fault::{RuleFault, RuleKind};
 pub use reader::{NumberedRules, read_numbered, read_rules};

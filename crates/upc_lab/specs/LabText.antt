@@ -2,6 +2,7 @@
 use Rattle.std.specs.Prelude.{ℕ, List}
 use Rattle.lab_programs.specs.ListedProgram.{IsListText}
 use Rattle.lab_programs.specs.Trace.{IsTraceText}
+use Rattle.lab_rules.specs.AsmText.{MayBeAsmText}
 use Rattle.lab_rules.specs.RulesText.{MayBeRulesText}
 use Rattle.lab_rules.specs.WhyText.{IsWhyText}
 use Rattle.lab_sizes.specs.SizeText.{IsSizesText}
@@ -13,6 +14,7 @@ use Rattle.upc_lab.specs.declared.choice.Subcommand.TheVariants as lab
 abbrev pub IsLabText : Subcommand → List ℕ → List ℕ → Done → Type 0
 IsLabText lab.Rules = MayBeRulesText
 IsLabText lab.Why = IsWhyText
+IsLabText lab.Asm = MayBeAsmText
 IsLabText lab.List = IsListText
 IsLabText lab.Trace = IsTraceText
 IsLabText lab.Size = IsSizesText

@@ -12,7 +12,7 @@ use Rattle.upc_lab.specs.declared.choice.Subcommand.TheVariants as lab
 
 -- The names of the subcommands for rules.
 abbrev pub rules_subcommands : List (Text × Subcommand)
-rules_subcommands = (codes "rules", lab.Rules) ∷ (codes "why", lab.Why) ∷ []
+rules_subcommands = (codes "rules", lab.Rules) ∷ (codes "why", lab.Why) ∷ (codes "asm", lab.Asm) ∷ []
 
 -- The name of each subcommand: those for rules, those for programs, and that for contracts.
 abbrev pub lab_subcommands : List (Text × Subcommand)

@@ -21,6 +21,8 @@ pub enum Subcommand {
     Rules,
     /// Read a text of rules and then cells, and print which rule decides each cell.
     Why,
+    /// Compile a text of rules, and print the source of their program.
+    Asm,
     /// Print the listing of a program, with the octets of each instruction.
     List,
     /// Run a program on cells, and print each step.
@@ -78,6 +80,13 @@ fn own_command<'a>(alloc: Global) -> Result<Command<'a>, AllocError>
         "why",
         "Read rules, a line `cells` and cells, and print which rule decides each",
         "Example: (cat examples/customer.rules; echo cells; tail -n +2 examples/customer.eval) | upc-lab why",
+    )?;
+    let command = with_subcommand(
+        alloc,
+        command,
+        "asm",
+        "Compile rules for cells and print their program in assembly, with the rules as comments",
+        "Example: upc-lab asm < examples/customer.rules",
     )?;
     with_program_subcommands(alloc, command)
 }
@@ -166,6 +175,7 @@ fn named(name: &str) -> Option<Subcommand>
     match name {
         "rules" => Some(Subcommand::Rules),
         "why" => Some(Subcommand::Why),
+        "asm" => Some(Subcommand::Asm),
         "list" => Some(Subcommand::List),
         "trace" => Some(Subcommand::Trace),
         "size" => Some(Subcommand::Size),

@@ -10,7 +10,7 @@ ghost use Rattle.upc_lab.specs.LabText.{IsLabText};
 
 use crate::choice::Subcommand;
 use lab_programs::{list_program, trace_cells};
-use lab_rules::{compile_rules, decide_cells};
+use lab_rules::{assemble_rules, compile_rules, decide_cells};
 use lab_sizes::size_contracts;
 use std::alloc::Global;
 use text_io::{Done, Input, Output, RunFault, give_all};
@@ -54,6 +54,7 @@ fn run<I: Input, O: Output>(
     match subcommand {
         Subcommand::Rules => compile_rules(alloc, input, output),
         Subcommand::Why => decide_cells(alloc, input, output),
+        Subcommand::Asm => assemble_rules(alloc, input, output),
         Subcommand::List => list_program(alloc, input, output),
         Subcommand::Trace => trace_cells(alloc, input, output),
         Subcommand::Size => size_contracts(alloc, input, output),

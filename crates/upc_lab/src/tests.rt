@@ -47,6 +47,18 @@ fn run_words(
 }
 
 #[test]
+fn rules_are_comments_of_their_source(rt: HostRuntime) -> Result<(), Fail> {
+    let source =
+        b"; 1: clp 1 -> 7\nL0: ld [0]\nL1: jset #1, L2, L3\nL2: ret #7\n; otherwise\nL3: ret #0\n";
+    let left = run_words(rt.alloc(), "asm", b"clp 1 -> 7\r\n", 1000, 1000)?;
+    assert_eq!(rt;
+        (left.status, left.written.as_slice()),
+        (0, source.as_slice())
+    );
+    Ok(())
+}
+
+#[test]
 fn cells_are_answered_by_the_lines_that_decide_them(rt: HostRuntime) -> Result<(), Fail> {
     for (octets, status, written) in [
         (
@@ -91,6 +103,7 @@ fn a_subcommand_is_chosen_by_its_name_alone(rt: HostRuntime) -> Result<(), Fail>
         ("rules --", true),
         ("why", true),
         ("why --", true),
+        ("asm", true),
         ("", false),
         ("--", false),
         ("rules rules", false),
@@ -157,6 +170,7 @@ fn help_is_written_and_nothing_is_read(rt: HostRuntime) -> Result<(), Fail> {
         ("help rules", "upc-lab rules"),
         ("rules --help", "vpi 1"),
         ("help why", "upc-lab why"),
+        ("help asm", "upc-lab asm"),
     ] {
         let left = run_words(rt.alloc(), line, b"any -> 7\n", 0, 10000)?;
         assert!(rt; left.status == 0 && left.told.is_empty(), "{line}");

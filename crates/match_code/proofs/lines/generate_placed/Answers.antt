@@ -5,19 +5,20 @@ use Rattle.match_code.specs.LineCode.{lines_code}
 use Rattle.match_code.specs.Promise.{Classifies}
 use Rattle.match_code.proofs.LinesFit.{lines_classify}
 use Rattle.match_code.proofs.LinesAccepted.{lines_accepted}
-use Rattle.match_code.proofs.lines.generate.Goals as goal
+use Rattle.match_code.proofs.lines.generate_placed.Goals as goal
 
 pub returns : goal.returns
 returns c =
     let lines = c.args.lines.now in
     let otherwise = c.args.otherwise in
-    let is = c.in-Ok.ensures in
+    let is = c.in-Ok.ensures.code in
     let count = ap length is in
-    let few : length (lines_code lines otherwise) ≤ 4096 = omega (arith, c.in-Ok.code.ok.0, count) in
+    let few : length (lines_code lines otherwise) ≤ 4096 = omega (arith, c.in-Ok.placed.code.ok.0, count) in
     record {
       accepted = subst (λ (code : List Instr). IsAccepted code) (sym is) (lines_accepted lines otherwise few);
       value = subst (λ (code : List Instr). Classifies lines otherwise code) (sym is) (lines_classify lines otherwise);
       code = is;
+      lengths = c.in-Ok.ensures.lengths;
       too_long = λ e. absurd cc;
       short = few;
     }

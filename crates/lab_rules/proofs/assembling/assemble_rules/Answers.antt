@@ -1,0 +1,59 @@
+-- Before the first write, the empty text is a prefix of some answer.
+use Rattle.std.proofs.Common.{ℕ, List, IfOk, OnErr, option_map, rules, subst, sym}
+use Rattle.std.proofs.lemmas.Result.{IfOk-weaker, on_err_weaker}
+use Rattle.text_io.specs.Devices.{Adds, TakesEnough}
+use Rattle.text_io.specs.Limits.{most_ahead}
+use Rattle.text_io.specs.Printing.{IsFront}
+use Rattle.text_io.specs.declared.ending.Done.{Done}
+use Rattle.text_io.proofs.Public.{nothing-begins}
+use Rattle.lab_rules.specs.AsmText.{IsAsmText, MayBeAsmText}
+use Rattle.lab_rules.proofs.AnsweringAsm.{adds-may, enough, front-may, some-asm_text}
+use Rattle.lab_rules.proofs.assembling.assemble_rules.Goals as goal
+
+pub returns-in-Err-clause-served : goal.returns-in-Err-clause-served
+returns-in-Err-clause-served g c =
+    let octets = g.I.Input.rest c.args.input.now in
+    record {
+      text = search rules;
+      front = λ _ _. nothing-begins (MayBeAsmText octets) (g.O.Output.held c.args.output.now) (some-asm_text octets);
+      left = search rules;
+      whole = search rules;
+      reading = search rules;
+      writing = search rules;
+    }
+
+pub returns-in-Err-answer_gathered-clause-served : goal.returns-in-Err-answer_gathered-clause-served
+returns-in-Err-answer_gathered-clause-served g c =
+    let octets = g.I.Input.rest c.args.input.now in
+    record {
+      text = search rules;
+      front = λ _ _. nothing-begins (MayBeAsmText octets) (g.O.Output.held c.args.output.now) (some-asm_text octets);
+      left = search rules;
+      whole = search rules;
+      reading = search rules;
+      writing = search rules;
+    }
+
+pub returns-clause-served : goal.returns-clause-served
+returns-clause-served g c =
+    let octets = g.I.Input.rest c.args.input.now in
+    let left = g.I.Input.rest c.gather.new.input in
+    let before = g.O.Output.held c.args.output.now in
+    let after = g.O.Output.held c.give_last.new.output in
+    let answered = c.in-Ok-answer_gathered.ensures in
+    let told : g.I.Input.is_known → g.O.Output.is_known → IfOk c.give_last.result (λ done. Adds (λ answer. IsAsmText octets answer done) before after) =
+    search rules in
+    let front : g.I.Input.is_known → g.O.Output.is_known → OnErr c.give_last.result (Adds (IsFront (IsAsmText octets)) before after) = search rules in
+    record {
+      text = λ read written. IfOk-weaker c.give_last.result _ _ (λ done. adds-may octets before after done) (told read written);
+      front = λ read written. on_err_weaker c.give_last.result (front-may octets before after) (front read written);
+      left = λ known.
+          let taken : TakesEnough (λ needed. (told : List ℕ) × MayBeAsmText needed told c.in-Ok-answer_gathered.done) most_ahead octets left =
+          enough octets left (option_map (λ text. text.items) c.in-Ok.found) answered.0 c.in-Ok-answer_gathered.done
+          (c.in-Ok.ensures.whole known) (c.in-Ok.ensures.left known) answered.2 in
+          let P : Done → Type 0 = λ done. TakesEnough (λ needed. (told : List ℕ) × MayBeAsmText needed told done) most_ahead octets left in
+          IfOk-weaker c.give_last.result _ _ (λ done same. subst P (sym same) taken) c.give_last.ensures.done;
+      whole = search rules;
+      reading = search rules;
+      writing = search rules;
+    }

@@ -1,0 +1,16 @@
+use Rattle.std.proofs.Common.{inl, refl, ℕ, List}
+use Rattle.rules_text.specs.declared.compiler.NumberedCode.{NumberedCode}
+use Rattle.upc_codes.specs.Program.{is_program}
+use Rattle.lab_rules.specs.AsmLaws.{SourcesAreCheckedAlike}
+use Rattle.lab_rules.proofs.laws.sources_are_checked_alike.Goals as goal
+
+checked_alike : SourcesAreCheckedAlike
+checked_alike text answer made tells =
+    let code = made.placed.code.items in
+    record {
+      checked = inl (code, tells.meaning, (is_program code, (tells.accepted, refl), (refl, refl)));
+      compiled = inl (code, tells.accepted, tells.follows, refl, refl);
+    }
+
+pub returns : goal.returns
+returns c = checked_alike

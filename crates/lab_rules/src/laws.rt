@@ -1,0 +1,14 @@
+//! Laws of the definitions. Each function does nothing; its contract is the law.
+
+ghost use Rattle.lab_rules.specs.AsmLaws.{SourcesAreCheckedAlike};
+ghost use Rattle.lab_rules.specs.CommentLines.{CommentLinesMeanNothing};
+
+/// A source of assembly means the same code with comment lines added.
+pub fn comment_lines_mean_nothing()
+    ensures { CommentLinesMeanNothing }
+{}
+
+/// `upc check` answers the source of a text of rules as `upc-lab rules` answers the text.
+pub fn sources_are_checked_alike()
+    ensures { SourcesAreCheckedAlike }
+{}

@@ -1,0 +1,20 @@
+-- Which source line each part of a code is of.
+use Rattle.std.specs.Prelude.{◌≡◌, ℕ, List}
+use Rattle.cell_rules.specs.PlainOf.{ArePlainLines}
+use Rattle.match_code.specs.LineCode.{lines_code}
+use Rattle.match_code.specs.LinePlaces.{line_lengths}
+use Rattle.match_code.specs.declared.lines.Line.{Line}
+use Rattle.rules_text.specs.NumberedText.{HasNumbered}
+use Rattle.rules_text.specs.declared.compiler.NumberedCode.{NumberedCode}
+use Rattle.rules_text.specs.declared.reader.NumberedRules.{NumberedRules}
+
+-- The code is that of the text's rules, the lengths are those of their lines, and the numbers are those of the source lines that say
+-- them.
+pub record IsNumberedCode (octets : List ℕ) (made : NumberedCode) : Type 0 where
+  pub numbered : NumberedRules
+  pub read : HasNumbered octets numbered
+  pub numbers : made.numbers.items ≡ numbered.numbers.items
+  pub lines : List Line
+  pub plain : ArePlainLines numbered.rules.side numbered.rules.lines.items lines
+  pub code : made.placed.code.items ≡ lines_code lines numbered.rules.otherwise
+  pub lengths : made.placed.lengths.items ≡ line_lengths lines numbered.rules.otherwise
