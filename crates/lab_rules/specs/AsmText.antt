@@ -38,7 +38,7 @@ line_after [] before = []
 line_after (line ∷ lines) zero = line
 line_after (line ∷ lines) (suc before) = line_after lines before
 
--- The comment of a line of rules: the number of its source line, counted from 1, and what stands there.
+-- The comment of a line of rules: the number of its source line, counted from 1, and the line itself.
 abbrev pub rule_comment : List (List ℕ) → ℕ → List ℕ
 rule_comment lines number = comment_line (decimal number ++ (codes ": " ++ line_after lines (number - 1)))
 
