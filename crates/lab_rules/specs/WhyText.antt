@@ -63,19 +63,19 @@ abbrev pub decision_text : List ℕ → Decision → List ℕ
 decision_text numbers decision = decider_text numbers decision.line ++ value_text decision.value
 
 -- The answer to octets on a cell line.
-abbrev pub octets_text : NumberedRead → List ℕ → List ℕ
-octets_text numbered octets =
+abbrev pub cell_octets_text : NumberedRead → List ℕ → List ℕ
+cell_octets_text numbered octets =
     if length octets == 52 then decision_text numbered.numbers (rules_decide numbered.rules octets) else wrong_length (length octets)
 
 -- The answer to a word of a cell line, by the octets that it spells.
-abbrev pub word_text : NumberedRead → Option (List ℕ) → List ℕ
-word_text numbered None = bad_hex
-word_text numbered (Some octets) = octets_text numbered (cell_of_octets octets)
+abbrev pub cell_word_text : NumberedRead → Option (List ℕ) → List ℕ
+cell_word_text numbered None = bad_hex
+cell_word_text numbered (Some octets) = cell_octets_text numbered (cell_of_octets octets)
 
 -- The answer to a cell line, which has one hexadecimal word.
 abbrev pub cell_text : NumberedRead → List (List ℕ) → List ℕ
 cell_text numbered [] = bad_line
-cell_text numbered (word ∷ []) = word_text numbered (octets_of_digits word)
+cell_text numbered (word ∷ []) = cell_word_text numbered (octets_of_digits word)
 cell_text numbered (word ∷ other ∷ words) = bad_line
 
 -- The answer to a line after the line `cells`. A line without words and a comment have an empty answer.

@@ -8,7 +8,7 @@ ghost use Rattle.text_io.specs.Answering.{Answers};
 ghost use Rattle.text_io.specs.Serving.{IsServed};
 ghost use Rattle.text_io.specs.Words.{words_of};
 ghost use Rattle.upc_words.specs.Hexadecimal.{octets_of_digits};
-ghost use Rattle.lab_rules.specs.WhyText.{IsWhyText, before_comment, decider_text, decision_text, done_by, fault_answer, is_cells_line, some_rules, value_text, why_rules, why_text, word_text};
+ghost use Rattle.lab_rules.specs.WhyText.{IsWhyText, before_comment, decider_text, decision_text, done_by, fault_answer, is_cells_line, some_rules, value_text, why_rules, why_text, cell_word_text};
 ghost use Rattle.lab_rules.specs.inner.WhyLaws.{why_world};
 
 use crate::fault_lines::add_rule_fault;
@@ -119,7 +119,7 @@ fn answer_word(
     word: &[u8],
     answers: &mut Vec<u8>,
 ) -> Result<(), AllocError>
-    ensures { OnOk result (answers.new.items ≡ answers.old.items ++ word_text (numbered_read numbered.now) (octets_of_digits word.now)) }
+    ensures { OnOk result (answers.new.items ≡ answers.old.items ++ cell_word_text (numbered_read numbered.now) (octets_of_digits word.now)) }
 {
     match cell_of_word(alloc, word)? {
         CellWord::OfCell(cell) => answer_cell(numbered, &cell, answers),

@@ -23,10 +23,6 @@ lab_subcommands =
 abbrev pub lab_alone : App
 lab_alone = on_top (λ top. record top { subcommand_required = true }) (new_app (codes "upc-lab"))
 
--- The command with the subcommands for rules alone.
-abbrev pub rules_app : App
-rules_app = fold (λ app row. with_name app row.0) lab_alone rules_subcommands
-
 -- The command `upc-lab`: its subcommands, and no option except help, which every command has.
 unfoldable pub lab_app : App
 lab_app = fold (λ app row. with_name app row.0) lab_alone lab_subcommands

@@ -7,8 +7,9 @@ ghost use Rattle.clap.specs.Simple.{app_of};
 ghost use Rattle.clap.specs.Kinds.{FailsBy};
 ghost use Rattle.upc_choice.specs.Choice.{with_name};
 ghost use Rattle.upc_choice.specs.Stopping.{IsStopFor, StopsAt};
-ghost use Rattle.upc_lab.specs.LabWords.{NamesLab, lab_alone, lab_app, lab_faults_in, lab_line, lab_named, rules_app};
+ghost use Rattle.upc_lab.specs.LabWords.{NamesLab, lab_alone, lab_app, lab_faults_in, lab_line, lab_named};
 ghost use Rattle.upc_lab.specs.inner.FoundName.{lab_name_in};
+ghost use Rattle.upc_lab.specs.inner.RulesAlone.{rules_app};
 
 use clap::{Command, Error};
 use std::alloc::{AllocError, Global};
@@ -126,7 +127,9 @@ fn bare_command<'a>(alloc: Global) -> Command<'a>
     ensures { app_of result ≡ lab_alone }
 {
     Command::new(alloc, "upc-lab")
-        .about("Rules for classes of ATM cells, the programs of upc, and the contracts that it polices")
+        .about(
+            "Rules for classes of ATM cells, the programs of upc, and the contracts that it polices",
+        )
         .after_help("All read standard input, to its end.")
         .subcommand_required(true)
 }

@@ -17,7 +17,8 @@ pub fn awaited(subcommand: Subcommand) -> &'static str
             "upc-lab why: reading rules, a line `cells` and cells from the terminal, to its end",
         Subcommand::Asm => "upc-lab asm: reading rules from the terminal, to its end",
         Subcommand::List => "upc-lab list: reading a program from the terminal, to its end",
-        Subcommand::Trace => "upc-lab trace: reading a program and cells from the terminal, to its end",
+        Subcommand::Trace =>
+            "upc-lab trace: reading a program and cells from the terminal, to its end",
         Subcommand::Size => "upc-lab size: reading contracts from the terminal, to its end",
     }
 }
