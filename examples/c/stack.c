@@ -73,6 +73,21 @@ static void compile_rules(void)
 	number = upc_rules_compile((const uint8_t *)rules, at, room, sizeof room, &count, &fault);
 }
 
+/* A test of 64 tests in each other: as many parentheses may be open at once. */
+static void compile_nested(void)
+{
+	static char rules[TEXT];
+	size_t at = 0, k;
+
+	for (k = 0; k < 64; k++)
+		at += (size_t)sprintf(rules + at, "%s", k % 2 ? "(clp 1 or " : "(not oam and ");
+	at += (size_t)sprintf(rules + at, "user");
+	for (k = 0; k < 64; k++)
+		at += (size_t)sprintf(rules + at, ")");
+	at += (size_t)sprintf(rules + at, " -> 1\n");
+	number = upc_rules_compile((const uint8_t *)rules, at, room, sizeof room, &count, &fault);
+}
+
 static void new_program(void) { number = upc_program_new(program, sizeof program, &held, &fault); }
 
 static void run_program(void)
@@ -188,7 +203,8 @@ int main(int words, char **arguments)
 	entry calls[] = {{"nothing", nothing}, {"upc_contract_check", contract_check}, {"upc_judge", judge}, {"upc_burst_tolerance", tolerance},
 	                 {"upc_cell_fields", fields}, {"upc_cell_tag", tag}, {"upc_check", check},
 	                 {"upc_listing", list}, {"upc_assemble", assemble}, {"upc_assemble, no source", assemble_program},
-	                 {"upc_rules_compile", compile_rules}, {"upc_check, no program", check_unknown}, {"upc_program_new", new_program},
+	                 {"upc_rules_compile", compile_rules}, {"upc_rules_compile, nested", compile_nested},
+	                 {"upc_check, no program", check_unknown}, {"upc_program_new", new_program},
 	                 {"upc_program_run", run_program}, {"upc_program_free", free_program}, {"upc_card_new", new_card},
 	                 {"upc_card_load", load}, {"upc_card_load, no program", load_unknown}, {"upc_card_setup", set_up},
 	                 {"upc_card_arrive", arrive}, {"upc_card_journal", journal}, {"upc_card_counts", counts},
@@ -207,8 +223,8 @@ int main(int words, char **arguments)
 		it = taken(&calls[k]);
 		if (words > 1)
 			printf("%6lu %s: %u\n", (unsigned long)it, calls[k].name, (unsigned)number);
-		if (calls[k].call == compile_rules)
-			rules_most = it;
+		if (calls[k].call == compile_rules || calls[k].call == compile_nested)
+			rules_most = it > rules_most ? it : rules_most;
 		else
 			most = it > most ? it : most;
 	}
