@@ -48,13 +48,17 @@ fn run_words(
 
 #[test]
 fn rules_are_comments_of_their_source(rt: HostRuntime) -> Result<(), Fail> {
-    let source =
-        b"; 1: clp 1 -> 7\nL0: ld [0]\nL1: jset #1, L2, L3\nL2: ret #7\n; otherwise\nL3: ret #0\n";
-    let left = run_words(rt.alloc(), "asm", b"clp 1 -> 7\r\n", 1000, 1000)?;
-    assert_eq!(rt;
-        (left.status, left.written.as_slice()),
-        (0, source.as_slice())
-    );
+    for (octets, status, written) in [
+        (
+            b"clp 1 -> 7\r\n".as_slice(),
+            0,
+            b"; 1: clp 1 -> 7\nL0: ld [0]\nL1: jset #1, L2, L3\nL2: ret #7\n; otherwise\nL3: ret #0\n".as_slice(),
+        ),
+        (b"any > 7\n", 1, b"fault rules 1 BadLine 1 5\n"),
+    ] {
+        let left = run_words(rt.alloc(), "asm", octets, 1000, 1000)?;
+        assert_eq!(rt; (left.status, left.written.as_slice()), (status, written));
+    }
     Ok(())
 }
 
@@ -104,6 +108,9 @@ fn a_subcommand_is_chosen_by_its_name_alone(rt: HostRuntime) -> Result<(), Fail>
         ("why", true),
         ("why --", true),
         ("asm", true),
+        ("list", true),
+        ("trace", true),
+        ("size", true),
         ("", false),
         ("--", false),
         ("rules rules", false),
