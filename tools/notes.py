@@ -59,9 +59,9 @@ def notes_in(file):
         return {summed: name.rstrip("\n") for summed, _, name in (line.partition(" ") for line in it) if name}
 
 
-def passed():
-    """Returns the checksums of what has passed."""
-    return {**notes_in(ELSEWHERE), **notes_in(HERE)}.keys()
+def passed(here_alone=False):
+    """Returns the checksums of what has passed, on this machine alone or on any."""
+    return (notes_in(HERE) if here_alone else {**notes_in(ELSEWHERE), **notes_in(HERE)}).keys()
 
 
 def note(summed, what):
