@@ -214,3 +214,34 @@ answers-20000-cells() {
   echo 'accepted 1'
   lines 'value 7 steps 1' 20000
 }
+
+# The largest card is filled: 1024 programs and one more, 4096 connections and one more.
+input-the-largest-card-is-filled() {
+  echo 'card 1024 4096 16 1'
+  lines 'load 0006000000000001' 1025
+  printf 'setup 1 %d p1 cbr1:10/0\n' {0..4095}
+  echo 'setup 2 100 p1 cbr1:10/0'
+}
+
+answers-the-largest-card-is-filled() {
+  echo ready
+  printf 'loaded p%d\n' {1..1024}
+  echo 'fault desk 6 ProgramsFull'
+  printf 'set 1/%d\n' {0..4095}
+  echo 'fault desk 4 NoLine'
+}
+
+# The longest journal is filled: 65,536 cells, of which each tenth one conforms, and one more.
+input-the-longest-journal-is-filled() {
+  printf '%s\n' 'card 1 1 1 65536' 'load 0006000000000001' 'setup 1 100 p1 cbr1:10/0'
+  printf 'cell %d 00100640\n' {0..65536}
+  echo 'cut 1 100'
+}
+
+answers-the-longest-journal-is-filled() {
+  printf '%s\n' ready 'loaded p1' 'set 1/100'
+  # After each cell that passes, nine are discarded.
+  awk 'BEGIN { for (k = 0; k < 65536; k++) print k % 10 ? "discard 1/100 p1 1" : "pass 1/100 p1 1 00100640" }'
+  echo 'fault arrive 6 JournalFull'
+  echo 'cut 1/100 65536 6554 0 58982 0'
+}

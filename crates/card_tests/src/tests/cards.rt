@@ -2,7 +2,7 @@
 
 mod interleaving;
 mod isolation;
-mod limits;
+mod tables;
 
 use arrayvec::ArrayVec;
 use bpf_code::Instr;
@@ -10,9 +10,11 @@ use bpf_verify::{Program, verify};
 use card_core::*;
 use gen_arena::{Arena, Id};
 use leaky::{Contract, Gcra, Verdict};
-use line_record::{Directory, Line, Owner, Piece, Tally};
+use line_record::{Directory, Line, Piece, Tally};
 use std::alloc::Global;
+use std::process::Abort;
 use std::test::Fail;
+use tables::{Planned, Seen, empty_journal, expect, journal_of_one_cell, loaded, passed};
 use upc_cell::{Cell, Side, Vc};
 
 /// The header of a cell of 1/100 with cell loss priority 0.
@@ -60,39 +62,18 @@ fn take(core: &mut Core, step: Step) -> Reply {
     core.step(step)
 }
 
-fn id_of(reply: &Reply) -> Result<Id, Fail> {
+/// Loads a program that returns this value for every cell.
+fn load_in(core: &mut Core, alloc: Global, value: u32) -> Result<Id, Fail> {
+    let reply = take(core, Step::Load(constant(alloc, value)?));
     match reply {
-        Reply::Loaded(id) => Ok(*id),
+        Reply::Loaded(id) => Ok(id),
         _ => Err(Fail::from("not loaded")),
-    }
-}
-
-fn owner_of(reply: &Reply) -> Result<Owner, Fail> {
-    match reply {
-        Reply::SetUp(owner) => Ok(*owner),
-        _ => Err(Fail::from("not set up")),
-    }
-}
-
-fn piece_of(reply: Reply) -> Result<Piece, Fail> {
-    match reply {
-        Reply::Released(piece) | Reply::Cut(piece) => Ok(piece),
-        _ => Err(Fail::from("no piece")),
     }
 }
 
 fn answer_of(reply: &Reply) -> Option<Answer> {
     match reply {
         Reply::Answered(answer) => Some(*answer),
-        _ => None,
-    }
-}
-
-fn fault_of(reply: &Reply) -> Option<DeskFault> {
-    match reply {
-        Reply::NotLoaded(fault, _) | Reply::NotSetUp(fault, _) | Reply::Refused(fault) => {
-            Some(*fault)
-        }
         _ => None,
     }
 }
@@ -130,153 +111,163 @@ fn judged(answer: Option<Answer>) -> Option<(Verdict, u64, Id)> {
     }
 }
 
-fn enter_at(core: &mut Core, port: u8) -> Reply {
-    take(
-        core,
-        Step::Enter {
-            port,
-            cell: cell(),
-            moment: 0,
-        },
+#[test]
+fn a_port_takes_its_steps_in_order(rt: HostRuntime) -> Result<(), Fail> {
+    expect(
+        &rt,
+        rt.alloc(),
+        shape(1, 1, 4),
+        &[
+            (Planned::Judge(0), Seen::NotNow),
+            (Planned::Enter { port: 1, moment: 0 }, Seen::NotNow),
+            (Planned::Enter { port: 0, moment: 0 }, Seen::Entered),
+            (Planned::Enter { port: 0, moment: 0 }, Seen::NotNow),
+            (Planned::Load(7), Seen::NotLoaded(DeskFault::Busy, 7)),
+            (Planned::Retire(0), Seen::Refused(DeskFault::Busy)),
+            (Planned::Pick(0), Seen::Answered(Answer::NoConnection)),
+            (Planned::Retire(0), Seen::Refused(DeskFault::NoProgram)),
+        ],
     )
 }
 
 #[test]
-fn a_port_takes_its_steps_in_order(rt: HostRuntime) -> Result<(), Fail> {
-    let mut core = Core::new(rt.alloc(), shape(1, 1, 4))?;
-    let id = Id {
-        slot: 0,
-        generation: 1,
-    };
-    assert!(rt; matches!(take(&mut core, Step::Judge { port: 0 }), Reply::NotNow));
-    assert!(rt; matches!(enter_at(&mut core, 1), Reply::NotNow));
-    assert!(rt; matches!(enter_at(&mut core, 0), Reply::Entered));
-    assert!(rt; matches!(enter_at(&mut core, 0), Reply::NotNow));
-    match take(&mut core, Step::Load(constant(rt.alloc(), 7)?)) {
-        Reply::NotLoaded(fault, program) => {
-            assert_eq!(rt; fault, DeskFault::Busy);
-            assert_eq!(rt; program.code(), [Instr::RetK(7)].as_slice());
-        }
-        _ => return Err(Fail::from("loaded")),
-    }
-    assert_eq!(rt;
-        fault_of(&take(&mut core, Step::Retire(id))),
-        Some(DeskFault::Busy)
-    );
-    let missed = answer_of(&take(&mut core, Step::Pick { port: 0 }));
-    assert_eq!(rt; missed, Some(Answer::NoConnection));
-    assert_eq!(rt;
-        fault_of(&take(&mut core, Step::Retire(id))),
-        Some(DeskFault::NoProgram)
-    );
-    Ok(())
-}
-
-#[test]
 fn cells_of_two_ports_meet_on_one_line(rt: HostRuntime) -> Result<(), Fail> {
-    let mut core = Core::new(rt.alloc(), shape(1, 2, 1))?;
-    let program = id_of(&take(&mut core, Step::Load(constant(rt.alloc(), 1)?)))?;
-    let owner = owner_of(&take(&mut core, Step::Setup(ask(program)?)))?;
-    assert_eq!(rt; owner.incarnation, 1);
-    assert!(rt; pick_at(&mut core, 0, 10));
-    assert!(rt; pick_at(&mut core, 1, 5));
-    let first = judge_at_port(&mut core, 0);
-    assert_eq!(rt; judged(first), Some((Verdict::Pass, 1, program)));
-    let back = judge_at_port(&mut core, 1);
-    assert_eq!(rt; back, Some(Answer::MomentBack { last: 10 }));
-    assert!(rt; pick_at(&mut core, 1, 10));
-    assert_eq!(rt; judge_at_port(&mut core, 1), Some(Answer::JournalFull));
-    Ok(())
+    expect(
+        &rt,
+        rt.alloc(),
+        shape(1, 2, 1),
+        &[
+            (Planned::Load(1), loaded(0, 1)),
+            (Planned::Setup(0), Seen::SetUp(1)),
+            (
+                Planned::Enter {
+                    port: 0,
+                    moment: 10,
+                },
+                Seen::Entered,
+            ),
+            (Planned::Pick(0), Seen::Picked),
+            (Planned::Enter { port: 1, moment: 5 }, Seen::Entered),
+            (Planned::Pick(1), Seen::Picked),
+            (Planned::Judge(0), passed(1, 10, 0)),
+            (
+                Planned::Judge(1),
+                Seen::Answered(Answer::MomentBack { last: 10 }),
+            ),
+            (
+                Planned::Enter {
+                    port: 1,
+                    moment: 10,
+                },
+                Seen::Entered,
+            ),
+            (Planned::Pick(1), Seen::Picked),
+            (Planned::Judge(1), Seen::Answered(Answer::JournalFull)),
+        ],
+    )
 }
 
 #[test]
 fn a_reload_leaves_a_picked_cell_its_program(rt: HostRuntime) -> Result<(), Fail> {
-    let mut core = Core::new(rt.alloc(), shape(2, 1, 4))?;
-    let first = id_of(&take(&mut core, Step::Load(constant(rt.alloc(), 1)?)))?;
-    let second = id_of(&take(&mut core, Step::Load(constant(rt.alloc(), 1)?)))?;
-    assert_eq!(rt; (first.generation, second.generation), (1, 1));
-    owner_of(&take(&mut core, Step::Setup(ask(first)?)))?;
-    assert!(rt; pick_at(&mut core, 0, 0));
-    let busy = take(&mut core, Step::Load(constant(rt.alloc(), 1)?));
-    assert_eq!(rt; fault_of(&busy), Some(DeskFault::Busy));
-    let vc = Vc::new(1, 100)?;
-    match take(
-        &mut core,
-        Step::Reload {
-            vc,
-            program: second,
-        },
-    ) {
-        Reply::Reloaded(before) => assert_eq!(rt; before, first),
-        _ => return Err(Fail::from("not reloaded")),
-    }
-    let answer = judge_at_port(&mut core, 0);
-    assert_eq!(rt; judged(answer), Some((Verdict::Pass, 1, first)));
-    assert!(rt; matches!(take(&mut core, Step::Retire(first)), Reply::Retired(_)));
-    let third = id_of(&take(&mut core, Step::Load(constant(rt.alloc(), 1)?)))?;
-    assert_eq!(rt; (third.slot, third.generation), (first.slot, 2));
-    assert_eq!(rt;
-        fault_of(&take(&mut core, Step::Retire(first))),
-        Some(DeskFault::NoProgram)
-    );
-    Ok(())
+    expect(
+        &rt,
+        rt.alloc(),
+        shape(2, 1, 4),
+        &[
+            (Planned::Load(1), loaded(0, 1)),
+            (Planned::Load(1), loaded(1, 1)),
+            (Planned::Setup(0), Seen::SetUp(1)),
+            (Planned::Enter { port: 0, moment: 0 }, Seen::Entered),
+            (Planned::Pick(0), Seen::Picked),
+            (Planned::Load(1), Seen::NotLoaded(DeskFault::Busy, 1)),
+            (Planned::Reload(1), Seen::Reloaded(0)),
+            (Planned::Judge(0), passed(1, 0, 0)),
+            (Planned::Retire(0), Seen::Retired(1)),
+            (Planned::Load(1), loaded(0, 2)),
+            (Planned::Retire(0), Seen::Refused(DeskFault::NoProgram)),
+        ],
+    )
 }
 
 #[test]
 fn a_connection_that_is_set_up_again_is_another(rt: HostRuntime) -> Result<(), Fail> {
-    let mut core = Core::new(rt.alloc(), shape(1, 1, 4))?;
-    let program = id_of(&take(&mut core, Step::Load(constant(rt.alloc(), 1)?)))?;
-    owner_of(&take(&mut core, Step::Setup(ask(program)?)))?;
-    assert!(rt; pick_at(&mut core, 0, 0));
-    assert!(rt; judged(judge_at_port(&mut core, 0)).is_some());
-    assert!(rt; pick_at(&mut core, 0, 20));
-    let vc = Vc::new(1, 100)?;
-    let last = piece_of(take(&mut core, Step::Release(vc)))?;
-    assert_eq!(rt; last.entries().len(), 1);
-    let again = owner_of(&take(&mut core, Step::Setup(ask(program)?)))?;
-    assert_eq!(rt; again.incarnation, 2);
-    assert_eq!(rt; judge_at_port(&mut core, 0), Some(Answer::Released));
-    let piece = piece_of(take(&mut core, Step::Cut(vc)))?;
-    assert_eq!(rt; piece.entries().len(), 0);
-    assert_eq!(rt; piece.owner(), again);
-    let (start, end) = (piece.start(), piece.end());
-    assert!(rt; start == end);
-    let counts = Tally {
-        passed: 1,
-        tagged: 0,
-        discarded: 0,
-        refused: 0,
+    expect(
+        &rt,
+        rt.alloc(),
+        shape(1, 1, 4),
+        &[
+            (Planned::Load(1), loaded(0, 1)),
+            (Planned::Setup(0), Seen::SetUp(1)),
+            (Planned::Enter { port: 0, moment: 0 }, Seen::Entered),
+            (Planned::Pick(0), Seen::Picked),
+            (Planned::Judge(0), passed(1, 0, 0)),
+            (
+                Planned::Enter {
+                    port: 0,
+                    moment: 20,
+                },
+                Seen::Entered,
+            ),
+            (Planned::Pick(0), Seen::Picked),
+            (Planned::Release, journal_of_one_cell(1)),
+            (Planned::Setup(0), Seen::SetUp(2)),
+            (Planned::Judge(0), Seen::Answered(Answer::Released)),
+            (Planned::Cut, empty_journal(2)),
+        ],
+    )
+}
+
+/// The last incarnation of a directory.
+const LAST: u64 = 4611686018427387904;
+
+/// Sets up a connection if it is admitted, and returns its incarnation.
+fn incarnation_of(
+    store: &Store,
+    directory: &mut Directory,
+    line: &mut Line,
+    wanted: Ask,
+) -> Result<u64, DeskFault> {
+    let number = match admit(store, directory, &wanted) {
+        Ok(number) => number,
+        Err(fault) => return Err(fault),
     };
-    assert_eq!(rt; (last.end().counts, end.counts), (counts, counts));
+    match setup(directory, line, number, wanted) {
+        Ok(owner) => Ok(owner.incarnation),
+        Err((fault, _)) => Err(fault),
+    }
+}
+
+/// Whether the directory has the connection, and its line lets it go.
+fn is_released(directory: &mut Directory, line: &mut Line, vc: Vc) -> bool {
+    pick(directory, vc).is_some() && release(directory, line, vc).is_ok()
+}
+
+/// Expects that 1/100 is set up as the last incarnation, and that there is none after its release.
+fn expect_one_incarnation(
+    rt: &impl Abort,
+    store: &Store,
+    directory: &mut Directory,
+    line: &mut Line,
+    program: Id,
+) -> Result<(), Fail> {
+    let first = incarnation_of(store, directory, line, ask(program)?);
+    let second = incarnation_of(store, directory, line, ask(program)?);
+    let is_other_there = pick(directory, Vc::new(1, 101)?).is_some();
+    let is_released = is_released(directory, line, Vc::new(1, 100)?);
+    let third = incarnation_of(store, directory, line, ask(program)?);
+    assert!(rt; !is_other_there && is_released);
+    assert!(rt; first == Ok(LAST));
+    assert!(rt; second == Err(DeskFault::Taken) && third == Err(DeskFault::Exhausted));
     Ok(())
 }
 
 #[test]
 fn the_last_incarnation_is_given_once(rt: HostRuntime) -> Result<(), Fail> {
     let mut store = Arena::new(rt.alloc(), 1)?;
+    let mut directory = Directory::new(rt.alloc(), 1, LAST)?;
+    let mut line = Line::new(rt.alloc(), 4)?;
     let Ok(program) = load(&mut store, constant(rt.alloc(), 1)?) else {
         return Err(Fail::from("not loaded"));
     };
-    let mut directory = Directory::new(rt.alloc(), 1, 4611686018427387904)?;
-    let mut line = Line::new(rt.alloc(), 4)?;
-    let wanted = ask(program)?;
-    match admit(&store, &directory, &wanted) {
-        Ok(number) => match setup(&mut directory, &mut line, number, wanted) {
-            Ok(owner) => assert_eq!(rt; owner.incarnation, 4611686018427387904),
-            Err((fault, _)) => return Err(Fail::from(fault)),
-        },
-        Err(fault) => return Err(Fail::from(fault)),
-    }
-    let vc = Vc::new(1, 100)?;
-    assert!(rt; pick(&directory, vc).is_some());
-    let other = Vc::new(1, 101)?;
-    assert!(rt; pick(&directory, other).is_none());
-    let again = ask(program)?;
-    assert_eq!(rt; admit(&store, &directory, &again), Err(DeskFault::Taken));
-    release(&mut directory, &mut line, vc)?;
-    assert_eq!(rt;
-        admit(&store, &directory, &again),
-        Err(DeskFault::Exhausted)
-    );
-    Ok(())
+    expect_one_incarnation(&rt, &store, &mut directory, &mut line, program)
 }

@@ -1,19 +1,10 @@
-//! One interleaving of two ports and the desk, step by step. The page of card_core has it as a table, with the world
-//! after each step.
+//! One interleaving of two ports and the desk, step by step, which the page of card_core has as a table with the world
+//! after each step; and steps in lists.
 
 use super::*;
 
-/// A connection with two contracts, each a cell every ten ticks without tolerance.
-fn ask_for_two(program: Id) -> Result<Ask, Fail> {
-    let mut contracts = ArrayVec::new();
-    contracts.push(Contract::Cbr1(Gcra::new(10, 0)?));
-    contracts.push(Contract::Cbr1(Gcra::new(10, 0)?));
-    Ok(Ask {
-        vc: Vc::new(1, 100)?,
-        program,
-        contracts,
-    })
-}
+/// How many cells the long list of steps has: three steps each, 120,000 in all.
+const CELLS: u64 = 40_000;
 
 fn enter(port: u8, moment: u64) -> Step {
     Step::Enter {
@@ -25,67 +16,89 @@ fn enter(port: u8, moment: u64) -> Step {
 
 #[test]
 fn a_reload_and_a_release_between_picks_and_judgements(rt: HostRuntime) -> Result<(), Fail> {
-    let mut core = Core::new(rt.alloc(), shape(2, 2, 16))?;
-    let vc = Vc::new(1, 100)?;
-    let first = id_of(&take(&mut core, Step::Load(constant(rt.alloc(), 1)?)))?;
-    let second = id_of(&take(&mut core, Step::Load(constant(rt.alloc(), 2)?)))?;
-    let owner = owner_of(&take(&mut core, Step::Setup(ask_for_two(first)?)))?;
-    assert_eq!(rt; owner.incarnation, 1);
-    assert!(rt; matches!(take(&mut core, enter(0, 0)), Reply::Entered));
-    assert!(rt; matches!(take(&mut core, enter(1, 5)), Reply::Entered));
-    assert!(rt; matches!(take(&mut core, Step::Pick { port: 0 }), Reply::Picked));
-    assert!(rt; matches!(take(&mut core, Step::Pick { port: 1 }), Reply::Picked));
-    assert_eq!(rt;
-        fault_of(&take(&mut core, Step::Retire(first))),
-        Some(DeskFault::Busy)
-    );
-    let reload = Step::Reload {
-        vc,
-        program: second,
+    expect(
+        &rt,
+        rt.alloc(),
+        shape(2, 2, 16),
+        &[
+            (Planned::Load(1), loaded(0, 1)),
+            (Planned::Load(2), loaded(1, 1)),
+            (Planned::Setup(0), Seen::SetUp(1)),
+            (Planned::Enter { port: 0, moment: 0 }, Seen::Entered),
+            (Planned::Enter { port: 1, moment: 5 }, Seen::Entered),
+            (Planned::Pick(0), Seen::Picked),
+            (Planned::Pick(1), Seen::Picked),
+            (Planned::Retire(0), Seen::Refused(DeskFault::Busy)),
+            (Planned::Reload(1), Seen::Reloaded(0)),
+            (Planned::Judge(0), passed(1, 0, 0)),
+            (Planned::Release, journal_of_one_cell(1)),
+            (Planned::Judge(1), Seen::Answered(Answer::Released)),
+        ],
+    )
+}
+
+/// The replies of a card to a list of steps: a setup, and then cells at port 0 at these moments.
+fn replies_to(
+    core: &mut Core,
+    alloc: Global,
+    wanted: Ask,
+    moments: &[u64],
+) -> Result<Vec<Reply>, Fail> {
+    let mut steps = Vec::new(alloc);
+    steps.push(Step::Setup(wanted))?;
+    for moment in moments {
+        steps.push(enter(0, *moment))?;
+        steps.push(Step::Pick { port: 0 })?;
+        steps.push(Step::Judge { port: 0 })?;
+    }
+    let Ok(replies) = core.run(alloc, steps) else {
+        return Err(Fail::from("the steps came back"));
     };
-    assert!(rt; matches!(take(&mut core, reload), Reply::Reloaded(_)));
-    assert_eq!(rt;
-        judge_at_port(&mut core, 0),
-        Some(Answer::Judged {
-            line: 0,
-            number: 1,
-            moment: 0,
-            value: 1,
-            program: first,
-            verdict: Verdict::Pass,
-            cell: cell(),
-        })
-    );
-    let piece = piece_of(take(&mut core, Step::Release(vc)))?;
-    assert_eq!(rt; piece.entries().len(), 1);
-    assert_eq!(rt; judge_at_port(&mut core, 1), Some(Answer::Released));
-    Ok(())
+    Ok(replies)
+}
+
+fn verdicts_of(alloc: Global, replies: &[Reply]) -> Result<Vec<Verdict>, Fail> {
+    let mut verdicts = Vec::new(alloc);
+    for reply in replies {
+        if let Some((verdict, _, _)) = judged(answer_of(reply)) {
+            verdicts.push(verdict)?;
+        }
+    }
+    Ok(verdicts)
 }
 
 #[test]
 fn steps_in_a_list_are_answered_one_by_one(rt: HostRuntime) -> Result<(), Fail> {
     let mut core = Core::new(rt.alloc(), shape(1, 1, 16))?;
-    let program = id_of(&core.step(Step::Load(constant(rt.alloc(), 1)?)))?;
-    let mut steps = Vec::new(rt.alloc());
-    steps.push(Step::Setup(ask(program)?))?;
-    for moment in [0, 5, 10] {
-        steps.push(enter(0, moment))?;
-        steps.push(Step::Pick { port: 0 })?;
-        steps.push(Step::Judge { port: 0 })?;
+    let wanted = ask(load_in(&mut core, rt.alloc(), 1)?)?;
+    let replies = replies_to(&mut core, rt.alloc(), wanted, &[0, 5, 10])?;
+    let verdicts = verdicts_of(rt.alloc(), &replies)?;
+    assert!(rt; replies.len() == 10);
+    assert!(rt; verdicts.as_slice() == [Verdict::Pass, Verdict::Discard, Verdict::Pass].as_slice());
+    Ok(())
+}
+
+/// The moments of many cells, ten ticks apart.
+fn moments(alloc: Global) -> Result<Vec<u64>, Fail> {
+    let mut moments = Vec::new(alloc);
+    for turn in 0..CELLS {
+        moments.push(turn * 10)?;
     }
-    let Ok(replies) = core.run(rt.alloc(), steps) else {
-        return Err(Fail::from("the steps came back"));
-    };
-    let mut verdicts = Vec::new(rt.alloc());
-    for reply in &replies {
-        if let Some((verdict, _, _)) = judged(answer_of(reply)) {
-            verdicts.push(verdict)?;
-        }
-    }
-    assert_eq!(rt; replies.len(), 10);
-    assert_eq!(rt;
-        verdicts.as_slice(),
-        [Verdict::Pass, Verdict::Discard, Verdict::Pass].as_slice()
-    );
+    Ok(moments)
+}
+
+/// The verdict, the cell's number on the line and the program of the last reply.
+fn last_of(replies: &[Reply]) -> Option<(Verdict, u64, Id)> {
+    judged(answer_of(replies.last()?))
+}
+
+#[test]
+fn a_list_has_any_number_of_steps(rt: HostRuntime) -> Result<(), Fail> {
+    let mut core = Core::new(rt.alloc(), shape(1, 1, 65536))?;
+    let program = load_in(&mut core, rt.alloc(), 1)?;
+    let moments = moments(rt.alloc())?;
+    let replies = replies_to(&mut core, rt.alloc(), ask(program)?, &moments)?;
+    assert!(rt; replies.len() == 120_001);
+    assert!(rt; last_of(&replies) == Some((Verdict::Pass, CELLS, program)));
     Ok(())
 }

@@ -14,9 +14,12 @@ fn ask_on(channel: u16, program: Id) -> Result<Ask, Fail> {
 }
 
 /// Sets up a connection with path 1, this channel and its own program, which returns this value.
-fn set_up(core: &mut Core, alloc: Global, channel: u16, value: u32) -> Result<Owner, Fail> {
-    let program = id_of(&take(core, Step::Load(constant(alloc, value)?)))?;
-    owner_of(&take(core, Step::Setup(ask_on(channel, program)?)))
+fn set_up(core: &mut Core, alloc: Global, channel: u16, value: u32) -> Result<(), Fail> {
+    let program = load_in(core, alloc, value)?;
+    match take(core, Step::Setup(ask_on(channel, program)?)) {
+        Reply::SetUp(_) => Ok(()),
+        _ => Err(Fail::from("not set up")),
+    }
 }
 
 /// A card with only the connection of channel 100.
