@@ -1,0 +1,5 @@
+pub mod Record
+pub mod RecordContent
+pub mod RecordReading
+pub mod Reading
+pub mod inner

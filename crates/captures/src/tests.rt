@@ -1,0 +1,131 @@
+//! Records of each kind, octets that are none, and the texts of faults. Types, flags and headers are those of the public
+//! description of ERF.
+
+use crate::*;
+use std::test::Fail;
+
+/// Octets that begin with a record of this type, flags and length, received a second and a half after 1970 began. From octet
+/// 16 on, each octet is its place.
+fn octets_of(kind: u8, flags: u8, length: u8) -> [u8; 96] {
+    let mut octets = [0u8; 96];
+    for (place, octet) in (0u8..).zip(octets.iter_mut()) {
+        *octet = place;
+    }
+    octets[..10].copy_from_slice(&[0, 0, 0, 0x80, 1, 0, 0, 0, kind, flags]);
+    octets[10..16].copy_from_slice(&[0, length, 0, 0, 0, 52]);
+    octets
+}
+
+#[test]
+fn records_and_what_they_hold(rt: HostRuntime) -> Result<(), Fail> {
+    for (kind, flags, length, content) in [
+        (3, 0x04, 68, Ok(16)),
+        (3, 0x04, 72, Ok(16)),
+        (7, 0x07, 72, Ok(20)),
+        (0x83, 0x00, 76, Ok(24)),
+        (0x87, 0x02, 80, Ok(28)),
+        (2, 0x04, 68, Err(NoCell::OtherType(2))),
+        (0x82, 0x34, 68, Err(NoCell::OtherType(2))),
+        (48, 0x04, 16, Err(NoCell::OtherType(48))),
+        (3, 0x14, 68, Err(NoCell::Errored)),
+        (7, 0x20, 72, Err(NoCell::Errored)),
+        (3, 0x04, 67, Err(NoCell::CutShort(51))),
+        (7, 0x04, 68, Err(NoCell::CutShort(48))),
+        (0x83, 0x04, 16, Err(NoCell::CutShort(0))),
+    ] {
+        let mut reader = Reader::new();
+        let octets = octets_of(kind, flags, length);
+        let Next::Taken(record, taken) = reader.next(&octets) else {
+            return Err(Fail::new("no record"));
+        };
+        assert_eq!(rt; taken, usize::from(length));
+        assert_eq!(rt;
+            (record.number, record.interface, record.time),
+            (1, flags % 4, 0x1_8000_0000)
+        );
+        assert_eq!(rt; record.content.map(|cell| cell.bytes()[0]), content);
+        assert_eq!(rt; (reader.count, reader.at), (1, u64::from(length)));
+    }
+    Ok(())
+}
+
+#[test]
+fn octets_that_are_no_record(rt: HostRuntime) -> Result<(), Fail> {
+    for (length, given, next) in [
+        (68, 0, Next::Unfinished),
+        (0, 15, Next::Unfinished),
+        (68, 16, Next::Unfinished),
+        (68, 67, Next::Unfinished),
+        (97, 96, Next::Unfinished),
+        (
+            15,
+            96,
+            Next::Broken(Fault {
+                at: 0,
+                reason: RecordFault::ShortLength(15),
+            }),
+        ),
+        (
+            0,
+            16,
+            Next::Broken(Fault {
+                at: 0,
+                reason: RecordFault::ShortLength(0),
+            }),
+        ),
+    ] {
+        let mut reader = Reader::new();
+        assert_eq!(rt; reader.next(&octets_of(3, 0, length)[..given]), next);
+        assert_eq!(rt; reader, Reader::new());
+    }
+    Ok(())
+}
+
+#[test]
+fn a_capture_that_is_cut_off(rt: HostRuntime) -> Result<(), Fail> {
+    let octets = octets_of(3, 0, 68);
+    let mut reader = Reader::new();
+    assert_eq!(rt; reader.end(&[]), None);
+    for number in 1..=2 {
+        let Next::Taken(record, _) = reader.next(&octets) else {
+            return Err(Fail::new("no record"));
+        };
+        assert_eq!(rt; record.number, number);
+    }
+    assert_eq!(rt; reader.next(&octets[..67]), Next::Unfinished);
+    assert_eq!(rt;
+        reader.end(&octets[..67]),
+        Some(Fault {
+            at: 136,
+            reason: RecordFault::CutOff
+        })
+    );
+    assert_eq!(rt; reader.end(&[]), None);
+    Ok(())
+}
+
+#[test]
+fn faults_as_text(rt: HostRuntime) -> Result<(), Fail> {
+    let fault = Fault {
+        at: 136,
+        reason: RecordFault::ShortLength(15),
+    };
+    assert_eq!(rt;
+        format!(in rt.alloc(); "{fault}")?.as_str(),
+        "136 2 ShortLength 15"
+    );
+    for (reason, text) in [
+        (RecordFault::CutOff, "1 CutOff"),
+        (RecordFault::TooFar, "3 TooFar"),
+    ] {
+        assert_eq!(rt; format!(in rt.alloc(); "{reason}")?.as_str(), text);
+    }
+    for (content, text) in [
+        (NoCell::OtherType(48), "1 OtherType 48"),
+        (NoCell::Errored, "2 Errored"),
+        (NoCell::CutShort(51), "3 CutShort 51"),
+    ] {
+        assert_eq!(rt; format!(in rt.alloc(); "{content}")?.as_str(), text);
+    }
+    Ok(())
+}
