@@ -2,4 +2,5 @@ pub mod Record
 pub mod RecordContent
 pub mod RecordReading
 pub mod Reading
+pub mod Moments
 pub mod inner

@@ -105,6 +105,24 @@ fn a_capture_that_is_cut_off(rt: HostRuntime) -> Result<(), Fail> {
 }
 
 #[test]
+fn moments_of_times(rt: HostRuntime) -> Result<(), Fail> {
+    let start = 1_700_000_000 << 32;
+    let mut clock = Clock::new(start);
+    for (time, ticks_a_second, moment) in [
+        (start, 1_000_000, Some(0)),
+        (start + 42_949, 1_000_000, Some(9)),
+        (start + 42_950, 1_000_000, Some(10)),
+        (start + 0x8000_0000, 3, Some(1)),
+        (start + 0x8000_0000, 1_000_000_000, Some(500_000_000)),
+        (start + 0x7fff_ffff, 1, None),
+    ] {
+        assert_eq!(rt; clock.read(time, ticks_a_second), moment);
+    }
+    assert_eq!(rt; ticks_in(u64::MAX, u32::MAX), 18_446_744_069_414_584_319);
+    Ok(())
+}
+
+#[test]
 fn faults_as_text(rt: HostRuntime) -> Result<(), Fail> {
     let fault = Fault {
         at: 136,
