@@ -1,5 +1,5 @@
 -- A record as capture cards write it, in the Extensible Record Format (ERF), as the list of its octets.
-use Rattle.std.specs.Prelude.{◌≡◌, ◌≤◌, ◌<◌, ◌*◌, ◌+◌, ◌%◌, ℕ, List, length, drop, slice_index}
+use Rattle.std.specs.Prelude.{◌≤◌, ◌<◌, ◌*◌, ◌+◌, ◌%◌, ℕ, List, drop, slice_index}
 use Rattle.byteorder.specs.Endian.{big_number, little_number}
 
 -- The time at which a record was received: the number in its first eight octets, the lowest first, in units of 2^-32
@@ -22,11 +22,6 @@ record_interface octets = record_flags octets % 4
 -- The length of a record with all of its headers, in octets: the number in octets 10 and 11, the highest first.
 unfoldable pub record_length : List ℕ → ℕ
 record_length octets = big_number 2 (drop 10 octets)
-
--- These octets are one record: a header of 16 octets, and as many octets in all as its length says.
-pub record IsErfRecord (octets : List ℕ) : Type 0 where
-  pub headed : 16 ≤ length octets
-  pub whole : record_length octets ≡ length octets
 
 -- A record has this number of extension headers, each of eight octets. The highest bit of octet 8 says that one follows
 -- the header; the highest bit of an extension header's first octet says that another one follows.

@@ -8,11 +8,17 @@ pub enum RecordFault {
     /// They end inside a record.
     #[error("1 CutOff")]
     CutOff,
-    /// The length of the record, which is below that of its first header.
+    /// The length of the record, or of its packet, which is below that of a record's first header.
     #[error("2 ShortLength {0}")]
-    ShortLength(u16),
+    ShortLength(u32),
+    /// The length of a packet, which is above that of any record.
+    #[error("3 LongLength {0}")]
+    LongLength(u32),
+    /// The record in a packet says that it is shorter than its first header.
+    #[error("4 ShortRecord")]
+    ShortRecord,
     /// The record ends after 2^64 - 1 octets.
-    #[error("3 TooFar")]
+    #[error("5 TooFar")]
     TooFar,
 }
 

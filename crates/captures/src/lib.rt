@@ -4,12 +4,16 @@
 mod clock;
 mod content;
 mod fault;
+mod format;
 pub mod laws;
+mod opening;
 mod reader;
 
 pub use clock::{Clock, ticks_in};
 pub use content::NoCell;
 pub use fault::{Fault, RecordFault};
+pub use format::{Format, Order};
+pub use opening::{FileFault, Opening, open};
 pub use reader::{Next, Reader, Record};
 
 #[cfg(test)]

@@ -2,7 +2,7 @@ use Rattle.std.proofs.Common.{length, arith, ◌∙◌, ap}
 use Rattle.std.proofs.lemmas.Slice.{between_to_end}
 use Rattle.byteorder.specs.Endian.{big_number}
 use Rattle.captures.specs.Record.{record_length}
-use Rattle.captures.proofs.reader.length_of.Goals as goal
+use Rattle.captures.proofs.format.length_of.Goals as goal
 
 pub returns : goal.returns
 unfolding record_length
