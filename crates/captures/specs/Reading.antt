@@ -92,3 +92,9 @@ abbrev pub FaultsEndReadings : Type 0
 FaultsEndReadings = (before after : Reader) (octets more : List ℕ) (fault : Fault)
     → ComesNext before octets (Broken fault) after
     → IsReading before.format before.count before.at (octets ++ more) [] (Some fault)
+
+-- A capture has at most one reading.
+abbrev pub HasOneReading : Type 0
+HasOneReading = (format : Format) (count at : ℕ) (octets : List ℕ) (records others : List Record) (ending other : Option Fault)
+    → IsReading format count at octets records ending → IsReading format count at octets others other
+    → (records ≡ others) × (ending ≡ other)
