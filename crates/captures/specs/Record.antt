@@ -1,0 +1,30 @@
+-- A record as capture cards write it, in the Extensible Record Format (ERF), as the list of its octets.
+use Rattle.std.specs.Prelude.{◌≤◌, ◌<◌, ◌*◌, ◌+◌, ◌%◌, ℕ, List, drop, slice_index}
+use Rattle.byteorder.specs.Endian.{big_number, little_number}
+
+-- The time at which a record was received: the number in its first eight octets, the lowest first, in units of 2^-32
+-- seconds since 1970.
+abbrev pub record_time : List ℕ → ℕ
+record_time octets = little_number 8 octets
+
+-- The type of a record: the lower seven bits of octet 8.
+abbrev pub record_type : List ℕ → ℕ
+record_type octets = slice_index octets 8 % 128
+
+-- The flags of a record: octet 9.
+abbrev pub record_flags : List ℕ → ℕ
+record_flags octets = slice_index octets 9
+
+-- The interface at which a record was received: the lowest two bits of its flags.
+abbrev pub record_interface : List ℕ → ℕ
+record_interface octets = record_flags octets % 4
+
+-- The length of a record with all of its headers, in octets: the number in octets 10 and 11, the highest first.
+unfoldable pub record_length : List ℕ → ℕ
+record_length octets = big_number 2 (drop 10 octets)
+
+-- A record has this number of extension headers, each of eight octets. The highest bit of octet 8 says that one follows
+-- the header; the highest bit of an extension header's first octet says that another one follows.
+pub record HasExtensions (octets : List ℕ) (count : ℕ) : Type 0 where
+  pub more : (k : ℕ) → k < count → 128 ≤ slice_index octets (8 + 8 * k)
+  pub last : slice_index octets (8 + 8 * count) < 128

@@ -1,0 +1,4 @@
+-- Definitions that only private functions and proofs use.
+pub mod Received
+pub mod Opened
+pub mod Frames

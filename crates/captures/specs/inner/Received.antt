@@ -1,0 +1,22 @@
+-- What a record holds, if its type holds cells.
+use Rattle.std.specs.Prelude.{◌≡◌, ◌≤◌, ◌<◌, ◌*◌, ◌+◌, ◌-◌, ℕ, List, length, take, drop, Result, Ok, Err}
+use Rattle.captures.specs.Record.{HasExtensions}
+use Rattle.captures.specs.RecordContent.{IsErrored}
+use Rattle.captures.specs.declared.content.NoCell.{NoCell}
+use Rattle.captures.specs.declared.content.NoCell.TheVariants.{OtherType, Errored, CutShort}
+
+-- From this place on, octets have a cell, or fewer octets.
+abbrev pub IsCellFrom : List ℕ → ℕ → Result (List ℕ) NoCell → Type 0
+IsCellFrom octets place (Ok cell) = (place + 52 ≤ length octets) × (cell ≡ take 52 (drop place octets))
+IsCellFrom octets place (Err (CutShort number)) = (length octets < place + 52) × (number ≡ length octets - place)
+IsCellFrom octets place (Err (OtherType number)) = ⊥
+IsCellFrom octets place (Err Errored) = ⊥
+
+-- What a record with so many octets of multi-channel header holds.
+abbrev pub IsReceived : List ℕ → ℕ → Result (List ℕ) NoCell → Type 0
+IsReceived octets channel (Err Errored) = IsErrored octets
+IsReceived octets channel (Err (OtherType number)) = ⊥
+IsReceived octets channel (Err (CutShort number)) =
+    (¬ IsErrored octets) × (n : ℕ) × HasExtensions octets n × IsCellFrom octets (16 + 8 * n + channel) (Err (CutShort number))
+IsReceived octets channel (Ok cell) =
+    (¬ IsErrored octets) × (n : ℕ) × HasExtensions octets n × IsCellFrom octets (16 + 8 * n + channel) (Ok cell)

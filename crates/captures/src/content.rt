@@ -1,0 +1,86 @@
+//! The cell in a record.
+
+ghost use Rattle.std.specs.Prelude.{◌≤◌, ◌*◌, length};
+ghost use Rattle.captures.specs.Record.{HasExtensions};
+ghost use Rattle.captures.specs.RecordContent.{IsContent};
+ghost use Rattle.captures.specs.inner.Received.{IsCellFrom, IsReceived};
+
+use thiserror::Error;
+use upc_cell::{CELL_OCTETS, Cell};
+
+/// The octets of a record's first header, which each record has.
+pub(crate) const HEADER_OCTETS: usize = 16;
+/// The octets of an extension header.
+const EXTENSION_OCTETS: usize = 8;
+/// The octets of a multi-channel header.
+const CHANNEL_OCTETS: usize = 4;
+/// The type of a record that holds a cell.
+const ATM: u8 = 3;
+/// The type of a record that holds a cell after a multi-channel header.
+const MC_ATM: u8 = 7;
+
+/// Why a record holds no cell.
+#[derive(Clone, Copy, PartialEq, Eq, Debug, Error)]
+pub enum NoCell {
+    /// The record is of another type: its number, 0 to 127.
+    #[error("1 OtherType {0}")]
+    OtherType(u8),
+    /// The cell was received or stored with an error.
+    #[error("2 Errored")]
+    Errored,
+    /// The record ends before the 52nd octet of its cell: how many octets it has of it.
+    #[error("3 CutShort {0}")]
+    CutShort(usize),
+}
+
+/// Returns how many extension headers a record has.
+fn extensions_in(octets: &[u8]) -> usize
+    ensures counted { HasExtensions octets.now result }
+    ensures bounded { 8 * result ≤ length octets.now }
+{
+    let mut count = 0;
+    while 8 + EXTENSION_OCTETS * count < octets.len()
+        && octets[8 + EXTENSION_OCTETS * count] >= 0x80
+    {
+        count += 1;
+    }
+    count
+}
+
+/// Returns the cell that begins at this place, or how much of it there is.
+fn cell_from(octets: &[u8], place: usize) -> Result<Cell, NoCell>
+    ensures { IsCellFrom octets.now place result }
+{
+    if octets.len() < place {
+        return Err(NoCell::CutShort(0));
+    }
+    match octets[place..].split_first_chunk::<CELL_OCTETS>() {
+        Some((cell, _)) => Ok(Cell::from(*cell)),
+        None => Err(NoCell::CutShort(octets.len() - place)),
+    }
+}
+
+/// Returns the cell of a record whose type holds cells, with so many octets of multi-channel header before them.
+fn received_cell(octets: &[u8], channel: usize) -> Result<Cell, NoCell>
+    requires header { 16 ≤ length octets.now }
+    requires small { channel ≤ 4 }
+    ensures { IsReceived octets.now channel result }
+{
+    if octets[9] / 0x10 % 4 != 0 {
+        return Err(NoCell::Errored);
+    }
+    let extensions = EXTENSION_OCTETS * extensions_in(octets);
+    cell_from(octets, HEADER_OCTETS + extensions + channel)
+}
+
+/// Returns the cell of a record, or why it holds none.
+pub(crate) fn content_of(octets: &[u8]) -> Result<Cell, NoCell>
+    requires { 16 ≤ length octets.now }
+    ensures { IsContent octets.now result }
+{
+    match octets[8] % 0x80 {
+        ATM => received_cell(octets, 0),
+        MC_ATM => received_cell(octets, CHANNEL_OCTETS),
+        kind => Err(NoCell::OtherType(kind)),
+    }
+}

@@ -1,0 +1,20 @@
+//! Captures of a link's cells, as capture cards write them.
+#![tactic(auto)]
+
+mod clock;
+mod content;
+mod fault;
+mod format;
+pub mod laws;
+mod opening;
+mod reader;
+
+pub use clock::{Clock, ticks_in};
+pub use content::NoCell;
+pub use fault::{Fault, RecordFault};
+pub use format::{Format, Order};
+pub use opening::{FileFault, Opening, open};
+pub use reader::{Next, Reader, Record};
+
+#[cfg(test)]
+mod tests;

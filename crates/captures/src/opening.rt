@@ -1,0 +1,65 @@
+//! What a file is.
+
+ghost use Rattle.captures.specs.Opening.{FileOpensAs};
+ghost use Rattle.captures.specs.inner.Opened.{FileOpensAsPcap};
+
+use crate::format::{FILE_HEADER_OCTETS, Format, Order};
+use byteorder::{BigEndian, ByteOrder};
+use thiserror::Error;
+
+/// Why a file isn't read.
+#[derive(Clone, Copy, PartialEq, Eq, Debug, Error)]
+pub enum FileFault {
+    /// It was compressed by gzip.
+    #[error("1 Gzip")]
+    Gzip,
+    /// It is a pcapng file, which is not read yet.
+    #[error("2 PcapNg")]
+    PcapNg,
+    /// It is a pcap file with packets of another link type than ERF (197).
+    #[error("3 OtherLink {0}")]
+    OtherLink(u32),
+}
+
+/// What the first octets of a file say.
+#[derive(Clone, Copy, PartialEq, Eq, Debug)]
+pub enum Opening {
+    /// The file is a capture.
+    Opened(Format),
+    /// More octets are wanted: four, or 24 of a pcap file.
+    Undecided,
+    /// The file isn't read.
+    Refused(FileFault),
+}
+
+/// The link type of packets that are records.
+const LINK_ERF: u32 = 197;
+
+/// Returns what a pcap file is that begins with these octets and has numbers in this order.
+fn open_pcap(order: Order, octets: &[u8]) -> Opening
+    ensures { FileOpensAsPcap order octets.now result }
+{
+    if octets.len() < FILE_HEADER_OCTETS {
+        return Opening::Undecided;
+    }
+    match order.number_in(&octets[20..]) % 0x1_0000 {
+        LINK_ERF => Opening::Opened(Format::Pcap(order)),
+        link => Opening::Refused(FileFault::OtherLink(link)),
+    }
+}
+
+/// Returns what the file is that begins with these octets.
+pub fn open(octets: &[u8]) -> Opening
+    ensures { FileOpensAs octets.now result }
+{
+    if octets.len() < 4 {
+        return Opening::Undecided;
+    }
+    match BigEndian::read_u32(octets) {
+        0xa1b2_c3d4 | 0xa1b2_3c4d => open_pcap(Order::HighestFirst, octets),
+        0xd4c3_b2a1 | 0x4d3c_b2a1 => open_pcap(Order::LowestFirst, octets),
+        0x0a0d_0d0a => Opening::Refused(FileFault::PcapNg),
+        magic if magic / 0x100 == 0x001f_8b08 => Opening::Refused(FileFault::Gzip),
+        _ => Opening::Opened(Format::Erf),
+    }
+}

@@ -1,0 +1,146 @@
+//! The records of a capture, one after the other.
+
+ghost use Rattle.std.specs.Prelude.{◌≡◌, ◌≤◌, length};
+ghost use Rattle.captures.specs.RecordReading.{SaysRecord};
+ghost use Rattle.captures.specs.inner.Frames.{IsFrameLength};
+
+use crate::content::{HEADER_OCTETS, NoCell, content_of};
+use crate::fault::{Fault, RecordFault};
+use crate::format::Format;
+use byteorder::{ByteOrder, LittleEndian};
+use upc_cell::Cell;
+
+/// The most octets of a record.
+const MOST_OCTETS: u32 = 0xffff;
+
+/// What a record says.
+#[derive(Clone, Copy, PartialEq, Eq, Debug)]
+pub struct Record {
+    /// The number of the record in its capture, from 1.
+    pub number: u64,
+    /// The interface at which it was received, 0 to 3.
+    pub interface: u8,
+    /// When it was received, in units of 2^-32 seconds since 1970.
+    pub time: u64,
+    /// Its cell, or why it holds none.
+    pub content: Result<Cell, NoCell>,
+}
+
+/// What comes next in a capture.
+#[derive(Clone, Copy, PartialEq, Eq, Debug)]
+pub enum Next {
+    /// A record, and of how many octets it is.
+    Taken(Record, usize),
+    /// The beginning of a record, or nothing: more octets are wanted.
+    Unfinished,
+    /// No record.
+    Broken(Fault),
+}
+
+/// How far a capture was read.
+#[derive(Clone, Copy, PartialEq, Eq, Debug)]
+pub struct Reader {
+    /// What the file has of records.
+    pub format: Format,
+    /// How many records were read.
+    pub count: u64,
+    /// How many octets of the file come before the next record.
+    pub at: u64,
+    ghost counted: { count ≤ at },
+}
+
+/// Returns what a record says.
+fn record_of(number: u64, octets: &[u8]) -> Record
+    requires { 16 ≤ length octets.now }
+    ensures { SaysRecord number octets.now result }
+{
+    Record {
+        number,
+        interface: octets[9] % 4,
+        time: LittleEndian::read_u64(octets),
+        content: content_of(octets),
+    }
+}
+
+/// Returns the length of the frame with which octets begin, or why it is none.
+fn frame_of(format: Format, octets: &[u8]) -> Result<usize, RecordFault>
+    requires { 16 ≤ length octets.now }
+    ensures { IsFrameLength format octets.now result }
+{
+    let said = format.said_length(octets);
+    if said < HEADER_OCTETS as u32 {
+        return Err(RecordFault::ShortLength(said));
+    }
+    if said > MOST_OCTETS {
+        return Err(RecordFault::LongLength(said));
+    }
+    Ok(format.packet_header() + said as usize)
+}
+
+impl Reader {
+    ghost use Rattle.captures.specs.Framing.{format_start};
+    ghost use Rattle.captures.specs.Reading.{ComesNext, EndsReading, IsInsideRecord};
+
+    /// Starts at the first record or packet of a capture, `format.start()` octets after the file begins.
+    pub fn new(format: Format) -> Reader
+        ensures format { result.format ≡ format }
+        ensures count { result.count ≡ 0 }
+        ensures at { result.at ≡ format_start format }
+    {
+        Reader {
+            format,
+            count: 0,
+            at: format.start() as u64,
+        }
+    }
+
+    /// Reads the next record of a capture, of which these are octets that come next, as many as there are yet. Give it the
+    /// octets after the record then.
+    pub fn next(&mut self, octets: &[u8]) -> Next
+        ensures { ComesNext self.old octets.now result self.new }
+    {
+        if octets.len() < HEADER_OCTETS {
+            return Next::Unfinished;
+        }
+        let own = match frame_of(self.format, octets) {
+            Ok(own) => own,
+            Err(reason) => return self.broken(reason),
+        };
+        if octets.len() < own {
+            return Next::Unfinished;
+        }
+        let framed = self.format.record_in(&octets[..own]);
+        if framed.len() < HEADER_OCTETS {
+            return self.broken(RecordFault::ShortRecord);
+        }
+        let Some(at) = self.at.checked_add(own as u64) else {
+            return self.broken(RecordFault::TooFar);
+        };
+        self.count += 1;
+        self.at = at;
+        Next::Taken(record_of(self.count, framed), own)
+    }
+
+    /// Returns what comes next if the octets at this place are no record for this reason.
+    fn broken(&self, reason: RecordFault) -> Next
+        ensures { result ≡ Next.Broken (record { at = self.now.at; reason = reason }) }
+    {
+        Next::Broken(Fault {
+            at: self.at,
+            reason,
+        })
+    }
+
+    /// Returns the fault of a capture that ends with these octets, which are no whole record.
+    pub fn end(&self, octets: &[u8]) -> Option<Fault>
+        ensures { IsInsideRecord self.now.format octets.now → EndsReading self.now.format self.now.at octets.now result }
+    {
+        if octets.is_empty() {
+            return None;
+        }
+        Some(Fault {
+            at: self.at,
+            reason: RecordFault::CutOff,
+        })
+    }
+}

@@ -1,0 +1,279 @@
+//! Records of each kind, octets that are none, and the texts of faults. Types, flags and headers are those of the public
+//! description of ERF.
+
+use crate::*;
+use std::test::Fail;
+
+/// Octets that begin with a record of this type, flags and length, received a second and a half after 1970 began. From octet
+/// 16 on, each octet is its place.
+fn octets_of(kind: u8, flags: u8, length: u8) -> [u8; 96] {
+    let mut octets = [0u8; 96];
+    for (place, octet) in (0u8..).zip(octets.iter_mut()) {
+        *octet = place;
+    }
+    octets[..10].copy_from_slice(&[0, 0, 0, 0x80, 1, 0, 0, 0, kind, flags]);
+    octets[10..16].copy_from_slice(&[0, length, 0, 0, 0, 52]);
+    octets
+}
+
+#[test]
+fn records_and_what_they_hold(rt: HostRuntime) -> Result<(), Fail> {
+    for (kind, flags, length, content) in [
+        (3, 0x04, 68, Ok(16)),
+        (3, 0x04, 72, Ok(16)),
+        (7, 0x07, 72, Ok(20)),
+        (0x83, 0x00, 76, Ok(24)),
+        (0x87, 0x02, 80, Ok(28)),
+        (2, 0x04, 68, Err(NoCell::OtherType(2))),
+        (0x82, 0x34, 68, Err(NoCell::OtherType(2))),
+        (48, 0x04, 16, Err(NoCell::OtherType(48))),
+        (3, 0x14, 68, Err(NoCell::Errored)),
+        (7, 0x20, 72, Err(NoCell::Errored)),
+        (3, 0x04, 67, Err(NoCell::CutShort(51))),
+        (7, 0x04, 68, Err(NoCell::CutShort(48))),
+        (0x83, 0x04, 16, Err(NoCell::CutShort(0))),
+    ] {
+        let mut reader = Reader::new(Format::Erf);
+        let octets = octets_of(kind, flags, length);
+        let Next::Taken(record, taken) = reader.next(&octets) else {
+            return Err(Fail::new("no record"));
+        };
+        assert_eq!(rt; taken, usize::from(length));
+        assert_eq!(rt;
+            (record.number, record.interface, record.time),
+            (1, flags % 4, 0x1_8000_0000)
+        );
+        assert_eq!(rt; record.content.map(|cell| cell.bytes()[0]), content);
+        assert_eq!(rt; (reader.count, reader.at), (1, u64::from(length)));
+    }
+    Ok(())
+}
+
+#[test]
+fn octets_that_are_no_record(rt: HostRuntime) -> Result<(), Fail> {
+    for (length, given, next) in [
+        (68, 0, Next::Unfinished),
+        (0, 15, Next::Unfinished),
+        (68, 16, Next::Unfinished),
+        (68, 67, Next::Unfinished),
+        (97, 96, Next::Unfinished),
+        (
+            15,
+            96,
+            Next::Broken(Fault {
+                at: 0,
+                reason: RecordFault::ShortLength(15),
+            }),
+        ),
+        (
+            0,
+            16,
+            Next::Broken(Fault {
+                at: 0,
+                reason: RecordFault::ShortLength(0),
+            }),
+        ),
+    ] {
+        let mut reader = Reader::new(Format::Erf);
+        assert_eq!(rt; reader.next(&octets_of(3, 0, length)[..given]), next);
+        assert_eq!(rt; reader, Reader::new(Format::Erf));
+    }
+    Ok(())
+}
+
+#[test]
+fn a_capture_that_is_cut_off(rt: HostRuntime) -> Result<(), Fail> {
+    let octets = octets_of(3, 0, 68);
+    let mut reader = Reader::new(Format::Erf);
+    assert_eq!(rt; reader.end(&[]), None);
+    for number in 1..=2 {
+        let Next::Taken(record, _) = reader.next(&octets) else {
+            return Err(Fail::new("no record"));
+        };
+        assert_eq!(rt; record.number, number);
+    }
+    assert_eq!(rt; reader.next(&octets[..67]), Next::Unfinished);
+    assert_eq!(rt;
+        reader.end(&octets[..67]),
+        Some(Fault {
+            at: 136,
+            reason: RecordFault::CutOff
+        })
+    );
+    assert_eq!(rt; reader.end(&[]), None);
+    Ok(())
+}
+
+/// The header of a pcap file with numbers in this order and this link type, and octets of a packet of this length, which begins
+/// with a record of this length.
+fn pcap_of(order: Order, link: u8, packet: u32, length: u8) -> [u8; 136] {
+    let mut octets = [0u8; 136];
+    match order {
+        Order::HighestFirst => {
+            octets[..8].copy_from_slice(&[0xa1, 0xb2, 0x3c, 0x4d, 0, 2, 0, 4]);
+            octets[20..24].copy_from_slice(&[0, 0, 0, link]);
+            octets[32..36].copy_from_slice(&packet.to_be_bytes());
+        }
+        Order::LowestFirst => {
+            octets[..8].copy_from_slice(&[0xd4, 0xc3, 0xb2, 0xa1, 2, 0, 4, 0]);
+            octets[20..24].copy_from_slice(&[link, 0, 0, 0]);
+            octets[32..36].copy_from_slice(&packet.to_le_bytes());
+        }
+    }
+    octets[40..].copy_from_slice(&octets_of(3, 1, length));
+    octets
+}
+
+#[test]
+fn records_in_pcap_files(rt: HostRuntime) -> Result<(), Fail> {
+    for order in [Order::HighestFirst, Order::LowestFirst] {
+        for (packet, length, content) in [
+            (68, 68, Ok(16)),
+            (68, 72, Ok(16)),
+            (72, 68, Ok(16)),
+            (67, 68, Err(NoCell::CutShort(51))),
+            (68, 67, Err(NoCell::CutShort(51))),
+        ] {
+            let octets = pcap_of(order, 197, packet, length);
+            assert_eq!(rt; open(&octets), Opening::Opened(Format::Pcap(order)));
+            let mut reader = Reader::new(Format::Pcap(order));
+            let Next::Taken(record, taken) = reader.next(&octets[24..]) else {
+                return Err(Fail::new("no record"));
+            };
+            assert_eq!(rt; taken, 16 + packet as usize);
+            assert_eq!(rt;
+                (record.number, record.interface, record.time),
+                (1, 1, 0x1_8000_0000)
+            );
+            assert_eq!(rt; record.content.map(|cell| cell.bytes()[0]), content);
+            assert_eq!(rt; reader.at, 40 + u64::from(packet));
+        }
+        for (packet, length, next) in [
+            (97, 68, Next::Unfinished),
+            (65535, 68, Next::Unfinished),
+            (
+                15,
+                68,
+                Next::Broken(Fault {
+                    at: 24,
+                    reason: RecordFault::ShortLength(15),
+                }),
+            ),
+            (
+                0,
+                68,
+                Next::Broken(Fault {
+                    at: 24,
+                    reason: RecordFault::ShortLength(0),
+                }),
+            ),
+            (
+                65536,
+                68,
+                Next::Broken(Fault {
+                    at: 24,
+                    reason: RecordFault::LongLength(65536),
+                }),
+            ),
+            (
+                u32::MAX,
+                68,
+                Next::Broken(Fault {
+                    at: 24,
+                    reason: RecordFault::LongLength(u32::MAX),
+                }),
+            ),
+            (
+                68,
+                15,
+                Next::Broken(Fault {
+                    at: 24,
+                    reason: RecordFault::ShortRecord,
+                }),
+            ),
+        ] {
+            let mut reader = Reader::new(Format::Pcap(order));
+            assert_eq!(rt;
+                reader.next(&pcap_of(order, 197, packet, length)[24..]),
+                next
+            );
+        }
+    }
+    Ok(())
+}
+
+#[test]
+fn what_files_are(rt: HostRuntime) -> Result<(), Fail> {
+    let pcap = pcap_of(Order::LowestFirst, 1, 68, 68);
+    for (octets, opening) in [
+        (&[][..], Opening::Undecided),
+        (&[0; 3], Opening::Undecided),
+        (&[0; 4], Opening::Opened(Format::Erf)),
+        (b"cell", Opening::Opened(Format::Erf)),
+        (&pcap[..23], Opening::Undecided),
+        (&pcap[..24], Opening::Refused(FileFault::OtherLink(1))),
+        (&[0xa1, 0xb2, 0xc3, 0xd4], Opening::Undecided),
+        (&[0x4d, 0x3c, 0xb2, 0xa1], Opening::Undecided),
+        (
+            &[0x0a, 0x0d, 0x0d, 0x0a],
+            Opening::Refused(FileFault::PcapNg),
+        ),
+        (&[0x1f, 0x8b, 8, 0], Opening::Refused(FileFault::Gzip)),
+    ] {
+        assert_eq!(rt; open(octets), opening);
+    }
+    Ok(())
+}
+
+#[test]
+fn moments_of_times(rt: HostRuntime) -> Result<(), Fail> {
+    let start = 1_700_000_000 << 32;
+    let mut clock = Clock::new(start);
+    for (time, ticks_a_second, moment) in [
+        (start, 1_000_000, Some(0)),
+        (start + 42_949, 1_000_000, Some(9)),
+        (start + 42_950, 1_000_000, Some(10)),
+        (start + 0x8000_0000, 3, Some(1)),
+        (start + 0x8000_0000, 1_000_000_000, Some(500_000_000)),
+        (start + 0x7fff_ffff, 1, None),
+    ] {
+        assert_eq!(rt; clock.read(time, ticks_a_second), moment);
+    }
+    assert_eq!(rt; ticks_in(u64::MAX, u32::MAX), 18_446_744_069_414_584_319);
+    Ok(())
+}
+
+#[test]
+fn faults_as_text(rt: HostRuntime) -> Result<(), Fail> {
+    let fault = Fault {
+        at: 136,
+        reason: RecordFault::ShortLength(15),
+    };
+    assert_eq!(rt;
+        format!(in rt.alloc(); "{fault}")?.as_str(),
+        "136 2 ShortLength 15"
+    );
+    for (reason, text) in [
+        (RecordFault::CutOff, "1 CutOff"),
+        (RecordFault::LongLength(65536), "3 LongLength 65536"),
+        (RecordFault::ShortRecord, "4 ShortRecord"),
+        (RecordFault::TooFar, "5 TooFar"),
+    ] {
+        assert_eq!(rt; format!(in rt.alloc(); "{reason}")?.as_str(), text);
+    }
+    for (file, text) in [
+        (FileFault::Gzip, "1 Gzip"),
+        (FileFault::PcapNg, "2 PcapNg"),
+        (FileFault::OtherLink(1), "3 OtherLink 1"),
+    ] {
+        assert_eq!(rt; format!(in rt.alloc(); "{file}")?.as_str(), text);
+    }
+    for (content, text) in [
+        (NoCell::OtherType(48), "1 OtherType 48"),
+        (NoCell::Errored, "2 Errored"),
+        (NoCell::CutShort(51), "3 CutShort 51"),
+    ] {
+        assert_eq!(rt; format!(in rt.alloc(); "{content}")?.as_str(), text);
+    }
+    Ok(())
+}
