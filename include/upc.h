@@ -1,12 +1,17 @@
 /* upc.h: the proved policer for ATM cells, as a library for C and C++.
  *
  * Each call returns 0, or the constant of the fault for which it refused, such as UPC_VERIFY_UNWRITTEN, and fills
- * *fault with zeros, or with that fault. A call that refuses writes nothing else. The result of each call is proved
- * (crates/upc_c/README.md) if its caller keeps these rules, which nothing checks:
+ * *fault with zeros, or with that fault. A call that refuses writes nothing else.
  *
- *  - No pointer is null, even if the length next to it is 0. Each points to memory of its type, aligned for it; octets,
- *    contracts and entries to as many as the length next to them says, which take at most PTRDIFF_MAX octets. The call
- *    may read them, and write if the pointer is to no const.
+ * Each call first looks for null pointers. A fault may be null: then only the result says it. Octets, contracts and entries
+ * may be at null if the length next to them is 0. Any other null pointer is refused as UPC_NULL_POINTER, and nothing is
+ * read. The two calls that free do nothing with null. These tests are C, made by a script and tested.
+ *
+ * What a call answers behind them is proved (crates/upc_c/README.md) if its caller keeps these rules, which nothing checks:
+ *
+ *  - Each pointer that isn't null points to memory of its type, aligned for it; octets, contracts and entries to as many as
+ *    the length next to them says, which take at most PTRDIFF_MAX octets. The call may read them, and write if the pointer
+ *    is to no const.
  *  - Memory that a call may write is borrowed by that argument alone: it overlaps none of the others, and no other
  *    thread reads or writes it before the call returns. Memory that a call may only read is not changed before that.
  *  - Calls that the list below marks with "memory" allocate by malloc and realloc and free by free, all of one
@@ -30,12 +35,10 @@
 extern "C" {
 #endif
 
-/* What compilers are told: the result of a call that may refuse is looked at, and no pointer is null. */
+/* What compilers are told: the result of a call that may refuse is looked at. */
 #if defined(__GNUC__)
-#define UPC_NONNULL __attribute__((__nonnull__))
-#define UPC_RESULT __attribute__((__nonnull__, __warn_unused_result__))
+#define UPC_RESULT __attribute__((__warn_unused_result__))
 #else
-#define UPC_NONNULL
 #define UPC_RESULT
 #endif
 
@@ -103,7 +106,8 @@ enum upc_call {
 	UPC_CARD_THERE = 264,     /* the upc_card has a card already */
 	UPC_NO_CARD = 265,        /* the upc_card has none */
 	UPC_LARGE_PATH = 266,     /* the path is above 255, or between nodes of the network above 4095 */
-	UPC_MANY_CONTRACTS = 267  /* there are more than UPC_MOST_CONTRACTS */
+	UPC_MANY_CONTRACTS = 267, /* there are more than UPC_MOST_CONTRACTS */
+	UPC_NULL_POINTER = 268    /* a pointer is null that may not be; nothing was read */
 };
 
 /* And here those of the other kinds, which docs/FORMATS.md explains; made by tools/faults.py. */
@@ -276,11 +280,11 @@ uint32_t upc_program_new(const uint8_t *octets, size_t length, upc_program *prog
 /* Runs the program on the cell with these 52 octets: *value becomes its value, and *steps the number of instructions
  * that it began. It doesn't allocate.
  * Faults: UPC_CELL_WRONG_LENGTH, then UPC_NO_PROGRAM. */
-uint32_t upc_program_run(upc_program *program, const uint8_t *octets, size_t length, uint32_t *value, uint32_t *steps,
+uint32_t upc_program_run(const upc_program *program, const uint8_t *octets, size_t length, uint32_t *value, uint32_t *steps,
                          upc_fault *fault) UPC_RESULT;
 
-/* Frees the program, so that there is none. Does nothing if there is none. */
-void upc_program_free(upc_program *program) UPC_NONNULL;
+/* Frees the program, so that there is none. Does nothing if there is none, or the pointer is null. */
+void upc_program_free(upc_program *program);
 
 /* ---- A card (memory) ---- */
 
@@ -355,8 +359,12 @@ enum { UPC_MOST_CONTRACTS = 4 };
  * Faults: UPC_CARD_THERE, then UPC_UNKNOWN_SIDE, then those of UPC_SHAPE. */
 uint32_t upc_card_new(const upc_shape *shape, upc_card *card, upc_fault *fault) UPC_RESULT;
 
-/* Frees the card, with its programs and connections, so that there is none. Does nothing if there is none. */
-void upc_card_free(upc_card *card) UPC_NONNULL;
+/* Frees the card, with its programs and connections, so that there is none. Does nothing if there is none, or the pointer
+ * is null. */
+void upc_card_free(upc_card *card);
+
+/* Writes the size of the card. It doesn't allocate. Faults: UPC_NO_CARD. */
+uint32_t upc_card_shape(const upc_card *card, upc_shape *shape, upc_fault *fault) UPC_RESULT;
 
 /* Loads the program that octets spell; *id becomes its name.
  * Faults: those of upc_check, then UPC_NO_CARD, then UPC_DESK_PROGRAMS_FULL. */
@@ -383,11 +391,12 @@ uint32_t upc_card_reload(upc_card *card, uint16_t path, uint16_t channel, const 
 /* Writes the number of cells in the journal of a connection: a release or a cut writes as many entries. It doesn't
  * allocate.
  * Faults: UPC_NO_CARD, UPC_LARGE_PATH, then UPC_DESK_NO_CONNECTION. */
-uint32_t upc_card_journal(upc_card *card, uint16_t path, uint16_t channel, size_t *cells, upc_fault *fault) UPC_RESULT;
+uint32_t upc_card_journal(const upc_card *card, uint16_t path, uint16_t channel, size_t *cells,
+                          upc_fault *fault) UPC_RESULT;
 
 /* Writes the counts of a connection's line. It doesn't allocate.
  * Faults: UPC_NO_CARD, UPC_LARGE_PATH, then UPC_DESK_NO_CONNECTION. */
-uint32_t upc_card_counts(upc_card *card, uint16_t path, uint16_t channel, upc_counts *counts,
+uint32_t upc_card_counts(const upc_card *card, uint16_t path, uint16_t channel, upc_counts *counts,
                          upc_fault *fault) UPC_RESULT;
 
 /* Ends a connection, and returns its last journal: its cells, the earliest first, become the first entries of the room.
@@ -412,7 +421,6 @@ uint32_t upc_card_cut(upc_card *card, uint16_t path, uint16_t channel, upc_entry
 uint32_t upc_card_arrive(upc_card *card, uint8_t *octets, size_t length, uint64_t moment, upc_answer *answer,
                          upc_fault *fault) UPC_RESULT;
 
-#undef UPC_NONNULL
 #undef UPC_RESULT
 #undef UPC_SIZE
 

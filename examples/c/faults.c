@@ -261,6 +261,19 @@ static void tell_journal(const char *what, uint32_t number, const upc_journal *j
 	memcpy(room, room_before, sizeof room);
 }
 
+/* The size that a card reports. */
+static void tell_shape(const char *what, upc_card *card)
+{
+	upc_shape shape, unread;
+
+	memset(&shape, 7, sizeof shape);
+	memset(&unread, 7, sizeof unread);
+	tell(what, upc_card_shape(card, &shape, &fault), &shape, &unread, sizeof shape);
+	if (fault.number == 0)
+		printf("%s: side %u, %lu programs, %lu lines, %lu ports, %lu cells\n", what, (unsigned)shape.side,
+		       (unsigned long)shape.programs, (unsigned long)shape.lines, (unsigned long)shape.ports, (unsigned long)shape.journal);
+}
+
 /* What a card reports of a connection without a step. */
 static void inspect(const char *what, upc_card *card, uint16_t path, uint16_t channel)
 {
@@ -273,12 +286,26 @@ static void inspect(const char *what, upc_card *card, uint16_t path, uint16_t ch
 		printf("%s: %lu cells, refused %lu\n", what, (unsigned long)cells, (unsigned long)counts.refused);
 }
 
+/* A null pointer: the fault says so, only the result does, or it may be null. */
+static void null_pointers(void)
+{
+	const upc_contract cbr = {UPC_CBR1, 10, 5, 0, 0};
+
+	tell("null contract", upc_contract_check(NULL, &fault), "", "", 0);
+	tell("null octets", upc_check(NULL, 8, &fault), "", "", 0);
+	tell("no octets at null", upc_check(NULL, 0, &fault), "", "", 0);
+	printf("null contract and no fault: %u\n", (unsigned)upc_contract_check(NULL, NULL));
+	printf("contract and no fault: %u\n", (unsigned)upc_contract_check(&cbr, NULL));
+	upc_program_free(NULL);
+	upc_card_free(NULL);
+}
+
 /* The errors of a upc_card, in the order of a card's life. The program names contract 2, but there is only one. */
 static void kept_card(void)
 {
 	static const uint8_t octets[] = {0, 6, 0, 0, 0, 0, 0, 2};
 	const upc_contract cbr = {UPC_CBR1, 10, 5, 0, 0}, zero = {0, 0, 0, 0, 0};
-	const upc_shape shape = {UPC_UNI, 1, 1, 1, 2};
+	const upc_shape shape = {UPC_UNI, 1, 1, 3, 2};
 	upc_card card = {0, 0};
 	upc_journal journal;
 	upc_id id = {0, 0};
@@ -292,6 +319,7 @@ static void kept_card(void)
 	memset(room_before, 0xa5, sizeof room_before);
 	memcpy(room, room_before, sizeof room);
 	arrive("no card", &card, 1, 52, 0);
+	tell_shape("the size of no card", &card);
 	inspect("inspect no card", &card, 1, 1);
 	tell_journal("cut no card", upc_card_cut(&card, 1, 1, room, 3, &journal, &fault), &journal);
 	set_up("set up on no card", &card, 1, 1, id, cbr, 1);
@@ -299,6 +327,7 @@ static void kept_card(void)
 	set_up("no contract's numbers on no card", &card, 256, 1, id, zero, 1);
 	tell("new card", upc_card_new(&shape, &card, &fault), "", "", 0);
 	tell("new card again", upc_card_new(&shape, &card, &fault), "", "", 0);
+	tell_shape("size", &card);
 	tell("load", upc_card_load(&card, octets, sizeof octets, &id, &fault), "", "", 0);
 	card_desk(&card, id, cbr);
 	arrive("short cell", &card, 1, 51, 0);
@@ -357,6 +386,7 @@ int main(void)
 	rules("otherwise -> 7, in seven octets", "otherwise -> 7", 7);
 	long_rules();
 	far_and_long();
+	null_pointers();
 	kept_program();
 	kept_card();
 	return 0;

@@ -101,6 +101,13 @@ static void free_program(void) { upc_program_free(&held); }
 
 static void new_card(void) { number = upc_card_new(&shape, &card, &fault); }
 
+static void get_shape(void)
+{
+	upc_shape it;
+
+	number = upc_card_shape(&card, &it, &fault);
+}
+
 static void load(void) { number = upc_card_load(&card, program, sizeof program, &id, &fault); }
 
 static void load_unknown(void)
@@ -205,7 +212,7 @@ int main(int words, char **arguments)
 	                 {"upc_listing", list}, {"upc_assemble", assemble}, {"upc_assemble, no source", assemble_program},
 	                 {"upc_rules_compile", compile_rules}, {"upc_rules_compile, nested", compile_nested},
 	                 {"upc_check, no program", check_unknown}, {"upc_program_new", new_program},
-	                 {"upc_program_run", run_program}, {"upc_program_free", free_program}, {"upc_card_new", new_card},
+	                 {"upc_program_run", run_program}, {"upc_program_free", free_program}, {"upc_card_new", new_card}, {"upc_card_shape", get_shape},
 	                 {"upc_card_load", load}, {"upc_card_load, no program", load_unknown}, {"upc_card_setup", set_up},
 	                 {"upc_card_arrive", arrive}, {"upc_card_journal", journal}, {"upc_card_counts", counts},
 	                 {"upc_card_cut", cut}, {"upc_card_arrive", arrive}, {"upc_card_reload", reload},

@@ -1,16 +1,19 @@
--- Reads of a connection on a card, without a step.
+-- Reads of a card, without a step.
 use Rattle.std.specs.Prelude.{◌≡◌, ◌⊎◌, ℕ, length, Some, None}
 use Rattle.card_core.specs.Agreement.{CoreView, CoreAgrees}
 use Rattle.card_core.specs.World.{World, Connection, connection_in, kept_cells}
 use Rattle.card_core.specs.declared.fault.DeskFault.TheVariants.{NoConnection}
+use Rattle.card_core.specs.declared.shape.Shape.{Shape}
 use Rattle.line_record.specs.Tally.{tally_of}
 use Rattle.line_record.specs.declared.tally.Tally.{Tally}
 use Rattle.upc_cell.specs.declared.vc.Vc.{Vc}
 use Rattle.upc_c.specs.CardDesk.{HasNoPath, IsVc, path_too_large, told_desk}
-use Rattle.upc_c.specs.CardHandle.{card_in, card_missing}
+use Rattle.upc_c.specs.CardHandle.{IsShapeIn, card_in, card_missing}
+use Rattle.upc_c.specs.CardMaking.{IsShapeOf}
 use Rattle.upc_c.specs.declared.card.UpcCard.{UpcCard}
 use Rattle.upc_c.specs.declared.counts.UpcCounts.{UpcCounts}
 use Rattle.upc_c.specs.declared.fault.UpcFault.{UpcFault}
+use Rattle.upc_c.specs.declared.shape.UpcShape.{UpcShape}
 
 -- The counts of a line, as C gets them.
 abbrev pub counts_for_c : Tally → UpcCounts
@@ -20,6 +23,10 @@ counts_for_c tally = record {
   discarded = tally.discarded;
   refused = tally.refused;
 }
+
+-- There is a card, and these are the numbers of its shape.
+abbrev pub HasShape : UpcCard → UpcShape → Type 0
+HasShape card numbers = (shape : Shape) × IsShapeIn card shape × IsShapeOf numbers shape
 
 -- The world has this connection, and this holds of it.
 abbrev pub HasConnection : World → Vc → (Connection → Type 0) → Type 0

@@ -10,7 +10,7 @@ use bpf_verify::Program;
 pub use card::HiddenCard;
 use parts::Parts;
 use std::alloc::Global;
-use std::marker::Model;
+use std::marker::{Model, Send};
 use std::ptr::null_mut;
 
 /// A program in a box, or none. C has the pointer and never reads what it points to.
@@ -30,6 +30,9 @@ impl Model for Hidden {
 
     ghost also_owns = { λ h. owned the_row h.alloc h.at h.code };
 }
+
+// It goes to another thread as its box does.
+unsafe impl Send for Hidden {}
 
 impl Hidden {
     ghost use Rattle.std.specs.Prelude.{◌≡◌, ◌≢◌, Some, None};

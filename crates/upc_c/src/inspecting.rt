@@ -1,8 +1,8 @@
-//! Reads of a connection on a card, without a step.
+//! Reads of a card, without a step.
 
-ghost use Rattle.std.specs.Prelude.{◌≡◌, ◌≢◌, IfNone, IfSome, IfErr, IfOk};
-ghost use Rattle.upc_c.specs.CardHandle.{card_in};
-ghost use Rattle.upc_c.specs.CardInspection.{HasCounted, HasInJournal, IsLookUpFault};
+ghost use Rattle.std.specs.Prelude.{◌≡◌, ◌≢◌, None, IfNone, IfSome, IfErr, IfOk};
+ghost use Rattle.upc_c.specs.CardHandle.{card_in, card_missing};
+ghost use Rattle.upc_c.specs.CardInspection.{HasCounted, HasInJournal, HasShape, IsLookUpFault};
 ghost use Rattle.upc_c.specs.Faults.{call_result, no_fault};
 ghost use Rattle.upc_c.specs.inner.ToldLine.{IsMissingIn, IsToldLine, IsToldOf};
 ghost use Rattle.upc_c.specs.inner.Numbered.{IsNumbered};
@@ -12,7 +12,8 @@ use crate::counts::{UpcCounts, counts_of};
 use crate::desk_fault::{card_missing, told_desk};
 use crate::fault::{UpcFault, fine, told};
 use crate::setting_up::vc_on;
-use crate::stepping::{put_core, take_core};
+use crate::shape::{UpcShape, numbers_of_shape};
+use crate::stepping::{put_core, shape_on, take_core};
 use card_core::{Core, DeskFault};
 use line_record::Tally;
 use std::alloc::Global;
@@ -60,6 +61,30 @@ fn line_on(alloc: Global, card: &mut UpcCard, path: u16, channel: u16) -> Result
     match line {
         Some(line) => Ok(line),
         None => Err(told_desk(DeskFault::NoConnection)),
+    }
+}
+
+/// Writes the size of the card. Returns the result of the error, or 0.
+#[unsafe(no_mangle)]
+pub extern "C" fn upc_card_shape(
+    alloc: Global,
+    card: &mut UpcCard,
+    shape: &mut UpcShape,
+    fault: &mut UpcFault,
+) -> u32
+    ensures number { result ≡ call_result fault.new }
+    ensures shape { result ≡ 0 → HasShape card.old shape.new }
+    ensures fine { result ≡ 0 → fault.new ≡ no_fault }
+    ensures refused { result ≢ 0 → (card_in card.old ≡ None) × (fault.new ≡ card_missing) }
+    ensures kept { card_in card.new ≡ card_in card.old }
+    ensures left { result ≢ 0 → shape.new ≡ shape.old }
+{
+    match shape_on(alloc, card) {
+        Some(found) => {
+            *shape = numbers_of_shape(found);
+            fine(fault)
+        }
+        None => told(fault, card_missing()),
     }
 }
 

@@ -38,6 +38,22 @@ pub(crate) fn side_of(number: u32) -> Result<Side, UpcFault>
     }
 }
 
+/// Returns the numbers of a shape.
+pub(crate) fn numbers_of_shape(shape: Shape) -> UpcShape
+    ensures { IsShapeOf result shape }
+{
+    UpcShape {
+        side: match shape.side {
+            Side::Uni => 0,
+            Side::Nni => 1,
+        },
+        programs: shape.programs,
+        lines: shape.lines,
+        ports: shape.ports,
+        journal: shape.journal,
+    }
+}
+
 /// Returns the shape with these numbers.
 pub(crate) fn shape_of(given: &UpcShape) -> Result<Shape, UpcFault>
     ensures shape { IfOk result (IsShapeOf given.now) }

@@ -6,7 +6,7 @@ ghost use Rattle.card_core.specs.Agreement.{CoreView};
 use crate::hidden::parts::Parts;
 use card_core::Core;
 use std::alloc::Global;
-use std::marker::Model;
+use std::marker::{Model, Send};
 use std::ptr::null_mut;
 
 /// A card in a box, or none. C has the pointer and never reads what it points to.
@@ -26,6 +26,9 @@ impl Model for HiddenCard {
 
     ghost also_owns = { λ h. owned the_row h.alloc h.at h.core };
 }
+
+// It goes to another thread as its box does.
+unsafe impl Send for HiddenCard {}
 
 impl HiddenCard {
     ghost use Rattle.std.specs.Prelude.{◌≡◌, ◌≢◌, Some, None};
