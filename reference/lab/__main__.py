@@ -1,13 +1,15 @@
-"""Compares `upc-lab trace` and `upc-lab list` with the reference on random inputs of `upc eval`.
+"""Compares `upc-lab trace` and `upc-lab list` with the reference on random inputs of `upc eval`, and `upc-lab explain` on such of
+`upc check`.
 
     python3 -m lab UPC UPC_LAB [COUNT] [SEED]
 
 The steps of a trace are those of the reference's machine, and its other lines those of `upc eval`. A listing assembles to the
-program that is listed. The last line is 'N passed, M failed'.
+program that is listed. The line, the column and the path of an explanation are those of the reference. The last line is 'N passed, M failed'.
 """
 import re
 import sys
 
+from lab.explaining import wrong_explanation
 from lab.tracing import TraceDialogue
 from policer.decoding import decoded
 from policer.dialogue import answered
@@ -39,16 +41,29 @@ def wrong_list(upc, lab, text):
     return None if is_same else f"upc check of the listing prints {again[0]}"
 
 
+def explanations(lab, count, seed):
+    """Compares explanations, and returns how many failed and how many there were."""
+    failed, numbers = 0, range(-len(edges_of("check")), count)
+    for number in numbers:
+        source = input_of("check", seed, number)
+        wrong = wrong_explanation(source, of_program(lab, "explain", b"source\n" + source))
+        if wrong:
+            failed += 1
+            print(f"explain, input {number} of seed {seed}: {wrong}")
+    return failed, len(numbers)
+
+
 def main(upc, lab, count="200", seed="1"):
     """Compares, and returns the exit status."""
-    failed, numbers = 0, range(-len(edges_of("eval")), int(count))
+    failed, explained = explanations(lab, int(count), seed)
+    numbers = range(-len(edges_of("eval")), int(count))
     for number in numbers:
         text = input_of("eval", seed, number)
         for name, wrong in (("trace", wrong_trace(lab, text)), ("list", wrong_list(upc, lab, text))):
             if wrong:
                 failed += 1
                 print(f"{name}, input {number} of seed {seed}: {wrong}")
-    print(f"{2 * len(numbers) - failed} passed, {failed} failed")
+    print(f"{2 * len(numbers) + explained - failed} passed, {failed} failed")
     return 1 if failed else 0
 
 

@@ -1,5 +1,6 @@
 -- The output of each subcommand of `upc-lab`.
 use Rattle.std.specs.Prelude.{ℕ, List}
+use Rattle.lab_faults.specs.Explained.{IsExplainText}
 use Rattle.lab_programs.specs.ListedProgram.{IsListText}
 use Rattle.lab_programs.specs.Trace.{IsTraceText}
 use Rattle.lab_rules.specs.AsmText.{MayBeAsmText}
@@ -18,3 +19,4 @@ IsLabText lab.Asm = MayBeAsmText
 IsLabText lab.List = IsListText
 IsLabText lab.Trace = IsTraceText
 IsLabText lab.Size = IsSizesText
+IsLabText lab.Explain = IsExplainText

@@ -14,10 +14,11 @@ use Rattle.upc_lab.specs.declared.choice.Subcommand.TheVariants as lab
 abbrev pub rules_subcommands : List (Text × Subcommand)
 rules_subcommands = (codes "rules", lab.Rules) ∷ (codes "why", lab.Why) ∷ (codes "asm", lab.Asm) ∷ []
 
--- The name of each subcommand: those for rules, those for programs, and that for contracts.
+-- The name of each subcommand: those for rules, those for programs, that for contracts, and that for faults.
 abbrev pub lab_subcommands : List (Text × Subcommand)
 lab_subcommands =
-    rules_subcommands ++ (codes "list", lab.List) ∷ (codes "trace", lab.Trace) ∷ (codes "size", lab.Size) ∷ []
+    rules_subcommands ++ (codes "list", lab.List) ∷ (codes "trace", lab.Trace) ∷ (codes "size", lab.Size)
+    ∷ (codes "explain", lab.Explain) ∷ []
 
 -- The command without its subcommands. It wants one of them.
 abbrev pub lab_alone : App

@@ -30,6 +30,8 @@ pub enum Subcommand {
     Trace,
     /// Print the buckets of contracts, and the rates that they police.
     Size,
+    /// Print the fault of a source, with its line and column and a sentence.
+    Explain,
 }
 
 /// Reads the words after the program's name: the name of one subcommand. The forms of help that `clap` has request help. Any
@@ -114,12 +116,19 @@ fn with_program_subcommands<'a>(
         "Run a program in hexadecimal on cells, and print each step",
         "Example: upc-lab trace < examples/customer.eval",
     )?;
-    with_subcommand(
+    let command = with_subcommand(
         alloc,
         command,
         "size",
         "Print the buckets of contracts on paper, and the rates that they police",
         "Example: echo cbr1 pcr 353207 cdvt 250us tick 100ns | upc-lab size",
+    )?;
+    with_subcommand(
+        alloc,
+        command,
+        "explain",
+        "Read a line `source` and a source of assembly, and explain its fault",
+        "Example: (echo source; cat program.s) | upc-lab explain",
     )
 }
 
@@ -182,6 +191,7 @@ fn named(name: &str) -> Option<Subcommand>
         "list" => Some(Subcommand::List),
         "trace" => Some(Subcommand::Trace),
         "size" => Some(Subcommand::Size),
+        "explain" => Some(Subcommand::Explain),
         _ => None,
     }
 }

@@ -9,6 +9,7 @@ ghost use Rattle.upc_lab.specs.LabMessages.{lab_failure_line};
 ghost use Rattle.upc_lab.specs.LabText.{IsLabText};
 
 use crate::choice::Subcommand;
+use lab_faults::explain_faults;
 use lab_programs::{list_program, trace_cells};
 use lab_rules::{assemble_rules, compile_rules, decide_cells};
 use lab_sizes::size_contracts;
@@ -58,6 +59,7 @@ fn run<I: Input, O: Output>(
         Subcommand::List => list_program(alloc, input, output),
         Subcommand::Trace => trace_cells(alloc, input, output),
         Subcommand::Size => size_contracts(alloc, input, output),
+        Subcommand::Explain => explain_faults(alloc, input, output),
     }
 }
 

@@ -10,6 +10,7 @@ mod tests;
 
 pub use choice::{Subcommand, choose};
 pub use invocation::carry_out;
+pub use lab_faults::explain_faults;
 pub use lab_programs::{list_program, trace_cells};
 pub use lab_rules::{assemble_rules, compile_rules, decide_cells};
 pub use lab_sizes::size_contracts;

@@ -20,5 +20,7 @@ pub fn awaited(subcommand: Subcommand) -> &'static str
         Subcommand::Trace =>
             "upc-lab trace: reading a program and cells from the terminal, to its end",
         Subcommand::Size => "upc-lab size: reading contracts from the terminal, to its end",
+        Subcommand::Explain =>
+            "upc-lab explain: reading a line `source` and a source from the terminal, to its end",
     }
 }

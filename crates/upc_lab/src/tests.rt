@@ -111,6 +111,7 @@ fn a_subcommand_is_chosen_by_its_name_alone(rt: HostRuntime) -> Result<(), Fail>
         ("list", true),
         ("trace", true),
         ("size", true),
+        ("explain", true),
         ("", false),
         ("--", false),
         ("rules rules", false),

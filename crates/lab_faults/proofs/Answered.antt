@@ -1,0 +1,84 @@
+-- Every input has an answer.
+use Rattle.std.proofs.Common.{◌≡◌, ℕ, ◌+◌, ◌≤◌, inl, inr, List, [], ◌∷◌, ◌++◌, Option, Some, None, length, reverse, codes, decimal, refl, ap, sym, ◌∙◌, subst, arith, append-nil, nat_lt, if◌then◌else◌}
+use Rattle.bpf_asm.proofs.Public.{meaning-or_fault}
+use Rattle.bpf_asm.specs.SourceLines.{source_lines}
+use Rattle.bpf_code.specs.declared.instr.Instr.{Instr}
+use Rattle.bpf_verify.proofs.Public.{accepted-or_fault}
+use Rattle.bpf_verify.specs.Faults.{FailsFirst}
+use Rattle.bpf_verify.specs.declared.fault.Fault.{Fault}
+use Rattle.bpf_verify.specs.declared.fault.Fault.TheVariants as fault
+use Rattle.lab_faults.specs.CodeReasons.{IsRest, code_sentence, code_start, numbers_text}
+use Rattle.lab_faults.specs.Explained.{ExplainsCode, ExplainsInput, ExplainsRest, ExplainsSource, ExplainsWithin, IsExplainText, most_explained_octets, no_source, source_after}
+use Rattle.lab_faults.specs.LinesFound.{instruction_lines}
+use Rattle.lab_faults.specs.SourceReasons.{source_explanation}
+use Rattle.text_io.specs.Devices.{TakesEnough}
+use Rattle.text_io.specs.Gathered.{gathered, LeavesBehind}
+use Rattle.text_io.specs.Limits.{most_ahead}
+use Rattle.text_io.specs.declared.ending.Done.{Done}
+use Rattle.text_io.specs.declared.ending.Done.TheVariants.{Whole, Ended}
+use Rattle.upc_codes.specs.CodeFaults.{verify_fault}
+use Rattle.upc_programs.specs.Check.{most_source_octets}
+use Rattle.upc_programs.specs.SourceFaults.{asm_fault}
+use Rattle.upc_words.specs.FaultLines.{line, too_long}
+
+rest-told : (code : List Instr) (numbers : List ℕ) (fault : Fault) → FailsFirst code fault → (text : List ℕ) × IsRest code numbers fault text
+rest-told code numbers fault.Empty fails = (line [], refl)
+rest-told code numbers fault.TooLong fails = (line [], refl)
+rest-told code numbers (fault.BadScratch at) fails = (line [], refl)
+rest-told code numbers (fault.ZeroDivisor at) fails = (line [], refl)
+rest-told code numbers (fault.BadShift at) fails = (line [], refl)
+rest-told code numbers (fault.JumpOutside at) fails = (line [], refl)
+rest-told code numbers fault.NoReturn fails = (line [], refl)
+rest-told code numbers (fault.Unwritten at word) fails =
+    let witness = fails.4.1 in
+    (line (numbers_text numbers (reverse witness.0 ++ at ∷ [])), (witness.0, (witness.1, witness.2), refl))
+
+code-told : (source : List ℕ) (code : List Instr) → (text : List ℕ) × (done : Done) × ExplainsCode source code text done
+code-told source code =
+    elim (accepted-or_fault code) [
+      | inl accepted ↦ (line (codes "accepted " ++ decimal (length code)), Whole, inl (accepted, refl, refl))
+      | inr found ↦
+          let lines = source_lines source in
+          let rest = rest-told code (instruction_lines 1 lines) found.0 found.1 in
+          let more = code_start lines (length code) found.0 ++ (code_sentence found.0 ++ rest.0) in
+          (verify_fault found.0 ++ more, Ended, inr (found.0, found.1, (more, (rest.0, rest.1, refl), refl), refl))
+    ]
+
+source-told : (source : List ℕ) → (text : List ℕ) × (done : Done) × ExplainsSource source text done
+source-told source =
+    elim (meaning-or_fault source) [
+      | inl meant ↦ let told = code-told source meant.0 in (told.0, told.1, inl (meant.0, meant.1, told.2))
+      | inr found ↦ (asm_fault found.0 ++ source_explanation (source_lines source) found.0, Ended, inr (found.0, found.1, refl, refl))
+    ]
+
+within-told : (found : Option (List ℕ)) → (text : List ℕ) × (done : Done) × ExplainsWithin found text done
+within-told None = (too_long, Ended, (refl, refl))
+within-told (Some source) = source-told source
+
+after-told : (found : Option (List ℕ)) → (text : List ℕ) × (done : Done) × ExplainsRest found text done
+after-told None = (no_source, Ended, (refl, refl))
+after-told (Some source) = within-told (gathered most_source_octets source)
+
+input-told : (found : Option (List ℕ)) → (text : List ℕ) × (done : Done) × ExplainsInput found text done
+input-told None = (too_long, Ended, (refl, refl))
+input-told (Some octets) = after-told (source_after octets)
+
+pub some-explain_text : (octets : List ℕ) → (text : List ℕ) × (done : Done) × IsExplainText octets text done
+some-explain_text octets = input-told (gathered most_explained_octets octets)
+
+-- One octet more than the limit is over the limit.
+gathered-none : (octets : List ℕ) → length octets ≡ most_explained_octets + 1 → gathered most_explained_octets octets ≡ None
+gathered-none octets sized = ap (λ n. if nat_lt most_explained_octets n then None else Some octets) sized
+
+-- The octets read are enough for the answer.
+pub enough : (octets left : List ℕ) (found : Option (List ℕ)) (text : List ℕ) (done : Done) → found ≡ gathered most_explained_octets octets
+    → LeavesBehind most_explained_octets found octets left → ExplainsInput found text done
+    → TakesEnough (λ needed. (told : List ℕ) × IsExplainText needed told done) most_ahead octets left
+enough octets left None text done is behind tells =
+    let P : Option (List ℕ) → Type 0 = λ found. ExplainsInput found text done in
+    let none : length {A = ℕ} [] ≤ most_ahead = omega arith in
+    (behind.0, [], behind.1, none, (text, subst P (sym (gathered-none behind.0 behind.2)) tells))
+enough octets left (Some source) text done is behind tells =
+    let P : Option (List ℕ) → Type 0 = λ found. ExplainsInput found text done in
+    let none : length {A = ℕ} [] ≤ most_ahead = omega arith in
+    (octets, [], sym (append-nil octets) ∙ ap (λ xs. octets ++ xs) (sym behind), none, (text, subst P is tells))

@@ -1,0 +1,4 @@
+pub mod Answered
+pub mod Public
+pub mod SameFaults
+pub mod Walking

@@ -1,0 +1,66 @@
+-- The output of `upc-lab explain`. The first line of the input is the word `source`, and the rest is a source of assembly. The answer
+-- is the fault that `upc check` finds, and an explanation of it, or that there is none.
+use Rattle.std.specs.Prelude.{◌≡◌, ◌⊎◌, ℕ, if◌then◌else◌, List, [], ◌++◌, take, drop, length, codes, decimal, Option, Some, None, MatchOption}
+use Rattle.std.specs.Str.{bytes_eq}
+use Rattle.bpf_asm.specs.Faults.{IsFault}
+use Rattle.bpf_asm.specs.Meaning.{IsMeaning}
+use Rattle.bpf_asm.specs.SourceLines.{source_lines}
+use Rattle.bpf_asm.specs.declared.fault.AsmFault.{AsmFault}
+use Rattle.bpf_code.specs.declared.instr.Instr.{Instr}
+use Rattle.bpf_verify.specs.Accepted.{IsAccepted}
+use Rattle.bpf_verify.specs.Faults.{FailsFirst}
+use Rattle.bpf_verify.specs.declared.fault.Fault.{Fault}
+use Rattle.lab_faults.specs.CodeReasons.{IsCodeExplanation}
+use Rattle.lab_faults.specs.SourceReasons.{source_explanation}
+use Rattle.text_io.specs.Gathered.{gathered}
+use Rattle.text_io.specs.declared.ending.Done.{Done}
+use Rattle.text_io.specs.declared.ending.Done.TheVariants.{Whole, Ended}
+use Rattle.upc_codes.specs.CodeFaults.{verify_fault}
+use Rattle.upc_programs.specs.Check.{most_source_octets}
+use Rattle.upc_programs.specs.SourceFaults.{asm_fault}
+use Rattle.upc_words.specs.FaultLines.{line, too_long}
+
+-- The maximum number of octets of an input: those of a source, and a first line.
+abbrev pub most_explained_octets : ℕ
+most_explained_octets = 1048584
+
+-- The octets after the first line, if that is the word `source`.
+unfoldable pub source_after : List ℕ → Option (List ℕ)
+source_after octets =
+    if bytes_eq (take 7 octets) (codes "source\n") then Some (drop 7 octets) else
+    (if bytes_eq (take 8 octets) (codes "source\r\n") then Some (drop 8 octets) else
+    (if bytes_eq octets (codes "source") then Some [] else None))
+
+-- The answer to an input whose first line is another.
+abbrev pub no_source : List ℕ
+no_source = codes "fault explain 1 NoSource\nline 1: the first line is to be the word `source`\n"
+
+-- The answer to a code: that there is no fault, or the fault of `check` and its explanation.
+abbrev pub ExplainsCode : List ℕ → List Instr → List ℕ → Done → Type 0
+ExplainsCode source code text done =
+    (IsAccepted code × (text ≡ line (codes "accepted " ++ decimal (length code))) × (done ≡ Whole))
+    ⊎ ((fault : Fault) × FailsFirst code fault
+    × ((more : List ℕ) × IsCodeExplanation (source_lines source) code fault more × (text ≡ verify_fault fault ++ more)) × (done ≡ Ended))
+
+-- The answer to a source: that to the code that it means, or the fault of `check` and its explanation.
+abbrev pub ExplainsSource : List ℕ → List ℕ → Done → Type 0
+ExplainsSource source text done =
+    ((code : List Instr) × IsMeaning source code × ExplainsCode source code text done)
+    ⊎ ((fault : AsmFault) × IsFault source fault × (text ≡ asm_fault fault ++ source_explanation (source_lines source) fault) × (done ≡ Ended))
+
+-- The answer to a source, or `too_long` if it is over the limit.
+abbrev pub ExplainsWithin : Option (List ℕ) → List ℕ → Done → Type 0
+ExplainsWithin found text done = MatchOption found ((text ≡ too_long) × (done ≡ Ended)) (λ source. ExplainsSource source text done)
+
+-- The answer to the rest of an input, or that its first line is another.
+abbrev pub ExplainsRest : Option (List ℕ) → List ℕ → Done → Type 0
+ExplainsRest found text done =
+    MatchOption found ((text ≡ no_source) × (done ≡ Ended)) (λ source. ExplainsWithin (gathered most_source_octets source) text done)
+
+-- The answer to the input, or `too_long` if it is over the limit.
+abbrev pub ExplainsInput : Option (List ℕ) → List ℕ → Done → Type 0
+ExplainsInput found text done = MatchOption found ((text ≡ too_long) × (done ≡ Ended)) (λ octets. ExplainsRest (source_after octets) text done)
+
+-- The output for a whole input, and how the run ends.
+abbrev pub IsExplainText : List ℕ → List ℕ → Done → Type 0
+IsExplainText octets text done = ExplainsInput (gathered most_explained_octets octets) text done

@@ -1,0 +1,14 @@
+//! `upc-lab explain`: where a source is faulty, what is wrong there, and what would be right.
+#![tactic(auto)]
+
+mod bad_lines;
+mod code_faults;
+mod explaining;
+mod forms;
+pub mod laws;
+mod lines_found;
+mod path;
+mod source_faults;
+mod tokens;
+
+pub use explaining::explain_faults;
