@@ -25,10 +25,17 @@ def field(source):
     return f"{name} {source.choice([0, 1, 3, 4, 52 - size, source.randint(0, 52 - size)])}", 2 ** (8 * size) - 1
 
 
+def mask_of(source, most):
+    """Returns a mask: sometimes the bits from some bit upwards."""
+    if source.random() < 0.4:
+        return most + 1 - (1 << source.randrange(most.bit_length()))
+    return number(source, most)
+
+
 def compared(source):
     """Returns a comparison."""
     name, most = field(source)
-    mask = f" & {spelled(source, number(source, most))}" if source.random() < 0.25 else ""
+    mask = f" & {spelled(source, mask_of(source, most))}" if source.random() < 0.25 else ""
     if source.random() < 0.5:
         return f"{name}{mask} {source.choice(SIGNS)} {spelled(source, number(source, most))}"
     ranges = []

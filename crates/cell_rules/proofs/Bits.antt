@@ -1,12 +1,13 @@
 -- The fields of the header, in their places in its word.
-use Rattle.std.proofs.Common.{◌≡◌, ℕ, ◌+◌, ◌-◌, ◌*◌, ◌/◌, ◌%◌, ◌^◌, ◌≤◌, ◌<◌, List, drop, Option, Some, None, refl, sym, ap, ◌∙◌, arith, add-zero, bit_and}
+use Rattle.std.proofs.Common.{◌≡◌, ℕ, zero, suc, ◌+◌, ◌-◌, ◌*◌, ◌/◌, ◌%◌, ◌^◌, ◌≤◌, ◌<◌, List, [], ◌∷◌, drop, slice_index, Option, Some, None, refl, sym, ap, ◌∙◌, arith, add-zero, bit_and}
 use Rattle.std.proofs.lemmas.Nat.{shr_split, and_block, and_comm, and_assoc, and_mask, and_le_l, and_le_r, mod_below, pow_pos, mul-le}
 use Rattle.byteorder.specs.Endian.{big_number}
 use Rattle.bpf_interp.specs.Packet.{octets_loaded}
+use Rattle.match_code.specs.Bounds.{most_in}
 use Rattle.match_code.specs.PlainTests.{kept_bits, number_of}
 use Rattle.match_code.specs.declared.part.Part.{Part}
 use Rattle.bpf_code.specs.declared.instr.Size.{Size}
-use Rattle.bpf_code.specs.declared.instr.Size.TheVariants.{Word}
+use Rattle.bpf_code.specs.declared.instr.Size.TheVariants.{Word, Half, Octet}
 use Rattle.upc_cell.specs.Header.{header_number}
 use Rattle.upc_cell.specs.declared.side.Side.{Side}
 use Rattle.upc_cell.specs.declared.side.Side.TheVariants.{Uni, Nni}
@@ -53,6 +54,23 @@ kept_le (Some mask) n = and_le_l n mask
 
 header_is : (cell : List ℕ) → header_number cell ≡ big_number 4 (drop 0 cell)
 header_is cell = omega arith
+
+-- The octets from an offset on are octets.
+octets_from : (at : ℕ) (cell : List ℕ) → ((place : ℕ) → slice_index cell place < 256) → (place : ℕ) → slice_index (drop at cell) place < 256
+octets_from zero cell each place = each place
+octets_from (suc at) [] each place = each place
+octets_from (suc at) (octet ∷ cell) each place = octets_from at cell (λ k. each (suc k)) place
+
+number_fits : (size : Size) (octets : List ℕ) → ((place : ℕ) → slice_index octets place < 256) → big_number (octets_loaded size) octets ≤ most_in size
+number_fits Word octets each =
+    let a = each 0 in let b = each 1 in let c = each 2 in let d = each 3 in omega arith
+number_fits Half octets each =
+    let a = each 0 in let b = each 1 in omega arith
+number_fits Octet octets each = let a = each 0 in omega arith
+
+-- Octets of a cell are at most the largest number of so many octets.
+pub part_fits : (part : Part) (cell : List ℕ) → IsCell cell → big_number (octets_loaded part.size) (drop part.at cell) ≤ most_in part.size
+part_fits part cell is = number_fits part.size (drop part.at cell) (octets_from part.at cell is.octets)
 
 header_fits : (cell : List ℕ) → IsCell cell → header_number cell < 2 ^ 32
 header_fits cell is =

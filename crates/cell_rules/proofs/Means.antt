@@ -6,7 +6,8 @@ use Rattle.byteorder.specs.Endian.{big_number}
 use Rattle.bpf_code.specs.declared.instr.Size.{Size}
 use Rattle.bpf_interp.specs.Packet.{octets_loaded}
 use Rattle.std.proofs.Common.{drop}
-use Rattle.match_code.proofs.Public.{all_of_holds, any_of_holds}
+use Rattle.match_code.proofs.Public.{all_of_holds, any_of_holds, comparison_holds}
+use Rattle.match_code.specs.Bounds.{IsNotOf}
 use Rattle.match_code.specs.inner.Chains.{each_holds, some_holds}
 use Rattle.match_code.specs.PlainTests.{kept_bits, number_of, is_among, holds}
 use Rattle.match_code.specs.declared.part.Part.{Part}
@@ -22,8 +23,8 @@ use Rattle.cell_rules.specs.declared.field.Field.TheVariants.{Gfc, Vpi, Vci, Pti
 use Rattle.cell_rules.specs.declared.relation.Relation.{Relation}
 use Rattle.cell_rules.specs.declared.relation.Relation.TheVariants.{Equal, Unequal, Less, AtMost, Greater, AtLeast, In}
 use Rattle.cell_rules.specs.declared.test.Test.{Test, Any, Oam, User, Compare, Not', AllOf', AnyOf', Row_of-Test, end_of-Test, more_of-Test}
-use Rattle.cell_rules.specs.PlainOf.{IsPartOf, IsAmongOf, IsAnyOf, IsNotOf, IsCompareOf, IsPlainOf, ArePlainOf, most_of, unit_of, placed_span, span_of_one, span_below, span_up_to, some_spans}
-use Rattle.cell_rules.proofs.Bits.{IsInHeader, gfc_in, vpi_in, vci_in, pti_in, clp_in, number_le, number_placed}
+use Rattle.cell_rules.specs.PlainOf.{IsPartOf, IsAmongOf, IsAnyOf, IsCompareOf, IsPlainOf, ArePlainOf, most_of, unit_of, placed_span, span_of_one, span_below, span_up_to, some_spans}
+use Rattle.cell_rules.proofs.Bits.{IsInHeader, gfc_in, vpi_in, vci_in, pti_in, clp_in, number_le, number_placed, part_fits}
 use Rattle.cell_rules.proofs.Spans.{among_placed, among_there, only_is, below_is, up_to_is, above_is, at_least_is, some_is}
 
 module _ (side : Side) (cell : List ℕ) (is : IsCell cell) where
@@ -56,9 +57,9 @@ module _ (side : Side) (cell : List ℕ) (is : IsCell cell) where
       among_there 1 (number_of part cell) spans ∙ octets_mean (Octets octets) mask part spans octets.size octets.at of.size_is of.at_is of.mask_is
 
   among_means : (field : Field) (mask : Option ℕ) (spans : List Span) (test : PlainTest) → IsAmongOf side field mask spans test → holds test cell ≡ is_among spans (kept_bits mask (number_in side field cell))
-  among_means field mask spans (plain.Among part first others) of =
-      ap (λ (ss : List Span). is_among ss (number_of part cell)) of.1 ∙ field_means field mask part spans of.0
-  among_means field mask spans _ of = absurd of
+  among_means field mask spans test of =
+      comparison_holds of.part of.first of.others test cell (part_fits of.part cell is) of.compares
+      ∙ (ap (λ (ss : List Span). is_among ss (number_of of.part cell)) of.spans_are ∙ field_means field mask of.part spans of.part_is)
 
   -- ---- not, and one of several
   not_means : (Is : PlainTest → Type 0) (b : Bool) → ((t : PlainTest) → Is t → holds t cell ≡ b) → (test : PlainTest) → IsNotOf Is test → holds test cell ≡ not b

@@ -1,5 +1,5 @@
 -- Spans in their places, and what comparisons come to.
-use Rattle.std.proofs.Common.{◌≡◌, ℕ, ◌-◌, ◌*◌, ◌^◌, ◌≤◌, ◌<◌, ◌==◌, min, Bool, true, false, not, ◌&&◌, ◌||◌, nat_le, nat_lt, if◌then◌else◌, List, [], ◌∷◌, map, Some, None, refl, sym, ap, ◌∙◌, arith}
+use Rattle.std.proofs.Common.{◌≡◌, ℕ, ◌-◌, ◌*◌, ◌^◌, ◌≤◌, ◌<◌, ◌==◌, min, Bool, true, false, not, ◌&&◌, ◌||◌, nat_le, nat_lt, if◌then◌else◌, List, [], ◌∷◌, map, Option, Some, None, refl, sym, ap, ◌∙◌, arith}
 use Rattle.std.proofs.lemmas.Bool.{leb-true, leb-false, le-leb, eqb-true}
 use Rattle.std.proofs.lemmas.Bool.Decides.{nat_tests}
 use Rattle.std.proofs.Math.Nat.{mul-le-mul_right, le_of_mul-le-mul_right}
@@ -57,6 +57,14 @@ module _ (most unit number : ℕ) (pos : 0 < unit) (le : number ≤ most) (fits 
 pub among_there : (unit number : ℕ) (spans : List Span) → is_among (map (placed_span None unit) spans) number ≡ is_among spans number
 among_there unit number [] = refl
 among_there unit number (span ∷ more) = ap (λ b. is_in span number || b) (among_there unit number more)
+
+-- Spans are put in their places one by one.
+pub placed_all : (most most' : Option ℕ) (unit unit' : ℕ) (first : Span) (others : List Span) (one : Span) (more : List Span) → most ≡ most' → unit ≡ unit' → one ≡ placed_span most unit first
+    → more ≡ map (placed_span most unit) others → one ∷ more ≡ map (placed_span most' unit') (first ∷ others)
+placed_all most most' unit unit' first others one more p q e rest =
+    ap (λ (s : Span). s ∷ more) e
+    ∙ (ap (λ (ss : List Span). placed_span most unit first ∷ ss) rest
+    ∙ (ap (λ (m : Option ℕ). map (placed_span m unit) (first ∷ others)) p ∙ ap (λ u. map (placed_span most' u) (first ∷ others)) q))
 
 -- ---- comparisons
 

@@ -4,6 +4,7 @@ use Rattle.std.specs.Prelude.{◌≡◌, ℕ, ◌-◌, ◌*◌, ◌%◌, ◌^◌
 use Rattle.std.specs.Global.{Vec}
 use Rattle.bpf_code.specs.declared.instr.Size.{Size}
 use Rattle.bpf_code.specs.declared.instr.Size.TheVariants.{Word}
+use Rattle.match_code.specs.Bounds.{IsComparison, IsNotOf}
 use Rattle.match_code.specs.Neighbours.{IsAllOf}
 use Rattle.match_code.specs.Order.{IsOrderOf}
 use Rattle.match_code.specs.declared.lines.Line.{Line}
@@ -73,11 +74,14 @@ pub record IsPartOf (side : Side) (field : Field) (mask : Option ℕ) (part : Pa
   pub at_is : part.at ≡ at_of field
   pub mask_is : part.mask ≡ placed_mask (most_of side field) (unit_of field) mask
 
--- The test is that the field is in one of these spans.
-abbrev pub IsAmongOf : Side → Field → Option ℕ → List Span → PlainTest → Type 0
-IsAmongOf side field mask spans (plain.Among part first others) =
-    IsPartOf side field mask part × (first ∷ others.items ≡ map (placed_span (most_of side field) (unit_of field)) spans)
-IsAmongOf side field mask spans _ = ⊥
+-- The test is that the field is in one of these spans: the part that it is is compared with the spans in their places.
+pub record IsAmongOf (side : Side) (field : Field) (mask : Option ℕ) (spans : List Span) (test : PlainTest) : Type 0 where
+  pub part : Part
+  pub first : Span
+  pub others : List Span
+  pub part_is : IsPartOf side field mask part
+  pub spans_are : first ∷ others ≡ map (placed_span (most_of side field) (unit_of field)) spans
+  pub compares : IsComparison part first others test
 
 -- The span of one number.
 abbrev pub span_of_one : ℕ → Span
@@ -90,11 +94,6 @@ span_below k = if k == 0 then record { low = 1; high = 0 } else record { low = 0
 -- The span of the numbers up to one.
 abbrev pub span_up_to : ℕ → Span
 span_up_to k = record { low = 0; high = k }
-
--- The test is that another doesn't hold.
-abbrev pub IsNotOf : (PlainTest → Type 0) → PlainTest → Type 0
-IsNotOf Is (plain.Not' p test) = Is test
-IsNotOf Is _ = ⊥
 
 -- The first of these tests is as this says, and the others are as that says.
 abbrev pub IsFirst : (PlainTest → Type 0) → (List PlainTest → Type 0) → List PlainTest → Type 0

@@ -10,7 +10,7 @@ use crate::relation::Relation;
 use crate::rules::RuleLine;
 use crate::test::Test;
 use bpf_code::Size;
-use match_code::{Line, Part, PlainTest, Span, all_of, in_order};
+use match_code::{Line, Part, PlainTest, Span, all_of, compare, in_order};
 use std::alloc::{AllocError, Global};
 use upc_cell::Side;
 
@@ -129,11 +129,9 @@ fn among(
     let most = most_of(side, field);
     let unit = unit_of(field);
     let others = placed_spans(alloc, most, unit, others)?;
-    Ok(PlainTest::Among {
-        part: part_of(side, field, mask),
-        first: placed_span(most, unit, first),
-        others,
-    })
+    let first = placed_span(most, unit, first);
+    let test = compare(alloc, part_of(side, field, mask), first, others)?;
+    Ok(test)
 }
 
 /// The test that a field is in this span.

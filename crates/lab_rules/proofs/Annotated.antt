@@ -1,9 +1,9 @@
 -- What the loops of the annotated listing keep.
-use Rattle.std.proofs.Common.{◌≡◌, ◌≢◌, ℕ, zero, suc, ◌+◌, ◌-◌, ◌<◌, ◌≤◌, ◌==◌, ◌&&◌, not, Bool, true, false, if◌then◌else◌, List, [], ◌∷◌, ◌++◌, codes, drop, take, length, get_or, min, refl, sym, ap, subst, ◌∙◌, arith, append-nil, append_assoc, take-append-drop}
+use Rattle.std.proofs.Common.{◌≡◌, ◌≢◌, ℕ, ◌+◌, ◌<◌, ◌≤◌, ◌==◌, true, false, if◌then◌else◌, List, [], ◌∷◌, ◌++◌, codes, drop, take, length, get_or, refl, sym, ap, subst, ◌∙◌, arith, append-nil, append_assoc, take-append-drop}
 use Rattle.std.proofs.lemmas.List.{drop_all, drop_more, get_or-take, length-take, take_more}
 use Rattle.text_io.specs.Lines.{Line, lines_of}
 use Rattle.text_io.proofs.LinesLemmas.{NoFeed, lines-at_feed, lines-of_rest}
-use Rattle.lab_rules.specs.AsmText.{comment_at, comments_from, comment_line, line_after, lines_with, next_length, whole_line}
+use Rattle.lab_rules.specs.AsmText.{comment_at, comments_from, comment_line, lines_with, next_length, whole_line}
 
 -- The text begins with this line, and the rest follows.
 abbrev pub IsFirst : List ℕ → List ℕ → List ℕ → Type 0

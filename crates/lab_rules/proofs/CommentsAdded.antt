@@ -1,11 +1,11 @@
 -- A source means the same code with comment lines added.
-use Rattle.std.proofs.Common.{◌≡◌, ◌⊎◌, inl, inr, ℕ, zero, suc, ◌+◌, ◌<◌, ◌==◌, Bool, true, false, List, [], ◌∷◌, ◌++◌, length, drop, Option, Some, None, refl, sym, ap, subst, ◌∙◌, arith}
+use Rattle.std.proofs.Common.{◌≡◌, ◌⊎◌, inl, inr, ℕ, zero, suc, ◌+◌, true, List, [], ◌∷◌, ◌++◌, length, Option, Some, None, refl, sym, ap, subst, ◌∙◌, arith}
 use Rattle.std.proofs.lemmas.Bool.{eqb-true}
 use Rattle.std.specs.List.{cons_option}
 use Rattle.bpf_asm.specs.Grammar.{SourceLine, AreLines, IsSourceLine}
 use Rattle.bpf_asm.specs.Labels.{EachLabelOnce, HasLabel, IsDangling, IsOffset, NamesPlace, Operand, statements_of}
-use Rattle.bpf_asm.specs.Meaning.{IsMeaning, IsSide, LinesMean, MeanFrom, Means}
-use Rattle.bpf_asm.specs.SourceLines.{source_lines, without_comment}
+use Rattle.bpf_asm.specs.Meaning.{IsSide, MeanFrom, Means}
+use Rattle.bpf_asm.specs.SourceLines.{source_lines}
 use Rattle.bpf_asm.specs.StatementSpelling.{Statement, plain, jump, branch}
 use Rattle.bpf_asm.specs.Tokens.{pieces_of, signed, tokens_in, tokens_of, tokens_read}
 use Rattle.bpf_code.specs.declared.instr.Instr.{Instr}

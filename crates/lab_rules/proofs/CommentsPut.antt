@@ -1,5 +1,5 @@
 -- The listing with its comments adds comment lines to the listing.
-use Rattle.std.proofs.Common.{◌≡◌, ◌⊎◌, inl, inr, ℕ, zero, suc, ◌+◌, ◌-◌, ◌/◌, ◌%◌, ◌^◌, ◌<◌, ◌≤◌, ◌==◌, ◌&&◌, not, Bool, true, false, if◌then◌else◌, List, [], ◌∷◌, ◌++◌, Result, Ok, Err, codes, decimal, length, map, take, get_or, slice_index, refl, sym, ap, subst, ◌∙◌, arith, append_assoc, append-nil}
+use Rattle.std.proofs.Common.{◌≡◌, ◌⊎◌, inl, inr, ℕ, zero, suc, ◌+◌, ◌-◌, ◌/◌, ◌%◌, ◌<◌, ◌==◌, ◌&&◌, not, Bool, true, false, if◌then◌else◌, List, [], ◌∷◌, ◌++◌, Result, Ok, Err, codes, decimal, length, map, take, get_or, slice_index, refl, sym, ap, subst, ◌∙◌, arith, append_assoc, append-nil}
 use Rattle.std.specs.Fmt.{digit_glyph, digits, digits_onto}
 use Rattle.std.proofs.lemmas.Bool.{agree_below_at}
 use Rattle.std.proofs.lemmas.Nat.{mod_below}
@@ -15,11 +15,11 @@ use Rattle.lab_rules.specs.CommentLines.{AddsComments, is_comment}
 use Rattle.lab_rules.proofs.CommentsAdded.{comments_mean_nothing}
 
 -- No octet is a line feed.
-abbrev AllFree : List ℕ → Type 0
+abbrev pub AllFree : List ℕ → Type 0
 AllFree [] = Unit {0}
 AllFree (octet ∷ rest) = ((octet == 10) ≡ false) × AllFree rest
 
-free_append : (one other : List ℕ) → AllFree one → AllFree other → AllFree (one ++ other)
+pub free_append : (one other : List ℕ) → AllFree one → AllFree other → AllFree (one ++ other)
 free_append [] other f g = g
 free_append (octet ∷ one) other f g = (f.0, free_append one other f.1 g)
 
@@ -49,7 +49,7 @@ decimal_free value = onto_free 64 value [] tt
 -- ---- the lines of a text have no line feed
 
 -- Lines of a text: none has a line feed, and each but the last is ended by one.
-abbrev AreCut : List Line → Type 0
+abbrev pub AreCut : List Line → Type 0
 AreCut [] = Unit {0}
 AreCut (line ∷ lines) = AllFree line.octets × ((line.ended ≡ true) ⊎ ((line.ended ≡ false) × (lines ≡ []) × (0 < length line.octets))) × AreCut lines
 
@@ -67,7 +67,7 @@ cut_by : (is : Bool) (octet : ℕ) (octets : List ℕ) → (octet == 10) ≡ is 
 cut_by true octet octets e c = (tt, inl refl, c)
 cut_by false octet octets e c = begun_cut octet (lines_of octets) e c
 
-cut : (octets : List ℕ) → AreCut (lines_of octets)
+pub cut : (octets : List ℕ) → AreCut (lines_of octets)
 cut [] = tt
 cut (octet ∷ octets) = cut_by (octet == 10) octet octets refl (cut octets)
 
@@ -79,7 +79,7 @@ last_line : (octet : ℕ) (line : List ℕ) → AllFree (octet ∷ line) → lin
 last_line octet [] f = rw f.0 refl
 last_line octet (next ∷ line) f = rw f.0 (ap (begun_with octet) (last_line next line f.1))
 
-ended_source : (line rest : List ℕ) → AllFree line → source_lines (line ++ 10 ∷ rest) ≡ without_return line ∷ source_lines rest
+pub ended_source : (line rest : List ℕ) → AllFree line → source_lines (line ++ 10 ∷ rest) ≡ without_return line ∷ source_lines rest
 unfolding source_lines
 ended_source line rest f = ap (map said) (ended_lines line rest f)
 
@@ -90,7 +90,7 @@ free_without octets f = go (get_or octets (length octets - 1) 0 == 13)
     go true = free_take (length octets - 1) octets f
     go false = f
 
-free_said : (line : Line) → AllFree line.octets → AllFree (said line)
+pub free_said : (line : Line) → AllFree line.octets → AllFree (said line)
 free_said line f = go line.ended
   where
     go : (is : Bool) → AllFree (if is then without_return line.octets else line.octets)

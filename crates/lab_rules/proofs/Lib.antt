@@ -6,3 +6,4 @@ pub mod WhySteps
 pub mod CommentsAdded
 pub mod Annotated
 pub mod CommentsPut
+pub mod Gathering

@@ -2,6 +2,7 @@
 pub mod RuleFaults
 pub mod RulesText
 pub mod WhyText
+pub mod WhyGathering
 pub mod CommentLines
 pub mod AsmText
 pub mod AsmLaws

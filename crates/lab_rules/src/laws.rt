@@ -2,6 +2,7 @@
 
 ghost use Rattle.lab_rules.specs.AsmLaws.{SourcesAreCheckedAlike};
 ghost use Rattle.lab_rules.specs.CommentLines.{CommentLinesMeanNothing};
+ghost use Rattle.lab_rules.specs.WhyGathering.{RulesAreGatheredAsWritten};
 
 /// A source of assembly means the same code with comment lines added.
 pub fn comment_lines_mean_nothing()
@@ -11,4 +12,9 @@ pub fn comment_lines_mean_nothing()
 /// `upc check` answers the source of a text of rules as `upc-lab rules` answers the text.
 pub fn sources_are_checked_alike()
     ensures { SourcesAreCheckedAlike }
+{}
+
+/// The text that `upc-lab why` gathers of the lines of rules has their rules, or their fault.
+pub fn rules_are_gathered_as_written()
+    ensures { RulesAreGatheredAsWritten }
 {}

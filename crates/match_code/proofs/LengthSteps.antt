@@ -1,7 +1,7 @@
 -- The numbers of instructions from each line on, as the loop over lines makes them.
-use Rattle.std.proofs.Common.{◌≡◌, ℕ, ◌+◌, ◌<◌, List, [], ◌∷◌, ◌++◌, length, drop, get_or, reverse, Option, None, sym, ap, ◌∙◌}
+use Rattle.std.proofs.Common.{◌≡◌, ℕ, ◌+◌, ◌<◌, List, [], ◌∷◌, length, drop, get_or, Option, sym, ap, ◌∙◌}
 use Rattle.std.proofs.lemmas.List.{drop_more}
-use Rattle.match_code.specs.LineCode.{Coded, left_after, lines_coded}
+use Rattle.match_code.specs.LineCode.{Coded, lines_coded}
 use Rattle.match_code.specs.LinePlaces.{lengths_from}
 use Rattle.match_code.specs.inner.Held.{held_at}
 use Rattle.match_code.specs.declared.lines.Line.{Line}

@@ -8,6 +8,7 @@ pub mod JoinedSingles
 pub mod BitTests
 pub mod Chains
 pub mod AllOf
+pub mod BoundTests
 pub mod Tests
 pub mod LinesFit
 pub mod LinesAccepted

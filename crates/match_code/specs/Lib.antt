@@ -3,6 +3,7 @@ pub mod Neighbours
 pub mod Lines
 pub mod PlainTests
 pub mod Order
+pub mod Bounds
 pub mod Promise
 pub mod BitTests
 pub mod TestCode

@@ -81,7 +81,7 @@ fn is_loaded(held: Option<Part>, part: Part) -> bool
 }
 
 /// The part without its mask.
-fn whole_of(part: Part) -> Part
+pub(crate) fn whole_of(part: Part) -> Part
     ensures { result ≡ whole_of part }
 {
     Part {

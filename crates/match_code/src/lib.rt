@@ -2,6 +2,7 @@
 #![tactic(auto)]
 
 mod bits;
+mod bounds;
 mod draft;
 mod fault;
 mod leaves;
@@ -13,6 +14,7 @@ mod plain_test;
 mod tests_code;
 
 pub use bits::BitTest;
+pub use bounds::{BoundTest, compare};
 pub use draft::Ways;
 pub use fault::CodeFault;
 pub use lines::{Line, PlacedCode, generate, generate_placed};

@@ -1,5 +1,4 @@
-use Rattle.std.proofs.Common.{inl, refl, ℕ, List}
-use Rattle.rules_text.specs.declared.compiler.NumberedCode.{NumberedCode}
+use Rattle.std.proofs.Common.{inl, refl}
 use Rattle.upc_codes.specs.Program.{is_program}
 use Rattle.lab_rules.specs.AsmLaws.{SourcesAreCheckedAlike}
 use Rattle.lab_rules.proofs.laws.sources_are_checked_alike.Goals as goal
