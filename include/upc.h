@@ -23,7 +23,9 @@
  *  - The thread has UPC_STACK octets of stack left, for upc_rules_compile UPC_RULES_STACK. That this is enough is
  *    measured, and not proved.
  *
- * Any number of threads may call at once. The library stores nothing between calls except in its caller's objects.
+ * Any number of threads may call at once. The library stores nothing between calls except in its caller's objects. A
+ * upc_program or upc_card may be made on one thread and used on another (proved), by one at a time. Calls that take it as
+ * const may be made on one handle by any number of threads at once, while no other call is (tested, not proved).
  */
 #ifndef UPC_H
 #define UPC_H
@@ -267,7 +269,7 @@ uint32_t upc_rules_compile(const uint8_t *rules, size_t rules_length, uint8_t *r
 
 /* A program, or none: all zeros are none, as in `upc_program p = {0, 0};`. Only these calls fill it: its owner neither
  * reads nor writes its members and makes no second copy, and frees the program before the upc_program is gone. It may
- * be moved to another place, but the earlier place is then used no more. Only the thread that made it may use it. */
+ * be moved to another place, but the earlier place is then used no more. */
 typedef struct upc_program {
 	uint32_t live;
 	void *at;
@@ -290,8 +292,8 @@ void upc_program_free(upc_program *program);
 
 /* A card with programs and connections, which judges each cell on the connection that its header names; or none: all
  * zeros are none, as in `upc_card c = {0, 0};`. As with a upc_program, only these calls fill it, it has no second copy,
- * it is freed before it is gone, it may be moved, and only the thread that made it may use it. A card serves one
- * caller. */
+ * it is freed before it is gone, and it may be moved. A card serves one caller at a time. For more, give each thread a
+ * card of its own, with a part of the connections, as in examples/c/threads.c. */
 typedef struct upc_card {
 	uint32_t live;
 	void *at;

@@ -80,12 +80,12 @@ def layer_of(call):
         lines += [f"\tif ({call.pointers()[0].name} != NULL)", f"\t\t{call.inner}({call.given()});", "}"]
         return "\n".join(lines)
     plain = [it.name for it in call.pointers() if it.length is None]
-    lines += ["\tif (fault == NULL) {", "\t\tupc_fault unwanted;", "", f"\t\treturn {call.name}({call.given(fault='&unwanted')});", "\t}"]
+    lines += ["\tif (SELDOM(fault == NULL)) {", "\t\tupc_fault unwanted;", "", f"\t\treturn {call.name}({call.given(fault='&unwanted')});", "\t}"]
     if plain:
-        lines += [f"\tif ({' || '.join(f'{it} == NULL' for it in plain)})", "\t\treturn null_pointer(fault);"]
+        lines += [f"\tif ({' || '.join(f'SELDOM({it} == NULL)' for it in plain)})", "\t\treturn null_pointer(fault);"]
     for it in (it for it in call.pointers() if it.length):
         kind = f"{'const ' if it.is_const else ''}{it.type} *"
-        lines += [f"\tif ({it.name} == NULL) {{", f"\t\tif ({it.length} != 0)", "\t\t\treturn null_pointer(fault);"]
+        lines += [f"\tif (SELDOM({it.name} == NULL)) {{", f"\t\tif ({it.length} != 0)", "\t\t\treturn null_pointer(fault);"]
         lines += [f"\t\t{it.name} = ({kind})(void *)&nothing;", "\t}"]
     lent = [it for it in call.parameters if it.is_lent()]
     for it in lent:
@@ -99,6 +99,12 @@ def layer():
     """The layer as C."""
     number = NUMBER.search(text(f"{ROOT}/docs/FORMATS.md"))[1]
     return "\n\n".join([f"""#include "upc.h"
+
+#if defined(__GNUC__)
+#define SELDOM(it) __builtin_expect(!!(it), 0)
+#else
+#define SELDOM(it) (it)
+#endif
 
 /* What a buffer of length 0 is for the proved calls. Nobody reads or writes it. */
 static uint64_t nothing;

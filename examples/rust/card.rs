@@ -2,8 +2,8 @@
 //!
 //!     rustc -L FOLDER -l static=upc examples/rust/card.rs
 
-use std::marker::PhantomData;
 use std::ptr::null_mut;
+use std::thread;
 
 /// The structs of `include/upc.h`, with the same fields in the same order.
 #[repr(C)]
@@ -45,13 +45,16 @@ extern "C" {
     fn upc_card_load(card: &mut Held, octets: *const u8, length: usize, id: &mut Id, fault: &mut Fault) -> u32;
     fn upc_card_setup(card: &mut Held, path: u16, channel: u16, id: &Id, contracts: *const Contract, count: usize, fault: &mut Fault) -> u32;
     fn upc_card_arrive(card: &mut Held, octets: *mut u8, length: usize, moment: u64, answer: &mut Answer, fault: &mut Fault) -> u32;
-    fn upc_card_journal(card: &mut Held, path: u16, channel: u16, cells: &mut usize, fault: &mut Fault) -> u32;
-    fn upc_card_counts(card: &mut Held, path: u16, channel: u16, counts: &mut Counts, fault: &mut Fault) -> u32;
+    fn upc_card_journal(card: &Held, path: u16, channel: u16, cells: &mut usize, fault: &mut Fault) -> u32;
+    fn upc_card_counts(card: &Held, path: u16, channel: u16, counts: &mut Counts, fault: &mut Fault) -> u32;
     fn upc_card_cut(card: &mut Held, path: u16, channel: u16, room: *mut Entry, length: usize, journal: &mut Journal, fault: &mut Fault) -> u32;
 }
 
-/// A card. It is dropped once, has no copy, and stays with its thread: a raw pointer is neither `Send` nor `Sync`.
-pub struct Card { held: Held, own_thread: PhantomData<*mut ()> }
+/// A card. It is dropped once and has no copy. One thread at a time may use it: a raw pointer is not `Sync`.
+pub struct Card { held: Held }
+
+/// The library proves that a card may go to another thread.
+unsafe impl Send for Card {}
 
 /// Makes a call that fills a value, or a fault if it returns another number than 0.
 fn ask<T: Default>(call: impl FnOnce(&mut T, &mut Fault) -> u32) -> Result<T, Fault> {
@@ -62,7 +65,7 @@ fn ask<T: Default>(call: impl FnOnce(&mut T, &mut Fault) -> u32) -> Result<T, Fa
 /// References are never null, slices are as long as they say, and a `&mut` is lent to nobody else: no call asks for more.
 impl Card {
     pub fn new(shape: &Shape) -> Result<Card, Fault> {
-        let mut card = Card { held: Held { live: 0, at: null_mut() }, own_thread: PhantomData };
+        let mut card = Card { held: Held { live: 0, at: null_mut() } };
         ask(|_: &mut (), fault| unsafe { upc_card_new(shape, &mut card.held, fault) })?;
         Ok(card)
     }
@@ -80,13 +83,13 @@ impl Card {
         ask(|answer, fault| unsafe { upc_card_arrive(&mut self.held, cell.as_mut_ptr(), cell.len(), moment, answer, fault) })
     }
 
-    pub fn counts(&mut self, path: u16, channel: u16) -> Result<Counts, Fault> {
-        ask(|counts, fault| unsafe { upc_card_counts(&mut self.held, path, channel, counts, fault) })
+    pub fn counts(&self, path: u16, channel: u16) -> Result<Counts, Fault> {
+        ask(|counts, fault| unsafe { upc_card_counts(&self.held, path, channel, counts, fault) })
     }
 
     /// Empties the connection's journal, and returns its cells.
     pub fn cut(&mut self, path: u16, channel: u16) -> Result<Vec<Entry>, Fault> {
-        let cells = ask(|cells, fault| unsafe { upc_card_journal(&mut self.held, path, channel, cells, fault) })?;
+        let cells = ask(|cells, fault| unsafe { upc_card_journal(&self.held, path, channel, cells, fault) })?;
         let mut room = vec![Entry::default(); cells];
         ask(|it, fault| unsafe { upc_card_cut(&mut self.held, path, channel, room.as_mut_ptr(), cells, it, fault) })
             .map(|_: Journal| room)
@@ -99,8 +102,7 @@ impl Drop for Card {
     }
 }
 
-fn police() -> Result<(), Fault> {
-    let mut card = Card::new(&Shape { side: 0, programs: 1, lines: 1, ports: 1, journal: 16 })?;
+fn police(mut card: Card) -> Result<(), Fault> {
     // ldb [3]; jset #8, over one; ret #1; ret #0: contract 1 for user cells, and none for others, which are refused.
     let program = [[0, 0x30, 0, 0, 0, 0, 0, 3], [0, 0x45, 1, 0, 0, 0, 0, 8], [0, 6, 0, 0, 0, 0, 0, 1], [0, 6, 0, 0, 0, 0, 0, 0]];
     let program = card.load(&program.concat())?;
@@ -121,7 +123,9 @@ fn police() -> Result<(), Fault> {
 }
 
 fn main() {
-    if let Err(fault) = police() {
+    // The card is made on this thread, and used and freed on another.
+    let card = Card::new(&Shape { side: 0, programs: 1, lines: 1, ports: 1, journal: 16 });
+    if let Err(fault) = card.and_then(|card| thread::spawn(move || police(card)).join().expect("no panic")) {
         println!("{fault:?}");
     }
 }
