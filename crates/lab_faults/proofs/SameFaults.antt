@@ -6,7 +6,7 @@ use Rattle.bpf_verify.proofs.Public.{one_comes_first, refused-from_fault}
 use Rattle.bpf_asm.specs.declared.fault.AsmFault.{AsmFault}
 use Rattle.bpf_verify.specs.declared.fault.Fault.{Fault}
 use Rattle.bpf_asm.specs.SourceLines.{source_lines}
-use Rattle.lab_faults.specs.AsCheck.{GoesOn, NamesFaultsOfCheck}
+use Rattle.lab_faults.specs.AsCheck.{NamesSameFault, NamesFaultsOfCheck}
 use Rattle.lab_faults.specs.Explained.{ExplainsCode, ExplainsSource}
 use Rattle.lab_faults.specs.SourceReasons.{source_explanation}
 use Rattle.text_io.specs.declared.ending.Done.{Done}
@@ -16,14 +16,14 @@ use Rattle.upc_codes.specs.Program.{ProgramReading, is_program, is_refused, Chec
 use Rattle.upc_programs.specs.Check.{IsCheckAnswer, TellsSource}
 use Rattle.upc_programs.specs.SourceFaults.{asm_fault}
 
-both_whole : (checked text : List ℕ) (ended done : Done) → ended ≡ Whole → done ≡ Whole → GoesOn checked text ended done
+both_whole : (checked text : List ℕ) (ended done : Done) → ended ≡ Whole → done ≡ Whole → NamesSameFault checked text ended done
 both_whole checked text ended done p q = record { alike = q ∙ sym p; begins = λ r. let bad : Whole ≡ Ended = sym q ∙ r in cc }
 
-both_ended : (checked text more : List ℕ) (ended done : Done) → ended ≡ Ended → done ≡ Ended → text ≡ checked ++ more → GoesOn checked text ended done
+both_ended : (checked text more : List ℕ) (ended done : Done) → ended ≡ Ended → done ≡ Ended → text ≡ checked ++ more → NamesSameFault checked text ended done
 both_ended checked text more ended done p q e = record { alike = q ∙ sym p; begins = λ r. (more, e) }
 
 reading-same : (source : List ℕ) (code : List Instr) (reading : ProgramReading) (checked text : List ℕ) (ended done : Done) → ChecksAs code reading → IsCheckAnswer reading checked ended
-    → ExplainsCode source code text done → GoesOn checked text ended done
+    → ExplainsCode source code text done → NamesSameFault checked text ended done
 reading-same source code (is_program accepted) checked text ended done checks told (inl fine) = both_whole checked text ended done told.1 fine.2
 reading-same source code (is_program accepted) checked text ended done checks told (inr found) = absurd (refused-from_fault code found.0 found.1 checks.0)
 reading-same source code (is_refused refused) checked text ended done checks told (inl fine) = absurd (refused-from_fault code checks.0 checks.1 fine.0)
@@ -33,7 +33,7 @@ reading-same source code (is_refused refused) checked text ended done checks tol
     both_ended checked text more ended done told.1 found.3
     (found.2.2 ∙ ap (λ (f : Fault). verify_fault f ++ more) same ∙ ap (λ (xs : List ℕ). xs ++ more) (sym checks.2 ∙ sym told.0))
 
-source-same : (source checked text : List ℕ) (ended done : Done) → TellsSource source checked ended → ExplainsSource source text done → GoesOn checked text ended done
+source-same : (source checked text : List ℕ) (ended done : Done) → TellsSource source checked ended → ExplainsSource source text done → NamesSameFault checked text ended done
 source-same source checked text ended done (inl p) (inl q) =
     let same = meaning_once source q.0 p.0 q.1 p.1 in
     let explains = subst (λ (code : List Instr). ExplainsCode source code text done) same q.2 in

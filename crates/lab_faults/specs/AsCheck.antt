@@ -6,11 +6,11 @@ use Rattle.text_io.specs.declared.ending.Done.TheVariants.{Ended}
 use Rattle.upc_programs.specs.Check.{TellsSource}
 
 -- Both answers end alike, and if they end with a fault, the second begins with the first.
-pub record GoesOn (checked text : List ℕ) (ended done : Done) : Type 0 where
+pub record NamesSameFault (checked text : List ℕ) (ended done : Done) : Type 0 where
   pub alike : done ≡ ended
   pub begins : done ≡ Ended → (more : List ℕ) × (text ≡ checked ++ more)
 
 -- The answer of `explain` to a source begins with that of `upc check`, if that is a fault, and is a fault only then.
 abbrev pub NamesFaultsOfCheck : Type 0
 NamesFaultsOfCheck =
-    (source checked text : List ℕ) (ended done : Done) → TellsSource source checked ended → ExplainsSource source text done → GoesOn checked text ended done
+    (source checked text : List ℕ) (ended done : Done) → TellsSource source checked ended → ExplainsSource source text done → NamesSameFault checked text ended done

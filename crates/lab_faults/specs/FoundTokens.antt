@@ -27,14 +27,14 @@ token_here column inside (octet ∷ rest) =
     if begins_token inside octet then record { column = column; size = token_size (octet ∷ rest) } ∷ [] else []
 
 -- The tokens of octets of a line, the first of which is in this column.
-abbrev pub tokens_from : ℕ → Bool → List ℕ → List FoundToken
-tokens_from column inside [] = []
-tokens_from column inside (octet ∷ rest) =
-    token_here column inside (octet ∷ rest) ++ tokens_from (column + 1) (is_word octet) rest
+abbrev pub found_from : ℕ → Bool → List ℕ → List FoundToken
+found_from column inside [] = []
+found_from column inside (octet ∷ rest) =
+    token_here column inside (octet ∷ rest) ++ found_from (column + 1) (is_word octet) rest
 
 -- The tokens of a line. Columns count octets from 1.
 unfoldable pub found_tokens : List ℕ → List FoundToken
-found_tokens text = tokens_from 1 false text
+found_tokens text = found_from 1 false text
 
 -- The octets of a token.
 abbrev pub token_octets : List ℕ → FoundToken → List ℕ

@@ -14,15 +14,15 @@ abbrev pub instruction_tokens : List ℕ → List FoundToken
 instruction_tokens line = after_label (without_comment line) (tokens_of_line line)
 
 -- Whether there is a token.
-abbrev pub some_token : List FoundToken → Bool
-some_token [] = false
-some_token (token ∷ tokens) = true
+abbrev pub has_token : List FoundToken → Bool
+has_token [] = false
+has_token (token ∷ tokens) = true
 
 -- The numbers of the lines that have an instruction. The first line has this number.
 abbrev pub instruction_lines : ℕ → List (List ℕ) → List ℕ
 instruction_lines number [] = []
 instruction_lines number (line ∷ lines) =
-    if some_token (instruction_tokens line) then number ∷ instruction_lines (number + 1) lines else instruction_lines (number + 1) lines
+    if has_token (instruction_tokens line) then number ∷ instruction_lines (number + 1) lines else instruction_lines (number + 1) lines
 
 -- Whether this is the label.
 abbrev pub is_same_label : List ℕ → Option (List ℕ) → Bool

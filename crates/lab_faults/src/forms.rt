@@ -9,7 +9,7 @@ use bpf_asm::number;
 
 /// What a mnemonic takes.
 #[derive(Clone, Copy)]
-pub(crate) enum Form {
+pub enum Form {
     /// What `ld` takes.
     Word,
     /// A place of the packet.
@@ -36,7 +36,7 @@ pub(crate) enum Form {
 
 /// A form of operands.
 #[derive(Clone, Copy)]
-pub(crate) enum Shape {
+pub enum Shape {
     /// `[number]`
     Packet,
     /// `[x+number]`
@@ -73,7 +73,7 @@ pub(crate) enum Shape {
 
 /// A token of a form.
 #[derive(Clone, Copy)]
-pub(crate) enum Slot {
+pub enum Slot {
     /// This octet.
     Mark(u8),
     /// `x`

@@ -12,3 +12,5 @@ mod source_faults;
 mod tokens;
 
 pub use explaining::explain_faults;
+pub use forms::{Form, Shape, Slot};
+pub use tokens::FoundToken;

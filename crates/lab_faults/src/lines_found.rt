@@ -2,7 +2,7 @@
 
 ghost use Rattle.std.specs.Prelude.{◌≡◌, ◌<◌, ◌^◌, ℕ, List, length, IfOk};
 ghost use Rattle.bpf_asm.specs.SourceLines.{source_lines, without_comment};
-ghost use Rattle.lab_faults.specs.LinesFound.{count_between, instruction_lines, instruction_tokens, is_same_label, label_line, line_numbered, some_token, tokens_of_line};
+ghost use Rattle.lab_faults.specs.LinesFound.{count_between, instruction_lines, instruction_tokens, is_same_label, label_line, line_numbered, has_token, tokens_of_line};
 ghost use Rattle.lab_faults.specs.FoundTokens.{label_of};
 
 use crate::tokens::{after_label, before_comment, has_label, tokens_of};
@@ -27,7 +27,7 @@ pub(crate) fn line_numbered(source: &[u8], number: usize) -> &[u8]
 
 /// Returns whether a line has an instruction.
 fn has_instruction(alloc: Global, line: &[u8]) -> Result<bool, AllocError>
-    ensures { IfOk result (λ has. has ≡ some_token (instruction_tokens line.now)) }
+    ensures { IfOk result (λ has. has ≡ has_token (instruction_tokens line.now)) }
 {
     let text = before_comment(line);
     let tokens = tokens_of(alloc, text)?;

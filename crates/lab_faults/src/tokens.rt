@@ -11,7 +11,7 @@ use std::alloc::{AllocError, Global};
 
 /// A token of a line.
 #[derive(Clone, Copy)]
-pub(crate) struct FoundToken {
+pub struct FoundToken {
     /// The column of its first octet, counted from 1.
     pub column: usize,
     /// How many octets it has.

@@ -1,6 +1,7 @@
 //! The words of the command line, read by the crate `clap`.
 
-ghost use Rattle.std.specs.Prelude.{◌≡◌, List, ℕ, [], IfErr, IfOk, IfSome, IsErrAnd, IsOkAnd, IsSome, IsSomeAnd, Some, codes, map, option_map};
+ghost use Rattle.std.specs.Prelude.{◌≡◌, List, ℕ, [], IfErr, IfOk, IfSome, IsErrAnd, IsOkAnd, IsSome, IsSomeAnd, Some, codes, find, map, option_map};
+ghost use Rattle.std.specs.Str.{bytes_eq};
 ghost use Rattle.std.specs.String.{string_bytes};
 ghost use Rattle.clap.specs.Values.{kind_of};
 ghost use Rattle.clap.specs.Simple.{app_of};
@@ -181,17 +182,33 @@ fn answer_to(alloc: Global, found: Result<Option<&str>, Error>) -> Result<Subcom
     }
 }
 
+/// The name of each subcommand.
+const SUBCOMMANDS: [(&[u8], Subcommand); 7] = [
+    (b"rules", Subcommand::Rules),
+    (b"why", Subcommand::Why),
+    (b"asm", Subcommand::Asm),
+    (b"list", Subcommand::List),
+    (b"trace", Subcommand::Trace),
+    (b"size", Subcommand::Size),
+    (b"explain", Subcommand::Explain),
+];
+
+/// Returns the subcommand of the row with this name.
+fn named_among(name: &[u8], rows: &[(&[u8], Subcommand)]) -> Option<Subcommand>
+    ensures { result ≡ option_map (λ row. row.1) (find (λ row. bytes_eq row.0 name.now) (map (λ row. (row.0.now, row.1)) rows.now)) }
+{
+    let mut left = rows;
+    while let [row, rest @ ..] = left {
+        if row.0 == name {
+            return Some(row.1);
+        }
+        left = rest;
+    }
+    None
+}
+
 fn named(name: &str) -> Option<Subcommand>
     ensures { result ≡ lab_named name.now }
 {
-    match name {
-        "rules" => Some(Subcommand::Rules),
-        "why" => Some(Subcommand::Why),
-        "asm" => Some(Subcommand::Asm),
-        "list" => Some(Subcommand::List),
-        "trace" => Some(Subcommand::Trace),
-        "size" => Some(Subcommand::Size),
-        "explain" => Some(Subcommand::Explain),
-        _ => None,
-    }
+    named_among(name.as_bytes(), &SUBCOMMANDS)
 }

@@ -1,12 +1,12 @@
 -- Loop invariant: the tokens so far, and those of the rest, are all.
 use Rattle.std.proofs.Common.{◌≡◌, ◌≤◌, ◌+◌, ◌++◌, false, length}
-use Rattle.lab_faults.specs.FoundTokens.{tokens_from}
+use Rattle.lab_faults.specs.FoundTokens.{found_from}
 use Rattle.lab_faults.proofs.tokens.tokens_of.Given as goal
 
 abbrev pub invariant-loop-left : goal.invariant-loop-left
 invariant-loop-left l = record {
   within : l.at + length l.left ≤ length l.text;
-  rest : l.tokens.items ++ tokens_from (l.at + 1) l.inside l.left ≡ tokens_from 1 false l.text;
+  rest : l.tokens.items ++ found_from (l.at + 1) l.inside l.left ≡ found_from 1 false l.text;
 }
 
 abbrev pub decreases-loop-left : goal.decreases-loop-left
