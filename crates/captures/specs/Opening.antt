@@ -1,11 +1,11 @@
 -- What a file is, as its first octets say.
-use Rattle.std.specs.Prelude.{◌≡◌, ◌≢◌, ◌≤◌, ◌<◌, ◌/◌, ◌%◌, ◌⊎◌, ℕ, List, length, drop}
+use Rattle.std.specs.Prelude.{◌≡◌, ◌≢◌, ◌≤◌, ◌<◌, ◌/◌, ◌%◌, ◌⊎◌, ℕ, List, All, length, take, drop}
 use Rattle.byteorder.specs.Endian.{big_number}
 use Rattle.captures.specs.Framing.{number_in_order}
 use Rattle.captures.specs.declared.format.Format.TheVariants.{Erf, Pcap}
 use Rattle.captures.specs.declared.format.Order.{Order}
 use Rattle.captures.specs.declared.format.Order.TheVariants.{HighestFirst, LowestFirst}
-use Rattle.captures.specs.declared.opening.FileFault.TheVariants.{Gzip, PcapNg, OtherLink}
+use Rattle.captures.specs.declared.opening.FileFault.TheVariants.{Gzip, PcapNg, OtherLink, Text}
 use Rattle.captures.specs.declared.opening.Opening.{Opening}
 use Rattle.captures.specs.declared.opening.Opening.TheVariants.{Opened, Undecided, Refused}
 
@@ -30,16 +30,26 @@ IsGzipMagic magic = magic / 256 ≡ 0x1f8b08
 abbrev pub pcap_link : Order → List ℕ → ℕ
 pcap_link order octets = number_in_order order (drop 20 octets) % 65536
 
--- The first octets of a file decide what it is, except that the file header of pcap has 24 octets, and others four.
+-- An octet of a text: a printable ASCII character, or one that ends a line or parts words.
+abbrev pub IsTextOctet : ℕ → Type 0
+IsTextOctet octet = ((32 ≤ octet) × (octet < 127)) ⊎ ((9 ≤ octet) × (octet < 14))
+
+-- A text begins with 16 such octets. A record that begins so holds no cell: neither type of such a record is among them.
+abbrev pub BeginsAsText : List ℕ → Type 0
+BeginsAsText octets = All IsTextOctet (take 16 octets)
+
+-- The first octets of a file decide what it is: the file header of pcap has 24, others 16.
 abbrev pub FileOpensAs : List ℕ → Opening → Type 0
-FileOpensAs octets Undecided = (length octets < 4) ⊎ ((order : Order) × IsPcapMagic order (file_magic octets) × (length octets < 24))
-FileOpensAs octets (Refused Gzip) = (4 ≤ length octets) × IsGzipMagic (file_magic octets)
-FileOpensAs octets (Refused PcapNg) = (4 ≤ length octets) × IsPcapNgMagic (file_magic octets)
+FileOpensAs octets Undecided =
+    (length octets < 16) ⊎ ((order : Order) × IsPcapMagic order (file_magic octets) × (length octets < 24))
+FileOpensAs octets (Refused Gzip) = (16 ≤ length octets) × IsGzipMagic (file_magic octets)
+FileOpensAs octets (Refused PcapNg) = (16 ≤ length octets) × IsPcapNgMagic (file_magic octets)
 FileOpensAs octets (Refused (OtherLink link)) =
     (24 ≤ length octets) × (order : Order) × IsPcapMagic order (file_magic octets)
     × (link ≡ pcap_link order octets) × (link ≢ 197)
+FileOpensAs octets (Refused Text) = (16 ≤ length octets) × BeginsAsText octets
 FileOpensAs octets (Opened (Pcap order)) =
     (24 ≤ length octets) × IsPcapMagic order (file_magic octets) × (pcap_link order octets ≡ 197)
 FileOpensAs octets (Opened Erf) =
-    (4 ≤ length octets) × ((order : Order) → ¬ IsPcapMagic order (file_magic octets))
-    × (¬ IsPcapNgMagic (file_magic octets)) × (¬ IsGzipMagic (file_magic octets))
+    (16 ≤ length octets) × ((order : Order) → ¬ IsPcapMagic order (file_magic octets))
+    × (¬ IsPcapNgMagic (file_magic octets)) × (¬ IsGzipMagic (file_magic octets)) × (¬ BeginsAsText octets)

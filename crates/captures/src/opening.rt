@@ -1,8 +1,10 @@
 //! What a file is.
 
-ghost use Rattle.captures.specs.Opening.{FileOpensAs};
+ghost use Rattle.std.specs.Prelude.{◌≤◌, ◌↔◌, length, IsTrue};
+ghost use Rattle.captures.specs.Opening.{BeginsAsText, FileOpensAs, IsTextOctet};
 ghost use Rattle.captures.specs.inner.Opened.{FileOpensAsPcap};
 
+use crate::content::HEADER_OCTETS;
 use crate::format::{FILE_HEADER_OCTETS, Format, Order};
 use byteorder::{BigEndian, ByteOrder};
 use thiserror::Error;
@@ -19,6 +21,9 @@ pub enum FileFault {
     /// It is a pcap file with packets of another link type than ERF (197).
     #[error("3 OtherLink {0}")]
     OtherLink(u32),
+    /// It is a text.
+    #[error("4 Text")]
+    Text,
 }
 
 /// What the first octets of a file say.
@@ -26,7 +31,7 @@ pub enum FileFault {
 pub enum Opening {
     /// The file is a capture.
     Opened(Format),
-    /// More octets are wanted: four, or 24 of a pcap file.
+    /// More octets are wanted: 16, or 24 of a pcap file. A file that ends before them is cut off, or is an empty capture.
     Undecided,
     /// The file isn't read.
     Refused(FileFault),
@@ -48,11 +53,28 @@ fn open_pcap(order: Order, octets: &[u8]) -> Opening
     }
 }
 
+/// Returns whether this is an octet of a text.
+fn is_text_octet(octet: u8) -> bool
+    ensures { IsTrue result ↔ IsTextOctet octet }
+{
+    matches!(octet, 32..=126 | 9..=13)
+}
+
+/// Returns whether octets begin as those of a text.
+fn begins_as_text(octets: &[u8]) -> bool
+    requires { 16 ≤ length octets.now }
+    ensures { IsTrue result ↔ BeginsAsText octets.now }
+{
+    octets[..HEADER_OCTETS]
+        .iter()
+        .all(|octet| is_text_octet(*octet))
+}
+
 /// Returns what the file is that begins with these octets.
 pub fn open(octets: &[u8]) -> Opening
     ensures { FileOpensAs octets.now result }
 {
-    if octets.len() < 4 {
+    if octets.len() < HEADER_OCTETS {
         return Opening::Undecided;
     }
     match BigEndian::read_u32(octets) {
@@ -60,6 +82,7 @@ pub fn open(octets: &[u8]) -> Opening
         0xd4c3_b2a1 | 0x4d3c_b2a1 => open_pcap(Order::LowestFirst, octets),
         0x0a0d_0d0a => Opening::Refused(FileFault::PcapNg),
         magic if magic / 0x100 == 0x001f_8b08 => Opening::Refused(FileFault::Gzip),
+        _ if begins_as_text(octets) => Opening::Refused(FileFault::Text),
         _ => Opening::Opened(Format::Erf),
     }
 }

@@ -84,6 +84,7 @@ fn octets_that_are_no_record(rt: HostRuntime) -> Result<(), Fail> {
 #[test]
 fn a_capture_that_is_cut_off(rt: HostRuntime) -> Result<(), Fail> {
     let octets = octets_of(3, 0, 68);
+    let cut_off = &octets[..67];
     let mut reader = Reader::new(Format::Erf);
     assert_eq!(rt; reader.end(&[]), None);
     for number in 1..=2 {
@@ -92,9 +93,9 @@ fn a_capture_that_is_cut_off(rt: HostRuntime) -> Result<(), Fail> {
         };
         assert_eq!(rt; record.number, number);
     }
-    assert_eq!(rt; reader.next(&octets[..67]), Next::Unfinished);
+    assert_eq!(rt; reader.next(cut_off), Next::Unfinished);
     assert_eq!(rt;
-        reader.end(&octets[..67]),
+        reader.end(cut_off),
         Some(Fault {
             at: 136,
             reason: RecordFault::CutOff
@@ -207,18 +208,23 @@ fn what_files_are(rt: HostRuntime) -> Result<(), Fail> {
     let pcap = pcap_of(Order::LowestFirst, 1, 68, 68);
     for (octets, opening) in [
         (&[][..], Opening::Undecided),
-        (&[0; 3], Opening::Undecided),
-        (&[0; 4], Opening::Opened(Format::Erf)),
-        (b"cell", Opening::Opened(Format::Erf)),
+        (b"cell 0 00100640", Opening::Undecided),
+        (b"cell 0 00100640\n", Opening::Refused(FileFault::Text)),
+        (b"cell 0 00100640\0", Opening::Opened(Format::Erf)),
+        (&[0; 15], Opening::Undecided),
+        (&[0; 16], Opening::Opened(Format::Erf)),
         (&pcap[..23], Opening::Undecided),
         (&pcap[..24], Opening::Refused(FileFault::OtherLink(1))),
-        (&[0xa1, 0xb2, 0xc3, 0xd4], Opening::Undecided),
-        (&[0x4d, 0x3c, 0xb2, 0xa1], Opening::Undecided),
+        (b"\xa1\xb2\xc3\xd4            ", Opening::Undecided),
+        (b"\x4d\x3c\xb2\xa1            ", Opening::Undecided),
         (
-            &[0x0a, 0x0d, 0x0d, 0x0a],
+            b"\x0a\x0d\x0d\x0a            ",
             Opening::Refused(FileFault::PcapNg),
         ),
-        (&[0x1f, 0x8b, 8, 0], Opening::Refused(FileFault::Gzip)),
+        (
+            b"\x1f\x8b\x08\x00            ",
+            Opening::Refused(FileFault::Gzip),
+        ),
     ] {
         assert_eq!(rt; open(octets), opening);
     }
@@ -265,6 +271,7 @@ fn faults_as_text(rt: HostRuntime) -> Result<(), Fail> {
         (FileFault::Gzip, "1 Gzip"),
         (FileFault::PcapNg, "2 PcapNg"),
         (FileFault::OtherLink(1), "3 OtherLink 1"),
+        (FileFault::Text, "4 Text"),
     ] {
         assert_eq!(rt; format!(in rt.alloc(); "{file}")?.as_str(), text);
     }
