@@ -1,3 +1,4 @@
 -- Definitions that only private functions and proofs use.
 pub mod FoundName
+pub mod RowNamed
 pub mod RulesAlone

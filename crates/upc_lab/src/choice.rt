@@ -1,7 +1,6 @@
 //! The words of the command line, read by the crate `clap`.
 
-ghost use Rattle.std.specs.Prelude.{◌≡◌, List, ℕ, [], IfErr, IfOk, IfSome, IsErrAnd, IsOkAnd, IsSome, IsSomeAnd, Some, codes, find, map, option_map};
-ghost use Rattle.std.specs.Str.{bytes_eq};
+ghost use Rattle.std.specs.Prelude.{◌≡◌, List, ℕ, [], IfErr, IfOk, IfSome, IsErrAnd, IsOkAnd, IsSome, IsSomeAnd, Some, codes, map, option_map};
 ghost use Rattle.std.specs.String.{string_bytes};
 ghost use Rattle.clap.specs.Values.{kind_of};
 ghost use Rattle.clap.specs.Simple.{app_of};
@@ -10,6 +9,7 @@ ghost use Rattle.upc_choice.specs.Choice.{with_name};
 ghost use Rattle.upc_choice.specs.Stopping.{IsStopFor, StopsAt};
 ghost use Rattle.upc_lab.specs.LabWords.{NamesLab, lab_alone, lab_app, lab_faults_in, lab_line, lab_named};
 ghost use Rattle.upc_lab.specs.inner.FoundName.{lab_name_in};
+ghost use Rattle.upc_lab.specs.inner.RowNamed.{row_named};
 ghost use Rattle.upc_lab.specs.inner.RulesAlone.{rules_app};
 
 use clap::{Command, Error};
@@ -195,7 +195,7 @@ const SUBCOMMANDS: [(&[u8], Subcommand); 7] = [
 
 /// Returns the subcommand of the row with this name.
 fn named_among(name: &[u8], rows: &[(&[u8], Subcommand)]) -> Option<Subcommand>
-    ensures { result ≡ option_map (λ row. row.1) (find (λ row. bytes_eq row.0 name.now) (map (λ row. (row.0.now, row.1)) rows.now)) }
+    ensures { result ≡ row_named name.now (map (λ row. (row.0.now, row.1)) rows.now) }
 {
     let mut left = rows;
     while let [row, rest @ ..] = left {
