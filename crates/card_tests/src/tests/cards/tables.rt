@@ -43,11 +43,11 @@ pub enum Seen {
     NotLoaded(DeskFault, u32),
     /// The retired program gives this value.
     Retired(u32),
-    /// The incarnation.
+    /// The incarnation. The connection is 1/100.
     SetUp(u64),
     /// The number of the program before.
     Reloaded(usize),
-    /// A released or a cut journal.
+    /// A released or a cut journal of the connection 1/100.
     Journal {
         incarnation: u64,
         entries: usize,
@@ -56,6 +56,8 @@ pub enum Seen {
         counts: Tally,
     },
     Refused(DeskFault),
+    /// A reply about another connection.
+    OfAnother(Vc),
 }
 
 /// A cell that passed under contract 1.
@@ -209,7 +211,15 @@ fn seen_of_answer(programs: &[Id], answer: Answer) -> Seen {
     }
 }
 
+/// Whether this is the connection of the tables, 1/100.
+fn is_own(vc: Vc) -> bool {
+    vc.vpi == 1 && vc.vci == 100
+}
+
 fn seen_of_piece(piece: &Piece) -> Seen {
+    if !is_own(piece.owner().vc) {
+        return Seen::OfAnother(piece.owner().vc);
+    }
     Seen::Journal {
         incarnation: piece.owner().incarnation,
         entries: piece.entries().len(),
@@ -230,7 +240,8 @@ fn seen_of(programs: &[Id], reply: &Reply) -> Seen {
         },
         Reply::NotLoaded(fault, program) => Seen::NotLoaded(*fault, value_of(program)),
         Reply::Retired(program) => Seen::Retired(value_of(program)),
-        Reply::SetUp(owner) => Seen::SetUp(owner.incarnation),
+        Reply::SetUp(owner) if is_own(owner.vc) => Seen::SetUp(owner.incarnation),
+        Reply::SetUp(owner) => Seen::OfAnother(owner.vc),
         Reply::Reloaded(id) => Seen::Reloaded(number_of(programs, *id)),
         Reply::Released(piece) | Reply::Cut(piece) => seen_of_piece(piece),
         Reply::NotSetUp(fault, _) | Reply::Refused(fault) => Seen::Refused(*fault),
