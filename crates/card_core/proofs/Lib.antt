@@ -4,6 +4,7 @@ pub mod ByResult
 pub mod CellLemmas
 pub mod CodeLemmas
 pub mod ConnectionLemmas
+pub mod ConnectionStates
 pub mod DeskLemmas
 pub mod DeskSteps
 pub mod Follow
@@ -16,6 +17,7 @@ pub mod Knows
 pub mod KnowsCodes
 pub mod LeftLemmas
 pub mod LineLemmas
+pub mod ListingLemmas
 pub mod LogBursts
 pub mod LogLemmas
 pub mod LookUps

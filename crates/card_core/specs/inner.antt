@@ -2,3 +2,4 @@
 pub mod Sound
 pub mod Ports
 pub mod Parts
+pub mod Listing

@@ -1,5 +1,6 @@
 //! Reads of a core, without a step.
 
+use crate::connection_state::{ConnectionState, next_among, state_of};
 use crate::fault::DeskFault;
 use crate::picking::pick;
 use crate::port::are_outside;
@@ -11,9 +12,12 @@ use line_record::Line;
 use upc_cell::Vc;
 
 impl Core {
-    ghost use Rattle.std.specs.Prelude.{◌≡◌, ◌^◌, option_copied};
+    ghost use Rattle.std.specs.Prelude.{◌≡◌, ◌^◌, None, IfSome, MatchOption, option_copied};
     ghost use Rattle.gen_arena.specs.Live.{live_value};
+    ghost use Rattle.card_core.specs.Agreement.{CoreAgrees};
+    ghost use Rattle.card_core.specs.ConnectionState.{HasLevelsForEach, IsLastVc, IsNextVc, IsStateIn};
     ghost use Rattle.card_core.specs.Sums.{totals_of, AreAtMost};
+    ghost use Rattle.card_core.specs.World.{World, connection_in};
     ghost use Rattle.card_core.specs.Inspection.{line_at, load_fault_of, IsRetireFault};
 
     /// Returns the line that serves a connection, with its counts, its journal and its contracts. None if and only if
@@ -23,6 +27,30 @@ impl Core {
     {
         let seating = pick(&self.directory, vc)?;
         Some(&self.lines[usize::from(seating.line)])
+    }
+
+    /// Returns the contracts and the state of a connection. None if and only if there is no such connection. Doesn't
+    /// allocate.
+    pub fn line_state(&self, vc: Vc) -> Option<ConnectionState>
+        // For any world that the core agrees with.
+        ensures state { (world : World) → CoreAgrees self.now world → MatchOption result
+            (connection_in world.connections vc ≡ None)
+            (IsStateIn world vc) }
+        ensures sized { IfSome result HasLevelsForEach }
+    {
+        let seating = pick(&self.directory, vc)?;
+        Some(state_of(&seating, &self.lines[usize::from(seating.line)]))
+    }
+
+    /// Returns the first connection after `after`, by path and then by channel, or the first of all. None if and only if
+    /// there is none. Looks at each line. Doesn't allocate.
+    pub fn next_vc(&self, after: Option<Vc>) -> Option<Vc>
+        // For any world that the core agrees with.
+        ensures { (world : World) → CoreAgrees self.now world → MatchOption result
+            (IsLastVc world after)
+            (IsNextVc world after) }
+    {
+        next_among(&self.lines, after)
     }
 
     /// Returns the program of this id. None if and only if the id isn't live.

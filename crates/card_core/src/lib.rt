@@ -4,6 +4,7 @@
 
 mod answer;
 mod ask;
+mod connection_state;
 mod desk;
 mod fault;
 mod inspection;
@@ -19,6 +20,7 @@ mod sums;
 
 pub use answer::{Answer, Judgement, Unjudged};
 pub use ask::Ask;
+pub use connection_state::ConnectionState;
 pub use desk::{admit, cut, load, release, reload, retire, setup};
 pub use fault::{CardFault, DeskFault};
 pub use judging::judge_at;

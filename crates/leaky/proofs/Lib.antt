@@ -4,4 +4,5 @@ pub mod BurstLemmas
 pub mod ChargeLemmas
 pub mod AgreementLemmas
 pub mod ToleranceLemmas
+pub mod ExcessLemmas
 pub mod Public

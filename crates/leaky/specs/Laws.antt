@@ -1,9 +1,10 @@
 -- Laws that relate the definitions to the standard and to each other.
-use Rattle.std.specs.Prelude.{◌≡◌, ◌≢◌, ℕ, ◌+◌, ◌^◌, ◌≤◌, ◌↔◌, Bool, false, None, IfSome, List, map, All}
+use Rattle.std.specs.Prelude.{◌≡◌, ◌≢◌, ℕ, ◌+◌, ◌^◌, ◌≤◌, ◌↔◌, Bool, false, Some, None, IfSome, List, map, All}
 use Rattle.leaky.specs.declared.gcra.Gcra.{Gcra}
 use Rattle.leaky.specs.declared.levels.Levels.{Levels}
 use Rattle.leaky.specs.declared.contract.Contract.{Contract}
-use Rattle.leaky.specs.declared.verdict.Verdict.TheVariants.{Tag}
+use Rattle.leaky.specs.declared.verdict.Verdict.TheVariants.{Pass, Tag}
+use Rattle.leaky.specs.declared.excess.Excess.{Excess}
 use Rattle.leaky.specs.Moments.{GoesOn}
 use Rattle.leaky.specs.Bucket.{Bucket, opening, filled, conformances, conforming}
 use Rattle.leaky.specs.Scheduling.{scheduled}
@@ -12,6 +13,7 @@ use Rattle.leaky.specs.Bursts.{count_within, burst_bound, AllFill, Fills}
 use Rattle.leaky.specs.Contract.{Buckets, peak_of, second_of, verdict_of, buckets_after}
 use Rattle.leaky.specs.Arrivals.{Arrival, buckets_left, charges_first, charges_second, first_charges, second_charges}
 use Rattle.leaky.specs.KeptState.{Agrees, IsChargedBy}
+use Rattle.leaky.specs.Excess.{excess_at, rate_met, bucket_among, IsLeastDelay}
 
 -- Virtual scheduling that starts at TAT = X + LCT gives the verdicts of the leaky bucket. This holds for every list
 -- of moments that starts at or after LCT and never goes back.
@@ -97,3 +99,17 @@ abbrev pub TolerancesAreExact : Type 0
 TolerancesAreExact = (gcra : Gcra) (mbs tp first : ℕ)
     → tp ≤ gcra.increment
     → AllFill gcra opening (spaced mbs tp first) ↔ (tolerance_of mbs gcra.increment tp ≤ gcra.limit)
+
+-- A cell has no excess exactly if it passes.
+abbrev pub PassedCellsHaveNoExcess : Type 0
+PassedCellsHaveNoExcess = (contract : Contract) (buckets : Buckets) (clp : Bool) (moment : ℕ)
+    → (excess_at contract buckets clp moment ≡ None) ↔ (verdict_of contract buckets clp moment ≡ Pass)
+
+-- The ticks of an excess are the least delay after which a cell conforms to the bucket that it names. The cell meets
+-- that bucket.
+abbrev pub ExcessesAreLeastDelays : Type 0
+ExcessesAreLeastDelays = (contract : Contract) (buckets : Buckets) (clp : Bool) (moment : ℕ)
+    → IsChargedBy buckets moment
+    → (excess : Excess) → excess_at contract buckets clp moment ≡ Some excess
+    → (gcra : Gcra) × (rate_met contract clp excess.bucket ≡ Some gcra)
+    × IsLeastDelay gcra (bucket_among buckets excess.bucket) moment excess.ticks

@@ -6,6 +6,7 @@ pub mod Bursts
 pub mod Contract
 pub mod Arrivals
 pub mod KeptState
+pub mod Excess
 pub mod Tolerance
 pub mod Equality
 pub mod Faults

@@ -1,6 +1,6 @@
 //! Laws of the definitions that this crate's contracts cite. Each function does nothing; its contract is the law.
 
-ghost use Rattle.leaky.specs.Laws.{SchedulingGivesTheBucketsVerdicts, BurstsAreBounded, FillingsAreBounded, ContractsBoundBursts, ChargesAreFillings, FillingsShow, TaggedCellsCameUntagged, LevelsStandForBuckets, LevelsFollowBuckets, ChargesKeepUp, TolerancesAreExact};
+ghost use Rattle.leaky.specs.Laws.{SchedulingGivesTheBucketsVerdicts, BurstsAreBounded, FillingsAreBounded, ContractsBoundBursts, ChargesAreFillings, FillingsShow, TaggedCellsCameUntagged, LevelsStandForBuckets, LevelsFollowBuckets, ChargesKeepUp, TolerancesAreExact, PassedCellsHaveNoExcess, ExcessesAreLeastDelays};
 
 /// Virtual scheduling and the leaky bucket give the same verdicts.
 pub fn scheduling_gives_the_buckets_verdicts()
@@ -57,4 +57,14 @@ pub fn charges_keep_up()
 /// the burst tolerance. The peak rate is at least the sustainable rate.
 pub fn tolerances_are_exact()
     ensures { TolerancesAreExact }
+{}
+
+/// A cell has no excess exactly if it passes.
+pub fn passed_cells_have_no_excess()
+    ensures { PassedCellsHaveNoExcess }
+{}
+
+/// The ticks of an excess are the least delay after which a cell conforms to the bucket that it names.
+pub fn excesses_are_least_delays()
+    ensures { ExcessesAreLeastDelays }
 {}

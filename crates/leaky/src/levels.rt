@@ -2,6 +2,15 @@
 
 ghost use Rattle.std.specs.Prelude.{◌≡◌, ◌+◌, ◌^◌, ◌≤◌};
 
+/// How full the two buckets of a contract are at a moment, in ticks. A bucket drains by one unit a tick.
+#[derive(Clone, Copy, Debug, PartialEq, Eq)]
+pub struct Fill {
+    /// The level of bucket 1.
+    pub first: u64,
+    /// The level of bucket 2. If the contract has no bucket 2, it is 0.
+    pub second: u64,
+}
+
 /// The state of one contract: the theoretical arrival time of each bucket, in ticks. It is at most 2^62 + 2^49, since
 /// moments are at most 2^62.
 #[derive(Clone, Copy, Debug)]
@@ -15,8 +24,9 @@ pub struct Levels {
 }
 
 impl Levels {
-    ghost use Rattle.leaky.specs.Contract.{opening_buckets};
-    ghost use Rattle.leaky.specs.KeptState.{Agrees};
+    ghost use Rattle.leaky.specs.Bucket.{level_at};
+    ghost use Rattle.leaky.specs.Contract.{Buckets, opening_buckets};
+    ghost use Rattle.leaky.specs.KeptState.{Agrees, IsChargedBy};
 
     /// The state before the first cell: both theoretical arrival times are 0.
     #[inline]
@@ -28,6 +38,20 @@ impl Levels {
         Levels {
             first: 0,
             second: 0,
+        }
+    }
+
+    /// Returns the levels of both buckets at `moment`, in ticks: what is left in them of the cells so far.
+    pub fn fill_at(&self, moment: u64) -> Fill
+        // For any buckets that the levels represent.
+        ensures first { (buckets : Buckets) → Agrees self.now buckets → IsChargedBy buckets moment
+            → result.first ≡ level_at buckets.first moment }
+        ensures second { (buckets : Buckets) → Agrees self.now buckets → IsChargedBy buckets moment
+            → result.second ≡ level_at buckets.second moment }
+    {
+        Fill {
+            first: self.first.saturating_sub(moment),
+            second: self.second.saturating_sub(moment),
         }
     }
 }

@@ -3,6 +3,7 @@
 #![tactic(auto)]
 
 mod contract;
+mod excess;
 mod gcra;
 pub mod laws;
 mod levels;
@@ -11,8 +12,9 @@ mod tolerance;
 mod verdict;
 
 pub use contract::Contract;
+pub use excess::{Excess, WhichBucket, excess_at};
 pub use gcra::{Gcra, GcraFault, MOST_TICKS};
-pub use levels::Levels;
+pub use levels::{Fill, Levels};
 pub use policing::{LAST_MOMENT, judge};
 pub use tolerance::{BtFault, burst_tolerance};
 pub use verdict::Verdict;

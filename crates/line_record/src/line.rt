@@ -125,6 +125,22 @@ impl Line {
         self.contracts.as_slice()
     }
 
+    /// Returns the state of the connection that the line serves: the moment of its last judged cell, the counts of the
+    /// line, and the levels of each contract. Without a connection it has no levels and the moment 0.
+    pub fn state(&self) -> &State
+        ensures state { result.now ≡ self.now.state }
+        ensures line { IsLine self.now }
+    {
+        &self.state
+    }
+
+    /// Returns a copy of the contracts of the connection that the line serves; none if the line is free.
+    pub fn contracts_copied(&self) -> ArrayVec<Contract, 4>
+        ensures { result.items ≡ self.now.contracts }
+    {
+        copied(&self.contracts)
+    }
+
     /// Returns the counts of the verdicts on all cells ever judged on the line.
     pub fn counts(&self) -> Tally
         ensures counts { result ≡ self.now.state.counts }

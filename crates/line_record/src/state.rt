@@ -51,8 +51,8 @@ impl State {
         }
     }
 
-    /// Returns a copy of the state.
-    pub(crate) fn copied(&self) -> Self
+    /// Returns a copy of the state. Doesn't allocate.
+    pub fn copied(&self) -> Self
         ensures { result ≡ self.now }
     {
         let mut levels = ArrayVec::new();

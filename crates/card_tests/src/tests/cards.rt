@@ -2,6 +2,7 @@
 
 mod interleaving;
 mod isolation;
+mod listing;
 mod tables;
 
 use arrayvec::ArrayVec;

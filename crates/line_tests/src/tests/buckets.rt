@@ -204,3 +204,50 @@ fn faults_are_printed_by_number_and_name(rt: HostRuntime) -> Result<(), Fail> {
     assert_eq!(rt; text.as_str(), "2 TooLarge, 2 PeakSlower");
     Ok(())
 }
+
+/// Expects this excess, by bucket and ticks, of a cell of this CLP and moment.
+fn assert_excess(
+    rt: &impl Abort,
+    contract: &Contract,
+    levels: &Levels,
+    cells: &[(bool, u64, Option<(u8, u64)>)],
+) {
+    for (clp, moment, expected) in cells {
+        let found = excess_at(contract, levels, *clp, *moment);
+        assert!(rt;
+            found.map(|excess| (excess.bucket.number(), excess.ticks)) == *expected,
+            "at {moment}"
+        );
+    }
+}
+
+/// After a cell at 0, bucket 1 is due at 10 with a limit of 5, and bucket 2 at 40 with a limit of 12. So a cell of CLP 0
+/// conforms to bucket 1 from 5 on and to bucket 2 from 28 on. One of CLP 1 doesn't meet bucket 2 of VBR.3.
+#[test]
+fn an_excess_names_the_bucket_and_the_ticks(rt: HostRuntime) -> Result<(), Fail> {
+    let contract = Contract::Vbr3(Gcra::new(10, 5)?, Gcra::new(40, 12)?);
+    let mut levels = Levels::new();
+    judge(&contract, &mut levels, false, 0);
+    assert_excess(
+        &rt,
+        &contract,
+        &levels,
+        &[
+            (false, 0, Some((1, 5))),
+            (false, 4, Some((1, 1))),
+            (true, 4, Some((1, 1))),
+            (false, 5, Some((2, 23))),
+            (true, 5, None),
+            (false, 27, Some((2, 1))),
+            (false, 28, None),
+        ],
+    );
+    let fill = levels.fill_at(8);
+    assert!(rt;
+        fill == Fill {
+            first: 2,
+            second: 32
+        }
+    );
+    Ok(())
+}
