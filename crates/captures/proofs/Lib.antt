@@ -1,3 +1,5 @@
-pub mod Fronts
+pub mod First
+pub mod Stays
 pub mod Readings
 pub mod OneReading
+pub mod SomeReading

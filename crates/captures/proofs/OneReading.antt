@@ -1,9 +1,8 @@
 -- A capture has at most one reading.
-use Rattle.std.proofs.Common.{◌≡◌, ◌≤◌, ◌<◌, ◌+◌, ◌-◌, ◌^◌, inl, inr, ℕ, List, [], ◌∷◌, length, take, drop, Option, Some, None, Result, Ok, Err, arith, refl, ◌∙◌, sym, ap, subst, length-append}
+use Rattle.std.proofs.Common.{◌≡◌, ◌+◌, ◌-◌, inl, inr, ℕ, List, [], ◌∷◌, length, take, drop, Option, Some, None, Result, Ok, Err, arith, refl, ◌∙◌, sym, ap, subst}
 use Rattle.std.proofs.lemmas.Bool.{cases_lt}
-use Rattle.std.proofs.lemmas.List.{drop_at, take_at}
-use Rattle.captures.specs.Framing.{IsLengthOfRecord, frame_length, framed_record, said_length}
-use Rattle.captures.specs.Reading.{BeginsWithFrame, BeginsWithRecord, EndsReading, IsInsideRecord, IsReading, IsRecordFault, first_framed}
+use Rattle.captures.specs.Frames.{Frame, first_frame}
+use Rattle.captures.specs.Reading.{EndsReading, HasOneReading, IsFraming, IsGiven, IsRecordFault, count_after, records_in}
 use Rattle.captures.specs.Record.{HasExtensions}
 use Rattle.captures.specs.RecordContent.{IsContent, cell_place}
 use Rattle.captures.specs.RecordReading.{SaysRecord}
@@ -11,10 +10,9 @@ use Rattle.captures.specs.declared.content.NoCell.{NoCell}
 use Rattle.captures.specs.declared.content.NoCell.TheVariants.{OtherType, Errored, CutShort}
 use Rattle.captures.specs.declared.fault.Fault.{Fault}
 use Rattle.captures.specs.declared.fault.RecordFault.{RecordFault}
-use Rattle.captures.specs.declared.fault.RecordFault.TheVariants.{CutOff, ShortLength, LongLength, ShortRecord, TooFar}
 use Rattle.captures.specs.declared.format.Format.{Format}
+use Rattle.captures.specs.declared.format.Format.TheVariants.{Erf, Pcap, PcapNg}
 use Rattle.captures.specs.declared.reader.Record.{Record}
-use Rattle.captures.proofs.Fronts.{said_length-append}
 
 -- A record has one number of extension headers.
 one_extensions : (octets : List ℕ) (n m : ℕ) → HasExtensions octets n → HasExtensions octets m → n ≡ m
@@ -72,145 +70,81 @@ one_saying number octets a b one other =
     (one.time ∙ sym other.time)
     (one_content octets a.content b.content one.content other.content)
 
--- Octets with a whole frame don't end inside a record.
-frame_not_inside : (format : Format) (octets : List ℕ) → IsInsideRecord format octets → BeginsWithFrame format octets → ⊥
-frame_not_inside format octets inside begins =
-    elim inside [
-      | inl short ↦ omega (arith, begins.0.least, begins.1)
-      | inr longer ↦ omega (arith, longer.1, begins.1)
-    ]
-
-short_not_inside : (format : Format) (octets : List ℕ) → IsInsideRecord format octets → 16 ≤ length octets → said_length format octets < 16 → ⊥
-short_not_inside format octets inside headed short =
-    elim inside [ inl few ↦ omega arith | inr longer ↦ omega (arith, longer.0.least) ]
-
-long_not_inside : (format : Format) (octets : List ℕ) → IsInsideRecord format octets → 16 ≤ length octets → 2 ^ 16 ≤ said_length format octets → ⊥
-long_not_inside format octets inside headed long =
-    elim inside [ inl few ↦ omega arith | inr longer ↦ omega (arith, longer.0.most) ]
-
--- Octets begin with no record for one reason.
+-- Octets end a file for one reason.
 one_fault : (format : Format) (at : ℕ) (octets : List ℕ) (a b : RecordFault)
     → IsRecordFault format at octets a → IsRecordFault format at octets b → a ≡ b
-one_fault format at octets CutOff CutOff one other = refl
-one_fault format at octets CutOff (ShortLength m) one other = absurd (short_not_inside format octets one.1 other.0 other.1)
-one_fault format at octets CutOff (LongLength m) one other = absurd (long_not_inside format octets one.1 other.0 other.1)
-one_fault format at octets CutOff ShortRecord one other = absurd (frame_not_inside format octets one.1 other.0)
-one_fault format at octets CutOff TooFar one other = absurd (frame_not_inside format octets one.1 other.0)
-one_fault format at octets (ShortLength n) CutOff one other = absurd (short_not_inside format octets other.1 one.0 one.1)
-one_fault format at octets (ShortLength n) (ShortLength m) one other = ap ShortLength (one.2 ∙ sym other.2)
-one_fault format at octets (ShortLength n) (LongLength m) one other = absurd (omega (arith, one.1, other.1))
-one_fault format at octets (ShortLength n) ShortRecord one other = absurd (omega (arith, one.1, other.0.0.least))
-one_fault format at octets (ShortLength n) TooFar one other = absurd (omega (arith, one.1, other.0.0.least))
-one_fault format at octets (LongLength n) CutOff one other = absurd (long_not_inside format octets other.1 one.0 one.1)
-one_fault format at octets (LongLength n) (ShortLength m) one other = absurd (omega (arith, one.1, other.1))
-one_fault format at octets (LongLength n) (LongLength m) one other = ap LongLength (one.2 ∙ sym other.2)
-one_fault format at octets (LongLength n) ShortRecord one other = absurd (omega (arith, one.1, other.0.0.most))
-one_fault format at octets (LongLength n) TooFar one other = absurd (omega (arith, one.1, other.0.0.most))
-one_fault format at octets ShortRecord CutOff one other = absurd (frame_not_inside format octets other.1 one.0)
-one_fault format at octets ShortRecord (ShortLength m) one other = absurd (omega (arith, other.1, one.0.0.least))
-one_fault format at octets ShortRecord (LongLength m) one other = absurd (omega (arith, other.1, one.0.0.most))
-one_fault format at octets ShortRecord ShortRecord one other = refl
-one_fault format at octets ShortRecord TooFar one other = absurd (omega (arith, one.1, other.1))
-one_fault format at octets TooFar CutOff one other = absurd (frame_not_inside format octets other.1 one.0)
-one_fault format at octets TooFar (ShortLength m) one other = absurd (omega (arith, other.1, one.0.0.least))
-one_fault format at octets TooFar (LongLength m) one other = absurd (omega (arith, other.1, one.0.0.most))
-one_fault format at octets TooFar ShortRecord one other = absurd (omega (arith, one.1, other.1))
-one_fault format at octets TooFar TooFar one other = refl
+one_fault format at octets a b (inl one) (inl other) = one.2 ∙ sym other.2
+one_fault format at octets a b (inl one) (inr other) = let bad : None ≡ Some (Err b) = sym one.1 ∙ other in cc
+one_fault format at octets a b (inr one) (inl other) = let bad : None ≡ Some (Err a) = sym other.1 ∙ one in cc
+one_fault format at octets a b (inr one) (inr other) = let same : Some (Err a) ≡ Some (Err b) = sym one ∙ other in cc
+
+-- No octets begin with no frame.
+nothing_first : (format : Format) (at : ℕ) → first_frame format at [] ≡ None
+nothing_first Erf at = refl
+nothing_first (Pcap order) at = refl
+nothing_first (PcapNg section) at = refl
 
 -- A fault is of octets.
-fault_has_octets : (format : Format) (at : ℕ) (octets : List ℕ) (reason : RecordFault) → IsRecordFault format at octets reason → 0 < length octets
-fault_has_octets format at octets CutOff fault = fault.0
-fault_has_octets format at octets (ShortLength n) fault = omega (arith, fault.0)
-fault_has_octets format at octets (LongLength n) fault = omega (arith, fault.0)
-fault_has_octets format at octets ShortRecord fault = omega (arith, fault.0.0.least, fault.0.1)
-fault_has_octets format at octets TooFar fault = omega (arith, fault.0.0.least, fault.0.1)
+no_fault : (format : Format) (at : ℕ) (octets : List ℕ) (reason : RecordFault) → octets ≡ [] → IsRecordFault format at octets reason → ⊥
+no_fault format at octets reason none (inl one) = omega (arith, ap length none, one.0)
+no_fault format at octets reason none (inr one) =
+    let bad : None ≡ Some (Err reason) = sym (ap (first_frame format at) none ∙ nothing_first format at) ∙ one in cc
 
 -- A reading ends in one way.
 one_ending : (format : Format) (at : ℕ) (octets : List ℕ) (a b : Option Fault)
     → EndsReading format at octets a → EndsReading format at octets b → a ≡ b
 one_ending format at octets None None one other = refl
-one_ending format at octets None (Some fault) one other =
-    absurd (omega (arith, ap length one, fault_has_octets format at octets fault.reason other.1))
-one_ending format at octets (Some fault) None one other =
-    absurd (omega (arith, ap length other, fault_has_octets format at octets fault.reason one.1))
+one_ending format at octets None (Some fault) one other = absurd (no_fault format at octets fault.reason one other.1)
+one_ending format at octets (Some fault) None one other = absurd (no_fault format at octets fault.reason other one.1)
 one_ending format at octets (Some fault) (Some second) one other =
     ap
     Some
     (ap (λ n. record fault { at = n }) (one.0 ∙ sym other.0)
     ∙ ap (λ n. record second { reason = n }) (one_fault format at octets fault.reason second.reason one.1 other.1))
 
--- What octets that begin with a record are.
-record Parted (format : Format) (at : ℕ) (octets own rest : List ℕ) : Type 0 where
-  frame : BeginsWithFrame format octets
-  front : own ≡ take (frame_length format octets) octets
-  back : rest ≡ drop (frame_length format octets) octets
-  headed : 16 ≤ length (first_framed format octets)
-  near : at + frame_length format octets < 2 ^ 64
+-- Where a reading ends, no frame begins.
+ends_apart : (format : Format) (at : ℕ) (octets : List ℕ) (ending : Option Fault) (frame : Frame)
+    → first_frame format at octets ≡ Some (Ok frame) → EndsReading format at octets ending → ⊥
+ends_apart format at octets None frame begins ends =
+    let bad : None ≡ Some (Ok frame) = sym (ap (first_frame format at) ends ∙ nothing_first format at) ∙ begins in cc
+ends_apart format at octets (Some fault) frame begins (same, inl ends) = let bad : None ≡ Some (Ok frame) = sym ends.1 ∙ begins in cc
+ends_apart format at octets (Some fault) frame begins (same, inr ends) =
+    let bad : Some (Err fault.reason) ≡ Some (Ok frame) = sym ends ∙ begins in cc
 
-parted : (format : Format) (count at : ℕ) (octets : List ℕ) (said : Record) (own rest : List ℕ)
-    → BeginsWithRecord format count at octets said own rest → Parted format at octets own rest
-parted format count at octets said own rest begins =
-    let long : 16 ≤ length own = omega (arith, begins.framed.bounds.least, begins.framed.whole) in
-    let same : said_length format own ≡ said_length format octets =
-    sym (said_length-append format own rest long) ∙ ap (said_length format) (sym begins.split)
-    in
-    let counted : length own ≡ frame_length format octets = omega (arith, same, begins.framed.whole) in
-    let all : length octets ≡ length own + length rest = ap length begins.split ∙ length-append own rest in
-    let front : own ≡ take (frame_length format octets) octets =
-    sym (take_at own rest (frame_length format octets) counted) ∙ ap (take (frame_length format octets)) (sym begins.split)
-    in
-    let back : rest ≡ drop (frame_length format octets) octets =
-    sym (drop_at own rest (frame_length format octets) counted) ∙ ap (drop (frame_length format octets)) (sym begins.split)
-    in
-    let P : List ℕ → Type 0 = λ xs. 16 ≤ length (framed_record format xs) in
-    record {
-      frame = (subst IsLengthOfRecord same begins.framed.bounds, omega arith);
-      front = front;
-      back = back;
-      headed = subst P front begins.framed.headed;
-      near = omega (arith, begins.near);
-    }
+-- One thing is given of a frame.
+one_given : (count : ℕ) (held : Option (List ℕ)) (a b : Option Record) → IsGiven count held a → IsGiven count held b → a ≡ b
+one_given count None None None one other = refl
+one_given count None None (Some said) one other = absurd other
+one_given count None (Some said) b one other = absurd one
+one_given count (Some octets) None b one other = absurd one
+one_given count (Some octets) (Some said) None one other = absurd other
+one_given count (Some octets) (Some said) (Some second) one other = ap Some (one_saying (count + 1) octets said second one other)
 
--- Where a reading ends, no record begins.
-ends_apart : (format : Format) (at : ℕ) (octets own rest : List ℕ) (reason : RecordFault)
-    → Parted format at octets own rest → IsRecordFault format at octets reason → ⊥
-ends_apart format at octets own rest CutOff begins fault = frame_not_inside format octets fault.1 begins.frame
-ends_apart format at octets own rest (ShortLength n) begins fault = omega (arith, fault.1, begins.frame.0.least)
-ends_apart format at octets own rest (LongLength n) begins fault = omega (arith, fault.1, begins.frame.0.most)
-ends_apart format at octets own rest ShortRecord begins fault = omega (arith, fault.1, begins.headed)
-ends_apart format at octets own rest TooFar begins fault = omega (arith, fault.2, begins.near)
-
-ending_apart : (format : Format) (at : ℕ) (octets own rest : List ℕ) (ending : Option Fault)
-    → Parted format at octets own rest → EndsReading format at octets ending → ⊥
-ending_apart format at octets own rest None begins ends =
-    omega (arith, ap length ends, begins.frame.0.least, begins.frame.1)
-ending_apart format at octets own rest (Some fault) begins ends =
-    ends_apart format at octets own rest fault.reason begins ends.1
-
-pub one_reading : (format : Format) (count at : ℕ) (octets : List ℕ) (records others : List Record) (ending other : Option Fault)
-    → IsReading format count at octets records ending → IsReading format count at octets others other
-    → (records ≡ others) × (ending ≡ other)
-one_reading format count at octets [] [] ending other one second = (refl, one_ending format at octets ending other one second)
-one_reading format count at octets [] (said ∷ others) ending other one second =
-    absurd
-    (ending_apart format at octets second.0 second.1 ending
-    (parted format count at octets said second.0 second.1 second.2) one)
-one_reading format count at octets (said ∷ records) [] ending other one second =
-    absurd
-    (ending_apart format at octets one.0 one.1 other
-    (parted format count at octets said one.0 one.1 one.2) second)
-one_reading format count at octets (said ∷ records) (told ∷ others) ending other one second =
-    let first = parted format count at octets said one.0 one.1 one.2 in
-    let again = parted format count at octets told second.0 second.1 second.2 in
-    let own : second.0 ≡ one.0 = again.front ∙ sym first.front in
-    let rest : second.1 ≡ one.1 = again.back ∙ sym first.back in
-    let Says : List ℕ → Type 0 = λ xs. SaysRecord (count + 1) (framed_record format xs) told in
-    let Goes : List ℕ → List ℕ → Type 0 = λ xs ys. IsReading format (count + 1) (at + length xs) ys others other in
-    let same : said ≡ told =
-    one_saying (count + 1) (framed_record format one.0) said told one.2.says (subst Says own second.2.says)
+-- Octets are one list of frames.
+one_framing : (format : Format) (count at : ℕ) (octets : List ℕ) (frames others : List (Option Record)) (ending other : Option Fault)
+    → IsFraming format count at octets frames ending → IsFraming format count at octets others other
+    → (frames ≡ others) × (ending ≡ other)
+one_framing format count at octets [] [] ending other one second = (refl, one_ending format at octets ending other one second)
+one_framing format count at octets [] (given ∷ others) ending other one second =
+    absurd (ends_apart format at octets ending second.0 second.1 one)
+one_framing format count at octets (given ∷ frames) [] ending other one second =
+    absurd (ends_apart format at octets other one.0 one.1 second)
+one_framing format count at octets (given ∷ frames) (told ∷ others) ending other one second =
+    let whole : Some (Ok second.0) ≡ Some (Ok one.0) = sym second.1 ∙ one.1 in
+    let frame : second.0 ≡ one.0 = cc in
+    let P : Frame → Type 0 = λ f. IsGiven count f.held told
+    × IsFraming f.after (count_after count told) (at + f.size) (drop f.size octets) others other in
+    let moved : P one.0 = subst P frame (second.2, second.3) in
+    let same : told ≡ given = one_given count one.0.held told given moved.0 one.2 in
+    let Goes : Option Record → Type 0 = λ g.
+    IsFraming one.0.after (count_after count g) (at + one.0.size) (drop one.0.size octets) others other in
+    let later : (frames ≡ others) × (ending ≡ other) =
+    one_framing one.0.after (count_after count given) (at + one.0.size) (drop one.0.size octets) frames others ending other one.3
+    (subst Goes same moved.1)
     in
-    let later : (records ≡ others) × (ending ≡ other) =
-    one_reading format (count + 1) (at + length one.0) one.1 records others ending other one.3
-    (subst (λ (ys : List ℕ). Goes one.0 ys) rest (subst (λ (xs : List ℕ). Goes xs second.1) own second.3))
-    in
-    (ap (λ r. r ∷ records) same ∙ ap (λ rs. told ∷ rs) later.0, later.1)
+    (ap (λ g. g ∷ frames) (sym same) ∙ ap (λ rest. told ∷ rest) later.0, later.1)
+
+pub one_reading : HasOneReading
+one_reading format count at octets records others ending other one second =
+    let both : (one.0 ≡ second.0) × (ending ≡ other) = one_framing format count at octets one.0 second.0 ending other one.1 second.1 in
+    (one.2 ∙ ap records_in both.0 ∙ sym second.2, both.1)

@@ -1,94 +1,36 @@
 -- What comes next in a capture, and its reading.
-use Rattle.std.proofs.Common.{◌≡◌, ◌≤◌, ◌<◌, ◌+◌, ℕ, List, ◌++◌, length, take, drop, arith, ◌∙◌, sym, ap, subst, length-append, append_assoc}
-use Rattle.std.proofs.lemmas.List.{length-take-le, take-append-le}
-use Rattle.captures.specs.Framing.{frame_length, framed_record, said_length, IsLengthOfRecord}
-use Rattle.captures.specs.Reading.{BeginsWithFrame, BeginsWithRecord, FaultsEndReadings, IsInsideRecord, IsReading, IsRecordFault, RecordsAreReadInOrder, first_framed}
-use Rattle.captures.specs.declared.fault.RecordFault.{RecordFault}
-use Rattle.captures.specs.declared.fault.RecordFault.TheVariants.{CutOff, ShortLength, LongLength, ShortRecord, TooFar}
+use Rattle.std.proofs.Common.{◌≡◌, ◌≤◌, ◌+◌, inr, ℕ, List, ◌++◌, length, drop, Option, Ok, Err, arith, ◌∙◌, sym, ap, subst}
+use Rattle.std.proofs.lemmas.List.{drop-append-le}
+use Rattle.captures.specs.Reading.{FaultsEndReadings, FramesAreReadInOrder, IsFraming, count_after}
+use Rattle.captures.specs.declared.fault.Fault.{Fault}
 use Rattle.captures.specs.declared.format.Format.{Format}
 use Rattle.captures.specs.declared.reader.Record.{Record}
-use Rattle.captures.proofs.Fronts.{said_length-append}
+use Rattle.captures.proofs.Stays.{first_frame-append}
 
--- A record with which octets begin is that with which they begin if more follow.
-begins_before_more : (format : Format) (count at : ℕ) (octets more : List ℕ) (said : Record) (own rest : List ℕ)
-    → BeginsWithRecord format count at octets said own rest
-    → BeginsWithRecord format count at (octets ++ more) said own (rest ++ more)
-begins_before_more format count at octets more said own rest begins =
-    record {
-      split = ap (λ xs. xs ++ more) begins.split ∙ append_assoc own rest more;
-      framed = begins.framed;
-      near = begins.near;
-      says = begins.says;
-    }
+-- The same octets, place, count and format have the same framing.
+framing_at : (format format' : Format) (count count' at at' : ℕ) (octets octets' : List ℕ) (frames : List (Option Record))
+    (ending : Option Fault)
+    → format ≡ format' → count ≡ count' → at ≡ at' → octets ≡ octets'
+    → IsFraming format count at octets frames ending → IsFraming format' count' at' octets' frames ending
+framing_at format format' count count' at at' octets octets' frames ending formats counts places same reading =
+    subst (λ (f : Format). IsFraming f count' at' octets' frames ending) formats
+    (subst (λ (n : ℕ). IsFraming format n at' octets' frames ending) counts
+    (subst (λ (n : ℕ). IsFraming format count n octets' frames ending) places
+    (subst (λ (xs : List ℕ). IsFraming format count at xs frames ending) same reading)))
 
-pub records_in_order : RecordsAreReadInOrder
-records_in_order before after octets more said own records ending next reading =
-    let counted : before.at + length (take own octets) ≡ after.at =
-    omega (arith, length-take-le own octets next.1, next.2.at)
-    in
-    let P : Format → ℕ → ℕ → Type 0 = λ format count at. IsReading format count at (drop own octets ++ more) records ending in (
-      take own octets,
-      drop own octets ++ more,
-      begins_before_more
-          before.format
-          before.count
-          before.at
-          octets
-          more
-          said
-          (take own octets)
-          (drop own octets)
-          next.0,
-      subst
-          (λ (at : ℕ). P before.format (before.count + 1) at)
-          (sym counted)
-          (subst
-          (λ (count : ℕ). P before.format count after.at)
-          next.2.count
-          (subst (λ (format : Format). P format after.count after.at) next.2.format reading)),
+pub frames_in_order : FramesAreReadInOrder
+frames_in_order before after octets more given own frames ending next reading =
+    let within : next.frame.size ≤ length octets = omega (arith, next.size, next.within) in (
+      next.frame,
+      first_frame-append before.format before.at octets more (Ok next.frame) next.first,
+      next.given_of,
+      framing_at after.format next.frame.after after.count (count_after before.count given) after.at (before.at + next.frame.size)
+          (drop own octets ++ more) (drop next.frame.size (octets ++ more)) frames ending
+          next.format next.count (next.at ∙ ap (λ n. before.at + n) next.size)
+          (ap (λ n. drop n octets ++ more) next.size ∙ sym (drop-append-le next.frame.size octets more within))
+          reading,
     )
-
--- Whole frames stay if more follow.
-frame_stays : (format : Format) (octets more : List ℕ) → BeginsWithFrame format octets
-    → BeginsWithFrame format (octets ++ more) × (first_framed format (octets ++ more) ≡ first_framed format octets)
-frame_stays format octets more begins =
-    let same : said_length format octets ≡ said_length format (octets ++ more) =
-    sym (said_length-append format octets more (omega (arith, begins.0.least, begins.1)))
-    in
-    let longer : length (octets ++ more) ≡ length octets + length more = length-append octets more in
-    let counted : frame_length format (octets ++ more) ≡ frame_length format octets = omega (arith, same) in (
-      (subst IsLengthOfRecord same begins.0, omega (arith, begins.1)),
-      ap
-          (framed_record format)
-          (ap (λ (n : ℕ). take n (octets ++ more)) counted ∙ take-append-le (frame_length format octets) octets more begins.1),
-    )
-
--- A fault other than that octets are cut off stays if more follow.
-fault_stays : (format : Format) (at : ℕ) (octets more : List ℕ) (reason : RecordFault) → ¬ IsInsideRecord format octets
-    → IsRecordFault format at octets reason → IsRecordFault format at (octets ++ more) reason
-fault_stays format at octets more CutOff whole fault = absurd (whole fault.1)
-fault_stays format at octets more (ShortLength number) whole fault =
-    let same : said_length format (octets ++ more) ≡ said_length format octets = said_length-append format octets more fault.0 in
-    let longer : length (octets ++ more) ≡ length octets + length more = length-append octets more in
-    (omega (arith, fault.0), omega (arith, fault.1), fault.2 ∙ sym same)
-fault_stays format at octets more (LongLength number) whole fault =
-    let same : said_length format (octets ++ more) ≡ said_length format octets = said_length-append format octets more fault.0 in
-    let longer : length (octets ++ more) ≡ length octets + length more = length-append octets more in
-    (omega (arith, fault.0), omega (arith, fault.1), fault.2 ∙ sym same)
-fault_stays format at octets more ShortRecord whole fault =
-    let P : List ℕ → Type 0 = λ xs. length xs < 16 in
-    let stays = frame_stays format octets more fault.0 in
-    (stays.0, subst P (sym stays.1) fault.1)
-fault_stays format at octets more TooFar whole fault =
-    let P : List ℕ → Type 0 = λ xs. 16 ≤ length xs in
-    let stays = frame_stays format octets more fault.0 in
-    let same : said_length format (octets ++ more) ≡ said_length format octets =
-    said_length-append format octets more (omega (arith, fault.0.0.least, fault.0.1))
-    in
-    (stays.0, subst P (sym stays.1) fault.1, omega (arith, fault.2))
 
 pub faults_end : FaultsEndReadings
-faults_end before after octets more fault next = (
-  next.1.0,
-  fault_stays before.format before.at octets more fault.reason next.0 next.1.1,
-)
+faults_end before after octets more fault next =
+    (next.0, inr (first_frame-append before.format before.at octets more (Err fault.reason) next.1))

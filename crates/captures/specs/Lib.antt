@@ -2,6 +2,8 @@ pub mod Record
 pub mod RecordContent
 pub mod RecordReading
 pub mod Framing
+pub mod Blocks
+pub mod Frames
 pub mod Reading
 pub mod Opening
 pub mod Moments

@@ -1,11 +1,12 @@
 -- What a file is, as its first octets say.
 use Rattle.std.specs.Prelude.{◌≡◌, ◌≢◌, ◌≤◌, ◌<◌, ◌/◌, ◌%◌, ◌⊎◌, ℕ, List, All, length, take, drop}
 use Rattle.byteorder.specs.Endian.{big_number}
+use Rattle.captures.specs.Blocks.{section_begun}
 use Rattle.captures.specs.Framing.{number_in_order}
-use Rattle.captures.specs.declared.format.Format.TheVariants.{Erf, Pcap}
+use Rattle.captures.specs.declared.format.Format.TheVariants.{Erf, Pcap, PcapNg}
 use Rattle.captures.specs.declared.format.Order.{Order}
 use Rattle.captures.specs.declared.format.Order.TheVariants.{HighestFirst, LowestFirst}
-use Rattle.captures.specs.declared.opening.FileFault.TheVariants.{Gzip, PcapNg, OtherLink, Text}
+use Rattle.captures.specs.declared.opening.FileFault.TheVariants.{Gzip, OtherLink, Text}
 use Rattle.captures.specs.declared.opening.Opening.{Opening}
 use Rattle.captures.specs.declared.opening.Opening.TheVariants.{Opened, Undecided, Refused}
 
@@ -38,18 +39,20 @@ IsTextOctet octet = ((32 ≤ octet) × (octet < 127)) ⊎ ((9 ≤ octet) × (oct
 abbrev pub BeginsAsText : List ℕ → Type 0
 BeginsAsText octets = All IsTextOctet (take 16 octets)
 
--- The first octets of a file decide what it is: the file header of pcap has 24, others 16.
+-- The first octets of a file decide what it is: the file header of pcap has 24, others 16. The first block of a pcapng file is a
+-- section header, which says in which order the numbers come, so that the order here is not read.
 abbrev pub FileOpensAs : List ℕ → Opening → Type 0
 FileOpensAs octets Undecided =
     (length octets < 16) ⊎ ((order : Order) × IsPcapMagic order (file_magic octets) × (length octets < 24))
 FileOpensAs octets (Refused Gzip) = (16 ≤ length octets) × IsGzipMagic (file_magic octets)
-FileOpensAs octets (Refused PcapNg) = (16 ≤ length octets) × IsPcapNgMagic (file_magic octets)
 FileOpensAs octets (Refused (OtherLink link)) =
     (24 ≤ length octets) × (order : Order) × IsPcapMagic order (file_magic octets)
     × (link ≡ pcap_link order octets) × (link ≢ 197)
-FileOpensAs octets (Refused Text) = (16 ≤ length octets) × BeginsAsText octets
+FileOpensAs octets (Refused Text) = (16 ≤ length octets) × (¬ IsPcapNgMagic (file_magic octets)) × BeginsAsText octets
 FileOpensAs octets (Opened (Pcap order)) =
     (24 ≤ length octets) × IsPcapMagic order (file_magic octets) × (pcap_link order octets ≡ 197)
+FileOpensAs octets (Opened (PcapNg section)) =
+    (16 ≤ length octets) × IsPcapNgMagic (file_magic octets) × (section ≡ section_begun LowestFirst)
 FileOpensAs octets (Opened Erf) =
     (16 ≤ length octets) × ((order : Order) → ¬ IsPcapMagic order (file_magic octets))
     × (¬ IsPcapNgMagic (file_magic octets)) × (¬ IsGzipMagic (file_magic octets)) × (¬ BeginsAsText octets)

@@ -1,4 +1,3 @@
 -- Definitions that only private functions and proofs use.
 pub mod Received
 pub mod Opened
-pub mod Frames

@@ -5,11 +5,10 @@ ghost use Rattle.captures.specs.Record.{HasExtensions};
 ghost use Rattle.captures.specs.RecordContent.{IsContent};
 ghost use Rattle.captures.specs.inner.Received.{IsCellFrom, IsReceived};
 
+use crate::packet::HEADER_OCTETS;
 use thiserror::Error;
 use upc_cell::{CELL_OCTETS, Cell};
 
-/// The octets of a record's first header, which each record has.
-pub(crate) const HEADER_OCTETS: usize = 16;
 /// The octets of an extension header.
 const EXTENSION_OCTETS: usize = 8;
 /// The octets of a multi-channel header.

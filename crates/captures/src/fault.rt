@@ -5,21 +5,45 @@ use thiserror::Error;
 /// Why the octets of a capture, from some place on, are no record.
 #[derive(Clone, Copy, PartialEq, Eq, Debug, Error)]
 pub enum RecordFault {
-    /// They end inside a record.
+    /// They end inside a record, packet or block.
     #[error("1 CutOff")]
     CutOff,
-    /// The length of the record, or of its packet, which is below that of a record's first header.
+    /// The length of the record, of its packet or of the block, which is below that of any.
     #[error("2 ShortLength {0}")]
     ShortLength(u32),
-    /// The length of a packet, which is above that of any record.
+    /// The length of the packet or block, which is above that of any.
     #[error("3 LongLength {0}")]
     LongLength(u32),
-    /// The record in a packet says that it is shorter than its first header.
+    /// The packet is shorter than the first header of a record, or its record says that it is.
     #[error("4 ShortRecord")]
     ShortRecord,
-    /// The record ends after 2^64 - 1 octets.
+    /// The record, packet or block ends after 2^64 - 1 octets.
     #[error("5 TooFar")]
     TooFar,
+    /// The length of the block, which is no multiple of four.
+    #[error("6 OddLength {0}")]
+    OddLength(u32),
+    /// The length at the end of the block, which is not that at its beginning.
+    #[error("7 LengthsDiffer {0}")]
+    LengthsDiffer(u32),
+    /// The byte-order magic of the section header, read the highest octet first, which is of neither order.
+    #[error("8 OtherMagic {0}")]
+    OtherMagic(u32),
+    /// The major version of the section header, which is not 1.
+    #[error("9 OtherVersion {0}")]
+    OtherVersion(u16),
+    /// The length of the block, which is too short for what its type has.
+    #[error("10 ShortBlock {0}")]
+    ShortBlock(u32),
+    /// The link type of the interface, which is not that of ERF (197).
+    #[error("11 OtherLink {0}")]
+    OtherLink(u16),
+    /// The interface of the packet, from 0, which the section doesn't describe.
+    #[error("12 NoInterface {0}")]
+    NoInterface(u32),
+    /// The length of the packet, which is above that of its block.
+    #[error("13 LongPacket {0}")]
+    LongPacket(u32),
 }
 
 /// The first place where a file is no capture.

@@ -1,14 +1,18 @@
 //! How records follow one another in a file.
 
-ghost use Rattle.std.specs.Prelude.{◌≡◌, ◌≤◌, ◌+◌, length};
-ghost use Rattle.captures.specs.Record.{record_length};
+ghost use Rattle.std.specs.Prelude.{◌≡◌, ◌≤◌, ◌+◌, length, IfErr, IfOk, IfSome, Ok, Err, option_map};
 
+use crate::block::{LEAST_BLOCK, Section};
+use crate::fault::RecordFault;
+use crate::packet::{HEADER_OCTETS, from_place, length_of, record_in_packet, sized};
 use byteorder::{BigEndian, ByteOrder, LittleEndian};
 
 /// The octets before a packet in a pcap file.
 const PACKET_HEADER_OCTETS: usize = 16;
 /// The octets before the first packet in a pcap file.
 pub(crate) const FILE_HEADER_OCTETS: usize = 24;
+/// The most octets of a record.
+const MOST_OCTETS: u32 = 0xffff;
 
 /// In which order the octets of a number come.
 #[derive(Clone, Copy, PartialEq, Eq, Debug)]
@@ -26,10 +30,21 @@ pub enum Format {
     Erf,
     /// A file header of 24 octets, and then packets, each with a record. Numbers outside of the records are in this order.
     Pcap(Order),
+    /// Blocks, some with a record. The blocks so far said this of their section.
+    PcapNg(Section),
+}
+
+/// How a file goes on after a frame, and the record in the frame, if it has one.
+#[derive(Clone, Copy)]
+pub(crate) struct Held<'a> {
+    /// What the file has of records after the frame.
+    pub(crate) after: Format,
+    /// The record in the frame.
+    pub(crate) framed: Option<&'a [u8]>,
 }
 
 impl Order {
-    ghost use Rattle.captures.specs.Framing.{number_in_order};
+    ghost use Rattle.captures.specs.Framing.{half_in_order, number_in_order};
 
     /// Returns the number in the first four octets.
     pub(crate) fn number_in(self, octets: &[u8]) -> u32
@@ -41,65 +56,88 @@ impl Order {
             Order::LowestFirst => LittleEndian::read_u32(octets),
         }
     }
-}
 
-/// Returns the length that a record says it has.
-fn length_of(octets: &[u8]) -> u16
-    requires { 16 ≤ length octets.now }
-    ensures { result ≡ record_length octets.now }
-{
-    BigEndian::read_u16(&octets[10..])
+    /// Returns the number in the first two octets.
+    pub(crate) fn half_in(self, octets: &[u8]) -> u16
+        requires { 2 ≤ length octets.now }
+        ensures { result ≡ half_in_order self octets.now }
+    {
+        match self {
+            Order::HighestFirst => BigEndian::read_u16(octets),
+            Order::LowestFirst => LittleEndian::read_u16(octets),
+        }
+    }
 }
 
 impl Format {
-    ghost use Rattle.captures.specs.Framing.{format_start, framed_record, packet_header, said_length};
+    ghost use Rattle.captures.specs.Frames.{format_start, frame_held, frame_size, head_length};
 
-    /// Returns how many octets of the file come before its first record or packet.
+    /// Returns how many octets of the file come before its first record, packet or block.
     pub fn start(self) -> usize
         ensures { result ≡ format_start self }
     {
         match self {
-            Format::Erf => 0,
+            Format::Erf | Format::PcapNg(_) => 0,
             Format::Pcap(_) => FILE_HEADER_OCTETS,
         }
     }
 
-    /// Returns how many octets come before the record in a frame.
-    pub(crate) fn packet_header(self) -> usize
-        ensures { result ≡ packet_header self }
+    /// Returns how many octets of a frame say its length.
+    pub(crate) fn head(self) -> usize
+        ensures { result ≡ head_length self }
     {
         match self {
-            Format::Erf => 0,
-            Format::Pcap(_) => PACKET_HEADER_OCTETS,
+            Format::Erf | Format::Pcap(_) => HEADER_OCTETS,
+            Format::PcapNg(_) => LEAST_BLOCK as usize,
         }
     }
 
-    /// Returns the length that a frame says.
-    pub(crate) fn said_length(self, octets: &[u8]) -> u32
-        requires { 16 ≤ length octets.now }
-        ensures { result ≡ said_length self octets.now }
+    /// Returns the size of the frame with which octets begin.
+    #[tactic(auto, unfolding(crate::specs::Frames::frame_size))]
+    pub(crate) fn size_of(self, octets: &[u8]) -> Result<usize, RecordFault>
+        requires { head_length self ≤ length octets.now }
+        ensures size { result ≡ frame_size self octets.now }
+        ensures least { IfOk result (λ size. head_length self ≤ size) }
+        ensures most { IfOk result (λ size. size ≤ 131072) }
     {
+        let least = HEADER_OCTETS as u32;
         match self {
-            Format::Erf => u32::from(length_of(octets)),
-            Format::Pcap(order) => order.number_in(&octets[8..]),
+            Format::Erf => sized(0, least, MOST_OCTETS, u32::from(length_of(octets))),
+            Format::Pcap(order) => sized(
+                PACKET_HEADER_OCTETS,
+                least,
+                MOST_OCTETS,
+                order.number_in(from_place(octets, 8)),
+            ),
+            Format::PcapNg(section) => section.size_of(octets),
         }
     }
 
-    /// Returns the record in a frame.
-    pub(crate) fn record_in(self, frame: &[u8]) -> &[u8]
-        requires { packet_header self + 16 ≤ length frame.now }
-        ensures { result.now ≡ framed_record self frame.now }
+    /// Returns what a whole frame holds.
+    #[tactic(auto, unfolding(crate::specs::Frames::frame_held))]
+    pub(crate) fn held_in(self, frame: &[u8]) -> Result<Held<'_>, RecordFault>
+        requires whole { head_length self ≤ length frame.now }
+        requires bounded { length frame.now ≤ 131072 }
+        ensures held { IfOk result (λ held. frame_held self frame.now
+            ≡ Ok (held.after, option_map (λ octets. octets.now) held.framed)) }
+        ensures fault { IfErr result (λ reason. frame_held self frame.now ≡ Err reason) }
+        ensures headed { IfOk result (λ held. IfSome held.framed (λ octets. 16 ≤ length octets.now)) }
     {
         match self {
-            Format::Erf => frame,
-            Format::Pcap(_) => {
-                let packet = &frame[PACKET_HEADER_OCTETS..];
-                let length = usize::from(length_of(packet));
-                if length < packet.len() {
-                    &packet[..length]
-                } else {
-                    packet
-                }
+            Format::Erf => Ok(Held {
+                after: self,
+                framed: Some(frame),
+            }),
+            Format::Pcap(_) => Ok(Held {
+                after: self,
+                framed: Some(record_in_packet(from_place(frame, PACKET_HEADER_OCTETS))?),
+            }),
+            Format::PcapNg(section) => {
+                let held = section.held_in(frame)?;
+                Ok(Held {
+                    after: Format::PcapNg(held.section),
+                    framed: held.framed,
+                })
             }
         }
     }

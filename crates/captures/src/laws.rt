@@ -1,10 +1,10 @@
 //! Laws of the definitions. Each function does nothing; its contract is the law.
 
-ghost use Rattle.captures.specs.Reading.{FaultsEndReadings, HasOneReading, RecordsAreReadInOrder};
+ghost use Rattle.captures.specs.Reading.{FaultsEndReadings, FramesAreReadInOrder, HasOneReading, HasSomeReading};
 
-/// A reading begins with the record that comes next, and goes on as the reading of what follows it.
-pub fn records_are_read_in_order()
-    ensures { RecordsAreReadInOrder }
+/// A reading begins with the frame that comes next, and goes on as the reading of what follows it.
+pub fn frames_are_read_in_order()
+    ensures { FramesAreReadInOrder }
 {}
 
 /// A reading ends with the fault that comes next, whatever follows.
@@ -15,4 +15,9 @@ pub fn faults_end_readings()
 /// A capture has at most one reading.
 pub fn captures_have_one_reading()
     ensures { HasOneReading }
+{}
+
+/// Any octets have a reading.
+pub fn captures_have_a_reading()
+    ensures { HasSomeReading }
 {}

@@ -1,14 +1,17 @@
 //! Captures of a link's cells, as capture cards write them.
 #![tactic(auto)]
 
+mod block;
 mod clock;
 mod content;
 mod fault;
 mod format;
 pub mod laws;
 mod opening;
+mod packet;
 mod reader;
 
+pub use block::Section;
 pub use clock::{Clock, ticks_in};
 pub use content::NoCell;
 pub use fault::{Fault, RecordFault};

@@ -4,8 +4,9 @@ ghost use Rattle.std.specs.Prelude.{◌≤◌, ◌↔◌, length, IsTrue};
 ghost use Rattle.captures.specs.Opening.{BeginsAsText, FileOpensAs, IsTextOctet};
 ghost use Rattle.captures.specs.inner.Opened.{FileOpensAsPcap};
 
-use crate::content::HEADER_OCTETS;
+use crate::block::Section;
 use crate::format::{FILE_HEADER_OCTETS, Format, Order};
+use crate::packet::HEADER_OCTETS;
 use byteorder::{BigEndian, ByteOrder};
 use thiserror::Error;
 
@@ -15,14 +16,11 @@ pub enum FileFault {
     /// It was compressed by gzip.
     #[error("1 Gzip")]
     Gzip,
-    /// It is a pcapng file, which is not read yet.
-    #[error("2 PcapNg")]
-    PcapNg,
     /// It is a pcap file with packets of another link type than ERF (197).
-    #[error("3 OtherLink {0}")]
+    #[error("2 OtherLink {0}")]
     OtherLink(u32),
     /// It is a text.
-    #[error("4 Text")]
+    #[error("3 Text")]
     Text,
 }
 
@@ -80,7 +78,10 @@ pub fn open(octets: &[u8]) -> Opening
     match BigEndian::read_u32(octets) {
         0xa1b2_c3d4 | 0xa1b2_3c4d => open_pcap(Order::HighestFirst, octets),
         0xd4c3_b2a1 | 0x4d3c_b2a1 => open_pcap(Order::LowestFirst, octets),
-        0x0a0d_0d0a => Opening::Refused(FileFault::PcapNg),
+        0x0a0d_0d0a => Opening::Opened(Format::PcapNg(Section {
+            order: Order::LowestFirst,
+            interfaces: 0,
+        })),
         magic if magic / 0x100 == 0x001f_8b08 => Opening::Refused(FileFault::Gzip),
         _ if begins_as_text(octets) => Opening::Refused(FileFault::Text),
         _ => Opening::Opened(Format::Erf),

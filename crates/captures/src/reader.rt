@@ -2,16 +2,12 @@
 
 ghost use Rattle.std.specs.Prelude.{◌≡◌, ◌≤◌, length};
 ghost use Rattle.captures.specs.RecordReading.{SaysRecord};
-ghost use Rattle.captures.specs.inner.Frames.{IsFrameLength};
 
-use crate::content::{HEADER_OCTETS, NoCell, content_of};
+use crate::content::{NoCell, content_of};
 use crate::fault::{Fault, RecordFault};
 use crate::format::Format;
 use byteorder::{ByteOrder, LittleEndian};
 use upc_cell::Cell;
-
-/// The most octets of a record.
-const MOST_OCTETS: u32 = 0xffff;
 
 /// What a record says.
 #[derive(Clone, Copy, PartialEq, Eq, Debug)]
@@ -29,9 +25,11 @@ pub struct Record {
 /// What comes next in a capture.
 #[derive(Clone, Copy, PartialEq, Eq, Debug)]
 pub enum Next {
-    /// A record, and of how many octets it is.
+    /// A record, and how many octets are of it and its packet or block.
     Taken(Record, usize),
-    /// The beginning of a record, or nothing: more octets are wanted.
+    /// A block without a record, and how many octets it has.
+    Passed(usize),
+    /// The beginning of a record, packet or block, or nothing: more octets are wanted.
     Unfinished,
     /// No record.
     Broken(Fault),
@@ -62,26 +60,12 @@ fn record_of(number: u64, octets: &[u8]) -> Record
     }
 }
 
-/// Returns the length of the frame with which octets begin, or why it is none.
-fn frame_of(format: Format, octets: &[u8]) -> Result<usize, RecordFault>
-    requires { 16 ≤ length octets.now }
-    ensures { IsFrameLength format octets.now result }
-{
-    let said = format.said_length(octets);
-    if said < HEADER_OCTETS as u32 {
-        return Err(RecordFault::ShortLength(said));
-    }
-    if said > MOST_OCTETS {
-        return Err(RecordFault::LongLength(said));
-    }
-    Ok(format.packet_header() + said as usize)
-}
-
 impl Reader {
-    ghost use Rattle.captures.specs.Framing.{format_start};
-    ghost use Rattle.captures.specs.Reading.{ComesNext, EndsReading, IsInsideRecord};
+    ghost use Rattle.std.specs.Prelude.{None};
+    ghost use Rattle.captures.specs.Frames.{first_frame, format_start};
+    ghost use Rattle.captures.specs.Reading.{ComesNext, EndsReading};
 
-    /// Starts at the first record or packet of a capture, `format.start()` octets after the file begins.
+    /// Starts at the first record, packet or block of a capture, `format.start()` octets after the file begins.
     pub fn new(format: Format) -> Reader
         ensures format { result.format ≡ format }
         ensures count { result.count ≡ 0 }
@@ -99,25 +83,30 @@ impl Reader {
     pub fn next(&mut self, octets: &[u8]) -> Next
         ensures { ComesNext self.old octets.now result self.new }
     {
-        if octets.len() < HEADER_OCTETS {
+        let format = self.format;
+        if octets.len() < format.head() {
             return Next::Unfinished;
         }
-        let own = match frame_of(self.format, octets) {
+        let own = match format.size_of(octets) {
             Ok(own) => own,
             Err(reason) => return self.broken(reason),
         };
         if octets.len() < own {
             return Next::Unfinished;
         }
-        let framed = self.format.record_in(&octets[..own]);
-        if framed.len() < HEADER_OCTETS {
-            return self.broken(RecordFault::ShortRecord);
-        }
+        let held = match format.held_in(&octets[..own]) {
+            Ok(held) => held,
+            Err(reason) => return self.broken(reason),
+        };
         let Some(at) = self.at.checked_add(own as u64) else {
             return self.broken(RecordFault::TooFar);
         };
-        self.count += 1;
         self.at = at;
+        self.format = held.after;
+        let Some(framed) = held.framed else {
+            return Next::Passed(own);
+        };
+        self.count += 1;
         Next::Taken(record_of(self.count, framed), own)
     }
 
@@ -131,9 +120,10 @@ impl Reader {
         })
     }
 
-    /// Returns the fault of a capture that ends with these octets, which are no whole record.
+    /// Returns the fault of a capture that ends with these octets, which are no whole record, packet or block.
     pub fn end(&self, octets: &[u8]) -> Option<Fault>
-        ensures { IsInsideRecord self.now.format octets.now → EndsReading self.now.format self.now.at octets.now result }
+        ensures { first_frame self.now.format self.now.at octets.now ≡ None
+            → EndsReading self.now.format self.now.at octets.now result }
     {
         if octets.is_empty() {
             return None;

@@ -1,6 +1,8 @@
 //! Records of each kind, octets that are none, and the texts of faults. Types, flags and headers are those of the public
 //! description of ERF.
 
+mod blocks;
+
 use crate::*;
 use std::test::Fail;
 
@@ -219,7 +221,10 @@ fn what_files_are(rt: HostRuntime) -> Result<(), Fail> {
         (b"\x4d\x3c\xb2\xa1            ", Opening::Undecided),
         (
             b"\x0a\x0d\x0d\x0a            ",
-            Opening::Refused(FileFault::PcapNg),
+            Opening::Opened(Format::PcapNg(Section {
+                order: Order::LowestFirst,
+                interfaces: 0,
+            })),
         ),
         (
             b"\x1f\x8b\x08\x00            ",
@@ -264,14 +269,21 @@ fn faults_as_text(rt: HostRuntime) -> Result<(), Fail> {
         (RecordFault::LongLength(65536), "3 LongLength 65536"),
         (RecordFault::ShortRecord, "4 ShortRecord"),
         (RecordFault::TooFar, "5 TooFar"),
+        (RecordFault::OddLength(30), "6 OddLength 30"),
+        (RecordFault::LengthsDiffer(32), "7 LengthsDiffer 32"),
+        (RecordFault::OtherMagic(1), "8 OtherMagic 1"),
+        (RecordFault::OtherVersion(2), "9 OtherVersion 2"),
+        (RecordFault::ShortBlock(24), "10 ShortBlock 24"),
+        (RecordFault::OtherLink(1), "11 OtherLink 1"),
+        (RecordFault::NoInterface(1), "12 NoInterface 1"),
+        (RecordFault::LongPacket(69), "13 LongPacket 69"),
     ] {
         assert_eq!(rt; format!(in rt.alloc(); "{reason}")?.as_str(), text);
     }
     for (file, text) in [
         (FileFault::Gzip, "1 Gzip"),
-        (FileFault::PcapNg, "2 PcapNg"),
-        (FileFault::OtherLink(1), "3 OtherLink 1"),
-        (FileFault::Text, "4 Text"),
+        (FileFault::OtherLink(1), "2 OtherLink 1"),
+        (FileFault::Text, "3 Text"),
     ] {
         assert_eq!(rt; format!(in rt.alloc(); "{file}")?.as_str(), text);
     }

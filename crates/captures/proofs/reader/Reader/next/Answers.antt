@@ -1,24 +1,49 @@
-use Rattle.std.proofs.Common.{arith, refl}
-use Rattle.captures.proofs.Fronts.{begins_with}
+use Rattle.std.proofs.Common.{◌<◌, None, Some, Ok, arith, refl, ◌∙◌, sym, ap, option_map}
+use Rattle.captures.proofs.First.{takes_frame, head_some}
 use Rattle.captures.proofs.reader.Reader.next.Goals as goal
 
+pub returns-in_default-framed : goal.returns-in_default-framed
+returns-in_default-framed c =
+    let some : 0 < c.in-Ok.own = omega (arith, c.in-Ok.ensures.least, head_some c.args.self.now.format) in
+    takes_frame
+    c.args.self.now
+    _
+    c.args.octets.now
+    c.in-Ok.own
+    c.in-Ok-held_in.held.after
+    None
+    None
+    (omega arith)
+    (sym c.size_of.ensures.size ∙ c.in-Ok.is)
+    some
+    (omega arith)
+    (c.in-Ok-held_in.ensures.held
+    ∙ ap (λ framed. Ok (c.in-Ok-held_in.held.after, option_map (λ octets. octets.now) framed)) c.in_default-framed.is)
+    (omega arith)
+    tt
+    refl
+    refl
+    (omega arith)
+
 pub returns : goal.returns
-returns c = (
-  begins_with
-      c.args.self.now.format
-      c.args.self.now.count
-      c.args.self.now.at
-      c.args.octets.now
-      c.in-Ok.own
-      c.record_of.result
-      c.record_in-framed.result.now
-      c.in-Ok.ensures.0
-      c.in-Ok.ensures.1
-      (omega arith)
-      c.record_in-framed.ensures
-      (omega arith)
-      c.in-Some.ensures.0
-      c.record_of.ensures,
-  omega arith,
-  record { format = refl; count = refl; at = c.in-Some.ensures.1 },
-)
+returns c =
+    let some : 0 < c.in-Ok.own = omega (arith, c.in-Ok.ensures.least, head_some c.args.self.now.format) in
+    takes_frame
+    c.args.self.now
+    _
+    c.args.octets.now
+    c.in-Ok.own
+    c.in-Ok-held_in.held.after
+    (Some c.in-Some-framed.framed.now)
+    (Some c.record_of.result)
+    (omega arith)
+    (sym c.size_of.ensures.size ∙ c.in-Ok.is)
+    some
+    (omega arith)
+    (c.in-Ok-held_in.ensures.held
+    ∙ ap (λ framed. Ok (c.in-Ok-held_in.held.after, option_map (λ octets. octets.now) framed)) c.in-Some-framed.is)
+    (omega arith)
+    c.record_of.ensures
+    refl
+    refl
+    (omega arith)

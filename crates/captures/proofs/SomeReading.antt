@@ -1,0 +1,192 @@
+-- Any octets have a reading.
+use Rattle.std.proofs.Common.{◌≡◌, ◌≤◌, ◌<◌, ◌+◌, ◌-◌, ◌*◌, ◌/◌, ◌%◌, ◌^◌, inl, inr, ℕ, zero, suc, List, [], ◌∷◌, length, take, drop, slice_index, Option, Some, None, Result, Ok, Err, arith, refl, ◌∙◌, sym, ap, subst, length-drop}
+use Rattle.std.proofs.lemmas.Bool.{cases_eq, cases_lt}
+use Rattle.std.proofs.lemmas.Bool.Decides.{nat_tests}
+use Rattle.std.proofs.lemmas.List.{get_or_past}
+use Rattle.captures.specs.Blocks.{block_order, even_block, most_block}
+use Rattle.captures.specs.Frames.{Frame, first_frame, frame_held, frame_of_size, frame_size, head_length, held_frame}
+use Rattle.captures.specs.Framing.{number_in_order, or_fault, sized}
+use Rattle.captures.specs.Reading.{HasSomeReading, IsFraming, IsGiven, count_after, records_in}
+use Rattle.captures.specs.Record.{HasExtensions, record_flags, record_interface, record_length, record_time, record_type}
+use Rattle.captures.specs.RecordContent.{IsContent, IsErrored, IsOfCell, cell_place}
+use Rattle.captures.specs.RecordReading.{SaysRecord}
+use Rattle.captures.specs.declared.content.NoCell.{NoCell}
+use Rattle.captures.specs.declared.content.NoCell.TheVariants.{OtherType, Errored, CutShort}
+use Rattle.captures.specs.declared.fault.Fault.{Fault}
+use Rattle.captures.specs.declared.fault.RecordFault.{RecordFault}
+use Rattle.captures.specs.declared.fault.RecordFault.TheVariants.{CutOff, TooFar}
+use Rattle.captures.specs.declared.format.Format.{Format}
+use Rattle.captures.specs.declared.format.Format.TheVariants.{Erf, Pcap, PcapNg}
+use Rattle.captures.specs.declared.format.Order.{Order}
+use Rattle.captures.specs.declared.reader.Record.{Record}
+use Rattle.captures.proofs.First.{has_head, lacks_head, when_above, when_below}
+
+-- Behind the end of octets there is nothing.
+beyond : (octets : List ℕ) (n : ℕ) → length octets ≤ n → slice_index octets n ≡ 0
+beyond octets n past = get_or_past octets n 0 past
+
+-- A record has some number of extension headers.
+extensions_from : (fuel n : ℕ) (octets : List ℕ) → length octets ≤ 8 + 8 * n + fuel
+    → ((k : ℕ) → k < n → 128 ≤ slice_index octets (8 + 8 * k)) → (count : ℕ) × HasExtensions octets count
+extensions_from zero n octets near so_far =
+    (n, record { more = so_far; last = omega (arith, beyond octets (8 + 8 * n) (omega arith)) })
+extensions_from (suc fuel) n octets near so_far =
+    elim (cases_lt (slice_index octets (8 + 8 * n)) 128) [
+      | inl last ↦ (n, record { more = so_far; last = last })
+      | inr more ↦
+          extensions_from fuel (n + 1) octets (omega arith)
+          (λ k below. elim (cases_lt k n) [
+            | inl less ↦ so_far k less
+            | inr least ↦ let same : n ≡ k = omega arith in subst (λ (i : ℕ). 128 ≤ slice_index octets (8 + 8 * i)) same more
+          ])
+    ]
+
+some_extensions : (octets : List ℕ) → (count : ℕ) × HasExtensions octets count
+some_extensions octets = extensions_from (length octets) 0 octets (omega arith) (λ k below. absurd (omega arith))
+
+-- A record holds something.
+good_content : (octets : List ℕ) → IsOfCell octets → ¬ IsErrored octets → (content : Result (List ℕ) NoCell) × IsContent octets content
+good_content octets kind good =
+    let found = some_extensions octets in
+    let place : ℕ = cell_place octets found.0 in
+    elim (cases_lt (length octets) (place + 52)) [
+      | inl short ↦ (Err (CutShort (length octets - place)), ((kind, good), (found.0, found.1, (short, refl))))
+      | inr long ↦ (Ok (take 52 (drop place octets)), ((kind, good), (found.0, found.1, (long, refl))))
+    ]
+
+content_of_kind : (octets : List ℕ) → IsOfCell octets → (content : Result (List ℕ) NoCell) × IsContent octets content
+content_of_kind octets kind =
+    elim (cases_eq (record_flags octets / 16 % 4) 0) [
+      | inl none ↦ good_content octets kind (λ errored. errored none)
+      | inr some ↦ (Err Errored, (kind, some))
+    ]
+
+some_content : (octets : List ℕ) → (content : Result (List ℕ) NoCell) × IsContent octets content
+some_content octets =
+    elim (cases_eq (record_type octets) 3) [
+      | inl plain ↦ content_of_kind octets (inl plain)
+      | inr other ↦ elim (cases_eq (record_type octets) 7) [
+        | inl channel ↦ content_of_kind octets (inr channel)
+        | inr neither ↦ (
+          Err (OtherType (record_type octets)),
+          ((λ kind. elim kind [ inl is ↦ other is | inr is ↦ neither is ]), refl),
+        )
+      ]
+    ]
+
+some_saying : (number : ℕ) (octets : List ℕ) → (said : Record) × SaysRecord number octets said
+some_saying number octets =
+    let content = some_content octets in (
+      record { number = number; interface = record_interface octets; time = record_time octets; content = content.0 },
+      record { numbered = refl; interface = refl; time = refl; content = content.1 },
+    )
+
+some_given : (count : ℕ) (held : Option (List ℕ)) → (given : Option Record) × IsGiven count held given
+some_given count None = (None, tt)
+some_given count (Some octets) = let said = some_saying (count + 1) octets in (Some said.0, said.1)
+
+-- A frame has octets, and no more than there are.
+sized_some : (before least most said size : ℕ) → 0 < before + least → sized before least most said ≡ Ok size → 0 < size
+sized_some before least most said size some is =
+    elim (cases_lt said least) [
+      | inl short ↦ let bad = sym (when_below said least _ _ short) ∙ is in cc
+      | inr long ↦ elim (cases_lt most said) [
+        | inl far ↦ let bad = sym (when_above said least _ _ long ∙ when_below most said _ _ far) ∙ is in cc
+        | inr near ↦
+            let same : Ok (before + said) ≡ Ok size = sym (when_above said least _ _ long ∙ when_above most said _ _ near) ∙ is in
+            let equal : before + said ≡ size = cc in omega arith
+      ]
+    ]
+
+even_some : (r : Result ℕ RecordFault) (size : ℕ) → ((n : ℕ) → r ≡ Ok n → 0 < n) → or_fault r even_block ≡ Ok size → 0 < size
+even_some (Err reason) size some is = cc
+even_some (Ok n) size some is =
+    elim (cases_eq (n % 4) 0) [
+      | inl even ↦ let same : n ≡ size = grind (arith, nat_tests) in omega (arith, some n refl)
+      | inr odd ↦ absurd (grind (arith, nat_tests))
+    ]
+
+block_some : (order : Result Order RecordFault) (octets : List ℕ) (size : ℕ)
+    → or_fault order (λ o. or_fault (sized 0 12 most_block (number_in_order o (drop 4 octets))) even_block) ≡ Ok size → 0 < size
+block_some (Err reason) octets size is = cc
+block_some (Ok order) octets size is =
+    even_some (sized 0 12 most_block (number_in_order order (drop 4 octets))) size
+    (λ n one. sized_some 0 12 most_block (number_in_order order (drop 4 octets)) n (omega arith) one) is
+
+-- The size of a frame is that which it says.
+size_of_held : (at size : ℕ) (held : Result (Format × Option (List ℕ)) RecordFault) (frame : Frame) → held_frame at size held ≡ Ok frame → frame.size ≡ size
+size_of_held at size (Err reason) frame is = cc
+size_of_held at size (Ok held) frame is =
+    elim (cases_lt (at + size) (2 ^ 64)) [
+      | inl near ↦
+          let same : Ok (record { size = size; after = held.0; held = held.1 }) ≡ Ok frame = sym (when_below (at + size) (2 ^ 64) _ _ near) ∙ is in
+          let equal : record { size = size; after = held.0; held = held.1 } ≡ frame = cc in sym (ap (λ f. f.size) equal)
+      | inr far ↦ let bad : Err TooFar ≡ Ok frame = sym (when_above (at + size) (2 ^ 64) _ _ far) ∙ is in cc
+    ]
+
+size_some : (format : Format) (octets : List ℕ) (size : ℕ) → frame_size format octets ≡ Ok size → 0 < size
+unfolding frame_size
+size_some Erf octets size is = sized_some 0 16 65535 (record_length octets) size (omega arith) is
+size_some (Pcap order) octets size is = sized_some 16 16 65535 (number_in_order order (drop 8 octets)) size (omega arith) is
+size_some (PcapNg section) octets size is = block_some (block_order section octets) octets size is
+
+of_size_some : (format : Format) (at : ℕ) (octets : List ℕ) (size : Result ℕ RecordFault) (frame : Frame)
+    → ((n : ℕ) → size ≡ Ok n → 0 < n) → frame_of_size format at octets size ≡ Some (Ok frame) → (0 < frame.size) × (frame.size ≤ length octets)
+of_size_some format at octets (Err reason) frame some is = let bad : Some (Err reason) ≡ Some (Ok frame) = is in cc
+of_size_some format at octets (Ok size) frame some is =
+    elim (cases_lt (length octets) size) [
+      | inl short ↦ let bad : None ≡ Some (Ok frame) = sym (when_below (length octets) size None (Some (held_frame at size (frame_held format (take size octets)))) short) ∙ is in cc
+      | inr long ↦
+          let whole : Some (held_frame at size (frame_held format (take size octets))) ≡ Some (Ok frame) =
+          sym (when_above (length octets) size None (Some (held_frame at size (frame_held format (take size octets)))) long) ∙ is
+          in
+          let inner : held_frame at size (frame_held format (take size octets)) ≡ Ok frame = cc in
+          let same : frame.size ≡ size = size_of_held at size (frame_held format (take size octets)) frame inner in
+          let least : 0 < size = some size refl in
+          (omega arith, omega arith)
+    ]
+
+frame_some : (format : Format) (at : ℕ) (octets : List ℕ) (frame : Frame) → first_frame format at octets ≡ Some (Ok frame)
+    → (0 < frame.size) × (frame.size ≤ length octets)
+frame_some format at octets frame is =
+    elim (cases_lt (length octets) (head_length format)) [
+      | inl short ↦ let bad : None ≡ Some (Ok frame) = sym (lacks_head format at octets short) ∙ is in cc
+      | inr long ↦ of_size_some format at octets (frame_size format octets) frame (size_some format octets) (sym (has_head format at octets long) ∙ is)
+    ]
+
+-- ---- the framing of any octets
+
+abbrev SomeFraming : Format → ℕ → ℕ → List ℕ → Type 0
+SomeFraming format count at octets = (frames : List (Option Record)) × (ending : Option Fault) × IsFraming format count at octets frames ending
+
+nothing_left : (octets : List ℕ) → length octets ≡ 0 → octets ≡ []
+nothing_left [] none = refl
+nothing_left (x ∷ xs) none = absurd (omega (arith, none))
+
+-- Where no frame begins, the reading ends.
+ended : (format : Format) (count at : ℕ) (octets : List ℕ) (answer : Option (Result Frame RecordFault)) → first_frame format at octets ≡ answer
+    → ((frame : Frame) → answer ≡ Some (Ok frame) → SomeFraming format count at octets) → SomeFraming format count at octets
+ended format count at octets None is goes =
+    elim (cases_eq (length octets) 0) [
+      | inl none ↦ ([], None, nothing_left octets none)
+      | inr some ↦ let positive : 0 < length octets = omega arith in ([], Some (record { at = at; reason = CutOff }), (refl, inl (positive, is, refl)))
+    ]
+ended format count at octets (Some (Err reason)) is goes = ([], Some (record { at = at; reason = reason }), (refl, inr is))
+ended format count at octets (Some (Ok frame)) is goes = goes frame refl
+
+some_framing : (fuel : ℕ) (format : Format) (count at : ℕ) (octets : List ℕ) → length octets ≤ fuel → SomeFraming format count at octets
+some_framing zero format count at octets short = ([], None, nothing_left octets (omega arith))
+some_framing (suc fuel) format count at octets short =
+    ended format count at octets (first_frame format at octets) refl
+    (λ frame is.
+    let size = frame_some format at octets frame is in
+    let given = some_given count frame.held in
+    let rest = some_framing fuel frame.after (count_after count given.0) (at + frame.size) (drop frame.size octets)
+    (omega (arith, length-drop frame.size octets, size.0))
+    in
+    (given.0 ∷ rest.0, rest.1, (frame, is, given.1, rest.2)))
+
+pub some_reading : HasSomeReading
+some_reading format count at octets =
+    let all = some_framing (length octets) format count at octets (omega arith) in
+    (records_in all.0, all.1, (all.0, all.2, refl))

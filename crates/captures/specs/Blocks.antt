@@ -1,0 +1,92 @@
+-- The blocks of a pcapng file. Each begins with its type and its length, of four octets each, and ends with its length.
+use Rattle.std.specs.Prelude.{◌+◌, ◌-◌, ◌%◌, ◌^◌, ◌==◌, nat_lt, nat_le, min, if◌then◌else◌, Bool, ℕ, List, length, take, drop, Option, Some, None, Result, Ok, Err}
+use Rattle.byteorder.specs.Endian.{big_number}
+use Rattle.captures.specs.Framing.{half_in_order, number_in_order, or_fault, record_in_packet, sized}
+use Rattle.captures.specs.declared.block.Section.{Section}
+use Rattle.captures.specs.declared.fault.RecordFault.{RecordFault}
+use Rattle.captures.specs.declared.fault.RecordFault.TheVariants.{OddLength, LengthsDiffer, OtherMagic, OtherVersion, ShortBlock, OtherLink, NoInterface, LongPacket}
+use Rattle.captures.specs.declared.format.Order.{Order}
+use Rattle.captures.specs.declared.format.Order.TheVariants.{HighestFirst, LowestFirst}
+
+-- The most octets of a block.
+abbrev pub most_block : ℕ
+most_block = 131072
+
+-- A section header has this type, in both orders.
+abbrev pub is_section_header : List ℕ → Bool
+is_section_header octets = big_number 4 octets == 0x0a0d0d0a
+
+-- The order of the numbers in a section whose header has this number, read the highest octet first, as its byte-order magic.
+abbrev pub order_of_magic : ℕ → Result Order RecordFault
+order_of_magic magic =
+    if magic == 0x1a2b3c4d then Ok HighestFirst
+    else if magic == 0x4d3c2b1a then Ok LowestFirst
+    else Err (OtherMagic magic)
+
+-- The order of the numbers in a block of a section. A section header says it in octets 8 to 11.
+abbrev pub block_order : Section → List ℕ → Result Order RecordFault
+block_order section octets =
+    if is_section_header octets then order_of_magic (big_number 4 (drop 8 octets)) else Ok section.order
+
+-- A block ends where a number of four octets does.
+abbrev pub even_block : ℕ → Result ℕ RecordFault
+even_block size = if size % 4 == 0 then Ok size else Err (OddLength size)
+
+-- How many octets a block has: the number in octets 4 to 7.
+abbrev pub block_size : Section → List ℕ → Result ℕ RecordFault
+block_size section octets =
+    or_fault (block_order section octets) (λ order.
+    or_fault (sized 0 12 most_block (number_in_order order (drop 4 octets))) even_block)
+
+-- A section begins, with numbers in this order and no interface.
+abbrev pub section_begun : Order → Section
+section_begun order = record { order = order; interfaces = 0 }
+
+-- A section has one interface more. An interface is named by a number below 2^32.
+abbrev pub with_interface : Section → Section
+with_interface section = record { order = section.order; interfaces = min (section.interfaces + 1) (2 ^ 64 - 1) }
+
+-- The section that a section header of version 1 begins.
+abbrev pub section_of_header : Order → List ℕ → Result Section RecordFault
+section_of_header order block =
+    if nat_lt (length block) 28 then Err (ShortBlock (length block))
+    else if half_in_order order (drop 12 block) == 1 then Ok (section_begun order)
+    else Err (OtherVersion (half_in_order order (drop 12 block)))
+
+-- The section after the description of an interface, whose packets are records: its link type, in octets 8 and 9, is 197.
+abbrev pub section_of_interface : Section → List ℕ → Result Section RecordFault
+section_of_interface section block =
+    if nat_lt (length block) 20 then Err (ShortBlock (length block))
+    else if half_in_order section.order (drop 8 block) == 197 then Ok (with_interface section)
+    else Err (OtherLink (half_in_order section.order (drop 8 block)))
+
+-- The record in an enhanced packet block: in octets 8 to 11 is the number of an interface, from 0, in octets 20 to 23 the length
+-- of the packet, and the packet begins with octet 28. What comes after it is not read, nor are the block's own times.
+abbrev pub record_of_packet : Section → List ℕ → Result (List ℕ) RecordFault
+record_of_packet section block =
+    if nat_lt (length block) 32 then Err (ShortBlock (length block))
+    else if nat_le section.interfaces (number_in_order section.order (drop 8 block))
+    then Err (NoInterface (number_in_order section.order (drop 8 block)))
+    else if nat_lt (length block) (32 + number_in_order section.order (drop 20 block))
+    then Err (LongPacket (number_in_order section.order (drop 20 block)))
+    else record_in_packet (take (number_in_order section.order (drop 20 block)) (drop 28 block))
+
+-- The section after a block of this type, and the record in it, if it is an enhanced packet block. Blocks of other types are passed over.
+abbrev pub held_of_type : Section → Order → ℕ → List ℕ → Result (Section × Option (List ℕ)) RecordFault
+held_of_type section order kind block =
+    if kind == 0x0a0d0d0a then or_fault (section_of_header order block) (λ begun. Ok (begun, None))
+    else if kind == 1 then or_fault (section_of_interface section block) (λ more. Ok (more, None))
+    else if kind == 6 then or_fault (record_of_packet section block) (λ octets. Ok (section, Some octets))
+    else Ok (section, None)
+
+-- The order of the numbers in a whole block, which ends with its length.
+abbrev pub whole_block_order : Section → List ℕ → Result Order RecordFault
+whole_block_order section block =
+    or_fault (block_order section block) (λ order.
+    if number_in_order order (drop (length block - 4) block) == length block then Ok order
+    else Err (LengthsDiffer (number_in_order order (drop (length block - 4) block))))
+
+-- The section after a whole block, and the record in it.
+abbrev pub block_held : Section → List ℕ → Result (Section × Option (List ℕ)) RecordFault
+block_held section block =
+    or_fault (whole_block_order section block) (λ order. held_of_type section order (number_in_order order block) block)

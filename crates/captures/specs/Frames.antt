@@ -1,0 +1,56 @@
+-- The frame with which octets begin: how long it is, and what it holds.
+use Rattle.std.specs.Prelude.{◌+◌, ◌^◌, nat_lt, if◌then◌else◌, ℕ, List, length, take, drop, Option, Some, None, Result, Ok, Err}
+use Rattle.captures.specs.Blocks.{block_held, block_size}
+use Rattle.captures.specs.Framing.{number_in_order, or_fault, record_in_packet, sized}
+use Rattle.captures.specs.Record.{record_length}
+use Rattle.captures.specs.declared.fault.RecordFault.{RecordFault}
+use Rattle.captures.specs.declared.fault.RecordFault.TheVariants.{TooFar}
+use Rattle.captures.specs.declared.format.Format.{Format}
+use Rattle.captures.specs.declared.format.Format.TheVariants.{Erf, Pcap, PcapNg}
+
+-- How many octets come before the first frame.
+abbrev pub format_start : Format → ℕ
+format_start Erf = 0
+format_start (Pcap order) = 24
+format_start (PcapNg section) = 0
+
+-- How many octets of a frame say its length: the first header of a record, the header of a packet, the beginning of a block.
+abbrev pub head_length : Format → ℕ
+head_length Erf = 16
+head_length (Pcap order) = 16
+head_length (PcapNg section) = 12
+
+-- How many octets a frame has: the record's length; the header of a packet, and the number in its octets 8 to 11; the
+-- block's length. A record has 16 to 65,535 octets, and a block 12 to 131,072.
+unfoldable pub frame_size : Format → List ℕ → Result ℕ RecordFault
+frame_size Erf octets = sized 0 16 65535 (record_length octets)
+frame_size (Pcap order) octets = sized 16 16 65535 (number_in_order order (drop 8 octets))
+frame_size (PcapNg section) octets = block_size section octets
+
+-- How the file goes on after a whole frame, and the record in the frame, if there is one.
+unfoldable pub frame_held : Format → List ℕ → Result (Format × Option (List ℕ)) RecordFault
+frame_held Erf frame = Ok (Erf, Some frame)
+frame_held (Pcap order) frame = or_fault (record_in_packet (drop 16 frame)) (λ octets. Ok (Pcap order, Some octets))
+frame_held (PcapNg section) frame = or_fault (block_held section frame) (λ held. Ok (PcapNg held.0, held.1))
+
+-- What the first frame of a file's octets is: how many octets it has, and what it holds.
+pub record Frame : Type 0 where
+  pub size : ℕ
+  pub after : Format
+  pub held : Option (List ℕ)
+
+-- A whole frame, which ends before octet 2^64 of the file.
+abbrev pub held_frame : ℕ → ℕ → Result (Format × Option (List ℕ)) RecordFault → Result Frame RecordFault
+held_frame at size held =
+    or_fault held (λ it. if nat_lt (at + size) (2 ^ 64) then Ok (record { size = size; after = it.0; held = it.1 }) else Err TooFar)
+
+-- The frame of this size with which octets begin, if they are so many.
+abbrev pub frame_of_size : Format → ℕ → List ℕ → Result ℕ RecordFault → Option (Result Frame RecordFault)
+frame_of_size format at octets (Err reason) = Some (Err reason)
+frame_of_size format at octets (Ok size) =
+    if nat_lt (length octets) size then None else Some (held_frame at size (frame_held format (take size octets)))
+
+-- The frame with which octets begin, which come at this place of a file, or why they begin with none. None: they end inside a frame.
+abbrev pub first_frame : Format → ℕ → List ℕ → Option (Result Frame RecordFault)
+first_frame format at octets =
+    if nat_lt (length octets) (head_length format) then None else frame_of_size format at octets (frame_size format octets)

@@ -1,0 +1,222 @@
+//! The blocks of a pcapng file.
+
+ghost use Rattle.std.specs.Prelude.{◌≡◌, ◌≤◌, ◌+◌, length, IfErr, IfOk, IfSome, Ok, Err, option_map};
+ghost use Rattle.captures.specs.Blocks.{block_order, block_size, block_held, even_block, held_of_type, is_section_header as begins_section, order_of_magic, record_of_packet, section_of_header, section_of_interface, whole_block_order};
+ghost use Rattle.captures.specs.Framing.{record_in_packet as record_of, sized as size_said};
+
+use crate::fault::RecordFault;
+use crate::format::Order;
+use crate::packet::{from_place, record_in_packet, sized};
+use byteorder::{BigEndian, ByteOrder};
+
+/// The type of a section header.
+const SECTION_HEADER: u32 = 0x0a0d_0d0a;
+/// The type of the description of an interface.
+const INTERFACE: u32 = 1;
+/// The type of an enhanced packet.
+const ENHANCED_PACKET: u32 = 6;
+/// The link type of packets that are records.
+const LINK_ERF: u16 = 197;
+/// The most octets of a block.
+const MOST_BLOCK: u32 = 131_072;
+/// The octets of a block without a body.
+pub(crate) const LEAST_BLOCK: u32 = 12;
+/// The octets of a section header without options.
+const SECTION_HEADER_OCTETS: usize = 28;
+/// The octets of the description of an interface without options.
+const INTERFACE_OCTETS: usize = 20;
+/// The octets of an enhanced packet block without its packet and options.
+const ENHANCED_PACKET_OCTETS: usize = 32;
+/// Where the packet begins in its block.
+const PACKET_PLACE: usize = 28;
+
+/// What the blocks of a section of a pcapng file said so far.
+#[derive(Clone, Copy, PartialEq, Eq, Debug)]
+pub struct Section {
+    /// In which order the octets of its numbers come.
+    pub order: Order,
+    /// How many interfaces it has.
+    pub interfaces: u64,
+}
+
+/// The section after a block, and the record in it, if it has one.
+#[derive(Clone, Copy)]
+pub(crate) struct BlockHeld<'a> {
+    /// The section after the block.
+    pub(crate) section: Section,
+    /// The record in the block.
+    pub(crate) framed: Option<&'a [u8]>,
+}
+
+/// Returns whether octets begin with a section header.
+fn is_section_header(octets: &[u8]) -> bool
+    requires { 4 ≤ length octets.now }
+    ensures { result ≡ begins_section octets.now }
+{
+    BigEndian::read_u32(octets) == SECTION_HEADER
+}
+
+/// Returns the order of the numbers in a section with this byte-order magic.
+fn order_by_magic(magic: u32) -> Result<Order, RecordFault>
+    ensures { result ≡ order_of_magic magic }
+{
+    match magic {
+        0x1a2b_3c4d => Ok(Order::HighestFirst),
+        0x4d3c_2b1a => Ok(Order::LowestFirst),
+        _ => Err(RecordFault::OtherMagic(magic)),
+    }
+}
+
+/// Returns the size of a block, if numbers of four octets fill it.
+fn even(size: usize) -> Result<usize, RecordFault>
+    requires { size ≤ 131072 }
+    ensures { result ≡ even_block size }
+{
+    if size % 4 == 0 {
+        Ok(size)
+    } else {
+        Err(RecordFault::OddLength(size as u32))
+    }
+}
+
+/// Returns the section that a header begins, with numbers in this order.
+fn begun_by(order: Order, block: &[u8]) -> Result<Section, RecordFault>
+    requires { length block.now ≤ 131072 }
+    ensures { result ≡ section_of_header order block.now }
+{
+    if block.len() < SECTION_HEADER_OCTETS {
+        return Err(RecordFault::ShortBlock(block.len() as u32));
+    }
+    match order.half_in(from_place(block, 12)) {
+        1 => Ok(Section {
+            order,
+            interfaces: 0,
+        }),
+        version => Err(RecordFault::OtherVersion(version)),
+    }
+}
+
+impl Section {
+    /// Returns the order of the numbers in a block, which its first twelve octets say.
+    fn order_of(self, octets: &[u8]) -> Result<Order, RecordFault>
+        requires { 12 ≤ length octets.now }
+        ensures { result ≡ block_order self octets.now }
+    {
+        if is_section_header(octets) {
+            order_by_magic(BigEndian::read_u32(from_place(octets, 8)))
+        } else {
+            Ok(self.order)
+        }
+    }
+
+    /// Returns the size of the block with which octets begin.
+    pub(crate) fn size_of(self, octets: &[u8]) -> Result<usize, RecordFault>
+        requires { 12 ≤ length octets.now }
+        ensures { result ≡ block_size self octets.now }
+    {
+        let order = self.order_of(octets)?;
+        let said = order.number_in(from_place(octets, 4));
+        let size = sized(0, LEAST_BLOCK, MOST_BLOCK, said)?;
+        even(size)
+    }
+
+    /// Returns the section after the description of an interface.
+    fn with_interface(self, block: &[u8]) -> Result<Section, RecordFault>
+        requires { length block.now ≤ 131072 }
+        ensures { result ≡ section_of_interface self block.now }
+    {
+        if block.len() < INTERFACE_OCTETS {
+            return Err(RecordFault::ShortBlock(block.len() as u32));
+        }
+        match self.order.half_in(from_place(block, 8)) {
+            LINK_ERF => Ok(Section {
+                order: self.order,
+                interfaces: self.interfaces.saturating_add(1),
+            }),
+            link => Err(RecordFault::OtherLink(link)),
+        }
+    }
+
+    /// Returns the record in an enhanced packet block.
+    fn record_in(self, block: &[u8]) -> Result<&[u8], RecordFault>
+        requires { length block.now ≤ 131072 }
+        ensures record { IfOk result (λ octets. record_of_packet self block.now ≡ Ok octets.now) }
+        ensures fault { IfErr result (λ reason. record_of_packet self block.now ≡ Err reason) }
+        ensures headed { IfOk result (λ octets. 16 ≤ length octets.now) }
+    {
+        if block.len() < ENHANCED_PACKET_OCTETS {
+            return Err(RecordFault::ShortBlock(block.len() as u32));
+        }
+        let interface = self.order.number_in(from_place(block, 8));
+        if self.interfaces <= u64::from(interface) {
+            return Err(RecordFault::NoInterface(interface));
+        }
+        let captured = self.order.number_in(from_place(block, 20));
+        if block.len() < ENHANCED_PACKET_OCTETS + captured as usize {
+            return Err(RecordFault::LongPacket(captured));
+        }
+        let packet = &from_place(block, PACKET_PLACE)[..captured as usize];
+        record_in_packet(packet)
+    }
+
+    /// Returns what a block of this type holds.
+    fn held_by_type(
+        self,
+        order: Order,
+        kind: u32,
+        block: &[u8],
+    ) -> Result<BlockHeld<'_>, RecordFault>
+        requires { length block.now ≤ 131072 }
+        ensures held { IfOk result (λ held. held_of_type self order kind block.now
+            ≡ Ok (held.section, option_map (λ octets. octets.now) held.framed)) }
+        ensures fault { IfErr result (λ reason. held_of_type self order kind block.now ≡ Err reason) }
+        ensures headed { IfOk result (λ held. IfSome held.framed (λ octets. 16 ≤ length octets.now)) }
+    {
+        match kind {
+            SECTION_HEADER => Ok(BlockHeld {
+                section: begun_by(order, block)?,
+                framed: None,
+            }),
+            INTERFACE => Ok(BlockHeld {
+                section: self.with_interface(block)?,
+                framed: None,
+            }),
+            ENHANCED_PACKET => Ok(BlockHeld {
+                section: self,
+                framed: Some(self.record_in(block)?),
+            }),
+            _ => Ok(BlockHeld {
+                section: self,
+                framed: None,
+            }),
+        }
+    }
+
+    /// Returns the order of the numbers in a whole block.
+    fn order_of_whole(self, block: &[u8]) -> Result<Order, RecordFault>
+        requires whole { 12 ≤ length block.now }
+        requires bounded { length block.now ≤ 131072 }
+        ensures { result ≡ whole_block_order self block.now }
+    {
+        let order = self.order_of(block)?;
+        let said = order.number_in(from_place(block, block.len() - 4));
+        if said as usize == block.len() {
+            Ok(order)
+        } else {
+            Err(RecordFault::LengthsDiffer(said))
+        }
+    }
+
+    /// Returns what a whole block holds.
+    pub(crate) fn held_in(self, block: &[u8]) -> Result<BlockHeld<'_>, RecordFault>
+        requires whole { 12 ≤ length block.now }
+        requires bounded { length block.now ≤ 131072 }
+        ensures held { IfOk result (λ held. block_held self block.now
+            ≡ Ok (held.section, option_map (λ octets. octets.now) held.framed)) }
+        ensures fault { IfErr result (λ reason. block_held self block.now ≡ Err reason) }
+        ensures headed { IfOk result (λ held. IfSome held.framed (λ octets. 16 ≤ length octets.now)) }
+    {
+        let order = self.order_of_whole(block)?;
+        self.held_by_type(order, order.number_in(block), block)
+    }
+}

@@ -1,0 +1,157 @@
+//! Pcapng files: blocks with records, blocks without, and octets that are no block. Types and places are those of the public
+//! description of pcapng.
+
+use super::octets_of;
+use crate::*;
+use std::test::Fail;
+
+/// The octets of a number in this order.
+fn octets_in(order: Order, number: u32) -> [u8; 4] {
+    match order {
+        Order::HighestFirst => number.to_be_bytes(),
+        Order::LowestFirst => number.to_le_bytes(),
+    }
+}
+
+/// A file with numbers in this order: a section header at octet 0, an interface of link type 197 at octet 28, and a packet with a
+/// record of 68 octets at octet 48. Then these numbers of four octets are put at these places.
+fn blocks_of(order: Order, changes: [(usize, u32); 2]) -> [u8; 148] {
+    let mut octets = [0u8; 148];
+    for (place, number) in [
+        (0, 0x0a0d_0d0a),
+        (4, 28),
+        (8, 0x1a2b_3c4d),
+        (12, 0x0001_0001),
+        (24, 28),
+        (28, 1),
+        (32, 20),
+        (36, 0x00c5_00c5),
+        (44, 20),
+        (48, 6),
+        (52, 100),
+        (68, 68),
+        (144, 100),
+    ] {
+        octets[place..place + 4].copy_from_slice(&octets_in(order, number));
+    }
+    octets[76..144].copy_from_slice(&octets_of(3, 2, 68)[..68]);
+    for (place, number) in changes {
+        if place <= 144 {
+            octets[place..place + 4].copy_from_slice(&octets_in(order, number));
+        }
+    }
+    octets
+}
+
+/// Reads the blocks of a file, as far as there are three. Returns the reader after them, and what comes next.
+fn read_blocks(octets: &[u8]) -> (Reader, Next) {
+    let Opening::Opened(format) = open(octets) else {
+        return (Reader::new(Format::Erf), Next::Unfinished);
+    };
+    let mut reader = Reader::new(format);
+    let mut left = octets;
+    for _ in 0..3 {
+        match reader.next(left) {
+            Next::Taken(_, own) | Next::Passed(own) => left = &left[own..],
+            next => return (reader, next),
+        }
+    }
+    let next = reader.next(left);
+    (reader, next)
+}
+
+#[test]
+fn records_in_pcapng_files(rt: HostRuntime) -> Result<(), Fail> {
+    for order in [Order::HighestFirst, Order::LowestFirst] {
+        for (change, count) in [
+            ((60, u32::MAX), 1),
+            ((16, u32::MAX), 1),
+            ((68, 16), 1),
+            ((48, 5), 0),
+            ((48, 3), 0),
+        ] {
+            let octets = blocks_of(order, [change, change]);
+            let (reader, next) = read_blocks(&octets);
+            assert_eq!(rt; next, Next::Unfinished);
+            assert_eq!(rt; (reader.count, reader.at), (count, 148));
+        }
+        let octets = blocks_of(order, [(148, 0), (148, 0)]);
+        let mut reader = Reader::new(Format::PcapNg(Section {
+            order,
+            interfaces: 1,
+        }));
+        let Next::Taken(record, own) = reader.next(&octets[48..]) else {
+            return Err(Fail::new("no record"));
+        };
+        assert_eq!(rt;
+            (record.number, record.interface, record.time, own),
+            (1, 2, 0x1_8000_0000, 100)
+        );
+        assert_eq!(rt; record.content.map(|cell| cell.bytes()[0]), Ok(16));
+    }
+    Ok(())
+}
+
+#[test]
+fn octets_that_are_no_block(rt: HostRuntime) -> Result<(), Fail> {
+    for order in [Order::HighestFirst, Order::LowestFirst] {
+        for (changes, at, reason) in [
+            ([(4, 0), (24, 0)], 0, RecordFault::ShortLength(0)),
+            ([(4, 8), (24, 8)], 0, RecordFault::ShortLength(8)),
+            ([(4, 30), (24, 30)], 0, RecordFault::OddLength(30)),
+            ([(4, 131_076), (24, 0)], 0, RecordFault::LongLength(131_076)),
+            (
+                [(4, u32::MAX), (24, 0)],
+                0,
+                RecordFault::LongLength(u32::MAX),
+            ),
+            ([(24, 32), (24, 32)], 0, RecordFault::LengthsDiffer(32)),
+            (
+                [(8, 0x0101_0101), (24, 28)],
+                0,
+                RecordFault::OtherMagic(0x0101_0101),
+            ),
+            (
+                [(12, 0x0002_0002), (24, 28)],
+                0,
+                RecordFault::OtherVersion(2),
+            ),
+            ([(4, 24), (20, 24)], 0, RecordFault::ShortBlock(24)),
+            ([(36, 0x0001_0001), (44, 20)], 28, RecordFault::OtherLink(1)),
+            ([(32, 16), (40, 16)], 28, RecordFault::ShortBlock(16)),
+            ([(56, 1), (144, 100)], 48, RecordFault::NoInterface(1)),
+            ([(28, 2), (44, 20)], 48, RecordFault::NoInterface(0)),
+            ([(68, 69), (144, 100)], 48, RecordFault::LongPacket(69)),
+            (
+                [(68, u32::MAX), (144, 100)],
+                48,
+                RecordFault::LongPacket(u32::MAX),
+            ),
+            ([(68, 15), (144, 100)], 48, RecordFault::ShortRecord),
+            ([(52, 28), (72, 28)], 48, RecordFault::ShortBlock(28)),
+            ([(144, 96), (144, 96)], 48, RecordFault::LengthsDiffer(96)),
+        ] {
+            let (reader, next) = read_blocks(&blocks_of(order, changes));
+            assert_eq!(rt; next, Next::Broken(Fault { at, reason }));
+            assert_eq!(rt; (reader.count, reader.at), (0, at));
+        }
+    }
+    Ok(())
+}
+
+#[test]
+fn a_pcapng_file_that_is_cut_off(rt: HostRuntime) -> Result<(), Fail> {
+    let octets = blocks_of(Order::LowestFirst, [(148, 0), (148, 0)]);
+    for (length, at) in [(27, 0), (39, 28), (47, 28), (59, 48), (147, 48)] {
+        let (reader, next) = read_blocks(&octets[..length]);
+        assert_eq!(rt; next, Next::Unfinished);
+        assert_eq!(rt;
+            reader.end(&octets[at..length]),
+            Some(Fault {
+                at: at as u64,
+                reason: RecordFault::CutOff
+            })
+        );
+    }
+    Ok(())
+}
