@@ -214,7 +214,14 @@ fn nothing_is_said_if_nobody_reads(rt: HostRuntime) -> Result<(), Fail> {
     let mut errors = FaultyOutput::new(rt.alloc(), 100);
     let status = carry_out(rt.alloc(), chosen, &mut input, &mut output, &mut errors);
     assert_eq!(rt; (status, errors.held.as_slice()), (3, b"".as_slice()));
-    assert_eq!(rt; (shell_status(3, true), shell_status(3, false), shell_status(1, true)), (141, 3, 1));
+    assert_eq!(rt;
+        (
+            shell_status(3, true),
+            shell_status(3, false),
+            shell_status(1, true)
+        ),
+        (141, 3, 1)
+    );
     Ok(())
 }
 
