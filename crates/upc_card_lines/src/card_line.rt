@@ -9,8 +9,8 @@ use text_io::first_word;
 use upc_cell::Side;
 use upc_script::number;
 
-/// Returns the side of a word.
-fn named_side(word: &[u8]) -> Option<Side>
+/// Returns the side that a word names.
+pub fn named_side(word: &[u8]) -> Option<Side>
     ensures { result ≡ side_of word.now }
 {
     if word == b"uni".as_slice() {

@@ -24,7 +24,8 @@ use Rattle.upc_words.specs.Hexadecimal.{cell_of_octets, octets_of_digits}
 use Rattle.upc_run.specs.RunText.{Obeys, PolicesCell, PolicesOctets, RefusesLine}
 use Rattle.upc_script.specs.ScriptCommands.{cell}
 use Rattle.upc_run.proofs.MovesLemmas.{moves-map}
-use Rattle.upc_run.specs.inner.Policing.{AnswersCell, Held, Moves}
+use Rattle.upc_run.specs.ShownCard.{Held}
+use Rattle.upc_run.specs.inner.Policing.{AnswersCell, Moves}
 use Rattle.upc_run.specs.inner.PortZero.{enter-goes}
 
 -- A cell that takes all its steps is answered by the pick or by the judgement.

@@ -1,11 +1,12 @@
 -- How a line of a script changes the stored card.
-use Rattle.std.proofs.Common.{◌≡◌, ℕ, Bool, true, false, List, [], ◌++◌, Option, Some, refl, sym, ap, subst, ◌∙◌, option_map, append-nil}
+use Rattle.std.proofs.Common.{◌≡◌, ℕ, Bool, true, false, List, [], Option, Some, refl, sym, ap, subst, ◌∙◌, option_map, append-nil}
 use Rattle.std.specs.Bool.{MatchBool}
 use Rattle.text_io.specs.Words.{is_silent, words_of}
 use Rattle.upc_run.specs.RunText.{Card, CommandLine, PolicesCell, OpensOrObeys}
 use Rattle.upc_script.specs.ScriptCommands.{cell, command_of}
 use Rattle.upc_script.specs.inner.SpelledCell.{SpellsCell}
-use Rattle.upc_run.specs.inner.Policing.{Held, Moves, SaysLine}
+use Rattle.upc_run.specs.ShownCard.{Held}
+use Rattle.upc_run.specs.inner.Policing.{Moves, SaysLine}
 use Rattle.upc_run.proofs.ArrivalLemmas.{moves-cell}
 use Rattle.upc_run.proofs.MovesLemmas.{moves-line, moves-map}
 

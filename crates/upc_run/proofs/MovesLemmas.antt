@@ -25,7 +25,8 @@ use Rattle.upc_card_lines.specs.Replies.{reply_text}
 use Rattle.upc_run.specs.RunText.{AsksConnection, Card, CommandLine, LoadsOctets, Obeys, RefusesLine, TakesCommand, TakesNamed, id_loaded}
 use Rattle.upc_script.specs.ScriptCommands.{Command, command_of, load, setup}
 use Rattle.upc_script.specs.declared.script_words.Wanted.{Wanted}
-use Rattle.upc_run.specs.inner.Policing.{Held, Moves, MovesBy, ObeysSeen, ShowsCard}
+use Rattle.upc_run.specs.ShownCard.{Held, ShowsCard}
+use Rattle.upc_run.specs.inner.Policing.{Moves, MovesBy, ObeysSeen}
 
 -- A command that is refused before a step is taken.
 pub moves-refused : (Goes : Card → List ℕ → Card → Type 0) (held : Held) (fault old new : List ℕ) → new ≡ old ++ fault

@@ -6,4 +6,4 @@ pub mod laws;
 mod run;
 mod script_card;
 
-pub use run::run_script;
+pub use run::{Policing, run_script};

@@ -10,6 +10,7 @@ use crate::script_card::ScriptCard;
 use std::alloc::{AllocError, Global};
 use text_io::{Done, Input, LineWords, Machine, Output, RunFault, Turn, answer_lines, line_words};
 use upc_card_lines::{add_no_card, add_shape_fault, read_card};
+use upc_cell::Side;
 use upc_script::add_ready;
 use upc_words::add_too_long;
 
@@ -34,9 +35,9 @@ fn open(alloc: Global, line: &[u8], answers: &mut Vec<u8>) -> Result<Option<Scri
     }
 }
 
-/// The subcommand as a machine, before and after the card line.
+/// The subcommand as a machine, before and after the card line. Its rules are `run_rules`, and its worlds those of `IsRunText`.
 #[derive(Drop)]
-struct Policing {
+pub struct Policing {
     alloc: Global,
     card: Option<ScriptCard>,
 }
@@ -44,8 +45,27 @@ struct Policing {
 impl Policing {
     ghost use Rattle.std.specs.Prelude.{◌≡◌, None, IfOk};
     ghost use Rattle.text_io.specs.Answering.{Answers};
-    ghost use Rattle.upc_run.specs.RunText.{run_rules};
-    ghost use Rattle.upc_run.specs.inner.Policing.{ShowsRun};
+    ghost use Rattle.upc_run.specs.RunSide.{run_side};
+    ghost use Rattle.upc_run.specs.RunText.{RunWorld, run_rules};
+    ghost use Rattle.upc_run.specs.ShownCard.{ShowsRun};
+
+    /// Makes the machine of a run that has no card yet.
+    // no edit: without a shape there is no card to put in
+    pub fn new(alloc: Global) -> Policing
+        ensures { ⟦<Policing as Machine>⟧.shows result None }
+    {
+        Policing { alloc, card: None }
+    }
+
+    /// Returns the side of the card's cells, if there is a card.
+    pub fn side(&self) -> Option<Side>
+        ensures { (world : RunWorld) → ⟦<Policing as Machine>⟧.shows self.now world → result ≡ run_side world }
+    {
+        match &self.card {
+            Some(card) => Some(card.side()),
+            None => None,
+        }
+    }
 
     /// Answers a line before there is a card. It is a function of its own, so that later lines don't need the stack
     /// space for making a card.
@@ -69,7 +89,7 @@ impl Policing {
 
 impl Machine for Policing {
     ghost use Rattle.upc_run.specs.RunText.{RunWorld, run_rules};
-    ghost use Rattle.upc_run.specs.inner.Policing.{ShowsRun};
+    ghost use Rattle.upc_run.specs.ShownCard.{ShowsRun};
     ghost use Rattle.upc_run.specs.inner.RunLaws.{run-total};
 
     ghost World = { RunWorld };
@@ -118,6 +138,6 @@ pub fn run_script<I: Input, O: Output>(
 ) -> Result<Done, RunFault>
     ensures { IsServed IsRunText I.Input input.old input.new O.Output output.old output.new result }
 {
-    let mut policing = Policing { alloc, card: None };
+    let mut policing = Policing::new(alloc);
     answer_lines(alloc, input, output, &mut policing)
 }

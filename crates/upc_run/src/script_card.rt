@@ -30,7 +30,7 @@ pub struct ScriptCard {
 }
 
 impl Model for ScriptCard {
-    ghost use Rattle.upc_run.specs.inner.Policing.{Held};
+    ghost use Rattle.upc_run.specs.ShownCard.{Held};
 
     ghost Value = { Held };
 
@@ -48,7 +48,8 @@ impl ScriptCard {
     ghost use Rattle.card_core.specs.declared.step.Step.TheVariants.{Load};
     ghost use Rattle.upc_run.specs.RunText.{AsksConnection, CommandLine, LoadsOctets, Obeys, PolicesCell, TakesCommand, TakesNamed, new_card};
     ghost use Rattle.upc_script.specs.CommandSeen.{command_seen, setup_seen};
-    ghost use Rattle.upc_run.specs.inner.Policing.{AnswersCell, Moves, ObeysSeen, SaysLine, ShowsCard};
+    ghost use Rattle.upc_run.specs.ShownCard.{ShowsCard};
+    ghost use Rattle.upc_run.specs.inner.Policing.{AnswersCell, Moves, ObeysSeen, SaysLine};
     ghost use Rattle.text_io.specs.Words.{words_of};
 
     /// Makes a card of this shape.
@@ -71,6 +72,13 @@ impl ScriptCard {
             Ok(names) => Ok(ScriptCard { core, names }),
             Err(_) => Err(CardFault::NoMemory),
         }
+    }
+
+    /// Returns the side of the card's cells.
+    pub fn side(&self) -> Side
+        ensures { result ≡ self.now.core.shape.side }
+    {
+        self.core.shape().side
     }
 
     /// Loads the program of this code.

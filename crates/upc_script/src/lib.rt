@@ -17,4 +17,4 @@ pub use reply_texts::{
     add_cut, add_loaded, add_ready, add_released, add_reloaded, add_retired, add_set, add_tally,
     add_verdict,
 };
-pub use script_words::{Rate, Wanted, number};
+pub use script_words::{Rate, Wanted, contract, number, program};

@@ -1,28 +1,12 @@
 -- A card as the code stores it, and its answers in terms of the cards that it represents.
 use Rattle.std.specs.Prelude.{◌≡◌, ℕ, List, ◌++◌, Option, Some, None, MatchOption}
-use Rattle.gen_arena.specs.declared.id.Id.{Id}
-use Rattle.card_core.specs.Agreement.{CoreAgrees, CoreView}
+use Rattle.card_core.specs.Agreement.{CoreAgrees}
 use Rattle.card_core.specs.World.{World}
 use Rattle.card_core.specs.declared.answer.Answer.{Answer}
 use Rattle.upc_words.specs.FaultLines.{bad_line}
-use Rattle.upc_run.specs.RunText.{Arrives, Card, IsLed, Obeys, OpeningLine, RefusesLine, RunSteps, RunWorld}
+use Rattle.upc_run.specs.ShownCard.{Held, ShowsCard}
+use Rattle.upc_run.specs.RunText.{Arrives, Card, IsLed, Obeys, OpeningLine, RefusesLine, RunSteps}
 use Rattle.upc_script.specs.ScriptCommands.{Command}
-
--- The core, and the ids of the programs in the order of their names.
-pub record Held : Type 0 where
-  pub core : CoreView
-  pub names : List Id
-
--- The stored card represents this card: the core agrees with its world, and the names are the same.
-pub record ShowsCard (held : Held) (card : Card) : Type 0 where
-  pub agrees : CoreAgrees held.core card.world
-  pub names : held.names ≡ card.names
-
--- A stored card represents a card; without a stored card there is no card yet.
-abbrev pub ShowsRun : Option Held → RunWorld → Type 0
-ShowsRun None None = Unit {0}
-ShowsRun (Some held) (Some card) = ShowsCard held card
-ShowsRun _ _ = ⊥
 
 -- For each card that was represented before, this text leads to a card that is represented afterwards.
 abbrev pub MovesBy : (Card → List ℕ → Card → Type 0) → Held → List ℕ → Held → Type 0

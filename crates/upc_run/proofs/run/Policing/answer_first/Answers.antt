@@ -4,7 +4,8 @@ use Rattle.text_io.specs.Answering.{Answers}
 use Rattle.text_io.specs.Words.{words_of}
 use Rattle.text_io.specs.declared.machine.Turn.TheVariants.{GoesOn}
 use Rattle.upc_run.specs.RunText.{run_rules}
-use Rattle.upc_run.specs.inner.Policing.{OpensAs, ShowsRun}
+use Rattle.upc_run.specs.ShownCard.{ShowsRun}
+use Rattle.upc_run.specs.inner.Policing.{OpensAs}
 use Rattle.upc_run.proofs.PolicingLemmas.{line-asks, turn-opened}
 use Rattle.upc_run.proofs.run.Policing.answer_first.Goals as goal
 

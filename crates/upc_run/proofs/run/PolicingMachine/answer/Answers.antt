@@ -3,7 +3,7 @@ use Rattle.std.proofs.Common.{Some, subst, sym}
 use Rattle.text_io.specs.Answering.{Answers}
 use Rattle.text_io.specs.declared.machine.Turn.TheVariants.{GoesOn}
 use Rattle.upc_run.specs.RunText.{run_rules}
-use Rattle.upc_run.specs.inner.Policing.{ShowsRun}
+use Rattle.upc_run.specs.ShownCard.{ShowsRun}
 use Rattle.upc_run.proofs.PolicingLemmas.{turn-moved}
 use Rattle.upc_run.proofs.run.PolicingMachine.answer.Goals as goal
 

@@ -1,7 +1,8 @@
 -- A cell is answered if the port is free.
 use Rattle.std.proofs.Common.{option_map, refl, subst}
 use Rattle.card_core.specs.Sections.{answer_to}
-use Rattle.upc_run.specs.inner.Policing.{AnswersCell, Held}
+use Rattle.upc_run.specs.ShownCard.{Held}
+use Rattle.upc_run.specs.inner.Policing.{AnswersCell}
 use Rattle.upc_run.proofs.ArrivalLemmas.{arrives}
 use Rattle.upc_run.proofs.script_card.ScriptCard.arrive.Goals as goal
 

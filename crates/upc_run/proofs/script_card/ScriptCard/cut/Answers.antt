@@ -5,7 +5,7 @@ use Rattle.card_core.specs.declared.step.Step.TheVariants.{Cut}
 use Rattle.upc_run.specs.RunText.{Obeys, TakesCommand}
 use Rattle.upc_script.specs.ScriptCommands.{cut}
 use Rattle.upc_card_lines.proofs.Public.{adds-some}
-use Rattle.upc_run.specs.inner.Policing.{Held}
+use Rattle.upc_run.specs.ShownCard.{Held}
 use Rattle.upc_run.proofs.MovesLemmas.{moves-at, moves-taken, no-name, on-ok, on-tie}
 use Rattle.upc_run.proofs.script_card.ScriptCard.cut.Goals.{in-Ok, in-Err}
 use Rattle.upc_run.proofs.script_card.ScriptCard.cut.Goals as goal

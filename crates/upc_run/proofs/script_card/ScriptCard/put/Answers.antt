@@ -8,7 +8,7 @@ use Rattle.upc_script.specs.ReplyTexts.{program_name}
 use Rattle.upc_run.specs.RunText.{TakesCommand}
 use Rattle.upc_script.specs.ScriptCommands.{load}
 use Rattle.upc_card_lines.proofs.Public.{adds-some}
-use Rattle.upc_run.specs.inner.Policing.{Held}
+use Rattle.upc_run.specs.ShownCard.{Held}
 use Rattle.upc_run.proofs.MovesLemmas.{moves-at, moves-taken, no-name, on-ok}
 use Rattle.upc_run.proofs.script_card.ScriptCard.put.Goals as goal
 

@@ -3,10 +3,10 @@ use Rattle.std.proofs.Common.{◌∙◌, ap, sym, refl}
 use Rattle.card_core.specs.declared.ask.Ask.{Ask}
 use Rattle.card_core.specs.declared.reply.Reply.TheVariants.{NotSetUp, SetUp}
 use Rattle.card_core.specs.declared.step.Step.TheVariants.{Setup}
-use Rattle.upc_run.specs.RunText.{Obeys, TakesCommand}
+use Rattle.upc_run.specs.RunText.{Obeys}
 use Rattle.upc_script.specs.ScriptCommands.{setup}
 use Rattle.upc_card_lines.proofs.Public.{adds-some}
-use Rattle.upc_run.specs.inner.Policing.{Held}
+use Rattle.upc_run.specs.ShownCard.{Held}
 use Rattle.upc_run.proofs.MovesLemmas.{moves-at, moves-setup, moves-taken, no-name, on-ok, on-tie}
 use Rattle.upc_run.proofs.script_card.ScriptCard.setup.Goals.{in-Ok-setup, in-Err-setup}
 use Rattle.upc_run.proofs.script_card.ScriptCard.setup.Goals as goal

@@ -1,0 +1,35 @@
+-- What is proved of the faults that `upc-lab explain` names in a script.
+use Rattle.std.specs.Prelude.{◌≡◌, ℕ, List, ◌++◌, flat_map, Option}
+use Rattle.text_io.specs.declared.ending.Done.{Done}
+use Rattle.upc_cell.specs.declared.side.Side.{Side}
+use Rattle.upc_run.specs.RunText.{IsRunText}
+use Rattle.lab_scripts.specs.ScriptText.{IsScriptExplained, explained}
+
+-- A line of a script, the side of the card before it, and the answer of `run` to it.
+pub record AnsweredLine : Type 0 where
+  pub side : Option Side
+  pub number : ℕ
+  pub said : List ℕ
+  pub answer : List ℕ
+
+-- The answers of `run` to these lines.
+abbrev pub answers_of : List AnsweredLine → List ℕ
+answers_of lines = flat_map (λ line. line.answer) lines
+
+-- What `explain` prints for these lines: for each fault line that line and its explanation, and nothing for any other.
+abbrev pub explained_of : List AnsweredLine → List ℕ
+explained_of lines = flat_map (λ line. explained line.side line.number line.said line.answer) lines
+
+-- Both texts come from the same answers of `run` to the same lines. After them `run` answers the end of the script, or a line over the
+-- limits, and `explain` prints the same and then perhaps a sentence.
+pub record NamesFaultsAt (told text : List ℕ) : Type 0 where
+  pub lines : List AnsweredLine
+  pub last : List ℕ
+  pub more : List ℕ
+  pub answered : told ≡ answers_of lines ++ last
+  pub explains : text ≡ explained_of lines ++ (last ++ more)
+
+-- The faults that `explain` names are those of `run`, in the same order.
+abbrev pub NamesFaultsOfRun : Type 0
+NamesFaultsOfRun =
+    (octets told text : List ℕ) (ended done : Done) → IsRunText octets told ended → IsScriptExplained octets text done → NamesFaultsAt told text

@@ -1,0 +1,44 @@
+-- The rules of `explain` are total: every line has an answer. This law is in `specs/` because the machine cites it, and so is what
+-- the machine shows.
+use Rattle.std.proofs.Common.{◌≡◌, ℕ, Bool, true, false, List, [], ◌++◌, Option, Some, None, option_map, refl, subst, sym}
+use Rattle.std.specs.Bool.{MatchBool}
+use Rattle.text_io.specs.Printing.{IsTotal}
+use Rattle.text_io.specs.declared.ending.Done.{Done}
+use Rattle.text_io.specs.declared.ending.Done.TheVariants.{Whole, Ended}
+use Rattle.upc_card_lines.specs.CardFaults.{no_card}
+use Rattle.upc_run.specs.RunText.{IsSoundRun, RunSteps, RunWorld}
+use Rattle.upc_run.specs.inner.RunLaws.{run-total}
+use Rattle.lab_scripts.specs.ScriptText.{ClosesScript, ScriptWorld, after_answer, explained, no_card_at_all, no_fault_line, one_line_more, script_rules}
+use Rattle.upc_run.specs.RunSide.{run_side}
+
+-- The machine shows the world with what it counts, if its part for `run` shows the world of `run`.
+pub record ShowsScript (ShowsRun : RunWorld → Type 0) (met : ℕ) (faulty : Bool) (world : ScriptWorld) : Type 0 where
+  pub runs : ShowsRun world.run
+  pub counts : world.met ≡ met
+  pub blames : world.faulty ≡ faulty
+
+sound_after : (before after : ScriptWorld) (said answer : List ℕ) (next : Option RunWorld) → IsSoundRun before.run → RunSteps before.run said answer next
+    → Some after ≡ option_map (after_answer before answer) next → IsSoundRun after.run
+sound_after before after said answer None sound steps e = let no = e in cc
+sound_after before after said answer (Some run) sound steps e =
+    let same : after ≡ after_answer before answer run = cc in
+    subst (λ (world : ScriptWorld). IsSoundRun world.run) (sym same) (run-total.keeps before.run said answer run sound steps)
+
+ends_by : (world : ScriptWorld) (b : Bool) → (text : List ℕ) × (done : Done)
+    × MatchBool b ((text ≡ []) × (done ≡ Ended)) ((text ≡ no_fault_line world.met) × (done ≡ Whole))
+ends_by world true = ([], Ended, (refl, refl))
+ends_by world false = (no_fault_line world.met, Whole, (refl, refl))
+
+closes_by : (run : RunWorld) (world : ScriptWorld) → (text : List ℕ) × (done : Done) × ClosesScript run world text done
+closes_by None world = (no_card ++ no_card_at_all, Ended, (refl, refl))
+closes_by (Some card) world = ends_by world world.faulty
+
+-- The rules of `explain` are total.
+pub script-total : IsTotal script_rules
+script-total = record {
+  keeps = λ before said text after sound steps. sound_after before after said steps.0 steps.1 sound steps.2 steps.4;
+  step = λ world said sound.
+      let told = run-total.step world.run said sound in
+      (explained (run_side world.run) (one_line_more world.met) said told.0, option_map (after_answer world told.0) told.1, (told.0, told.1, told.2, refl, refl));
+  close = λ world sound. closes_by world.run world;
+}

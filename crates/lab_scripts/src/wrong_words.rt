@@ -1,0 +1,220 @@
+//! What is wrong in a line that is no command.
+
+ghost use Rattle.std.specs.Prelude.{◌≡◌, ◌++◌, OnOk, Some, option_map, slice_get};
+ghost use Rattle.lab_scripts.specs.FoundWords.{word_octets};
+ghost use Rattle.lab_scripts.specs.ScriptForms.{slots_after};
+ghost use Rattle.lab_scripts.specs.WrongWords.{begins_remark, command_sentence, operand_sentence, slot_sentence, slot_text, takes_sentence, takes_text, unknown_sentence, wrong_after, wrong_sentence, wrong_word};
+
+use crate::forms::{ScriptForm, ScriptSlot, form_at, side_or_user, slots_after, words_fitting};
+use crate::found_words::{FoundWord, word_octets};
+use crate::places::add_quoted;
+use std::alloc::AllocError;
+use upc_cell::Side;
+use upc_words::add_text;
+
+/// Returns the word at a place, if there is one.
+pub(crate) fn word_at(words: &[FoundWord], place: usize) -> Option<FoundWord>
+    ensures { result ≡ slice_get words.now place }
+{
+    words.get(place).copied()
+}
+
+/// Returns the word that is wrong in a line that is no command, if one is.
+pub(crate) fn wrong_word(side: Option<Side>, line: &[u8], words: &[FoundWord]) -> Option<FoundWord>
+    ensures { result ≡ wrong_word side line.now words.now }
+{
+    match words {
+        [] => None,
+        [first, rest @ ..] => match form_at(side, word_octets(line, *first)) {
+            None => Some(*first),
+            Some(form) => word_at(
+                rest,
+                words_fitting(side_or_user(side), line, slots_after(form), rest),
+            ),
+        },
+    }
+}
+
+/// Returns what is wrong with a word in a slot.
+fn slot_text(side: Side, slot: ScriptSlot) -> &'static [u8]
+    ensures { result.now ≡ slot_text side slot }
+{
+    match slot {
+        ScriptSlot::Size => b" is no number; the sizes of a card are decimal",
+        ScriptSlot::Side => b" is no side; the sides are `uni` and `nni`",
+        ScriptSlot::Path => match side {
+            Side::Uni => {
+                b" is no VPI; at the user side a VPI is at most 255, and between nodes (`nni` in the line of the card) at most 4095"
+            }
+            Side::Nni => b" is no VPI; between nodes a VPI is at most 4095",
+        },
+        ScriptSlot::Channel => b" is no VCI; a VCI is at most 65535",
+        ScriptSlot::Program => b" names no program; a name is `p` and a number, as `p1`",
+        ScriptSlot::Contract => {
+            b" is no contract; a contract is `cbr1:T/L`, `vbr1:T/L:T/L`, `vbr2:T/L:T/L` or `vbr3:T/L:T/L`, with increment T and limit L of each bucket"
+        }
+        ScriptSlot::Moment => b" is no moment; a moment is a decimal number of ticks",
+        ScriptSlot::Digits => b" is no word of digits",
+    }
+}
+
+/// Returns what a command takes, in words.
+fn takes_text(form: ScriptForm) -> &'static [u8]
+    ensures { result.now ≡ takes_text form }
+{
+    match form {
+        ScriptForm::Opening => {
+            b"the numbers of programs, lines and ports, the cells of a journal, and perhaps `uni` or `nni`"
+        }
+        ScriptForm::Loading => b"one word, the octets of a program",
+        ScriptForm::Retiring => b"the name of a program, as `p1`",
+        ScriptForm::Setting => b"a VPI, a VCI, the name of a program, and one to four contracts",
+        ScriptForm::Reloading => b"a VPI, a VCI and the name of a program",
+        ScriptForm::Named => b"a VPI and a VCI",
+        ScriptForm::Arrival => b"a moment, and one word with the octets of a cell",
+    }
+}
+
+/// Appends the sentence about the words that a command takes.
+#[tactic(auto, using(std::proofs::lemmas::List::append_assoc))]
+fn add_takes(answers: &mut Vec<u8>, name: &[u8], form: ScriptForm) -> Result<(), AllocError>
+    ensures { OnOk result (answers.new.items ≡ answers.old.items ++ takes_sentence name.now form) }
+{
+    add_quoted(answers, name)?;
+    add_text(answers, b" takes ")?;
+    add_text(answers, takes_text(form))
+}
+
+/// Returns whether a word would begin a remark as the first of a line.
+fn begins_remark(word: &[u8]) -> bool
+    ensures { result ≡ begins_remark word.now }
+{
+    match word {
+        [] => false,
+        [octet, ..] => *octet == b'#',
+    }
+}
+
+/// Appends the sentence about a word in a slot, or after the last one.
+#[tactic(auto, using(std::proofs::lemmas::List::append_assoc))]
+fn add_slot(
+    answers: &mut Vec<u8>,
+    side: Side,
+    name: &[u8],
+    form: ScriptForm,
+    slot: Option<ScriptSlot>,
+    word: &[u8],
+) -> Result<(), AllocError>
+    ensures { OnOk result (answers.new.items ≡ answers.old.items ++ slot_sentence side name.now form slot word.now) }
+{
+    match slot {
+        None => add_takes(answers, name, form),
+        Some(slot) => {
+            add_quoted(answers, word)?;
+            add_text(answers, slot_text(side, slot))
+        }
+    }
+}
+
+/// Appends the sentence about the word that a command doesn't take, or about a line that ends too early.
+fn add_operand(
+    answers: &mut Vec<u8>,
+    side: Side,
+    name: &[u8],
+    form: ScriptForm,
+    slot: Option<ScriptSlot>,
+    word: Option<&[u8]>,
+) -> Result<(), AllocError>
+    ensures { OnOk result (answers.new.items ≡ answers.old.items
+        ++ operand_sentence side name.now form slot (option_map (λ word. word.now) word.entry)) }
+{
+    match word {
+        None => add_takes(answers, name, form),
+        Some(word) => {
+            if begins_remark(word) {
+                add_text(
+                    answers,
+                    b"a remark has a line of its own, which begins with `#`",
+                )
+            } else {
+                add_slot(answers, side, name, form, slot, word)
+            }
+        }
+    }
+}
+
+/// Appends the sentence about a word that names no command.
+#[tactic(auto, using(std::proofs::lemmas::List::append_assoc))]
+fn add_unknown(answers: &mut Vec<u8>, side: Option<Side>, word: &[u8]) -> Result<(), AllocError>
+    ensures { OnOk result (answers.new.items ≡ answers.old.items ++ unknown_sentence side word.now) }
+{
+    match side {
+        None => {
+            add_quoted(answers, word)?;
+            add_text(
+                answers,
+                b" opens no card; the first line with words is `card PROGRAMS LINES PORTS JOURNAL`, perhaps with a side",
+            )
+        }
+        Some(_) => {
+            if word == b"card".as_slice() {
+                add_text(answers, b"the card is open already; a script opens one")
+            } else {
+                add_quoted(answers, word)?;
+                add_text(
+                    answers,
+                    b" is no command; the commands are cell, load, retire, setup, reload, release and cut",
+                )
+            }
+        }
+    }
+}
+
+/// Returns the octets of a word of a line, if there is one.
+fn octets_of(line: &[u8], word: Option<FoundWord>) -> Option<&[u8]>
+    ensures { option_map (λ octets. octets.now) result ≡ option_map (word_octets line.now) word }
+{
+    match word {
+        None => None,
+        Some(word) => Some(word_octets(line, word)),
+    }
+}
+
+/// Appends the sentence about the words after the name of a command.
+fn add_words(
+    answers: &mut Vec<u8>,
+    side: Option<Side>,
+    line: &[u8],
+    name: &[u8],
+    form: ScriptForm,
+    words: &[FoundWord],
+) -> Result<(), AllocError>
+    ensures { OnOk result (answers.new.items ≡ answers.old.items ++ command_sentence side line.now name.now words.now (Some form)) }
+{
+    let slots = slots_after(form);
+    let place = words_fitting(side_or_user(side), line, slots, words);
+    let word = octets_of(line, word_at(words, place));
+    let slot = slots.get(place).copied();
+    add_operand(answers, side_or_user(side), name, form, slot, word)
+}
+
+/// Appends the sentence about a line that is no command.
+pub(crate) fn add_wrong(
+    answers: &mut Vec<u8>,
+    side: Option<Side>,
+    line: &[u8],
+    words: &[FoundWord],
+) -> Result<(), AllocError>
+    ensures { OnOk result (answers.new.items ≡ answers.old.items ++ wrong_sentence side line.now words.now) }
+{
+    match words {
+        [] => add_text(answers, b"the line has no words"),
+        [first, rest @ ..] => {
+            let name = word_octets(line, *first);
+            match form_at(side, name) {
+                None => add_unknown(answers, side, name),
+                Some(form) => add_words(answers, side, line, name, form, rest),
+            }
+        }
+    }
+}
