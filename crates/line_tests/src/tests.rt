@@ -3,3 +3,4 @@
 mod arena;
 mod buckets;
 mod lines;
+mod table;

@@ -1,0 +1,3 @@
+-- The line of each virtual connection.
+pub mod Lines
+pub mod inner

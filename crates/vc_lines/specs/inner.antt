@@ -1,0 +1,4 @@
+-- Definitions that only private functions and proofs use.
+pub mod Pool
+pub mod Linked
+pub mod TableFields
