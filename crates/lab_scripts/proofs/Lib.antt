@@ -1,3 +1,4 @@
+pub mod Added
 pub mod Naming
 pub mod Public
 pub mod Turning

@@ -1,5 +1,6 @@
 -- The faults of scripts, explained. Read the modules in this order:
 pub mod Places
+pub mod Meant
 pub mod FoundWords
 pub mod ScriptForms
 pub mod ToldFaults

@@ -3,9 +3,11 @@ use Rattle.std.specs.Prelude.{ℕ, ◌+◌, ◌-◌, Bool, true, false, if◌the
 use Rattle.std.specs.Option.{is_some}
 use Rattle.std.specs.Str.{bytes_eq}
 use Rattle.upc_cell.specs.declared.side.Side.{Side}
-use Rattle.upc_script.specs.Rates.{first_wanted_fault}
+use Rattle.upc_script.specs.Rates.{first_wanted_fault, rate_fault}
 use Rattle.upc_script.specs.ScriptWords.{wanted_of}
+use Rattle.upc_script.specs.declared.script_words.Rate.{Rate}
 use Rattle.upc_script.specs.declared.script_words.Wanted.{Wanted}
+use Rattle.upc_script.specs.declared.script_words.Wanted.TheVariants as wanted
 use Rattle.upc_words.specs.FaultLines.{line}
 use Rattle.lab_scripts.specs.FoundWords.{found_words, word_octets}
 use Rattle.lab_scripts.specs.Places.{place_words}
@@ -63,7 +65,7 @@ blamed_place fault.MomentBack said words = 1
 blamed_place fault.MomentTooLate said words = 1
 blamed_place _ said words = 0
 
--- The sentence about a fault of the line's words. A line that is no command has another.
+-- The sentence about a fault of the line's words. A line that is no command has another. What is said of a bucket follows its name.
 abbrev pub word_fault_text : ScriptFault → List ℕ
 word_fault_text fault.BadHex = codes "this word is no octets; each octet is two hexadecimal digits"
 word_fault_text fault.WrongLength = codes "a cell has 104 hexadecimal digits, or 8 for a header with a payload of zeros"
@@ -71,8 +73,8 @@ word_fault_text fault.ManyPrograms = codes "a card is for 1 to 1024 programs"
 word_fault_text fault.ManyLines = codes "a card has 1 to 4096 lines, one for each connection"
 word_fault_text fault.ManyPorts = codes "a card has 1 to 16 ports"
 word_fault_text fault.LongJournal = codes "a journal has room for 1 to 65536 cells between two cuts"
-word_fault_text fault.ZeroIncrement = codes "a bucket of this contract has the increment 0; an increment is 1 to 281474976710656 ticks"
-word_fault_text fault.LargeRate = codes "a bucket of this contract has a number above 281474976710656 ticks"
+word_fault_text fault.ZeroIncrement = codes " has the increment 0; an increment is 1 to 281474976710656 ticks"
+word_fault_text fault.LargeRate = codes " has a number above 281474976710656 ticks"
 word_fault_text _ = []
 
 -- The sentence about a fault of a program's octets.
@@ -118,6 +120,35 @@ cell_fault_text _ = []
 abbrev pub script_fault_text : ScriptFault → List ℕ
 script_fault_text fault = word_fault_text fault ++ (code_fault_text fault ++ (desk_fault_text fault ++ cell_fault_text fault))
 
+-- Whether a bucket is at fault.
+abbrev pub is_of_bucket : ScriptFault → Bool
+is_of_bucket fault.ZeroIncrement = true
+is_of_bucket fault.LargeRate = true
+is_of_bucket _ = false
+
+-- The name of the first bad bucket of two, if one is bad.
+abbrev pub bad_of_two : Rate → List ℕ
+bad_of_two peak = if is_some (rate_fault peak) then codes "the bucket of the peak rate" else codes "the bucket of the sustained rate"
+
+-- The name of the first bad bucket of a contract.
+abbrev pub bucket_name : Option Wanted → List ℕ
+bucket_name None = []
+bucket_name (Some (wanted.Cbr1 peak)) = codes "the bucket of this contract"
+bucket_name (Some (wanted.Vbr1 peak sustained)) = bad_of_two peak
+bucket_name (Some (wanted.Vbr2 peak sustained)) = bad_of_two peak
+bucket_name (Some (wanted.Vbr3 peak sustained)) = bad_of_two peak
+
+-- The contract that a word spells, if there is one.
+abbrev pub contract_at : List ℕ → Option FoundWord → Option Wanted
+contract_at said None = None
+contract_at said (Some word) = wanted_of (word_octets said word)
+
+-- The sentence about a fault by itself, on a line with these words.
+abbrev pub own_sentence : ScriptFault → List ℕ → List FoundWord → List ℕ
+own_sentence fault said words =
+    if is_of_bucket fault then bucket_name (contract_at said (slice_get words (blamed_place fault said words))) ++ word_fault_text fault
+    else script_fault_text fault
+
 -- Whether the line is no command.
 abbrev pub is_no_command : ScriptFault → Bool
 is_no_command fault.BadLine = true
@@ -138,7 +169,7 @@ blamed_word side said words (Some fault) =
 -- The sentence about a fault.
 abbrev pub fault_sentence : Option Side → List ℕ → List FoundWord → Option ScriptFault → List ℕ
 fault_sentence side said words None = []
-fault_sentence side said words (Some fault) = if is_no_command fault then wrong_sentence side said words else script_fault_text fault
+fault_sentence side said words (Some fault) = if is_no_command fault then wrong_sentence side said words else own_sentence fault said words
 
 -- The explanation of a fault: the number of its line, the column of the word that is wrong, and a sentence.
 abbrev pub fault_explanation : Option Side → ℕ → List ℕ → List FoundWord → Option ScriptFault → List ℕ

@@ -1,11 +1,14 @@
 -- What is wrong in a line that is no command.
-use Rattle.std.specs.Prelude.{ℕ, ◌==◌, Bool, false, if◌then◌else◌, List, [], ◌∷◌, ◌++◌, codes, slice_get, Option, Some, None, option_map}
+use Rattle.std.specs.Prelude.{ℕ, ◌==◌, Bool, false, if◌then◌else◌, List, [], ◌∷◌, ◌++◌, ◌||◌, codes, slice_get, take, Option, Some, None, option_map}
+use Rattle.std.specs.Option.{is_some}
 use Rattle.std.specs.Str.{bytes_eq}
 use Rattle.upc_cell.specs.declared.side.Side.{Side}
 use Rattle.upc_cell.specs.declared.side.Side.TheVariants.{Uni, Nni}
+use Rattle.upc_script.specs.ScriptWords.{number_of_digits}
 use Rattle.lab_scripts.specs.FoundWords.{word_octets}
+use Rattle.lab_scripts.specs.Meant.{is_near, perhaps_text}
 use Rattle.lab_scripts.specs.Places.{quoted}
-use Rattle.lab_scripts.specs.ScriptForms.{command_form, commands_at, side_or_user, slots_after, words_fitting}
+use Rattle.lab_scripts.specs.ScriptForms.{card_commands, command_form, commands_at, opening_commands, side_or_user, slots_after, words_fitting}
 use Rattle.lab_scripts.specs.declared.forms.ScriptForm.{ScriptForm}
 use Rattle.lab_scripts.specs.declared.forms.ScriptForm.TheVariants as form
 use Rattle.lab_scripts.specs.declared.forms.ScriptSlot.{ScriptSlot}
@@ -24,18 +27,35 @@ wrong_word side line [] = None
 wrong_word side line (first ∷ words) =
     wrong_after (side_or_user side) line first words (command_form (word_octets line first) (commands_at side))
 
+-- Whether octets are a kind of contract with two buckets, and the colon after it.
+abbrev pub is_vbr : List ℕ → Bool
+is_vbr octets = bytes_eq octets (codes "vbr1:") || (bytes_eq octets (codes "vbr2:") || bytes_eq octets (codes "vbr3:"))
+
+-- What is wrong with a word that is no contract, after the word: its kind, or the buckets after that.
+abbrev pub no_contract_text : List ℕ → List ℕ
+no_contract_text word =
+    if bytes_eq (take 5 word) (codes "cbr1:") then codes " is no contract; after `cbr1:` comes one bucket `T/L`, its increment and its limit in ticks" else
+    (if is_vbr (take 5 word) then
+    codes " is no contract; after its kind come two buckets `T/L:T/L`, the increment and the limit of each in ticks, that of the peak rate first" else
+    codes " is no contract; a contract is `cbr1:T/L`, `vbr1:T/L:T/L`, `vbr2:T/L:T/L` or `vbr3:T/L:T/L`, with increment T and limit L of each bucket")
+
+-- What is wrong with a word that names no program, after the word.
+abbrev pub no_program_text : List ℕ → List ℕ
+no_program_text word =
+    if is_some (number_of_digits word) then codes " names no program; perhaps `p" ++ (word ++ codes "` is meant")
+    else codes " names no program; a name is `p` and a number, as `p1`"
+
 -- What is wrong with a word in a slot, after the word.
-abbrev pub slot_text : Side → ScriptSlot → List ℕ
-slot_text side slot.Size = codes " is no number; the sizes of a card are decimal"
-slot_text side slot.Side = codes " is no side; the sides are `uni` and `nni`"
-slot_text Uni slot.Path = codes " is no VPI; at the user side a VPI is at most 255, and between nodes (`nni` in the line of the card) at most 4095"
-slot_text Nni slot.Path = codes " is no VPI; between nodes a VPI is at most 4095"
-slot_text side slot.Channel = codes " is no VCI; a VCI is at most 65535"
-slot_text side slot.Program = codes " names no program; a name is `p` and a number, as `p1`"
-slot_text side slot.Contract =
-    codes " is no contract; a contract is `cbr1:T/L`, `vbr1:T/L:T/L`, `vbr2:T/L:T/L` or `vbr3:T/L:T/L`, with increment T and limit L of each bucket"
-slot_text side slot.Moment = codes " is no moment; a moment is a decimal number of ticks"
-slot_text side slot.Digits = codes " is no word of digits"
+abbrev pub slot_text : Side → ScriptSlot → List ℕ → List ℕ
+slot_text side slot.Size word = codes " is no number; the sizes of a card are decimal"
+slot_text side slot.Side word = codes " is no side; the sides are `uni` and `nni`"
+slot_text Uni slot.Path word = codes " is no VPI; at the user side a VPI is at most 255, and between nodes (`nni` in the line of the card) at most 4095"
+slot_text Nni slot.Path word = codes " is no VPI; between nodes a VPI is at most 4095"
+slot_text side slot.Channel word = codes " is no VCI; a VCI is at most 65535"
+slot_text side slot.Program word = no_program_text word
+slot_text side slot.Contract word = no_contract_text word
+slot_text side slot.Moment word = codes " is no moment; a moment is a decimal number of ticks"
+slot_text side slot.Digits word = codes " is no word of digits"
 
 -- What a command takes, in words.
 abbrev pub takes_text : ScriptForm → List ℕ
@@ -59,7 +79,7 @@ begins_remark (octet ∷ rest) = octet == 35
 -- The sentence about a word in a slot, or after the last one.
 abbrev pub slot_sentence : Side → List ℕ → ScriptForm → Option ScriptSlot → List ℕ → List ℕ
 slot_sentence side name form None word = takes_sentence name form
-slot_sentence side name form (Some slot) word = quoted word ++ slot_text side slot
+slot_sentence side name form (Some slot) word = quoted word ++ slot_text side slot word
 
 -- The sentence about the word that a command doesn't take, or about a line that ends too early.
 abbrev pub operand_sentence : Side → List ℕ → ScriptForm → Option ScriptSlot → Option (List ℕ) → List ℕ
@@ -67,13 +87,40 @@ operand_sentence side name form slot None = takes_sentence name form
 operand_sentence side name form slot (Some word) =
     if begins_remark word then codes "a remark has a line of its own, which begins with `#`" else slot_sentence side name form slot word
 
+-- The first of these commands that is near a word.
+abbrev pub near_command : List ℕ → List (List ℕ × ScriptForm) → Option (List ℕ)
+near_command word [] = None
+near_command word (row ∷ rows) = if is_near word row.0 then Some row.0 else near_command word rows
+
+-- What follows a word that names no command: the command that was perhaps meant, or this text.
+abbrev pub meant_or : Option (List ℕ) → List ℕ → List ℕ
+meant_or None text = text
+meant_or (Some command) text = perhaps_text (Some command)
+
+-- What follows a word that opens no card: that the command was perhaps meant, or its form.
+unfoldable pub meant_opening : List ℕ → List ℕ
+meant_opening word =
+    meant_or (near_command word opening_commands) (codes "; the first line with words is `card PROGRAMS LINES PORTS JOURNAL`, perhaps with a side")
+
+-- What follows a word that is no command of an open card: the one that was perhaps meant, or all of them.
+unfoldable pub meant_command : List ℕ → List ℕ
+meant_command word =
+    meant_or (near_command word card_commands) (codes "; the commands are cell, load, retire, setup, reload, release and cut")
+
+-- The sentence about the first word of a script, which opens no card.
+unfoldable pub unopened_sentence : List ℕ → List ℕ
+unopened_sentence word =
+    quoted word ++ (codes " opens no card" ++ meant_opening word)
+
+-- The sentence about a word that is no command of an open card.
+unfoldable pub uncommanded_sentence : List ℕ → List ℕ
+uncommanded_sentence word = quoted word ++ (codes " is no command" ++ meant_command word)
+
 -- The sentence about a word that names no command.
 abbrev pub unknown_sentence : Option Side → List ℕ → List ℕ
-unknown_sentence None word =
-    quoted word ++ codes " opens no card; the first line with words is `card PROGRAMS LINES PORTS JOURNAL`, perhaps with a side"
+unknown_sentence None word = unopened_sentence word
 unknown_sentence (Some side) word =
-    if bytes_eq word (codes "card") then codes "the card is open already; a script opens one"
-    else quoted word ++ codes " is no command; the commands are cell, load, retire, setup, reload, release and cut"
+    if bytes_eq word (codes "card") then codes "the card is open already; a script opens one" else uncommanded_sentence word
 
 -- The sentence about a line that is no command, by what its first word takes.
 abbrev pub command_sentence : Option Side → List ℕ → List ℕ → List FoundWord → Option ScriptForm → List ℕ

@@ -51,10 +51,10 @@ pub enum ScriptSlot {
 }
 
 /// The line that opens a card.
-const OPENING: [(&[u8], ScriptForm); 1] = [(b"card", ScriptForm::Opening)];
+pub(crate) const OPENING: [(&[u8], ScriptForm); 1] = [(b"card", ScriptForm::Opening)];
 
 /// The commands of an open card.
-const COMMANDS: [(&[u8], ScriptForm); 7] = [
+pub(crate) const COMMANDS: [(&[u8], ScriptForm); 7] = [
     (b"cell", ScriptForm::Arrival),
     (b"load", ScriptForm::Loading),
     (b"retire", ScriptForm::Retiring),

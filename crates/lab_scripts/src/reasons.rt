@@ -1,9 +1,11 @@
 //! The explanation of a fault line.
 
 ghost use Rattle.std.specs.Prelude.{◌≡◌, ◌++◌, OnOk, drop};
+ghost use Rattle.std.specs.Option.{is_some};
+ghost use Rattle.upc_script.specs.Rates.{rate_fault};
 ghost use Rattle.upc_script.specs.ScriptWords.{wanted_of};
 ghost use Rattle.lab_scripts.specs.FoundWords.{found_words};
-ghost use Rattle.lab_scripts.specs.ScriptReasons.{bad_contract, blamed_word, cell_fault_text, code_fault_text, desk_fault_text, fault_explanation, blamed_place, fault_sentence, script_fault_text, has_bad_bucket, is_no_command, program_place, script_explanation, word_column, word_fault_text};
+ghost use Rattle.lab_scripts.specs.ScriptReasons.{bad_contract, bad_of_two, bucket_name, contract_at, is_of_bucket, own_sentence, blamed_word, cell_fault_text, code_fault_text, desk_fault_text, fault_explanation, blamed_place, fault_sentence, script_fault_text, has_bad_bucket, is_no_command, program_place, script_explanation, word_column, word_fault_text};
 
 use crate::found_words::{FoundWord, word_octets, words_of};
 use crate::places::add_place;
@@ -12,7 +14,7 @@ use crate::wrong_words::{add_wrong, word_at, wrong_word};
 use arrayvec::ArrayVec;
 use std::alloc::{AllocError, Global};
 use upc_cell::Side;
-use upc_script::{Wanted, contract, contracts_of};
+use upc_script::{Rate, Wanted, contract, contracts_of};
 use upc_words::add_text;
 
 /// Returns whether a bucket of a contract has a fault.
@@ -128,11 +130,9 @@ fn word_fault_text(fault: ScriptFault) -> &'static [u8]
         ScriptFault::ManyPorts => b"a card has 1 to 16 ports",
         ScriptFault::LongJournal => b"a journal has room for 1 to 65536 cells between two cuts",
         ScriptFault::ZeroIncrement => {
-            b"a bucket of this contract has the increment 0; an increment is 1 to 281474976710656 ticks"
+            b" has the increment 0; an increment is 1 to 281474976710656 ticks"
         }
-        ScriptFault::LargeRate => {
-            b"a bucket of this contract has a number above 281474976710656 ticks"
-        }
+        ScriptFault::LargeRate => { b" has a number above 281474976710656 ticks" }
         _ => &[],
     }
 }
@@ -225,6 +225,73 @@ fn add_fault_text(answers: &mut Vec<u8>, fault: ScriptFault) -> Result<(), Alloc
     add_text(answers, cell_fault_text(fault))
 }
 
+/// Returns whether a bucket is at fault.
+fn is_of_bucket(fault: ScriptFault) -> bool
+    ensures { result ≡ is_of_bucket fault }
+{
+    matches!(fault, ScriptFault::ZeroIncrement | ScriptFault::LargeRate)
+}
+
+/// Returns whether a bucket has a fault.
+fn is_bad(rate: Rate) -> bool
+    ensures { result ≡ is_some (rate_fault rate) }
+{
+    rate.increment == 0 || rate.increment > 281474976710656 || rate.limit > 281474976710656
+}
+
+/// Returns the name of the first bad bucket of two.
+fn bad_of_two(peak: Rate) -> &'static [u8]
+    ensures { result.now ≡ bad_of_two peak }
+{
+    if is_bad(peak) {
+        b"the bucket of the peak rate"
+    } else {
+        b"the bucket of the sustained rate"
+    }
+}
+
+/// Returns the name of the first bad bucket of a contract.
+fn bucket_name(wanted: Option<Wanted>) -> &'static [u8]
+    ensures { result.now ≡ bucket_name wanted }
+{
+    match wanted {
+        None => &[],
+        Some(Wanted::Cbr1(_)) => b"the bucket of this contract",
+        Some(Wanted::Vbr1(peak, _)) => bad_of_two(peak),
+        Some(Wanted::Vbr2(peak, _)) => bad_of_two(peak),
+        Some(Wanted::Vbr3(peak, _)) => bad_of_two(peak),
+    }
+}
+
+/// Returns the contract that a word spells, if there is one.
+fn contract_at(line: &[u8], word: Option<FoundWord>) -> Option<Wanted>
+    ensures { result ≡ contract_at line.now word }
+{
+    match word {
+        None => None,
+        Some(word) => contract(word_octets(line, word)),
+    }
+}
+
+/// Appends the sentence about a fault by itself, on a line with these words.
+#[tactic(auto, using(std::proofs::lemmas::List::append_assoc))]
+fn add_own(
+    answers: &mut Vec<u8>,
+    fault: ScriptFault,
+    line: &[u8],
+    words: &[FoundWord],
+) -> Result<(), AllocError>
+    ensures { OnOk result (answers.new.items ≡ answers.old.items ++ own_sentence fault line.now words.now) }
+{
+    if is_of_bucket(fault) {
+        let word = word_at(words, blamed_place(fault, line, words));
+        add_text(answers, bucket_name(contract_at(line, word)))?;
+        add_text(answers, word_fault_text(fault))
+    } else {
+        add_fault_text(answers, fault)
+    }
+}
+
 /// Returns whether the line is no command.
 fn is_no_command(fault: ScriptFault) -> bool
     ensures { result ≡ is_no_command fault }
@@ -279,7 +346,7 @@ fn add_sentence(
             if is_no_command(fault) {
                 add_wrong(answers, side, line, words)
             } else {
-                add_fault_text(answers, fault)
+                add_own(answers, fault, line, words)
             }
         }
     }

@@ -1,15 +1,19 @@
 //! What is wrong in a line that is no command.
 
-ghost use Rattle.std.specs.Prelude.{◌≡◌, ◌++◌, OnOk, Some, option_map, slice_get};
+ghost use Rattle.std.specs.Prelude.{◌≡◌, ◌++◌, OnOk, Some, map, option_map, slice_get};
 ghost use Rattle.lab_scripts.specs.FoundWords.{word_octets};
-ghost use Rattle.lab_scripts.specs.ScriptForms.{slots_after};
-ghost use Rattle.lab_scripts.specs.WrongWords.{begins_remark, command_sentence, operand_sentence, slot_sentence, slot_text, takes_sentence, takes_text, unknown_sentence, wrong_after, wrong_sentence, wrong_word};
+ghost use Rattle.lab_scripts.specs.ScriptForms.{card_commands, opening_commands, slots_after};
+ghost use Rattle.lab_scripts.specs.WrongWords.{begins_remark, command_sentence, no_contract_text, is_vbr, meant_command, meant_opening, meant_or, near_command, operand_sentence, no_program_text, slot_sentence, slot_text, takes_sentence, takes_text, uncommanded_sentence, unknown_sentence, unopened_sentence, wrong_after, wrong_sentence, wrong_word};
 
-use crate::forms::{ScriptForm, ScriptSlot, form_at, side_or_user, slots_after, words_fitting};
-use crate::found_words::{FoundWord, word_octets};
+use crate::forms::{
+    COMMANDS, OPENING, ScriptForm, ScriptSlot, form_at, side_or_user, slots_after, words_fitting,
+};
+use crate::found_words::{FoundWord, front, word_octets};
+use crate::meant::{add_perhaps, is_near};
 use crate::places::add_quoted;
 use std::alloc::AllocError;
 use upc_cell::Side;
+use upc_script::number;
 use upc_words::add_text;
 
 /// Returns the word at a place, if there is one.
@@ -35,26 +39,72 @@ pub(crate) fn wrong_word(side: Option<Side>, line: &[u8], words: &[FoundWord]) -
     }
 }
 
-/// Returns what is wrong with a word in a slot.
-fn slot_text(side: Side, slot: ScriptSlot) -> &'static [u8]
-    ensures { result.now ≡ slot_text side slot }
+/// Returns whether octets are a kind of contract with two buckets, and the colon after it.
+fn is_vbr(octets: &[u8]) -> bool
+    ensures { result ≡ is_vbr octets.now }
+{
+    octets == b"vbr1:".as_slice()
+        || (octets == b"vbr2:".as_slice() || octets == b"vbr3:".as_slice())
+}
+
+/// Returns what is wrong with a word that is no contract.
+fn no_contract_text(word: &[u8]) -> &'static [u8]
+    ensures { result.now ≡ no_contract_text word.now }
+{
+    if front(word, 5) == b"cbr1:".as_slice() {
+        return b" is no contract; after `cbr1:` comes one bucket `T/L`, its increment and its limit in ticks";
+    }
+    if is_vbr(front(word, 5)) {
+        b" is no contract; after its kind come two buckets `T/L:T/L`, the increment and the limit of each in ticks, that of the peak rate first"
+    } else {
+        b" is no contract; a contract is `cbr1:T/L`, `vbr1:T/L:T/L`, `vbr2:T/L:T/L` or `vbr3:T/L:T/L`, with increment T and limit L of each bucket"
+    }
+}
+
+/// Appends what is wrong with a word that names no program.
+#[tactic(auto, using(std::proofs::lemmas::List::append_assoc))]
+fn add_program(answers: &mut Vec<u8>, word: &[u8]) -> Result<(), AllocError>
+    ensures { OnOk result (answers.new.items ≡ answers.old.items ++ no_program_text word.now) }
+{
+    if number(word).is_some() {
+        add_text(answers, b" names no program; perhaps `p")?;
+        add_text(answers, word)?;
+        add_text(answers, b"` is meant")
+    } else {
+        add_text(
+            answers,
+            b" names no program; a name is `p` and a number, as `p1`",
+        )
+    }
+}
+
+/// Appends what is wrong with a word in a slot.
+fn add_slot_text(
+    answers: &mut Vec<u8>,
+    side: Side,
+    slot: ScriptSlot,
+    word: &[u8],
+) -> Result<(), AllocError>
+    ensures { OnOk result (answers.new.items ≡ answers.old.items ++ slot_text side slot word.now) }
 {
     match slot {
-        ScriptSlot::Size => b" is no number; the sizes of a card are decimal",
-        ScriptSlot::Side => b" is no side; the sides are `uni` and `nni`",
+        ScriptSlot::Size => add_text(answers, b" is no number; the sizes of a card are decimal"),
+        ScriptSlot::Side => add_text(answers, b" is no side; the sides are `uni` and `nni`"),
         ScriptSlot::Path => match side {
-            Side::Uni => {
-                b" is no VPI; at the user side a VPI is at most 255, and between nodes (`nni` in the line of the card) at most 4095"
-            }
-            Side::Nni => b" is no VPI; between nodes a VPI is at most 4095",
+            Side::Uni => add_text(
+                answers,
+                b" is no VPI; at the user side a VPI is at most 255, and between nodes (`nni` in the line of the card) at most 4095",
+            ),
+            Side::Nni => add_text(answers, b" is no VPI; between nodes a VPI is at most 4095"),
         },
-        ScriptSlot::Channel => b" is no VCI; a VCI is at most 65535",
-        ScriptSlot::Program => b" names no program; a name is `p` and a number, as `p1`",
-        ScriptSlot::Contract => {
-            b" is no contract; a contract is `cbr1:T/L`, `vbr1:T/L:T/L`, `vbr2:T/L:T/L` or `vbr3:T/L:T/L`, with increment T and limit L of each bucket"
-        }
-        ScriptSlot::Moment => b" is no moment; a moment is a decimal number of ticks",
-        ScriptSlot::Digits => b" is no word of digits",
+        ScriptSlot::Channel => add_text(answers, b" is no VCI; a VCI is at most 65535"),
+        ScriptSlot::Program => add_program(answers, word),
+        ScriptSlot::Contract => add_text(answers, no_contract_text(word)),
+        ScriptSlot::Moment => add_text(
+            answers,
+            b" is no moment; a moment is a decimal number of ticks",
+        ),
+        ScriptSlot::Digits => add_text(answers, b" is no word of digits"),
     }
 }
 
@@ -111,7 +161,7 @@ fn add_slot(
         None => add_takes(answers, name, form),
         Some(slot) => {
             add_quoted(answers, word)?;
-            add_text(answers, slot_text(side, slot))
+            add_slot_text(answers, side, slot, word)
         }
     }
 }
@@ -143,28 +193,95 @@ fn add_operand(
     }
 }
 
+/// Returns the first of these commands that is near a word.
+fn near_command<'a>(word: &[u8], rows: &'a [(&'static [u8], ScriptForm)]) -> Option<&'static [u8]>
+    ensures { option_map (λ near. near.now) result ≡ near_command word.now (map (λ row. (row.0.now, row.1)) rows.entry.now) }
+{
+    let mut left = rows;
+    while let [row, rest @ ..] = left {
+        if is_near(word, row.0) {
+            return Some(row.0);
+        }
+        left = rest;
+    }
+    None
+}
+
+/// Returns the first command of an open card that is near a word.
+fn near_known(word: &[u8]) -> Option<&'static [u8]>
+    ensures { option_map (λ near. near.now) result ≡ near_command word.now card_commands }
+{
+    near_command(word, &COMMANDS)
+}
+
+/// Returns the command that opens a card, if it is near a word.
+fn near_opening(word: &[u8]) -> Option<&'static [u8]>
+    ensures { option_map (λ near. near.now) result ≡ near_command word.now opening_commands }
+{
+    near_command(word, &OPENING)
+}
+
+/// Appends the command that was perhaps meant, or this text.
+fn add_meant(answers: &mut Vec<u8>, meant: Option<&[u8]>, text: &[u8]) -> Result<(), AllocError>
+    ensures { OnOk result (answers.new.items ≡ answers.old.items ++ meant_or (option_map (λ meant. meant.now) meant.entry) text.now) }
+{
+    match meant {
+        None => add_text(answers, text),
+        Some(command) => add_perhaps(answers, Some(command)),
+    }
+}
+
+/// Appends the command that a script was perhaps to begin with, or what it begins with.
+fn add_meant_opening(answers: &mut Vec<u8>, word: &[u8]) -> Result<(), AllocError>
+    ensures { OnOk result (answers.new.items ≡ answers.old.items ++ meant_opening word.now) }
+{
+    add_meant(
+        answers,
+        near_opening(word),
+        b"; the first line with words is `card PROGRAMS LINES PORTS JOURNAL`, perhaps with a side",
+    )
+}
+
+/// Appends the command that was perhaps meant, or all commands.
+fn add_meant_command(answers: &mut Vec<u8>, word: &[u8]) -> Result<(), AllocError>
+    ensures { OnOk result (answers.new.items ≡ answers.old.items ++ meant_command word.now) }
+{
+    add_meant(
+        answers,
+        near_known(word),
+        b"; the commands are cell, load, retire, setup, reload, release and cut",
+    )
+}
+
+/// Appends the sentence about the first word of a script, which opens no card.
+fn add_unopened(answers: &mut Vec<u8>, word: &[u8]) -> Result<(), AllocError>
+    ensures { OnOk result (answers.new.items ≡ answers.old.items ++ unopened_sentence word.now) }
+{
+    add_quoted(answers, word)?;
+    add_text(answers, b" opens no card")?;
+    add_meant_opening(answers, word)
+}
+
+/// Appends the sentence about a word that is no command of an open card.
+fn add_uncommanded(answers: &mut Vec<u8>, word: &[u8]) -> Result<(), AllocError>
+    ensures { OnOk result (answers.new.items ≡ answers.old.items ++ uncommanded_sentence word.now) }
+{
+    add_quoted(answers, word)?;
+    add_text(answers, b" is no command")?;
+    add_meant_command(answers, word)
+}
+
 /// Appends the sentence about a word that names no command.
-#[tactic(auto, using(std::proofs::lemmas::List::append_assoc))]
 fn add_unknown(answers: &mut Vec<u8>, side: Option<Side>, word: &[u8]) -> Result<(), AllocError>
     ensures { OnOk result (answers.new.items ≡ answers.old.items ++ unknown_sentence side word.now) }
 {
     match side {
-        None => {
-            add_quoted(answers, word)?;
-            add_text(
-                answers,
-                b" opens no card; the first line with words is `card PROGRAMS LINES PORTS JOURNAL`, perhaps with a side",
-            )
-        }
+        None => add_unopened(answers, word),
         Some(_) => {
             if word == b"card".as_slice() {
                 add_text(answers, b"the card is open already; a script opens one")
             } else {
-                add_quoted(answers, word)?;
-                add_text(
-                    answers,
-                    b" is no command; the commands are cell, load, retire, setup, reload, release and cut",
-                )
+                add_uncommanded(answers, word)
             }
         }
     }
