@@ -3,15 +3,15 @@
  * Each call returns 0, or the constant of the fault for which it refused, such as UPC_VERIFY_UNWRITTEN, and fills
  * *fault with zeros, or with that fault. A call that refuses writes nothing else.
  *
- * Each call first looks for null pointers. A fault may be null: then only the result says it. Octets, contracts and entries
- * may be at null if the length next to them is 0. Any other null pointer is refused as UPC_NULL_POINTER, and nothing is
- * read. The two calls that free do nothing with null. These tests are C, made by a script and tested.
+ * Each call first looks for null pointers. A fault may be null: then only the result says it. Octets, contracts, meters and
+ * entries may be at null if the length next to them is 0. Any other null pointer is refused as UPC_NULL_POINTER, and
+ * nothing is read. The two calls that free do nothing with null. These tests are C, made by a script and tested.
  *
  * What a call answers behind them is proved (crates/upc_c/README.md) if its caller keeps these rules, which nothing checks:
  *
- *  - Each pointer that isn't null points to memory of its type, aligned for it; octets, contracts and entries to as many as
- *    the length next to them says, which take at most PTRDIFF_MAX octets. The call may read them, and write if the pointer
- *    is to no const.
+ *  - Each pointer that isn't null points to memory of its type, aligned for it; octets, contracts, meters and entries to as
+ *    many as the length next to them says, which take at most PTRDIFF_MAX octets. The call may read them, and write if the
+ *    pointer is to no const.
  *  - Memory that a call may write is borrowed by that argument alone: it overlaps none of the others, and no other
  *    thread reads or writes it before the call returns. Memory that a call may only read is not changed before that.
  *  - Calls that the list below marks with "memory" allocate by malloc and realloc and free by free, all of one
@@ -99,7 +99,7 @@ enum upc_kind {
  * itself: */
 enum upc_call {
 	UPC_NO_MEMORY = 257,      /* malloc or realloc returned null */
-	UPC_NO_ROOM = 258,        /* the room is too small; place: the number of octets or entries that are needed */
+	UPC_NO_ROOM = 258,        /* the room is too small; place: the octets, entries or meters that are needed */
 	UPC_UNKNOWN_KIND = 259,   /* the contract is of none of the four kinds */
 	UPC_LATE_LEVELS = 260,    /* the levels are above UPC_LAST_LEVEL */
 	UPC_UNKNOWN_SIDE = 261,   /* the side is none of enum upc_side */
@@ -197,6 +197,21 @@ typedef struct upc_levels {
 } upc_levels;
 UPC_SIZE(upc_levels, 16);
 
+/* A contract with its levels. A bucket with the theoretical arrival time t has, at a moment m, the level t - m, or 0 if m
+ * is later than t; a cell conforms to it if that is at most the limit. */
+typedef struct upc_meter {
+	upc_contract contract;
+	upc_levels levels;
+} upc_meter;
+UPC_SIZE(upc_meter, 56);
+
+/* By how much a cell comes too early. */
+typedef struct upc_excess {
+	uint32_t bucket; /* the first bucket that the cell meets and doesn't conform to, 1 or 2; 0 if there is none */
+	uint64_t ticks;  /* how far its level is above its limit: the least delay after which it would conform; or 0 */
+} upc_excess;
+UPC_SIZE(upc_excess, 16);
+
 /* Only a card gives UPC_REFUSE: the program's value was not the number of a contract. */
 enum upc_verdict { UPC_PASS = 0, UPC_TAG = 1, UPC_DISCARD = 2, UPC_REFUSE = 3 };
 
@@ -210,6 +225,11 @@ uint32_t upc_contract_check(const upc_contract *contract, upc_fault *fault) UPC_
  * Faults: those of upc_contract_check, then UPC_LATE_LEVELS, then UPC_ARRIVE_MOMENT_TOO_LATE. */
 uint32_t upc_judge(const upc_contract *contract, upc_levels *levels, uint32_t clp, uint64_t moment, uint32_t *verdict,
                    upc_fault *fault) UPC_RESULT;
+
+/* Writes by how much such a cell would come too early. Zeros exactly if upc_judge would pass it. Changes no levels.
+ * Faults: those of upc_judge. */
+uint32_t upc_excess_of(const upc_contract *contract, const upc_levels *levels, uint32_t clp, uint64_t moment,
+                       upc_excess *excess, upc_fault *fault) UPC_RESULT;
 
 /* The burst tolerance (mbs - 1)(sustained - peak) in ticks, for a burst of mbs cells and the increments of two rates.
  * Faults: those of UPC_BURST. */
@@ -357,6 +377,26 @@ UPC_SIZE(upc_journal, 72);
 
 enum { UPC_MOST_CONTRACTS = 4 };
 
+/* The state of a connection, in addition to its contracts and their levels. */
+typedef struct upc_state {
+	uint64_t incarnation; /* the number of its setup among all of the card, from 1 */
+	uint64_t last;        /* the moment of its last judged cell, in ticks; 0 if there was none */
+	size_t cells;         /* the number of cells in its journal */
+	size_t contracts;     /* the number of its contracts, 1 to UPC_MOST_CONTRACTS */
+	upc_counts counts;    /* of its line */
+	upc_id program;       /* the program that names a contract for each of its cells */
+	uint16_t line;        /* the number of its line, from 0 */
+} upc_state;
+UPC_SIZE(upc_state, 80);
+
+/* A connection from which the next one is found. All zeros are before the first. */
+typedef struct upc_cursor {
+	uint32_t begun; /* 0 before the first connection; the other two are then free */
+	uint16_t path;
+	uint16_t channel;
+} upc_cursor;
+UPC_SIZE(upc_cursor, 8);
+
 /* Makes a card without programs and connections, if there is none yet.
  * Faults: UPC_CARD_THERE, then UPC_UNKNOWN_SIDE, then those of UPC_SHAPE. */
 uint32_t upc_card_new(const upc_shape *shape, upc_card *card, upc_fault *fault) UPC_RESULT;
@@ -400,6 +440,17 @@ uint32_t upc_card_journal(const upc_card *card, uint16_t path, uint16_t channel,
  * Faults: UPC_NO_CARD, UPC_LARGE_PATH, then UPC_DESK_NO_CONNECTION. */
 uint32_t upc_card_counts(const upc_card *card, uint16_t path, uint16_t channel, upc_counts *counts,
                          upc_fault *fault) UPC_RESULT;
+
+/* Writes the state of a connection. Its contracts with their levels become the first meters of the room, the first for the
+ * value 1; the other meters of the room are unchanged. A room of UPC_MOST_CONTRACTS is always enough. It doesn't allocate.
+ * Faults: UPC_NO_CARD, UPC_LARGE_PATH, then UPC_DESK_NO_CONNECTION, then UPC_NO_ROOM. */
+uint32_t upc_card_state(const upc_card *card, uint16_t path, uint16_t channel, upc_meter *room, size_t room_length,
+                        upc_state *state, upc_fault *fault) UPC_RESULT;
+
+/* Moves the cursor to the next connection, in the order of paths and, in a path, of channels. It need not be at a connection
+ * of the card, and the card may change between two calls. It doesn't allocate. Looks at each line of the card.
+ * Faults: UPC_NO_CARD, UPC_LARGE_PATH, then UPC_DESK_NO_CONNECTION if there is no other connection. */
+uint32_t upc_card_next(const upc_card *card, upc_cursor *cursor, upc_fault *fault) UPC_RESULT;
 
 /* Ends a connection, and returns its last journal: its cells, the earliest first, become the first entries of the room.
  * The other entries of the room are unchanged, and *journal has the number of cells. It doesn't allocate. A room of

@@ -23,11 +23,14 @@ static void tell(const char *what, uint32_t result, const void *lent, const void
 static void judge(const char *what, upc_contract contract, upc_levels levels, uint64_t moment)
 {
 	upc_levels before = levels;
-	uint32_t verdict = 9;
+	upc_excess excess = {7, 7};
+	uint32_t verdict = 9, early = upc_excess_of(&contract, &levels, 0, moment, &excess, &fault);
 
 	tell(what, upc_judge(&contract, &levels, 0, moment, &verdict, &fault), &levels, &before, sizeof levels);
 	if (fault.number != 0 && verdict != 9)
 		printf("%s: it wrote a verdict\n", what);
+	if (early != 256 * fault.kind + fault.number || (early != 0 && (excess.bucket != 7 || excess.ticks != 7)))
+		printf("%s: upc_excess_of returned %u\n", what, (unsigned)early);
 }
 
 static void judge_all(void)
@@ -286,6 +289,30 @@ static void inspect(const char *what, upc_card *card, uint16_t path, uint16_t ch
 		printf("%s: %lu cells, refused %lu\n", what, (unsigned long)cells, (unsigned long)counts.refused);
 }
 
+/* The state of a connection, and the one after it. */
+static void read_state(const char *what, upc_card *card, uint16_t path, uint16_t channel, size_t length)
+{
+	upc_meter meters[2], unread[2];
+	upc_cursor at = {1, path, channel}, before = at;
+	upc_state state;
+
+	memset(meters, 7, sizeof meters);
+	memset(unread, 7, sizeof unread);
+	tell(what, upc_card_state(card, path, channel, meters, length, &state, &fault), meters, unread, sizeof meters);
+	if (fault.number == 0)
+		printf("%s: setup %lu last %lu cells %lu contracts %lu refused %lu program %u/%u line %u: kind %u %lu/%lu due %lu\n", what,
+		       (unsigned long)state.incarnation, (unsigned long)state.last, (unsigned long)state.cells,
+		       (unsigned long)state.contracts, (unsigned long)state.counts.refused, (unsigned)state.program.slot,
+		       (unsigned)state.program.generation, (unsigned)state.line, (unsigned)meters[0].contract.kind,
+		       (unsigned long)meters[0].contract.peak_increment, (unsigned long)meters[0].contract.peak_limit,
+		       (unsigned long)meters[0].levels.first);
+	if (memcmp(meters + 1, unread + 1, sizeof *meters) != 0)
+		printf("%s: it wrote after the meters\n", what);
+	tell(what, upc_card_next(card, &at, &fault), &at, &before, sizeof at);
+	if (fault.number == 0)
+		printf("%s: then %u/%u\n", what, (unsigned)at.path, (unsigned)at.channel);
+}
+
 /* A null pointer: the fault says so, only the result does, or it may be null. */
 static void null_pointers(void)
 {
@@ -321,6 +348,7 @@ static void kept_card(void)
 	arrive("no card", &card, 1, 52, 0);
 	tell_shape("the size of no card", &card);
 	inspect("inspect no card", &card, 1, 1);
+	read_state("state of no card", &card, 1, 1, 2);
 	tell_journal("cut no card", upc_card_cut(&card, 1, 1, room, 3, &journal, &fault), &journal);
 	set_up("set up on no card", &card, 1, 1, id, cbr, 1);
 	set_up("five on no card", &card, 1, 1, id, cbr, 5);
@@ -340,6 +368,10 @@ static void kept_card(void)
 	inspect("inspect elsewhere", &card, 1, 2);
 	inspect("inspect a large path", &card, 256, 1);
 	inspect("inspect", &card, 1, 1);
+	read_state("state elsewhere", &card, 1, 0, 0);
+	read_state("state on a large path", &card, 256, 1, 0);
+	read_state("state into none", &card, 1, 1, 0);
+	read_state("state", &card, 1, 1, 1);
 	tell_journal("cut elsewhere", upc_card_cut(&card, 1, 2, room, 0, &journal, &fault), &journal);
 	tell_journal("cut into one entry", upc_card_cut(&card, 1, 1, room, 1, &journal, &fault), &journal);
 	tell_journal("release into none", upc_card_release(&card, 1, 1, room, 0, &journal, &fault), &journal);

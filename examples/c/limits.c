@@ -105,15 +105,22 @@ static void judge_largest(void)
 {
 	upc_contract it = {UPC_VBR3, UPC_MOST_TICKS, UPC_MOST_TICKS, UPC_MOST_TICKS, UPC_MOST_TICKS};
 	upc_levels levels = {UPC_LAST_LEVEL, UPC_LAST_LEVEL};
+	upc_excess excess;
 	uint64_t ticks = 0;
 	uint32_t verdict = 9;
 
 	ask(upc_contract_check(&it, &fault) == 0, "a contract of the largest numbers");
 	ask(upc_judge(&it, &levels, 0, UPC_LAST_MOMENT, &verdict, &fault) == 0 && verdict == UPC_DISCARD, "the last levels");
+	ask(upc_excess_of(&it, &levels, 0, UPC_LAST_MOMENT, &excess, &fault) == 0 && excess.bucket == 1 && excess.ticks == UPC_MOST_TICKS,
+	    "how early that is");
+	ask(upc_excess_of(&it, &levels, 0, UPC_LAST_MOMENT - excess.ticks, &excess, &fault) == 0 && excess.ticks == 2 * UPC_MOST_TICKS,
+	    "and how early before it");
 	levels.first = levels.second = 0;
 	ask(upc_judge(&it, &levels, 0, UPC_LAST_MOMENT, &verdict, &fault) == 0 && verdict == UPC_PASS, "the last moment");
 	ask(levels.first == UPC_LAST_MOMENT + UPC_MOST_TICKS && levels.second == levels.first, "the levels after the last moment");
 	refused("one tick more", upc_judge(&it, &levels, 0, UPC_LAST_MOMENT + 1, &verdict, &fault), UPC_ARRIVE_MOMENT_TOO_LATE);
+	refused("one tick more for an excess", upc_excess_of(&it, &levels, 0, UPC_LAST_MOMENT + 1, &excess, &fault),
+	        UPC_ARRIVE_MOMENT_TOO_LATE);
 	levels.second = UPC_LAST_LEVEL + 1;
 	refused("one level more", upc_judge(&it, &levels, 0, UPC_LAST_MOMENT, &verdict, &fault), UPC_LATE_LEVELS);
 	it.sustained_limit++;
@@ -175,6 +182,26 @@ static void load_all(void)
 	printf("%d programs\n", (int)PROGRAMS);
 }
 
+/* The listing of 4096 connections, of which each has judged one cell. */
+static void list_all(const upc_card *card)
+{
+	upc_meter room[UPC_MOST_CONTRACTS];
+	upc_cursor at = {0, 0, 0};
+	upc_state state;
+	uint32_t k;
+
+	for (k = 0; k < LINES; k++) {
+		ask(upc_card_next(card, &at, &fault) == 0 && at.path == k && at.channel == 65535 - k, "the next connection");
+		ask(upc_card_state(card, at.path, at.channel, room, UPC_MOST_CONTRACTS, &state, &fault) == 0 &&
+		        state.contracts == UPC_MOST_CONTRACTS && state.incarnation == k + 1 && state.last == k && state.cells == 1,
+		    "its state");
+		ask(room[2].levels.first == 0 && room[3].levels.first == k + 10, "its levels");
+	}
+	refused("one connection more", upc_card_next(card, &at, &fault), UPC_DESK_NO_CONNECTION);
+	refused("a room of three", upc_card_state(card, 0, 65535, room, 3, &state, &fault), UPC_NO_ROOM);
+	ask(fault.place == UPC_MOST_CONTRACTS, "the meters that are needed");
+}
+
 /* 4096 connections on a card, each with four contracts, and a cell on each. */
 static void set_up_all(void)
 {
@@ -206,6 +233,7 @@ static void set_up_all(void)
 		    "a line of its own");
 		seen[answer.line] = 1;
 	}
+	list_all(&card);
 	upc_card_free(&card);
 	free(seen);
 	printf("%d connections\n", (int)LINES);

@@ -35,6 +35,14 @@ static void judge(void)
 	number = upc_judge(contracts, &levels, 0, 9, &verdict, &fault);
 }
 
+static void excess(void)
+{
+	const upc_levels levels = {20, 20};
+	upc_excess it;
+
+	number = upc_excess_of(contracts, &levels, 0, 9, &it, &fault);
+}
+
 static void tolerance(void)
 {
 	uint64_t ticks;
@@ -150,6 +158,21 @@ static void counts(void)
 	number = upc_card_counts(&card, 1, 100, &it, &fault);
 }
 
+static void state(void)
+{
+	upc_meter meters[UPC_MOST_CONTRACTS];
+	upc_state it;
+
+	number = upc_card_state(&card, 1, 100, meters, UPC_MOST_CONTRACTS, &it, &fault);
+}
+
+static void next(void)
+{
+	upc_cursor it = {0, 0, 0};
+
+	number = upc_card_next(&card, &it, &fault);
+}
+
 static void cut(void)
 {
 	upc_journal it;
@@ -207,7 +230,8 @@ static size_t taken(entry *one)
 
 int main(int words, char **arguments)
 {
-	entry calls[] = {{"nothing", nothing}, {"upc_contract_check", contract_check}, {"upc_judge", judge}, {"upc_burst_tolerance", tolerance},
+	entry calls[] = {{"nothing", nothing}, {"upc_contract_check", contract_check}, {"upc_judge", judge}, {"upc_excess_of", excess},
+	                 {"upc_burst_tolerance", tolerance},
 	                 {"upc_cell_fields", fields}, {"upc_cell_tag", tag}, {"upc_check", check},
 	                 {"upc_listing", list}, {"upc_assemble", assemble}, {"upc_assemble, no source", assemble_program},
 	                 {"upc_rules_compile", compile_rules}, {"upc_rules_compile, nested", compile_nested},
@@ -215,6 +239,7 @@ int main(int words, char **arguments)
 	                 {"upc_program_run", run_program}, {"upc_program_free", free_program}, {"upc_card_new", new_card}, {"upc_card_shape", get_shape},
 	                 {"upc_card_load", load}, {"upc_card_load, no program", load_unknown}, {"upc_card_setup", set_up},
 	                 {"upc_card_arrive", arrive}, {"upc_card_journal", journal}, {"upc_card_counts", counts},
+	                 {"upc_card_state", state}, {"upc_card_next", next},
 	                 {"upc_card_cut", cut}, {"upc_card_arrive", arrive}, {"upc_card_reload", reload},
 	                 {"upc_card_release", release}, {"upc_card_retire", retire}, {"upc_card_free", free_card}};
 	size_t most = 0, rules_most = 0, k, it;

@@ -17,7 +17,7 @@ from rules.reader import read_rules
 from trials import programs, sources
 
 from library.model import LAST_MOMENT, Meter, Refused, checked, contract_of, refused_call, translated
-from library.structs import Contract, Fault, Fields, Handle, Id, Levels, octets, values_of
+from library.structs import Contract, Excess, Fault, Fields, Handle, Id, Levels, octets, values_of
 
 MOST_TICKS, LAST_LEVEL = 2**48, 2**62 + 2**49
 REACHED = Counter()
@@ -128,7 +128,7 @@ class Calls:
         self.asked("upc_contract_check", lambda: contract_of(it), ctypes.byref(it))
 
     def try_judge(self):
-        """upc_judge, several times on one meter."""
+        """upc_excess_of and upc_judge, several times on one meter."""
         it, levels, verdict = self.contract(), Levels(), ctypes.c_uint32(9)
         if self.rng.random() < 0.1:
             levels = Levels(self.number(LAST_LEVEL), self.number(LAST_LEVEL))
@@ -137,15 +137,25 @@ class Calls:
             moment += self.rng.choice((0, 1, 5, 30))
             clp = self.rng.choice((0, 0, 1, 2**32 - 1))
 
-            def judged(moment=moment, clp=clp):
+            def meter(moment=moment):
                 kind, rates = contract_of(it)
                 if levels.first > LAST_LEVEL or levels.second > LAST_LEVEL:
                     raise refused_call("LateLevels")
                 if moment > LAST_MOMENT:
                     raise Refused("arrive", 5)
-                return Meter(kind, rates, values_of(levels)).judge(moment, int(clp != 0))
+                return Meter(kind, rates, values_of(levels))
 
-            before = values_of(levels)
+            def judged(moment=moment, clp=clp, meter=meter):
+                return meter().judge(moment, int(clp != 0))
+
+            def excess(moment=moment, clp=clp, meter=meter):
+                return meter().excess(moment, int(clp != 0))
+
+            before, told = values_of(levels), Excess(7, 7)
+            given = (ctypes.byref(it), ctypes.byref(levels), clp, ctypes.c_uint64(moment), ctypes.byref(told))
+            wanted = self.asked("upc_excess_of", excess, *given)
+            same("upc_excess_of, the excess", values_of(told), wanted or (7, 7))
+            same("upc_excess_of, the levels", values_of(levels), before)
             wanted = self.asked("upc_judge", judged, ctypes.byref(it), ctypes.byref(levels), clp, ctypes.c_uint64(moment), ctypes.byref(verdict))
             if wanted is None:
                 same("upc_judge, the levels", values_of(levels), before)

@@ -4,7 +4,7 @@ import ctypes
 
 from library.calling import Calls, Different, same
 from library.model import LAST_MOMENT, CardModel, Refused, checked, contract_of, refused_call
-from library.structs import Answer, Contract, Counts, Entry, Id, Journal, Shape, octets, values_of
+from library.structs import Answer, Contract, Counts, Cursor, Entry, Id, Journal, Meter, Shape, State, octets, values_of
 
 
 class CardCalls(Calls):
@@ -136,6 +136,47 @@ class CardCalls(Calls):
         same("upc_card_journal, the cells", found.value, 7 if vc is None else len(self.model.journals[vc]))
         vc = self.asked("upc_card_counts", inspected, ctypes.byref(self.card), *given, ctypes.byref(counts))
         same("upc_card_counts, the counts", values_of(counts), (7,) * 4 if vc is None else tuple(self.model.counts[vc]))
+
+    def try_state(self):
+        """upc_card_state, into a room that may be too small."""
+        (path, channel), length, state = self.vc(), self.rng.choice((0, 1, 4, 4, 4, 5)), State()
+        room = (Meter * length)(*(Meter(Contract(*[7] * 5), (7, 7)) for _ in range(length))) if length else None
+
+        def told():
+            vc = self.there().vc_of(path, channel)
+            numbers, meters = self.model.state_of(vc)
+            if len(meters) > length:
+                raise refused_call("NoRoom", len(meters))
+            return vc, numbers, meters
+
+        given = (ctypes.c_uint16(path), ctypes.c_uint16(channel), room, ctypes.c_size_t(length), ctypes.byref(state))
+        wanted = self.asked("upc_card_state", told, ctypes.byref(self.card), *given)
+        meters = [] if wanted is None else wanted[2]
+        rest = [((7,) * 5, (7, 7))] * (length - len(meters))
+        same("upc_card_state, the meters", [values_of(it) for it in room or ()], meters + rest)
+        if wanted is None:
+            same("upc_card_state, the state", values_of(state), values_of(State()))
+            return
+        line = self.model.lines.setdefault(wanted[0], state.line)
+        same("upc_card_state, the state", values_of(state), (*wanted[1], line))
+
+    def try_next(self):
+        """upc_card_next: a whole listing, or one step from anywhere."""
+        cursor, whole = Cursor(0, *self.vc()), self.rng.random() < 0.5
+        if not whole:
+            cursor.begun = self.rng.choice((0, 1, 2**32 - 1))
+        while True:
+
+            def moved():
+                model = self.there()
+                at = model.vc_of(cursor.path, cursor.channel) if cursor.begun else None
+                return (1, *model.after(at))
+
+            before = values_of(cursor)
+            wanted = self.asked("upc_card_next", moved, ctypes.byref(self.card), ctypes.byref(cursor))
+            same("upc_card_next, the cursor", values_of(cursor), wanted or before)
+            if wanted is None or not whole:
+                return
 
     def try_cut(self):
         """upc_card_cut and upc_card_release, into a room that may be too small."""

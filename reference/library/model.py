@@ -3,7 +3,7 @@
 from policer import cell as cells
 from policer.card import LAST_MOMENT, Card, check_rate
 from policer.checking import check
-from policer.contract import Contract
+from policer.contract import MEET_SECOND, Contract
 from policer.decoding import decoded
 from policer.faults import NUMBERS, Fault
 
@@ -73,6 +73,21 @@ class Meter:
         verdict = self.contract.judge(moment, priority)
         return VERDICTS.index(verdict), [bucket.last + bucket.level for bucket in self.contract.buckets]
 
+    def excess(self, moment, priority):
+        """Returns the number of the first bucket that a cell meets and that is over its limit, and by how much; or zeros."""
+        for number, bucket in enumerate(self.contract.buckets, 1):
+            over = bucket.level_at(moment) - bucket.limit
+            if over > 0 and (number == 1 or priority in MEET_SECOND[self.contract.kind]):
+                return number, over
+        return 0, 0
+
+
+def meter_numbers(contract):
+    """Returns the numbers of a contract and its levels, with zeros for a bucket that it doesn't have."""
+    rates = [number for bucket in contract.buckets for number in (bucket.increment, bucket.limit)]
+    levels = [bucket.last + bucket.level for bucket in contract.buckets]
+    return (CONTRACTS.index(contract.kind) + 1, *rates, *[0] * (4 - len(rates))), (*levels, *[0] * (2 - len(levels)))
+
 
 class CardModel(Card):
     """A card of the reference that also keeps the cells of its journals, its lines and their counts."""
@@ -84,6 +99,7 @@ class CardModel(Card):
         self.journals = {}   # the entries of each connection
         self.lines = {}      # the line of each connection, once a cell has told it
         self.counts = {}     # the counts of each connection's line since the setup
+        self.incarnations = {}
         self.given = set()
 
     def vc_of(self, path, channel):
@@ -105,8 +121,21 @@ class CardModel(Card):
         if not contracts:
             raise Fault("desk", "BadContracts")
         self.setup(vc, number, contracts)
-        self.journals[vc], self.counts[vc] = [], [0, 0, 0, 0]
+        self.journals[vc], self.counts[vc], self.incarnations[vc] = [], [0, 0, 0, 0], self.set_up
         self.lines.pop(vc, None)
+
+    def state_of(self, vc):
+        """Returns the numbers of a connection's state but for its line, and those of its contracts and their levels."""
+        it = self.find_connection(vc)
+        state = self.incarnations[vc], it.last_moment, len(self.journals[vc]), len(it.contracts), tuple(self.counts[vc]), self.ids[it.program]
+        return state, [meter_numbers(contract) for contract in it.contracts]
+
+    def after(self, vc):
+        """Returns the next connection after this one, or the first after None."""
+        later = [it for it in self.connections if vc is None or it > vc]
+        if not later:
+            raise Fault("desk", "NoConnection")
+        return min(later)
 
     def arrived(self, moment, cell):
         """Judges a cell. Returns the connection, the verdict, the value, the program's id and the leaving cell."""

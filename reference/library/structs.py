@@ -12,12 +12,16 @@ def struct(name, **fields):
 Fault = struct("Fault", kind=c_uint32, number=c_uint32, place=c_size_t, word=c_uint32, code=c_uint32, column=c_size_t)
 Contract = struct("Contract", kind=c_uint32, peak_increment=c_uint64, peak_limit=c_uint64, sustained_increment=c_uint64, sustained_limit=c_uint64)
 Levels = struct("Levels", first=c_uint64, second=c_uint64)
+Meter = struct("Meter", contract=Contract, levels=Levels)
+Excess = struct("Excess", bucket=c_uint32, ticks=c_uint64)
 Fields = struct("Fields", vpi=c_uint16, vci=c_uint16, gfc=c_uint8, pti=c_uint8, clp=c_uint8)
 Handle = struct("Handle", live=c_uint32, at=c_void_p)
 Shape = struct("Shape", side=c_uint32, programs=c_uint64, lines=c_uint64, ports=c_uint64, journal=c_uint64)
 Id = struct("Id", slot=c_uint16, generation=c_uint32)
 Answer = struct("Answer", verdict=c_uint32, value=c_uint32, number=c_uint64, moment=c_uint64, program=Id, line=c_uint16)
 Counts = struct("Counts", passed=c_uint64, tagged=c_uint64, discarded=c_uint64, refused=c_uint64)
+State = struct("State", incarnation=c_uint64, last=c_uint64, cells=c_size_t, contracts=c_size_t, counts=Counts, program=Id, line=c_uint16)
+Cursor = struct("Cursor", begun=c_uint32, path=c_uint16, channel=c_uint16)
 Entry = struct("Entry", moment=c_uint64, program=Id, value=c_uint32, clp=c_uint32, verdict=c_uint32)
 Journal = struct("Journal", cells=c_size_t, before=Counts, after=Counts)
 
@@ -33,5 +37,5 @@ def octets(text):
     return (c_uint8 * max(1, len(text)))(*text)
 
 
-__all__ = ["Answer", "Contract", "Counts", "Entry", "Fault", "Fields", "Handle", "Id", "Journal", "Levels", "POINTER", "Shape"]
-__all__ += ["octets", "values_of"]
+__all__ = ["Answer", "Contract", "Counts", "Cursor", "Entry", "Excess", "Fault", "Fields", "Handle", "Id", "Journal", "Levels", "Meter"]
+__all__ += ["POINTER", "Shape", "State", "octets", "values_of"]

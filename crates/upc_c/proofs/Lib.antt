@@ -9,4 +9,5 @@ mod LineLemmas
 mod Listed
 mod Policing
 mod SettingUp
+mod StateLemmas
 mod Walks

@@ -1,6 +1,7 @@
 pub mod Faults
 pub mod GivenContract
 pub mod Judging
+pub mod ExcessForC
 pub mod Bursts
 pub mod CellHeader
 pub mod Telling
@@ -11,6 +12,7 @@ pub mod CardHandle
 pub mod CardMaking
 pub mod CardDesk
 pub mod CardInspection
+pub mod CardState
 pub mod CardJournal
 pub mod CardArrival
 pub mod ListedFaults

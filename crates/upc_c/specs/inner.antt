@@ -4,3 +4,4 @@ pub mod Hidden
 pub mod ReachedCore
 pub mod ToldLine
 pub mod HandOut
+pub mod WrittenState

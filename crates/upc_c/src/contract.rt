@@ -1,6 +1,7 @@
 //! Contracts, as C has them.
 
 ghost use Rattle.std.specs.Prelude.{◌≡◌, ◌≢◌, IfOk, IfErr};
+ghost use Rattle.upc_c.specs.CardState.{told_contract};
 ghost use Rattle.upc_c.specs.GivenContract.{IsGivenContract, IsContractFault, IsGivenRate, IsRateFault, AreARate, AreAContract};
 ghost use Rattle.upc_c.specs.Faults.{call_result, no_fault};
 ghost use Rattle.upc_c.specs.inner.Numbered.{IsNumbered};
@@ -60,6 +61,43 @@ pub(crate) fn contract_of(given: &UpcContract) -> Result<Contract, UpcFault>
         3 => Contract::Vbr2(peak, sustained),
         _ => Contract::Vbr3(peak, sustained),
     })
+}
+
+/// Returns the numbers of a contract of this kind with two rates.
+fn numbers_of_rates(kind: u32, peak: &Gcra, sustained: &Gcra) -> UpcContract
+    ensures { result ≡ record {
+      kind = kind;
+      peak_increment = peak.now.increment;
+      peak_limit = peak.now.limit;
+      sustained_increment = sustained.now.increment;
+      sustained_limit = sustained.now.limit;
+    } }
+{
+    UpcContract {
+        kind,
+        peak_increment: peak.increment,
+        peak_limit: peak.limit,
+        sustained_increment: sustained.increment,
+        sustained_limit: sustained.limit,
+    }
+}
+
+/// Returns the numbers of a contract.
+pub(crate) fn numbers_of_contract(contract: &Contract) -> UpcContract
+    ensures { result ≡ told_contract contract.now }
+{
+    match contract {
+        Contract::Cbr1(peak) => UpcContract {
+            kind: 1,
+            peak_increment: peak.increment,
+            peak_limit: peak.limit,
+            sustained_increment: 0,
+            sustained_limit: 0,
+        },
+        Contract::Vbr1(peak, sustained) => numbers_of_rates(2, peak, sustained),
+        Contract::Vbr2(peak, sustained) => numbers_of_rates(3, peak, sustained),
+        Contract::Vbr3(peak, sustained) => numbers_of_rates(4, peak, sustained),
+    }
 }
 
 /// Checks whether the numbers are a contract. Returns the result of the error, or 0.

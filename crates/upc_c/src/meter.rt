@@ -40,7 +40,11 @@ pub(crate) fn number_of(verdict: Verdict) -> u32
 
 /// Returns the contract by which a cell is judged, or the error.
 #[inline]
-fn judging(given: &UpcContract, levels: &UpcLevels, moment: u64) -> Result<Contract, UpcFault>
+pub(crate) fn judging(
+    given: &UpcContract,
+    levels: &UpcLevels,
+    moment: u64,
+) -> Result<Contract, UpcFault>
     ensures contract { IfOk result (IsGivenContract given.now) }
     ensures levels { IfOk result (λ _. AreLevels levels.now) }
     ensures moment { IfOk result (λ _. moment ≤ 2 ^ 62) }

@@ -1,0 +1,99 @@
+-- The state of a connection, as it is written for C.
+use Rattle.std.proofs.Common.{◌≡◌, ℕ, zero, suc, ◌<◌, List, [], ◌∷◌, length, Option, Some, None, refl, sym, ap, subst, ◌∙◌, arith}
+use Rattle.std.specs.Prelude.{MatchOption, IfSome, IfNone, slice_get}
+use Rattle.std.proofs.lemmas.Bool.Decides.{nat_tests}
+use Rattle.std.proofs.lemmas.Option.{slice_get_within}
+use Rattle.card_core.specs.Agreement.{CoreView, CoreAgrees}
+use Rattle.card_core.specs.ConnectionState.{IsStateIn, HasLevelsForEach}
+use Rattle.card_core.specs.World.{World, connection_in}
+use Rattle.card_core.specs.declared.connection_state.ConnectionState.{ConnectionState}
+use Rattle.leaky.specs.declared.contract.Contract.{Contract}
+use Rattle.line_record.specs.History.{numbered}
+use Rattle.upc_cell.specs.declared.vc.Vc.{Vc}
+use Rattle.upc_c.specs.CardDesk.{told_id}
+use Rattle.upc_c.specs.CardInspection.{HasConnection, OfConnection, counts_for_c}
+use Rattle.upc_c.specs.CardState.{HasState, IsToldState}
+use Rattle.upc_c.specs.declared.card.UpcCard.{UpcCard}
+use Rattle.upc_c.specs.declared.state.UpcMeter.{UpcMeter}
+use Rattle.upc_c.specs.declared.state.UpcState.{UpcState}
+use Rattle.upc_c.specs.inner.ToldLine.{IsMissingIn}
+use Rattle.upc_c.specs.inner.WrittenState.{IsStateOf, IsStateOn, IsWrittenState, told_meter}
+
+-- A list has an item at each place below its length.
+item-at : {X : Type 0} (xs : List X) (place : ℕ) → place < length xs → (x : X) × (slice_get xs place ≡ Some x)
+item-at [] place h = absurd (omega arith)
+item-at (x ∷ xs) zero h = (x, refl)
+item-at (x ∷ xs) (suc place) h = item-at xs place (omega arith)
+
+numbered-suc : {X : Type 0} (xs : List X) (place : ℕ) → numbered xs (suc place) ≡ slice_get xs place
+numbered-suc xs place = grind (arith, nat_tests)
+
+-- In a world with this state of the connection, what was written is told.
+pub told-written : (world : World) (vc : Vc) (state : ConnectionState) (before room : List UpcMeter) (told : UpcState)
+    → IsStateIn world vc state → HasLevelsForEach state → IsWrittenState state before room told
+    → HasConnection world vc (λ connection. IsToldState world connection before room told)
+told-written world vc state before room told is sized written =
+    let tells = written.tells in
+    let many : told.contracts ≡ length state.contracts.items = ap (λ (t : UpcState). t.contracts) tells in (
+      is.connection,
+      is.found,
+      record {
+        incarnation = ap (λ (t : UpcState). t.incarnation) tells ∙ is.incarnation;
+        line = ap (λ (t : UpcState). t.line) tells ∙ is.line;
+        program = ap (λ (t : UpcState). t.program) tells ∙ ap told_id is.program;
+        last = ap (λ (t : UpcState). t.last) tells ∙ is.state.last;
+        counts = ap (λ (t : UpcState). t.counts) tells ∙ ap counts_for_c is.counts;
+        cells = ap (λ (t : UpcState). t.cells) tells ∙ is.entries;
+        contracts = many ∙ ap length is.contracts;
+        fits = let fits = written.fits in omega arith;
+        meters = λ place contract found.
+            let here : slice_get state.contracts.items place ≡ Some contract =
+            subst (λ (cs : List Contract). slice_get cs place ≡ Some contract) (sym is.contracts) found in
+            let inside : place < length state.contracts.items = slice_get_within state.contracts.items place contract here in
+            let one_each = sized.one_each in
+            let its = item-at state.state.levels.items place (omega arith) in
+            let agrees = is.state.stands.agrees (suc place) its.0 (numbered-suc state.state.levels.items place ∙ its.1) in record {
+              meter = told_meter contract its.0;
+              there = written.meters.front place contract its.0 inside here its.1;
+              numbers = refl;
+              shows = record { first = agrees.first; second = agrees.second };
+              kept = record { first = its.0.first_bounded; second = its.0.second_bounded };
+            };
+        rest = λ place above. written.meters.rest place (omega arith);
+      },
+    )
+
+pub has-state : (card : UpcCard) (path channel : ℕ) (state : ConnectionState) (before room : List UpcMeter) (told : UpcState)
+    → IsStateOn card path channel state → HasLevelsForEach state → IsWrittenState state before room told
+    → HasState card path channel before room told
+has-state card path channel state before room told on sized written = record {
+  vc = on.vc;
+  numbers = on.numbers;
+  core = on.core;
+  had = on.had;
+  so = λ world agrees. told-written world on.vc state before room told (on.so world agrees) sized written;
+}
+
+-- The number of its contracts.
+pub has-contracts : (card : UpcCard) (path channel : ℕ) (state : ConnectionState) → IsStateOn card path channel state
+    → OfConnection card path channel (λ world connection. length connection.contracts ≡ length state.contracts.items)
+has-contracts card path channel state on = record {
+  vc = on.vc;
+  numbers = on.numbers;
+  core = on.core;
+  had = on.had;
+  so = λ world agrees. let is = on.so world agrees in (is.connection, is.found, ap length (sym is.contracts));
+}
+
+-- Of each world that the core agrees with.
+pub state-found : (core : CoreView) (vc : Vc) (found : Option ConnectionState)
+    → ((world : World) → CoreAgrees core world → MatchOption found (connection_in world.connections vc ≡ None) (IsStateIn world vc))
+    → IfSome found (IsStateOf core vc)
+state-found core vc None is = tt
+state-found core vc (Some state) is = is
+
+pub state-missing : (core : CoreView) (vc : Vc) (found : Option ConnectionState)
+    → ((world : World) → CoreAgrees core world → MatchOption found (connection_in world.connections vc ≡ None) (IsStateIn world vc))
+    → IfNone found (IsMissingIn core vc)
+state-missing core vc None is = is
+state-missing core vc (Some state) is = tt

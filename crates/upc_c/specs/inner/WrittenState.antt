@@ -1,0 +1,69 @@
+-- The state of a connection, from the core to C.
+use Rattle.std.specs.Prelude.{◌≡◌, ◌<◌, ◌≤◌, ℕ, List, length, Option, Some, MatchOption, slice_get}
+use Rattle.card_core.specs.Agreement.{CoreView, CoreAgrees}
+use Rattle.card_core.specs.ConnectionState.{IsStateIn, IsNextVc, IsLastVc}
+use Rattle.card_core.specs.World.{World}
+use Rattle.card_core.specs.declared.connection_state.ConnectionState.{ConnectionState}
+use Rattle.leaky.specs.declared.contract.Contract.{Contract}
+use Rattle.leaky.specs.declared.levels.Levels.{Levels}
+use Rattle.upc_cell.specs.declared.vc.Vc.{Vc}
+use Rattle.upc_c.specs.CardDesk.{IsVc, told_id}
+use Rattle.upc_c.specs.CardHandle.{card_in}
+use Rattle.upc_c.specs.CardInspection.{counts_for_c}
+use Rattle.upc_c.specs.CardState.{told_contract}
+use Rattle.upc_c.specs.declared.card.UpcCard.{UpcCard}
+use Rattle.upc_c.specs.declared.meter.UpcLevels.{UpcLevels}
+use Rattle.upc_c.specs.declared.state.UpcMeter.{UpcMeter}
+use Rattle.upc_c.specs.declared.state.UpcState.{UpcState}
+
+-- The levels, as C has them.
+abbrev pub told_levels : Levels → UpcLevels
+told_levels levels = record { first = levels.first; second = levels.second }
+
+-- A contract and its levels, as C has them.
+abbrev pub told_meter : Contract → Levels → UpcMeter
+told_meter contract levels = record { contract = told_contract contract; levels = told_levels levels }
+
+-- The numbers of a state, as C has them.
+abbrev pub told_state : ConnectionState → UpcState
+told_state state = record {
+  incarnation = state.incarnation;
+  last = state.state.last;
+  cells = state.entries;
+  contracts = length state.contracts.items;
+  counts = counts_for_c state.state.counts;
+  program = told_id state.program;
+  line = state.line;
+}
+
+-- The first meters are those of the first contracts and levels, and the rest of the buffer is unchanged.
+pub record AreMetersOf (contracts : List Contract) (levels : List Levels) (before room : List UpcMeter) (count : ℕ) : Type 0 where
+  pub sized : length room ≡ length before
+  pub front : (place : ℕ) (contract : Contract) (its : Levels) → place < count → slice_get contracts place ≡ Some contract
+      → slice_get levels place ≡ Some its → slice_get room place ≡ Some (told_meter contract its)
+  pub rest : (place : ℕ) → count ≤ place → slice_get room place ≡ slice_get before place
+
+-- The state was written to the buffer and beside it.
+pub record IsWrittenState (state : ConnectionState) (before room : List UpcMeter) (told : UpcState) : Type 0 where
+  pub fits : length state.contracts.items ≤ length before
+  pub meters : AreMetersOf state.contracts.items state.state.levels.items before room (length state.contracts.items)
+  pub tells : told ≡ told_state state
+
+-- In each world that the core agrees with, this is the state of the connection.
+abbrev pub IsStateOf : CoreView → Vc → ConnectionState → Type 0
+IsStateOf core vc state = (world : World) → CoreAgrees core world → IsStateIn world vc state
+
+-- This is the state of the connection of this path and channel on the card.
+pub record IsStateOn (card : UpcCard) (path channel : ℕ) (state : ConnectionState) : Type 0 where
+  pub vc : Vc
+  pub numbers : IsVc card path channel vc
+  pub core : CoreView
+  pub had : card_in card ≡ Some core
+  pub so : IsStateOf core vc state
+
+-- There is a card, and in each world that its core agrees with, this is the next connection after the earlier one, or
+-- there is none.
+pub record IsFoundOn (card : UpcCard) (earlier found : Option Vc) : Type 0 where
+  pub core : CoreView
+  pub had : card_in card ≡ Some core
+  pub so : (world : World) → CoreAgrees core world → MatchOption found (IsLastVc world earlier) (IsNextVc world earlier)

@@ -1,0 +1,72 @@
+//! By how much a cell comes too early, from the state that the caller stores.
+
+ghost use Rattle.std.specs.Prelude.{◌≡◌, ◌≢◌, ◌^◌, ◌≤◌, ◌==◌, not};
+ghost use Rattle.leaky.specs.declared.contract.Contract.{Contract as TheContract};
+ghost use Rattle.upc_c.specs.ExcessForC.{TellsExcess};
+ghost use Rattle.upc_c.specs.Faults.{call_result, no_fault};
+ghost use Rattle.upc_c.specs.GivenContract.{IsGivenContract};
+ghost use Rattle.upc_c.specs.Judging.{AreLevels, IsMeterFault};
+
+use crate::contract::UpcContract;
+use crate::fault::{UpcFault, fine, told};
+use crate::meter::{UpcLevels, judging};
+use leaky::{Contract, Levels, excess_at};
+
+/// A bucket that a cell doesn't conform to, and by how much the cell comes too early for it.
+#[repr(C)]
+#[derive(Clone, Copy, Debug)]
+pub struct UpcExcess {
+    /// The number of the bucket, 1 or 2, or 0 if the cell conforms to each bucket that it meets.
+    pub bucket: u32,
+    /// By how much the level is above the limit, in ticks, or 0.
+    pub ticks: u64,
+}
+
+/// Returns the excess of a cell of this cell loss priority.
+fn excess_of(contract: &Contract, levels: &UpcLevels, clp: bool, moment: u64) -> UpcExcess
+    requires { AreLevels levels.now }
+    ensures { TellsExcess contract.now levels.now clp moment result }
+{
+    let kept = Levels {
+        first: levels.first,
+        second: levels.second,
+    };
+    match excess_at(contract, &kept, clp, moment) {
+        Some(excess) => UpcExcess {
+            bucket: u32::from(excess.bucket.number()),
+            ticks: excess.ticks,
+        },
+        None => UpcExcess {
+            bucket: 0,
+            ticks: 0,
+        },
+    }
+}
+
+/// Writes by how much a cell of cell loss priority 0, or 1 if `clp` is any other number, comes too early at a moment of
+/// at most 2^62 ticks. Returns the result of the error, or 0.
+#[unsafe(no_mangle)]
+pub extern "C" fn upc_excess_of(
+    contract: &UpcContract,
+    levels: &UpcLevels,
+    clp: u32,
+    moment: u64,
+    excess: &mut UpcExcess,
+    fault: &mut UpcFault,
+) -> u32
+    ensures number { result ≡ call_result fault.new }
+    ensures excess { result ≡ 0 → (it : TheContract) × IsGivenContract contract.now it
+        × AreLevels levels.now × (moment ≤ 2 ^ 62)
+        × TellsExcess it levels.now (not (clp == 0)) moment excess.new }
+    ensures fine { result ≡ 0 → fault.new ≡ no_fault }
+    ensures refused { result ≢ 0 → IsMeterFault contract.now levels.now moment fault.new }
+    ensures left { result ≢ 0 → excess.new ≡ excess.old }
+{
+    match judging(contract, levels, moment) {
+        Ok(found) => {
+            *excess = excess_of(&found, levels, clp != 0, moment);
+            fine(fault)
+        }
+        Err(found) => told(fault, found),
+    }
+}
