@@ -96,6 +96,7 @@ takes_frame before after octets size next held given headed is some within whole
       size = refl;
       some = some;
       within = within;
+      near = near;
       format = format;
       count = count;
       at = at;

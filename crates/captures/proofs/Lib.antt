@@ -3,3 +3,5 @@ pub mod Stays
 pub mod Readings
 pub mod OneReading
 pub mod SomeReading
+pub mod Openings
+pub mod Public

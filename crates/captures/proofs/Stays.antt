@@ -24,11 +24,11 @@ record_length-append xs ys long =
     ∙ big_from-append 2 (drop 10 xs) ys (omega (arith, length-drop 10 xs))
 
 -- So is a number of four octets once they are.
-number-append : (order : Order) (xs ys : List ℕ) → 4 ≤ length xs → number_in_order order (xs ++ ys) ≡ number_in_order order xs
+pub number-append : (order : Order) (xs ys : List ℕ) → 4 ≤ length xs → number_in_order order (xs ++ ys) ≡ number_in_order order xs
 number-append HighestFirst xs ys long = big_from-append 4 xs ys long
 number-append LowestFirst xs ys long = little_from-append 4 xs ys long
 
-number_at-append : (order : Order) (n : ℕ) (xs ys : List ℕ) → n + 4 ≤ length xs
+pub number_at-append : (order : Order) (n : ℕ) (xs ys : List ℕ) → n + 4 ≤ length xs
     → number_in_order order (drop n (xs ++ ys)) ≡ number_in_order order (drop n xs)
 number_at-append order n xs ys long =
     ap (number_in_order order) (drop-append-le n xs ys (omega arith))

@@ -1,5 +1,5 @@
 -- The reading of a capture: its records in order, and then its end or the first place at which it is no capture.
-use Rattle.std.specs.Prelude.{◌≡◌, ◌≤◌, ◌<◌, ◌+◌, ◌⊎◌, ℕ, List, [], ◌∷◌, ◌++◌, length, drop, Option, Some, None, Ok, Err}
+use Rattle.std.specs.Prelude.{◌≡◌, ◌≤◌, ◌<◌, ◌+◌, ◌^◌, ◌⊎◌, ℕ, List, [], ◌∷◌, ◌++◌, length, drop, Option, Some, None, Ok, Err}
 use Rattle.captures.specs.Blocks.{most_block}
 use Rattle.captures.specs.Frames.{Frame, first_frame}
 use Rattle.captures.specs.RecordReading.{SaysRecord}
@@ -64,6 +64,7 @@ pub record TakesFrame (before : Reader) (octets : List ℕ) (given : Option Reco
   pub size : own ≡ frame.size
   pub some : 0 < own
   pub within : own ≤ length octets
+  pub near : before.at + own < 2 ^ 64
   pub format : after.format ≡ frame.after
   pub count : after.count ≡ count_after before.count given
   pub at : after.at ≡ before.at + own

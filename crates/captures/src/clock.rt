@@ -3,11 +3,33 @@
 ghost use Rattle.std.specs.Prelude.{◌≡◌, ◌≤◌, ◌<◌, ◌-◌, ◌↔◌, max, IfSome, IsNone};
 ghost use Rattle.captures.specs.Moments.{whole_ticks};
 
-/// Returns how many whole ticks a time has, in units of 2^-32 seconds, if a second has so many ticks.
-pub fn ticks_in(time: u64, ticks_a_second: u32) -> u64
-    ensures { result ≡ whole_ticks time ticks_a_second }
-{
-    (u128::from(time) * u128::from(ticks_a_second) >> 32) as u64
+/// How long a tick is.
+#[derive(Clone, Copy, PartialEq, Eq, Debug)]
+pub struct Tick {
+    /// Its nanoseconds, at least one.
+    pub nanoseconds: u64,
+    ghost some: { 0 < nanoseconds },
+}
+
+impl Tick {
+    /// Makes a tick of so many nanoseconds. Returns none if there are none.
+    pub fn new(nanoseconds: u64) -> Option<Tick>
+        ensures none { IsNone result ↔ (nanoseconds ≡ 0) }
+        ensures some { IfSome result (λ tick. tick.nanoseconds ≡ nanoseconds) }
+    {
+        if nanoseconds == 0 {
+            return None;
+        }
+        Some(Tick { nanoseconds })
+    }
+
+    /// Returns how many whole ticks a time has, in units of 2^-32 seconds.
+    pub fn count(self, time: u64) -> u64
+        ensures { result ≡ whole_ticks time self.nanoseconds }
+    {
+        let whole = u128::from(time) * 1_000_000_000;
+        (whole / (0x1_0000_0000 * u128::from(self.nanoseconds))) as u64
+    }
 }
 
 /// Makes moments of the times of records, from the first of them on.
@@ -33,9 +55,9 @@ impl Clock {
     }
 
     /// Returns the moment of a time, in whole ticks, or nothing if the time is before one that was read earlier.
-    pub fn read(&mut self, time: u64, ticks_a_second: u32) -> Option<u64>
+    pub fn read(&mut self, time: u64, tick: Tick) -> Option<u64>
         ensures back { IsNone result ↔ (time < self.old.latest) }
-        ensures moment { IfSome result (λ moment. moment ≡ whole_ticks (time - self.old.first) ticks_a_second) }
+        ensures moment { IfSome result (λ moment. moment ≡ whole_ticks (time - self.old.first) tick.nanoseconds) }
         ensures first { self.new.first ≡ self.old.first }
         ensures latest { self.new.latest ≡ max self.old.latest time }
     {
@@ -43,6 +65,6 @@ impl Clock {
             return None;
         }
         self.latest = time;
-        Some(ticks_in(time - self.first, ticks_a_second))
+        Some(tick.count(time - self.first))
     }
 }

@@ -1,5 +1,6 @@
 //! Laws of the definitions. Each function does nothing; its contract is the law.
 
+ghost use Rattle.captures.specs.Opening.{OpeningsStay};
 ghost use Rattle.captures.specs.Reading.{FaultsEndReadings, FramesAreReadInOrder, HasOneReading, HasSomeReading};
 
 /// A reading begins with the frame that comes next, and goes on as the reading of what follows it.
@@ -20,4 +21,9 @@ pub fn captures_have_one_reading()
 /// Any octets have a reading.
 pub fn captures_have_a_reading()
     ensures { HasSomeReading }
+{}
+
+/// What a file is stays once its first octets decided it, whatever follows them.
+pub fn openings_stay()
+    ensures { OpeningsStay }
 {}

@@ -12,7 +12,7 @@ mod packet;
 mod reader;
 
 pub use block::Section;
-pub use clock::{Clock, ticks_in};
+pub use clock::{Clock, Tick};
 pub use content::NoCell;
 pub use fault::{Fault, RecordFault};
 pub use format::{Format, Order};

@@ -240,17 +240,26 @@ fn what_files_are(rt: HostRuntime) -> Result<(), Fail> {
 fn moments_of_times(rt: HostRuntime) -> Result<(), Fail> {
     let start = 1_700_000_000 << 32;
     let mut clock = Clock::new(start);
-    for (time, ticks_a_second, moment) in [
-        (start, 1_000_000, Some(0)),
-        (start + 42_949, 1_000_000, Some(9)),
-        (start + 42_950, 1_000_000, Some(10)),
-        (start + 0x8000_0000, 3, Some(1)),
-        (start + 0x8000_0000, 1_000_000_000, Some(500_000_000)),
-        (start + 0x7fff_ffff, 1, None),
+    for (time, nanoseconds, moment) in [
+        (start, 1000, Some(0)),
+        (start + 42_949, 1000, Some(9)),
+        (start + 42_950, 1000, Some(10)),
+        (start + 0x8000_0000, 333_333_333, Some(1)),
+        (start + 0x8000_0000, 1, Some(500_000_000)),
+        (start + 0x7fff_ffff, 1_000_000_000, None),
     ] {
-        assert_eq!(rt; clock.read(time, ticks_a_second), moment);
+        let Some(tick) = Tick::new(nanoseconds) else {
+            return Err(Fail::new("no tick"));
+        };
+        assert_eq!(rt; clock.read(time, tick), moment);
     }
-    assert_eq!(rt; ticks_in(u64::MAX, u32::MAX), 18_446_744_069_414_584_319);
+    assert_eq!(rt; Tick::new(0), None);
+    for (nanoseconds, count) in [(1, 4_294_967_295_999_999_999), (u64::MAX, 0)] {
+        assert_eq!(rt;
+            Tick::new(nanoseconds).map(|tick| tick.count(u64::MAX)),
+            Some(count)
+        );
+    }
     Ok(())
 }
 

@@ -13,11 +13,20 @@ fn octets_in(order: Order, number: u32) -> [u8; 4] {
     }
 }
 
+/// Puts numbers of four octets at their places.
+fn put(octets: &mut [u8; 148], order: Order, numbers: &[(usize, u32)]) {
+    for (place, number) in numbers {
+        if *place <= 144 {
+            octets[*place..*place + 4].copy_from_slice(&octets_in(order, *number));
+        }
+    }
+}
+
 /// A file with numbers in this order: a section header at octet 0, an interface of link type 197 at octet 28, and a packet with a
 /// record of 68 octets at octet 48. Then these numbers of four octets are put at these places.
 fn blocks_of(order: Order, changes: [(usize, u32); 2]) -> [u8; 148] {
     let mut octets = [0u8; 148];
-    for (place, number) in [
+    let numbers = [
         (0, 0x0a0d_0d0a),
         (4, 28),
         (8, 0x1a2b_3c4d),
@@ -31,15 +40,10 @@ fn blocks_of(order: Order, changes: [(usize, u32); 2]) -> [u8; 148] {
         (52, 100),
         (68, 68),
         (144, 100),
-    ] {
-        octets[place..place + 4].copy_from_slice(&octets_in(order, number));
-    }
+    ];
+    put(&mut octets, order, &numbers);
     octets[76..144].copy_from_slice(&octets_of(3, 2, 68)[..68]);
-    for (place, number) in changes {
-        if place <= 144 {
-            octets[place..place + 4].copy_from_slice(&octets_in(order, number));
-        }
-    }
+    put(&mut octets, order, &changes);
     octets
 }
 
