@@ -7,6 +7,7 @@ pub mod LineLemmas
 pub mod MarkLemmas
 pub mod ChainLemmas
 pub mod SeatingLemmas
+pub mod SeatLemmas
 pub mod HeldLemmas
 pub mod UsesLemmas
 pub mod StateLemmas

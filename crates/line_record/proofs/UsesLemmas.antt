@@ -15,6 +15,7 @@ use Rattle.line_record.specs.declared.directory.Seating.{Seating}
 use Rattle.line_record.specs.Seatings.{seating_in}
 use Rattle.line_record.specs.inner.SeatingChanges.{ChangesAt}
 use Rattle.line_record.specs.Directory.{DirectoryView, seating_at, IsOpenLine, IsTakenLine, IsNamed, IsDirectory}
+use Rattle.line_record.specs.inner.SeatsView.{SeatsView}
 use Rattle.line_record.specs.inner.DirectoryFields.{directory_of, KeepsDirectory}
 use Rattle.line_record.specs.inner.ProgramUses.{use_place, uses_of, with_uses, is_counted_at, CountsPrograms, CountsUses}
 use Rattle.gen_arena.proofs.Public.{slice_get-set_same, slice_get-set_other}
@@ -171,11 +172,12 @@ CountsUses-new lines used some few = record {
 }
 
 -- A directory without connections.
-pub KeepsDirectory-new : (seatings : List (Vc × Seating)) (held : List Bool) (counts : List ℕ) (lines used : ℕ)
-    → seatings ≡ [] → held ≡ replicate lines false → counts ≡ replicate lines 0
+pub KeepsDirectory-new : (seats : SeatsView) (held : List Bool) (counts : List ℕ) (lines used : ℕ)
+    → seats ≡ (record { seatings = []; lines = lines }) → held ≡ replicate lines false → counts ≡ replicate lines 0
     → 0 < lines → lines ≤ 65535 → used ≤ 2 ^ 62
-    → KeepsDirectory (directory_of seatings lines used) held counts
-KeepsDirectory-new seatings held counts lines used empty free zero some few most = rw (empty, free, zero) (record {
+    → KeepsDirectory (directory_of seats.seatings lines used) seats.lines held counts
+KeepsDirectory-new seats held counts lines used empty free zero some few most = rw (empty, free, zero) (record {
+  sized = refl;
   lines = KnowsLines-new lines used most;
   uses = CountsUses-new lines used some few;
 })

@@ -1,5 +1,7 @@
 -- Definitions that only private functions and proofs use.
 pub mod SeatingChanges
+pub mod Seats
+pub mod SeatsView
 pub mod LineFields
 pub mod HeldLines
 pub mod FirstFree

@@ -1,20 +1,12 @@
 //! The line of each connection.
 
-ghost use Rattle.std.specs.Prelude.{◌≡◌, ◌==◌, Some, IfSome, IfNone, option_map};
-ghost use Rattle.std.specs.List.{list_any};
-ghost use Rattle.std.specs.HashMap.{values};
-ghost use Rattle.line_record.specs.Seatings.{seating_in};
-ghost use Rattle.line_record.specs.inner.SeatingChanges.{ChangesAt, HasEntries};
-ghost use Rattle.gen_arena.specs.SameId.{is_same_id};
-
 use crate::fault::DirFault;
 use crate::held_lines::HeldLines;
 use crate::program_uses::ProgramUses;
+use crate::seats::Seats;
 use gen_arena::Id;
 use std::alloc::Global;
-use std::collections::HashMap;
 use std::marker::Model;
-use std::mem;
 use upc_cell::Vc;
 
 /// The last incarnation that a directory gives: 2^62.
@@ -34,9 +26,8 @@ pub struct Seating {
 /// The line of each connection of a card. No two connections have the same line, and no incarnation is given twice.
 #[derive(Debug, Drop)]
 pub struct Directory {
-    /// Every cell causes a look-up here. An ordered map takes a branch at each level that a processor can't predict; a
-    /// hash map takes one step. There is space for a connection on each line from the start.
-    seatings: HashMap<Vc, Seating>,
+    /// Every cell causes a look-up here.
+    seats: Seats,
     lines: u16,
     /// The number of incarnations given so far.
     used: u64,
@@ -52,9 +43,9 @@ impl Model for Directory {
 
     ghost Value = { DirectoryView };
 
-    ghost view = { λ d. directory_of d.seatings.entries d.lines d.used };
+    ghost view = { λ d. directory_of d.seats.seatings d.lines d.used };
 
-    ghost invariant = { λ d. KeepsDirectory (directory_of d.seatings.entries d.lines d.used) d.held d.uses };
+    ghost invariant = { λ d. KeepsDirectory (directory_of d.seats.seatings d.lines d.used) d.seats.lines d.held d.uses };
 }
 
 impl Directory {
@@ -91,11 +82,9 @@ impl Directory {
     {
         let held = HeldLines::new(alloc, lines)?;
         let uses = ProgramUses::new(alloc, lines)?;
-        let Ok(seatings) = HashMap::with_capacity(alloc, usize::from(lines)) else {
-            return None;
-        };
+        let seats = Seats::new(alloc, lines)?;
         Some(Directory {
-            seatings,
+            seats,
             lines,
             used,
             held,
@@ -109,7 +98,7 @@ impl Directory {
         ensures seating { result ≡ seating_at self.now vc }
         ensures directory { IsDirectory self.now }
     {
-        self.seatings.get(&vc).copied()
+        self.seats.find(vc)
     }
 
     /// Gives the connection a free line and the next incarnation. Returns the incarnation.
@@ -136,8 +125,8 @@ impl Directory {
             incarnation,
             program,
         };
-        match self.seatings.insert(vc, seating) {
-            Ok(_) => {
+        match self.seats.insert(vc, seating) {
+            Ok(()) => {
                 self.used = incarnation;
                 self.held.hold(line);
                 self.uses.add(seating.program);
@@ -157,7 +146,7 @@ impl Directory {
         ensures used { self.new.used ≡ self.old.used }
         ensures lines { self.new.lines ≡ self.old.lines }
     {
-        let before = reprogram(&mut self.seatings, vc, program);
+        let before = self.seats.reprogram(vc, program);
         if let Some(named) = before {
             self.uses.remove(named);
             self.uses.add(program);
@@ -173,7 +162,7 @@ impl Directory {
         ensures lines { self.new.lines ≡ self.old.lines }
         ensures unchanged { IfNone result (self.new ≡ self.old) }
     {
-        let seating = self.seatings.remove(&vc)?;
+        let seating = self.seats.remove(vc)?;
         self.held.free(seating.line);
         self.uses.remove(seating.program);
         Some(seating)
@@ -183,7 +172,7 @@ impl Directory {
     pub fn names(&self, program: Id) -> bool
         ensures { IsTrue result ↔ IsNamed self.now program }
     {
-        !self.uses.is_unused(program) && any_names(&self.seatings, program)
+        !self.uses.is_unused(program) && self.seats.names(program)
     }
 
     /// Returns a line that no connection has, if there is one. The contract doesn't fix which one. Doesn't allocate.
@@ -202,23 +191,4 @@ impl Directory {
     {
         self.used >= LAST_INCARNATION
     }
-}
-
-/// Writes another program into the seating of the connection. Returns the earlier one.
-fn reprogram(seatings: &mut HashMap<Vc, Seating>, vc: Vc, program: Id) -> Option<Id>
-    ensures before { result ≡ option_map (λ seating. seating.program) (seating_in seatings.old.entries vc) }
-    ensures moved { IfSome (seating_in seatings.old.entries vc) (λ seating.
-        ChangesAt seatings.old.entries seatings.new.entries vc (Some (record seating { program = program }))) }
-    ensures unchanged { IfNone result (seatings.new.entries ≡ seatings.old.entries) }
-{
-    let seating = seatings.get_mut(&vc)?;
-    Some(mem::replace(&mut seating.program, program))
-}
-
-/// Returns whether some connection names the program.
-fn any_names(seatings: &HashMap<Vc, Seating>, program: Id) -> bool
-    ensures any { result ≡ list_any (λ seating. is_same_id seating.program program) (values seatings.now) }
-    ensures apart { HasEntries seatings.now.entries }
-{
-    seatings.values().any(|seating| seating.program == program)
 }

@@ -13,6 +13,7 @@ mod named_contract;
 mod owner;
 mod piece;
 mod program_uses;
+mod seats;
 mod state;
 mod tally;
 

@@ -1,5 +1,5 @@
 -- A directory in terms of its fields, and their invariant.
-use Rattle.std.specs.Prelude.{ℕ, Bool, List}
+use Rattle.std.specs.Prelude.{◌≡◌, ℕ, Bool, List}
 use Rattle.upc_cell.specs.declared.vc.Vc.{Vc}
 use Rattle.line_record.specs.declared.directory.Seating.{Seating}
 use Rattle.line_record.specs.Directory.{DirectoryView}
@@ -10,8 +10,9 @@ use Rattle.line_record.specs.inner.ProgramUses.{CountsUses}
 abbrev pub directory_of : List (Vc × Seating) → ℕ → ℕ → DirectoryView
 directory_of seatings lines used = record { seatings = seatings; lines = lines; used = used }
 
--- The invariant of a directory holds, the list has which lines some connection has, and the table counts the uses of
--- each program.
-pub record KeepsDirectory (directory : DirectoryView) (held : List Bool) (counts : List ℕ) : Type 0 where
+-- The invariant of a directory holds, there are as many seats as lines, the list has which lines some connection has, and
+-- the table counts the uses of each program.
+pub record KeepsDirectory (directory : DirectoryView) (seats : ℕ) (held : List Bool) (counts : List ℕ) : Type 0 where
+  pub sized : seats ≡ directory.lines
   pub lines : KnowsLines directory held
   pub uses : CountsUses directory counts
