@@ -58,7 +58,7 @@ extern "C" {
 uint32_t upc_version(void);
 
 /* The stack that is enough for each call, in octets. Measured on x86-64: upc_check, upc_program_new and upc_card_load take
- * 25 KiB, upc_listing takes 4 KiB, and each other call less than 2 KiB. */
+ * 25 KiB, upc_listing takes 4 KiB, upc_card_state 3 KiB, and each other call less than 2 KiB. */
 #define UPC_STACK 65536
 
 /* The stack that is enough for upc_rules_compile. Tests that `and` and `or` join take none of it, however many they are;

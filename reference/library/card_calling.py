@@ -139,7 +139,9 @@ class CardCalls(Calls):
 
     def try_state(self):
         """upc_card_state, into a room that may be too small."""
-        (path, channel), length, state = self.vc(), self.rng.choice((0, 1, 4, 4, 4, 5)), State()
+        known = list(self.model.connections) if self.model else []
+        path, channel = self.rng.choice(known) if known and self.rng.random() < 0.7 else self.vc()
+        length, state = self.rng.choice((0, 1, 4, 4, 4, 5)), State()
         room = (Meter * length)(*(Meter(Contract(*[7] * 5), (7, 7)) for _ in range(length))) if length else None
 
         def told():
