@@ -122,12 +122,12 @@ opening_all P xs none pcap link ng gz tx erf =
     elim (cases_lt (length xs) 16) [
       | inl short ↦ subst P (sym (when_below (length xs) 16 Undecided (opening_by (file_magic xs) xs) short)) (none (omega arith))
       | inr long ↦
-        subst P (sym (when_above (length xs) 16 Undecided (opening_by (file_magic xs) xs) long ∙ is_by_tests (file_magic xs) xs))
-        (tests_all P (is_pcap_magic HighestFirst (file_magic xs)) (is_pcap_magic LowestFirst (file_magic xs)) (is_pcapng_magic (file_magic xs)) (is_gzip_magic (file_magic xs)) (begins_as_text xs)
-        (pcap_opening HighestFirst xs) (pcap_opening LowestFirst xs)
-        (pcap_all P HighestFirst xs none (λ long. pcap long HighestFirst) link)
-        (pcap_all P LowestFirst xs none (λ long. pcap long LowestFirst) link)
-        ng gz tx erf)
+          subst P (sym (when_above (length xs) 16 Undecided (opening_by (file_magic xs) xs) long ∙ is_by_tests (file_magic xs) xs))
+          (tests_all P (is_pcap_magic HighestFirst (file_magic xs)) (is_pcap_magic LowestFirst (file_magic xs)) (is_pcapng_magic (file_magic xs)) (is_gzip_magic (file_magic xs)) (begins_as_text xs)
+          (pcap_opening HighestFirst xs) (pcap_opening LowestFirst xs)
+          (pcap_all P HighestFirst xs none (λ long. pcap long HighestFirst) link)
+          (pcap_all P LowestFirst xs none (λ long. pcap long LowestFirst) link)
+          ng gz tx erf)
     ]
 
 -- 24 octets decide.

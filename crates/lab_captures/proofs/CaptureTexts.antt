@@ -1,0 +1,125 @@
+-- The text of a whole capture, from what its first octets say.
+use Rattle.std.proofs.Common.{◌≡◌, ◌≢◌, ◌≤◌, ℕ, List, [], ◌++◌, Result, Ok, Err, length, drop, refl, ◌∙◌, sym, ap, ap₂, subst, arith, append_assoc, append-nil}
+use Rattle.std.proofs.lemmas.List.{drop-append-le}
+use Rattle.captures.proofs.Public.{header_within, one_reading, openings_stay, some_reading}
+use Rattle.captures.specs.Frames.{format_start}
+use Rattle.captures.specs.Opening.{opening_of}
+use Rattle.captures.specs.declared.format.Format.{Format}
+use Rattle.captures.specs.declared.opening.FileFault.{FileFault}
+use Rattle.captures.specs.declared.opening.Opening.{Opening}
+use Rattle.captures.specs.declared.opening.Opening.TheVariants.{Opened, Undecided, Refused}
+use Rattle.captures.specs.declared.reader.Reader.{Reader}
+use Rattle.lab_captures.specs.CaptureFaults.{file_fault_line}
+use Rattle.lab_captures.specs.CaptureText.{CaptureRules, IsCaptureText, IsOpenedText, IsRecordsText, done_at, records_text, short_ending}
+use Rattle.lab_captures.specs.inner.Progress.{HasRead, Texts}
+use Rattle.lab_captures.specs.inner.Steps.{IsTextFrom}
+use Rattle.text_io.specs.Devices.{Adds, IsPart, TakesEnough}
+use Rattle.text_io.specs.Failures.{read_failures}
+use Rattle.text_io.specs.Limits.{most_ahead}
+use Rattle.text_io.specs.Printing.{IsFront}
+use Rattle.text_io.specs.declared.ending.Done.{Done}
+use Rattle.text_io.specs.declared.ending.Done.TheVariants.{Ended}
+use Rattle.text_io.specs.declared.ending.RunFault.{RunFault}
+use Rattle.text_io.specs.declared.ending.RunFault.TheVariants.{ReadFailed, WriteFailed, NoMemory}
+
+-- A file that is this has the text of it.
+by_opening : {World : Type 0} (rules : CaptureRules World) (world : World) (octets text : List ℕ) (opening : Opening) (done : Done)
+    → opening_of octets ≡ opening → IsOpenedText rules world octets opening text done → IsCaptureText rules world octets text done
+by_opening rules world octets text opening done is told = subst (λ (o : Opening). IsOpenedText rules world octets o text done) (sym is) told
+
+-- Any file has a text.
+opened_some : {World : Type 0} (rules : CaptureRules World) (world : World) (octets : List ℕ) (opening : Opening)
+    → (text : List ℕ) × (done : Done) × IsOpenedText rules world octets opening text done
+opened_some rules world octets (Opened format) =
+    let reading = some_reading format 0 (format_start format) (drop (format_start format) octets) in
+    let told = records_text rules world reading.0 reading.1 in
+    (told.0, told.1, (reading.0, reading.1, reading.2, refl))
+opened_some rules world octets Undecided = (rules.closes world (short_ending octets), done_at (short_ending octets), (refl, refl))
+opened_some rules world octets (Refused fault) = (file_fault_line fault, Ended, (refl, refl))
+
+pub some_capture_text : {World : Type 0} (rules : CaptureRules World) (world : World) (octets : List ℕ)
+    → (text : List ℕ) × (done : Done) × IsCaptureText rules world octets text done
+some_capture_text rules world octets = opened_some rules world octets (opening_of octets)
+
+-- Where nothing was written, the output grew by a front of a text.
+pub no_front : {World : Type 0} (rules : CaptureRules World) (world : World) (octets held : List ℕ)
+    → Adds (IsFront (IsCaptureText rules world octets)) held held
+no_front rules world octets held = ([], sym (append-nil held), some_capture_text rules world octets)
+
+-- A front of a text.
+pub a_front : (IsText : List ℕ → Done → Type 0) (before after text : List ℕ) (done : Done) → IsText text done → IsPart before after text
+    → Adds (IsFront IsText) before after
+a_front IsText before after text done is part =
+    (part.0, part.3, (part.1, done, subst (λ (xs : List ℕ). IsText xs done) part.2 is))
+
+-- A file that isn't read.
+pub refused_text : {World : Type 0} (rules : CaptureRules World) (world : World) (octets more : List ℕ) (fault : FileFault)
+    → opening_of octets ≡ Refused fault → IsCaptureText rules world (octets ++ more) (file_fault_line fault) Ended
+refused_text rules world octets more fault is =
+    let decided : opening_of octets ≢ Undecided = λ none. let bad : Refused fault ≡ Undecided = sym is ∙ none in cc in
+    by_opening rules world (octets ++ more) (file_fault_line fault) (Refused fault) Ended (openings_stay octets more decided ∙ is) (refl, refl)
+
+-- A file that is too short.
+pub short_text : {World : Type 0} (rules : CaptureRules World) (world : World) (octets : List ℕ)
+    → opening_of octets ≡ Undecided → IsCaptureText rules world octets (rules.closes world (short_ending octets)) (done_at (short_ending octets))
+short_text rules world octets is =
+    by_opening rules world octets (rules.closes world (short_ending octets)) Undecided (done_at (short_ending octets)) is (refl, refl)
+
+-- A capture: the text of its records.
+pub opened_text : {World : Type 0} (rules : CaptureRules World) (world : World) (reader : Reader) (format : Format) (window later : List ℕ)
+    → opening_of window ≡ Opened format → reader.format ≡ format → reader.count ≡ 0 → reader.at ≡ format_start format
+    → later ≡ drop (format_start format) window → (more text : List ℕ) (done : Done)
+    → IsTextFrom rules reader world (later ++ more) text done → IsCaptureText rules world (window ++ more) text done
+opened_text rules world reader format window later is formats counts places dropped more text done told =
+    let decided : opening_of window ≢ Undecided = λ none. let bad : Opened format ≡ Undecided = sym is ∙ none in cc in
+    let within : format_start format ≤ length window = header_within window format is in
+    let octets : later ++ more ≡ drop (format_start format) (window ++ more) =
+    ap (λ xs. xs ++ more) dropped ∙ sym (drop-append-le (format_start format) window more within)
+    in
+    by_opening rules world (window ++ more) text (Opened format) done (openings_stay window more decided ∙ is)
+    (subst (λ (xs : List ℕ). IsRecordsText rules format 0 (format_start format) world xs text done) octets
+    (subst (λ (n : ℕ). IsRecordsText rules format 0 n world (later ++ more) text done) places
+    (subst (λ (n : ℕ). IsRecordsText rules format n reader.at world (later ++ more) text done) counts
+    (subst (λ (f : Format). IsRecordsText rules f reader.count reader.at world (later ++ more) text done) formats told))))
+
+-- What was read has a text with the same end, with the header.
+pub opened_enough : {World : Type 0} (rules : CaptureRules World) (world : World) (reader : Reader) (format : Format) (whole window later rest0 rest : List ℕ) (done : Done)
+    → opening_of window ≡ Opened format → reader.format ≡ format → reader.count ≡ 0 → reader.at ≡ format_start format
+    → later ≡ drop (format_start format) window → whole ≡ window ++ rest0 → HasRead (IsTextFrom rules reader world) later rest0 rest done
+    → TakesEnough (λ octets. (text : List ℕ) × IsCaptureText rules world octets text done) most_ahead whole rest
+opened_enough rules world reader format whole window later rest0 rest done is formats counts places dropped all read =
+    let none : length {A = ℕ} [] ≤ most_ahead = omega arith in (
+      window ++ read.0,
+      [],
+      all ∙ ap (λ xs. window ++ xs) read.1 ∙ sym (append_assoc window read.0 rest),
+      none,
+      (read.2.0, opened_text rules world reader format window later is formats counts places dropped read.0 read.2.0 done read.2.1),
+    )
+
+-- All that waits was needed.
+pub all_needed : (Whole : Texts) (whole window rest text : List ℕ) (done : Done) → whole ≡ window ++ rest
+    → Whole window text done → TakesEnough (λ octets. (said : List ℕ) × Whole octets said done) most_ahead whole rest
+all_needed Whole whole window rest text done all is =
+    let none : length {A = ℕ} [] ≤ most_ahead = omega arith in (window, [], all, none, (text, is))
+
+-- A run that didn't fail at reading leaves the count of failures.
+pub not_read : (result : Result Done RunFault) (before after : ℕ) → result ≢ Err ReadFailed → after ≡ before → after ≡ read_failures result before
+not_read (Ok done) before after none same = same
+not_read (Err ReadFailed) before after none same = absurd (none refl)
+not_read (Err WriteFailed) before after none same = same
+not_read (Err NoMemory) before after none same = same
+
+-- A file has one text.
+opened_one : {World : Type 0} (rules : CaptureRules World) (world : World) (octets : List ℕ) (opening : Opening) (one other : List ℕ) (ends other_ends : Done)
+    → IsOpenedText rules world octets opening one ends → IsOpenedText rules world octets opening other other_ends → (one ≡ other) × (ends ≡ other_ends)
+opened_one rules world octets (Opened format) one other ends other_ends first second =
+    let same = one_reading format 0 (format_start format) (drop (format_start format) octets) first.0 second.0 first.1 second.1 first.2 second.2 in
+    let told : (one, ends) ≡ (other, other_ends) = sym first.3 ∙ ap₂ (records_text rules world) same.0 same.1 ∙ second.3 in
+    (ap (λ (p : List ℕ × Done). p.0) told, ap (λ (p : List ℕ × Done). p.1) told)
+opened_one rules world octets Undecided one other ends other_ends first second = (first.0 ∙ sym second.0, first.1 ∙ sym second.1)
+opened_one rules world octets (Refused fault) one other ends other_ends first second = (first.0 ∙ sym second.0, first.1 ∙ sym second.1)
+
+pub one_capture_text : {World : Type 0} (rules : CaptureRules World) (world : World) (octets one other : List ℕ) (ends other_ends : Done)
+    → IsCaptureText rules world octets one ends → IsCaptureText rules world octets other other_ends → (one ≡ other) × (ends ≡ other_ends)
+one_capture_text rules world octets one other ends other_ends first second =
+    opened_one rules world octets (opening_of octets) one other ends other_ends first second

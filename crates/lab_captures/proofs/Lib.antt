@@ -1,0 +1,4 @@
+pub mod Texts
+pub mod Progresses
+pub mod CaptureTexts
+pub mod Public

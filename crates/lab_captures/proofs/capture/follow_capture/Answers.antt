@@ -1,0 +1,151 @@
+-- Each end of a run gives the promise of a call that answers a whole input.
+use Rattle.std.proofs.Common.{◌≡◌, ◌≤◌, ◌++◌, List, ℕ, [], length, drop, refl, ap, sym, ◌∙◌, subst, arith, append-nil}
+use Rattle.std.proofs.lemmas.Result.{IfOk-weaker}
+use Rattle.captures.proofs.Public.{header_within}
+use Rattle.captures.specs.Frames.{format_start}
+use Rattle.captures.specs.Opening.{opening_of}
+use Rattle.captures.specs.declared.opening.Opening.TheVariants.{Opened, Undecided, Refused}
+use Rattle.lab_captures.specs.CaptureFaults.{file_fault_line}
+use Rattle.lab_captures.specs.CaptureText.{IsCaptureText, done_at, short_ending}
+use Rattle.text_io.specs.Failures.{read_failures}
+use Rattle.text_io.specs.declared.ending.Done.TheVariants.{Ended, Whole}
+use Rattle.text_io.proofs.DriverLemmas.{at-result}
+use Rattle.lab_captures.proofs.CaptureTexts.{a_front, all_needed, no_front, not_read, opened_enough, opened_text, refused_text, short_text}
+use Rattle.lab_captures.proofs.Progresses.{if_done, if_given, on_fault}
+use Rattle.lab_captures.proofs.capture.follow_capture.Goals as goal
+
+pub returns-in_default : goal.returns-in_default
+returns-in_default g c =
+    let f = g.F.Follower in
+    record {
+      text = λ ki ko. tt;
+      front = λ ki ko. no_front f.rules (f.world c.args.follower.now) (g.I.Input.rest c.args.input.now) (g.O.Output.held c.args.output.now);
+      left = λ ki. tt;
+      whole = λ ki same. cc;
+      reading = refl;
+      writing = refl;
+    }
+
+pub skip-requires : goal.skip-requires
+skip-requires g c =
+    let is : opening_of c.find_opening.new.window ≡ Opened c.in-Ok-Opened.format = sym c.in-Ok-Opened.ensures.opening ∙ c.in-Ok-Opened.field-0-is in
+    let within : format_start c.in-Ok-Opened.format ≤ length c.find_opening.new.window = header_within c.find_opening.new.window c.in-Ok-Opened.format is in
+    omega (arith, within, c.start.ensures)
+
+pub returns-in-Err : goal.returns-in-Err
+returns-in-Err g c =
+    let f = g.F.Follower in
+    record {
+      text = λ ki ko. tt;
+      front = λ ki ko. no_front f.rules (f.world c.args.follower.now) (g.I.Input.rest c.args.input.now) (g.O.Output.held c.args.output.now);
+      left = λ ki. tt;
+      whole = λ ki same. cc;
+      reading = c.in-Err.ensures.failed;
+      writing = refl;
+    }
+
+pub returns-in-Ok-Refused : goal.returns-in-Ok-Refused
+returns-in-Ok-Refused g c =
+    let f = g.F.Follower in
+    let world = f.world c.args.follower.now in
+    let all = g.I.Input.rest c.args.input.now in
+    let near = c.find_opening.new.window in
+    let rest = g.I.Input.rest c.find_opening.new.input in
+    let fault = c.in-Ok-Refused.fault in
+    let line = file_fault_line fault in
+    let IsText = IsCaptureText f.rules world in
+    let is : opening_of near ≡ Refused fault = sym c.in-Ok-Refused.ensures.opening ∙ c.in-Ok-Refused.field-0-is in
+    let told : g.I.Input.is_known → IsText all line Ended =
+    λ ki. subst (λ (xs : List ℕ). IsText xs line Ended) (sym (c.in-Ok-Refused.ensures.octets ki)) (refused_text f.rules world near rest fault is)
+    in
+    let here : IsText near line Ended =
+    subst (λ (xs : List ℕ). IsText xs line Ended) (append-nil near) (refused_text f.rules world near [] fault is)
+    in
+    record {
+      text = λ ki ko. if_given c.refuse.result Ended _ _ c.refuse.ensures.done (c.refuse.ensures.given ko) (λ gives. (line, gives, told ki));
+      front = λ ki ko.
+          on_fault c.refuse.result _ _ (c.refuse.ensures.front ko)
+          (λ part. a_front (IsText all) (g.O.Output.held c.args.output.now) (g.O.Output.held c.refuse.new.output) line Ended (told ki) part);
+      left = λ ki. if_done c.refuse.result Ended _ c.refuse.ensures.done (all_needed IsText all near rest line Ended (c.in-Ok-Refused.ensures.octets ki) here);
+      whole = λ ki same. let bad : Whole ≡ Ended = at-result c.refuse.result (λ done. done ≡ Ended) Whole same c.refuse.ensures.done in cc;
+      reading = not_read c.refuse.result _ _ c.refuse.ensures.fault c.in-Ok-Refused.ensures.calm;
+      writing = c.refuse.ensures.writing;
+    }
+
+pub returns-in-Ok-Undecided : goal.returns-in-Ok-Undecided
+returns-in-Ok-Undecided g c =
+    let f = g.F.Follower in
+    let world = f.world c.args.follower.now in
+    let all = g.I.Input.rest c.args.input.now in
+    let near = c.find_opening.new.window in
+    let rest = g.I.Input.rest c.find_opening.new.input in
+    let octets = c.octets.result.now in
+    let here = f.rules.closes world (short_ending octets) in
+    let done = done_at (short_ending octets) in
+    let IsText = IsCaptureText f.rules world in
+    let same : octets ≡ near = c.octets.ensures in
+    let is : opening_of octets ≡ Undecided = ap opening_of same ∙ sym c.in-Ok-Undecided.ensures.opening ∙ c.in-Ok-Undecided.field-0-is in
+    let at_end : g.I.Input.is_known → rest ≡ [] = λ ki. c.in-Ok-Undecided.ensures.end ki c.in-Ok-Undecided.field-0-is in
+    let whole : g.I.Input.is_known → all ≡ octets =
+    λ ki. c.in-Ok-Undecided.ensures.octets ki ∙ ap (λ xs. near ++ xs) (at_end ki) ∙ append-nil near ∙ sym same
+    in
+    let short : IsText octets here done = short_text f.rules world octets is in
+    let told : g.I.Input.is_known → IsText all here done = λ ki. subst (λ (xs : List ℕ). IsText xs here done) (sym (whole ki)) short in
+    record {
+      text = λ ki ko. if_given c.close_short.result done _ _ c.close_short.ensures.done (c.close_short.ensures.given ko) (λ gives. (here, gives, told ki));
+      front = λ ki ko.
+          on_fault c.close_short.result _ _ (c.close_short.ensures.front ko)
+          (λ part. a_front (IsText all) (g.O.Output.held c.args.output.now) (g.O.Output.held c.close_short.new.output) here done (told ki) part);
+      left = λ ki.
+          if_done c.close_short.result done _ c.close_short.ensures.done
+          (all_needed IsText all octets rest here done (whole ki ∙ sym (append-nil octets) ∙ ap (λ xs. octets ++ xs) (sym (at_end ki))) short);
+      whole = λ ki ended. at_end ki;
+      reading = not_read c.close_short.result _ _ c.close_short.ensures.fault c.in-Ok-Undecided.ensures.calm;
+      writing = c.close_short.ensures.writing;
+    }
+
+pub returns-in-Ok-Opened : goal.returns-in-Ok-Opened
+returns-in-Ok-Opened g c =
+    let f = g.F.Follower in
+    let world = f.world c.args.follower.now in
+    let all = g.I.Input.rest c.args.input.now in
+    let near = c.find_opening.new.window in
+    let rest = g.I.Input.rest c.find_opening.new.input in
+    let format = c.in-Ok-Opened.format in
+    let reader = c.new-in-Ok-Opened.result in
+    let made = c.new-in-Ok-Opened.ensures in
+    let later = c.skip.new.self in
+    let IsText = IsCaptureText f.rules world in
+    let is : opening_of near ≡ Opened format = sym c.in-Ok-Opened.ensures.opening ∙ c.in-Ok-Opened.field-0-is in
+    let dropped : later ≡ drop (format_start format) near = c.skip.ensures.octets ∙ ap (λ n. drop n near) c.start.ensures in
+    record {
+      text = λ ki ko.
+          IfOk-weaker c.follow_records.result _ _
+          (λ done adds. (
+            adds.0,
+            adds.1,
+            subst (λ (xs : List ℕ). IsText xs adds.0 done) (sym (c.in-Ok-Opened.ensures.octets ki))
+                (opened_text f.rules world reader format near later is made.format made.count made.at dropped rest adds.0 done adds.2),
+          ))
+          (c.follow_records.ensures.text ki ko);
+      front = λ ki ko.
+          on_fault c.follow_records.result _ _ (c.follow_records.ensures.front ki ko)
+          (λ front. (
+            front.0,
+            front.1,
+            (
+              front.2.0,
+              front.2.1,
+              subst (λ (xs : List ℕ). IsText xs (front.0 ++ front.2.0) front.2.1) (sym (c.in-Ok-Opened.ensures.octets ki))
+                  (opened_text f.rules world reader format near later is made.format made.count made.at dropped rest (front.0 ++ front.2.0) front.2.1 front.2.2),
+            ),
+          ));
+      left = λ ki.
+          IfOk-weaker c.follow_records.result _ _
+          (λ done read. opened_enough f.rules world reader format all near later rest (g.I.Input.rest c.follow_records.new.input) done
+          is made.format made.count made.at dropped (c.in-Ok-Opened.ensures.octets ki) read)
+          (c.follow_records.ensures.left ki);
+      whole = c.follow_records.ensures.whole;
+      reading = c.follow_records.ensures.reading ∙ ap (read_failures c.follow_records.result) c.in-Ok-Opened.ensures.calm;
+      writing = c.follow_records.ensures.writing;
+    }

@@ -1,0 +1,4 @@
+pub mod CaptureFaults
+pub mod CaptureText
+pub mod CellsText
+pub mod inner

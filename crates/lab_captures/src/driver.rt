@@ -1,0 +1,158 @@
+//! The driver: runs a follower over the records of a capture.
+
+ghost use Rattle.std.specs.Prelude.{◌≡◌, ◌≢◌, ◌+◌, ◌≤◌, ◌<◌, ◌++◌, List, ℕ, [], Ok, Err, length, take, IfOk, OnOk, OnErr};
+ghost use Rattle.captures.specs.Frames.{first_frame};
+ghost use Rattle.lab_captures.specs.CaptureText.{done_at as ends_at};
+ghost use Rattle.lab_captures.specs.inner.Steps.{IsTextFrom};
+ghost use Rattle.lab_captures.specs.inner.Progress.{GivesFront, HasRead};
+ghost use Rattle.text_io.specs.Devices.{Adds, IsPart, one_more};
+ghost use Rattle.text_io.specs.Failures.{read_failures, write_failures};
+ghost use Rattle.text_io.specs.Printing.{IsFront};
+ghost use Rattle.text_io.specs.declared.ending.Done.{Done as TheDone};
+
+use crate::follower::{Follower, Step, step_by};
+use crate::window::Window;
+use captures::{Fault, Reader};
+use std::alloc::Global;
+use text_io::{Done, Failed, Input, Output, RunFault, give_all, give_last};
+
+/// Collected answers are written as soon as they have this many octets.
+const ENOUGH: usize = 65536;
+
+/// Writes the collected answers and clears them.
+fn give_answers<O: Output>(output: &mut O, answers: &mut Vec<u8>) -> Result<(), Failed>
+    ensures ok { O.is_known → OnOk result (O.held output.new ≡ O.held output.old ++ answers.old.items) }
+    ensures none { OnOk result (answers.new.items ≡ []) }
+    ensures front { O.is_known → IsPart (O.held output.old) (O.held output.new) answers.old.items }
+    ensures calm { OnOk result (O.failures output.new ≡ O.failures output.old) }
+    ensures failed { OnErr result (O.failures output.new ≡ one_more (O.failures output.old)) }
+{
+    give_all(output, answers)?;
+    answers.clear();
+    Ok(())
+}
+
+/// Writes the collected answers if there are enough of them.
+fn give_if_enough<O: Output>(output: &mut O, answers: &mut Vec<u8>) -> Result<(), Failed>
+    ensures moved { O.is_known → OnOk result
+        (GivesFront (O.held output.old) (O.held output.new) answers.old.items answers.new.items) }
+    ensures front { O.is_known → OnErr result
+        (IsPart (O.held output.old) (O.held output.new) answers.old.items) }
+    ensures calm { OnOk result (O.failures output.new ≡ O.failures output.old) }
+    ensures failed { OnErr result (O.failures output.new ≡ one_more (O.failures output.old)) }
+{
+    if answers.len() < ENOUGH {
+        return Ok(());
+    }
+    give_answers(output, answers)
+}
+
+/// Writes the collected answers, and then reads more input into the window.
+fn refill<I: Input, O: Output>(
+    window: &mut Window,
+    input: &mut I,
+    output: &mut O,
+    answers: &mut Vec<u8>,
+) -> Result<usize, RunFault>
+    requires { length window.old < 131072 }
+    ensures octets { I.is_known → IfOk result (λ _. window.old ++ I.rest input.old ≡ window.new ++ I.rest input.new) }
+    ensures count { IfOk result (λ count. length window.new ≡ length window.old + count) }
+    ensures front_octets { IfOk result (λ _. take (length window.old) window.new ≡ window.old) }
+    ensures bounded { length window.new ≤ 131072 }
+    ensures same { result ≡ Ok 0 → window.new ≡ window.old }
+    ensures end { I.is_known → result ≡ Ok 0 → I.rest input.new ≡ [] }
+    ensures given { O.is_known → OnOk result
+        (O.held output.new ≡ O.held output.old ++ answers.old.items) }
+    ensures none { OnOk result (answers.new.items ≡ []) }
+    ensures front { O.is_known → OnErr result
+        (IsPart (O.held output.old) (O.held output.new) answers.old.items) }
+    ensures reading { I.failures input.new ≡ read_failures result (I.failures input.old) }
+    ensures writing { O.failures output.new ≡ write_failures result (O.failures output.old) }
+{
+    if give_answers(output, answers).is_err() {
+        return Err(RunFault::WriteFailed);
+    }
+    match window.fill(input) {
+        Ok(count) => Ok(count),
+        Err(_) => Err(RunFault::ReadFailed),
+    }
+}
+
+/// Returns how a run ends at this end of a capture.
+pub(crate) fn done_at(ending: Option<Fault>) -> Done
+    ensures { result ≡ ends_at ending }
+{
+    match ending {
+        None => Done::Whole,
+        Some(_) => Done::Ended,
+    }
+}
+
+/// Answers the octets that wait at the end of the input, which are no whole frame, and writes the last answers.
+fn finish<O: Output, F: Follower>(
+    output: &mut O,
+    follower: &F,
+    reader: &Reader,
+    octets: &[u8],
+    answers: &mut Vec<u8>,
+) -> Result<Done, RunFault>
+    requires { first_frame reader.now.format reader.now.at octets.now ≡ None }
+    ensures given { O.is_known → IfOk result (λ done. (here : List ℕ)
+        × (O.held output.new ≡ O.held output.old ++ (answers.old.items ++ here))
+        × IsTextFrom F.rules reader.now (F.world follower.now) octets.now here done) }
+    ensures front { O.is_known → OnErr result ((here : List ℕ) × (done : TheDone)
+        × IsPart (O.held output.old) (O.held output.new) (answers.old.items ++ here)
+        × IsTextFrom F.rules reader.now (F.world follower.now) octets.now here done) }
+    ensures text { IfOk result (λ done. (here : List ℕ) × IsTextFrom F.rules reader.now (F.world follower.now) octets.now here done) }
+    ensures fault { result ≢ Err RunFault.ReadFailed }
+    ensures writing { O.failures output.new ≡ write_failures result (O.failures output.old) }
+{
+    let ending = reader.end(octets);
+    let done = done_at(ending);
+    match follower.close(ending, answers) {
+        Err(_) => Err(RunFault::NoMemory),
+        Ok(()) => give_last(output, answers, done),
+    }
+}
+
+/// Runs a follower over the records of a capture from here on: the octets that wait, and then those of the input.
+pub(crate) fn follow_records<I: Input, O: Output, F: Follower>(
+    alloc: Global,
+    input: &mut I,
+    output: &mut O,
+    follower: &mut F,
+    mut window: Window,
+    mut reader: Reader,
+) -> Result<Done, RunFault>
+    requires { length window ≤ 131072 }
+    ensures text { I.is_known → O.is_known → IfOk result (λ done.
+        Adds (λ text. IsTextFrom F.rules reader (F.world follower.old) (window ++ I.rest input.old) text done)
+        (O.held output.old) (O.held output.new)) }
+    ensures front { I.is_known → O.is_known → OnErr result
+        (Adds (IsFront (IsTextFrom F.rules reader (F.world follower.old) (window ++ I.rest input.old)))
+        (O.held output.old) (O.held output.new)) }
+    ensures left { I.is_known → IfOk result
+        (HasRead (IsTextFrom F.rules reader (F.world follower.old)) window (I.rest input.old) (I.rest input.new)) }
+    ensures whole { I.is_known → result ≡ Ok Done.Whole → I.rest input.new ≡ [] }
+    ensures reading { I.failures input.new ≡ read_failures result (I.failures input.old) }
+    ensures writing { O.failures output.new ≡ write_failures result (O.failures output.old) }
+{
+    let mut answers = Vec::new(alloc);
+    loop {
+        match step_by(&mut reader, follower, window.octets(), &mut answers) {
+            Err(_) => return Err(RunFault::NoMemory),
+            Ok(Step::Ends) => return give_last(output, &mut answers, Done::Ended),
+            Ok(Step::Goes(own)) => {
+                window.skip(own);
+                if give_if_enough(output, &mut answers).is_err() {
+                    return Err(RunFault::WriteFailed);
+                }
+            }
+            Ok(Step::Wants) => match refill(&mut window, input, output, &mut answers) {
+                Err(fault) => return Err(fault),
+                Ok(0) => return finish(output, follower, &reader, window.octets(), &mut answers),
+                Ok(_) => {}
+            },
+        }
+    }
+}

@@ -1,0 +1,62 @@
+//! Programs that answer the records of a capture.
+
+ghost use Rattle.std.specs.Prelude.{◌≡◌, ◌++◌, IfOk, OnOk};
+ghost use Rattle.lab_captures.specs.CaptureText.{CaptureRules};
+ghost use Rattle.lab_captures.specs.inner.Steps.{FollowsRecord, StepsBy};
+
+use captures::{Fault, Next, Reader, Record};
+use std::alloc::AllocError;
+use text_io::Turn;
+
+/// A program that gets one record after another and answers each.
+pub(crate) trait Follower {
+    ghost World: { Type 0 };
+
+    ghost world: { Self → World };
+
+    ghost rules: { CaptureRules World };
+
+    /// Appends the answer to a record to the answers.
+    fn follow(&mut self, said: &Record, answers: &mut Vec<u8>) -> Result<Turn, AllocError>
+        ensures { IfOk result (λ turn.
+            FollowsRecord rules (world self.old) said.now turn (world self.new) answers.old.items answers.new.items) };
+
+    /// Appends the answer to the end of the capture, or to its fault, to the answers.
+    fn close(&self, ending: Option<Fault>, answers: &mut Vec<u8>) -> Result<(), AllocError>
+        ensures { OnOk result (answers.new.items ≡ answers.old.items ++ rules.closes (world self.now) ending) };
+}
+
+/// What became of the octets that come next.
+#[derive(Clone, Copy, PartialEq, Eq, Debug)]
+pub(crate) enum Step {
+    /// So many octets were answered.
+    Goes(usize),
+    /// More octets are wanted.
+    Wants,
+    /// The run ends early.
+    Ends,
+}
+
+/// Answers the frame with which octets begin.
+pub(crate) fn step_by<F: Follower>(
+    reader: &mut Reader,
+    follower: &mut F,
+    octets: &[u8],
+    answers: &mut Vec<u8>,
+) -> Result<Step, AllocError>
+    ensures { IfOk result (λ step. StepsBy F.rules reader.old (F.world follower.old) octets.now step
+        reader.new (F.world follower.new) answers.old.items answers.new.items) }
+{
+    match reader.next(octets) {
+        Next::Unfinished => Ok(Step::Wants),
+        Next::Passed(own) => Ok(Step::Goes(own)),
+        Next::Broken(fault) => {
+            follower.close(Some(fault), answers)?;
+            Ok(Step::Ends)
+        }
+        Next::Taken(said, own) => match follower.follow(&said, answers)? {
+            Turn::GoesOn => Ok(Step::Goes(own)),
+            Turn::Ends => Ok(Step::Ends),
+        },
+    }
+}

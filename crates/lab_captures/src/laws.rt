@@ -1,0 +1,8 @@
+//! Laws of the definitions that this crate's contracts cite. Each function does nothing; its contract is the law.
+
+ghost use Rattle.lab_captures.specs.CellsText.{CapturesHaveOneCellsText};
+
+/// A file has one text of `cells`, for each tick and interface.
+pub fn captures_have_one_text()
+    ensures { CapturesHaveOneCellsText }
+{}
