@@ -9,12 +9,12 @@ ghost use Rattle.upc_lab.specs.LabMessages.{lab_failure_line};
 ghost use Rattle.upc_lab.specs.LabText.{IsLabText};
 
 use crate::choice::Subcommand;
-use lab_faults::explain_faults;
+use lab_faults::{Ahead, explain_faults};
 use lab_programs::{list_program, trace_cells};
 use lab_rules::{assemble_rules, compile_rules, decide_cells};
 use lab_sizes::size_contracts;
 use std::alloc::Global;
-use text_io::{Done, Input, Output, RunFault, give_all};
+use text_io::{Done, Output, RunFault, give_all};
 use upc_choice::Stop;
 use upc_exit::{status, tell};
 
@@ -44,7 +44,7 @@ fn report<E: Output>(errors: &mut E, ended: Result<Done, RunFault>) -> u8
 }
 
 /// Runs a subcommand over the whole input.
-fn run<I: Input, O: Output>(
+fn run<I: Ahead, O: Output>(
     alloc: Global,
     subcommand: Subcommand,
     input: &mut I,
@@ -65,7 +65,7 @@ fn run<I: Input, O: Output>(
 
 /// Does what the words ask for, and returns the exit status: it runs the subcommand, writes the help, or writes a message
 /// about the words. A failure also gets a message.
-pub fn carry_out<I: Input, O: Output, E: Output>(
+pub fn carry_out<I: Ahead, O: Output, E: Output>(
     alloc: Global,
     chosen: Result<Subcommand, Stop>,
     input: &mut I,

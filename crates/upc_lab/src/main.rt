@@ -10,7 +10,7 @@ mod tests;
 
 pub use choice::{Subcommand, choose};
 pub use invocation::carry_out;
-pub use lab_faults::explain_faults;
+pub use lab_faults::{LookedAt, explain_faults};
 pub use lab_programs::{list_program, trace_cells};
 pub use lab_rules::{assemble_rules, compile_rules, decide_cells};
 pub use lab_sizes::size_contracts;
@@ -30,7 +30,7 @@ fn main(rt: HostRuntime) -> ExitCode {
     {
         let _ = eprintln!(rt; "{}", awaited(subcommand));
     }
-    let mut input = Taking::new(rt.stdin());
+    let mut input = LookedAt::new(rt.alloc(), Taking::new(rt.stdin()));
     let mut output = Giving::new(rt.stdout());
     let mut errors = Giving::new(rt.stderr());
     ExitCode::from(carry_out(rt.alloc(), chosen, &mut input, &mut output, &mut errors))

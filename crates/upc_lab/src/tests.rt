@@ -2,7 +2,7 @@
 //!
 //! Whole texts and their answers are data: examples/, and what tests/rules makes.
 
-use crate::{Subcommand, carry_out, choose};
+use crate::{LookedAt, Subcommand, carry_out, choose};
 use std::alloc::{AllocError, Global};
 use std::process::Abort;
 use std::test::Fail;
@@ -35,7 +35,7 @@ fn run_words(
     gives: usize,
 ) -> Result<Left, AllocError> {
     let chosen = chosen_by(alloc, line)?;
-    let mut input = FaultyInput::new(octets, takes);
+    let mut input = LookedAt::new(alloc, FaultyInput::new(octets, takes));
     let mut output = FaultyOutput::new(alloc, gives);
     let mut errors = FaultyOutput::new(alloc, 10000);
     let status = carry_out(alloc, chosen, &mut input, &mut output, &mut errors);
