@@ -1,5 +1,5 @@
 """Compares `upc-lab trace` and `upc-lab list` with the reference on random inputs of `upc eval`, and `upc-lab explain` on such of
-`upc check`.
+`upc check` and `upc run`.
 
     python3 -m lab UPC UPC_LAB [COUNT] [SEED]
 
@@ -10,6 +10,7 @@ import re
 import sys
 
 from lab.explaining import wrong_explanation
+from lab.explaining_scripts import wrong_script_explanation
 from lab.tracing import TraceDialogue
 from policer.decoding import decoded
 from policer.dialogue import answered
@@ -53,9 +54,23 @@ def explanations(lab, count, seed):
     return failed, len(numbers)
 
 
+def script_explanations(lab, count, seed):
+    """Compares explanations of scripts, and returns how many failed and how many there were."""
+    failed, numbers = 0, range(-len(edges_of("run")), count)
+    for number in numbers:
+        script = input_of("run", seed, number)
+        wrong = wrong_script_explanation(script, of_program(lab, "explain", script))
+        if wrong:
+            failed += 1
+            print(f"explain, script {number} of seed {seed}: {wrong}")
+    return failed, len(numbers)
+
+
 def main(upc, lab, count="200", seed="1"):
     """Compares, and returns the exit status."""
     failed, explained = explanations(lab, int(count), seed)
+    failed_scripts, scripts = script_explanations(lab, int(count), seed)
+    failed, explained = failed + failed_scripts, explained + scripts
     numbers = range(-len(edges_of("eval")), int(count))
     for number in numbers:
         text = input_of("eval", seed, number)

@@ -125,6 +125,19 @@ def wrong_path(source, at, word, numbers):
     return not (path[:1] == [0] and path[-1] == at and word_read(program[at]) == word and steps and not stores)
 
 
+def hints_of(source):
+    """Returns how the hints about a source without a fault begin: those about loads from outside of the 52 octets of a cell."""
+    begins, lines, numbers = [], source_lines(source), instruction_lines(source)
+    for instruction, number in zip(assembled(source), numbers):
+        many = {"ld": 4, "ldh": 2, "ldb": 1, "ldxb": 1}.get(instruction.mnemonic)
+        if instruction.form not in ("[k]", "[x+k]", "4*([k]&0xf)") or instruction.k + many <= 52:
+            continue
+        pieces = after_label(pieces_of(lines[number - 1]))
+        column = pieces[0][1] if many == 1 and instruction.mnemonic == "ldxb" else next(at for piece, at in pieces if piece[:1].isdigit())
+        begins.append(b"hint line %d column %d: " % (number, column))
+    return begins
+
+
 def wrong_explanation(source, ours):
     """Returns what is wrong with the answer to a source, its status and messages, or None."""
     answer, status = checked(source)
@@ -132,7 +145,11 @@ def wrong_explanation(source, ours):
     if ours[1:] != (status, b"") or lines[0] != answer.split(b"\n", maxsplit=1)[0]:
         return f"{ours} in place of {answer}"
     words = answer.decode().split()
-    if status == 0 or words[1] == "script":
+    if status == 0:
+        begins = hints_of(source)
+        is_hinted = len(lines) == len(begins) + 2 and all(line.startswith(it) for line, it in zip(lines[1:], begins))
+        return None if is_hinted and lines[-1] == b"" else f"{ours} has not the hints {begins}"
+    if words[1] == "script":
         return None if lines[1:] == [b""] else f"{ours} goes on"
     kind, numbers = words[3], [int(word) for word in words[4:]]
     if kind == "Empty":

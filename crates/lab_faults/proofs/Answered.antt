@@ -1,16 +1,24 @@
 -- Every input has an answer.
-use Rattle.std.proofs.Common.{◌≡◌, ℕ, ◌+◌, ◌≤◌, inl, inr, List, [], ◌∷◌, ◌++◌, Option, Some, None, length, reverse, codes, decimal, refl, ap, sym, ◌∙◌, subst, arith, append-nil, nat_lt, if◌then◌else◌}
+use Rattle.std.proofs.Common.{◌≡◌, ℕ, ◌+◌, ◌<◌, ◌≤◌, inl, inr, List, [], ◌∷◌, ◌++◌, Option, Some, None, length, reverse, codes, decimal, refl, ap, sym, ◌∙◌, subst, arith, append-nil, nat_lt, if◌then◌else◌}
 use Rattle.bpf_asm.proofs.Public.{meaning-or_fault}
+use Rattle.bpf_asm.specs.Grammar.{AreLines, SourceLine}
+use Rattle.bpf_asm.specs.Labels.{statements_of}
+use Rattle.bpf_asm.specs.Meaning.{IsMeaning, MeanFrom}
 use Rattle.bpf_asm.specs.SourceLines.{source_lines}
+use Rattle.bpf_verify.specs.Accepted.{IsAccepted}
 use Rattle.bpf_code.specs.declared.instr.Instr.{Instr}
 use Rattle.bpf_verify.proofs.Public.{accepted-or_fault}
 use Rattle.bpf_verify.specs.Faults.{FailsFirst}
 use Rattle.bpf_verify.specs.declared.fault.Fault.{Fault}
 use Rattle.bpf_verify.specs.declared.fault.Fault.TheVariants as fault
 use Rattle.lab_faults.specs.CodeReasons.{IsRest, code_sentence, code_start, numbers_text}
-use Rattle.lab_faults.specs.Explained.{ExplainsCode, ExplainsInput, ExplainsRest, ExplainsSource, ExplainsWithin, IsExplainText, most_explained_octets, no_source, source_after}
+use Rattle.lab_faults.specs.Explained.{ExplainsCode, ExplainsSource, ExplainsWithin, IsExplainText, IsSourceText, source_after}
+use Rattle.lab_faults.specs.Hints.{hints_of}
 use Rattle.lab_faults.specs.LinesFound.{instruction_lines}
 use Rattle.lab_faults.specs.SourceReasons.{source_explanation}
+use Rattle.lab_scripts.proofs.Public.{some-script_text}
+use Rattle.lab_scripts.specs.ScriptText.{IsScriptExplained}
+use Rattle.std.specs.Option.{MatchOption}
 use Rattle.text_io.specs.Devices.{TakesEnough}
 use Rattle.text_io.specs.Gathered.{gathered, LeavesBehind}
 use Rattle.text_io.specs.Limits.{most_ahead}
@@ -36,7 +44,7 @@ rest-told code numbers (fault.Unwritten at word) fails =
 code-told : (source : List ℕ) (code : List Instr) → (text : List ℕ) × (done : Done) × ExplainsCode source code text done
 code-told source code =
     elim (accepted-or_fault code) [
-      | inl accepted ↦ (line (codes "accepted " ++ decimal (length code)), Whole, inl (accepted, refl, refl))
+      | inl accepted ↦ (line (codes "accepted " ++ decimal (length code)) ++ hints_of (source_lines source) code, Whole, inl (accepted, refl, refl))
       | inr found ↦
           let lines = source_lines source in
           let rest = rest-told code (instruction_lines 1 lines) found.0 found.1 in
@@ -51,34 +59,67 @@ source-told source =
       | inr found ↦ (asm_fault found.0 ++ source_explanation (source_lines source) found.0, Ended, inr (found.0, found.1, refl, refl))
     ]
 
+-- A code that isn't accepted has a fault.
+faulty-code : (source : List ℕ) (code : List Instr) → (IsAccepted code → ⊥) → (text : List ℕ) × ExplainsCode source code text Ended
+faulty-code source code never =
+    elim (accepted-or_fault code) [
+      | inl accepted ↦ absurd (never accepted)
+      | inr found ↦
+          let lines = source_lines source in
+          let rest = rest-told code (instruction_lines 1 lines) found.0 found.1 in
+          let more = code_start lines (length code) found.0 ++ (code_sentence found.0 ++ rest.0) in
+          (verify_fault found.0 ++ more, inr (found.0, found.1, (more, (rest.0, rest.1, refl), refl), refl))
+    ]
+
+-- A source without a line means no code that is accepted.
+no_code : (lines : List SourceLine) (code : List Instr) → AreLines (source_lines []) lines → MeanFrom lines 0 (statements_of lines) code → code ≡ []
+unfolding source_lines statements_of
+no_code [] code said meant = meant
+no_code (line ∷ lines) code said meant = let no = said in cc
+
+never-accepted : (code : List Instr) → IsMeaning [] code → IsAccepted code → ⊥
+never-accepted code means accepted =
+    let none : length code ≡ 0 = ap length (no_code means.lines code means.said means.mean.meant) in
+    let some : 0 < length code = accepted.sized.least in
+    omega (arith, none, some)
+
+-- The source without a line has a fault.
+pub empty-told : (text : List ℕ) × ExplainsSource [] text Ended
+empty-told =
+    elim (meaning-or_fault []) [
+      | inl meant ↦ let told = faulty-code [] meant.0 (never-accepted meant.0 meant.1) in (told.0, inl (meant.0, meant.1, told.1))
+      | inr found ↦ (asm_fault found.0 ++ source_explanation (source_lines []) found.0, inr (found.0, found.1, refl, refl))
+    ]
+
 within-told : (found : Option (List ℕ)) → (text : List ℕ) × (done : Done) × ExplainsWithin found text done
 within-told None = (too_long, Ended, (refl, refl))
 within-told (Some source) = source-told source
 
-after-told : (found : Option (List ℕ)) → (text : List ℕ) × (done : Done) × ExplainsRest found text done
-after-told None = (no_source, Ended, (refl, refl))
-after-told (Some source) = within-told (gathered most_source_octets source)
+-- Every source has an answer.
+pub some-source_text : (source : List ℕ) → (text : List ℕ) × (done : Done) × IsSourceText source text done
+some-source_text source = within-told (gathered most_source_octets source)
 
-input-told : (found : Option (List ℕ)) → (text : List ℕ) × (done : Done) × ExplainsInput found text done
-input-told None = (too_long, Ended, (refl, refl))
-input-told (Some octets) = after-told (source_after octets)
+input-told : (octets : List ℕ) (found : Option (List ℕ))
+    → (text : List ℕ) × (done : Done) × MatchOption found (IsScriptExplained octets text done) (λ source. IsSourceText source text done)
+input-told octets None = some-script_text octets
+input-told octets (Some source) = some-source_text source
 
 pub some-explain_text : (octets : List ℕ) → (text : List ℕ) × (done : Done) × IsExplainText octets text done
-some-explain_text octets = input-told (gathered most_explained_octets octets)
+some-explain_text octets = input-told octets (source_after octets)
 
 -- One octet more than the limit is over the limit.
-gathered-none : (octets : List ℕ) → length octets ≡ most_explained_octets + 1 → gathered most_explained_octets octets ≡ None
-gathered-none octets sized = ap (λ n. if nat_lt most_explained_octets n then None else Some octets) sized
+gathered-none : (octets : List ℕ) → length octets ≡ most_source_octets + 1 → gathered most_source_octets octets ≡ None
+gathered-none octets sized = ap (λ n. if nat_lt most_source_octets n then None else Some octets) sized
 
 -- The octets read are enough for the answer.
-pub enough : (octets left : List ℕ) (found : Option (List ℕ)) (text : List ℕ) (done : Done) → found ≡ gathered most_explained_octets octets
-    → LeavesBehind most_explained_octets found octets left → ExplainsInput found text done
-    → TakesEnough (λ needed. (told : List ℕ) × IsExplainText needed told done) most_ahead octets left
+pub enough : (octets left : List ℕ) (found : Option (List ℕ)) (text : List ℕ) (done : Done) → found ≡ gathered most_source_octets octets
+    → LeavesBehind most_source_octets found octets left → ExplainsWithin found text done
+    → TakesEnough (λ needed. (told : List ℕ) × IsSourceText needed told done) most_ahead octets left
 enough octets left None text done is behind tells =
-    let P : Option (List ℕ) → Type 0 = λ found. ExplainsInput found text done in
+    let P : Option (List ℕ) → Type 0 = λ found. ExplainsWithin found text done in
     let none : length {A = ℕ} [] ≤ most_ahead = omega arith in
     (behind.0, [], behind.1, none, (text, subst P (sym (gathered-none behind.0 behind.2)) tells))
 enough octets left (Some source) text done is behind tells =
-    let P : Option (List ℕ) → Type 0 = λ found. ExplainsInput found text done in
+    let P : Option (List ℕ) → Type 0 = λ found. ExplainsWithin found text done in
     let none : length {A = ℕ} [] ≤ most_ahead = omega arith in
     (octets, [], sym (append-nil octets) ∙ ap (λ xs. octets ++ xs) (sym behind), none, (text, subst P is tells))

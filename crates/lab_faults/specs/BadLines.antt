@@ -4,13 +4,11 @@ use Rattle.std.specs.Option.{is_none, is_some}
 use Rattle.bpf_asm.specs.Numbers.{number_of_word}
 use Rattle.text_io.specs.Words.{is_digit}
 use Rattle.lab_faults.specs.FoundTokens.{is_name, token_octets}
+use Rattle.lab_scripts.specs.Meant.{perhaps_text}
+use Rattle.lab_scripts.specs.Places.{quoted}
 use Rattle.lab_faults.specs.Forms.{form_among, known_mnemonics, most_fitting, near_among, operands_text, shapes_of}
 use Rattle.lab_faults.specs.declared.forms.Form.{Form}
 use Rattle.lab_faults.specs.declared.tokens.FoundToken.{FoundToken}
-
--- The octets between grave accents.
-abbrev pub quoted : List ℕ → List ℕ
-quoted octets = codes "`" ++ (octets ++ codes "`")
 
 -- The column of the token at this place, if there is one.
 abbrev pub column_of : Option FoundToken → Option ℕ
@@ -40,11 +38,6 @@ octets_of text (Some token) = token_octets text token
 -- The sentence about a word that is no number.
 abbrev pub no_number_sentence : List ℕ → List ℕ
 no_number_sentence word = quoted word ++ codes " is no number; a number is of decimal digits, or of hexadecimal digits after 0x, and at most 4294967295"
-
--- The mnemonic that was perhaps meant.
-abbrev pub perhaps_text : Option (List ℕ) → List ℕ
-perhaps_text None = []
-perhaps_text (Some mnemonic) = codes "; perhaps " ++ (quoted mnemonic ++ codes " is meant")
 
 -- The sentence about a word that isn't a mnemonic.
 unfoldable pub no_mnemonic_sentence : List ℕ → List ℕ

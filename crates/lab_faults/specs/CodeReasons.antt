@@ -7,7 +7,7 @@ use Rattle.bpf_verify.specs.declared.fault.Fault.TheVariants as fault
 use Rattle.lab_faults.specs.BadLines.{column_of, first_number}
 use Rattle.lab_faults.specs.CodePaths.{LeavesUnwritten}
 use Rattle.lab_faults.specs.LinesFound.{instruction_lines, instruction_tokens, line_numbered}
-use Rattle.lab_faults.specs.SourceReasons.{place_words}
+use Rattle.lab_scripts.specs.Places.{place_words}
 use Rattle.lab_faults.specs.declared.tokens.FoundToken.{FoundToken}
 use Rattle.upc_words.specs.FaultLines.{line}
 

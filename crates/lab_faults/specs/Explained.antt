@@ -1,6 +1,6 @@
--- The output of `upc-lab explain`. The first line of the input is the word `source`, and the rest is a source of assembly. The answer
--- is the fault that `upc check` finds, and an explanation of it, or that there is none.
-use Rattle.std.specs.Prelude.{◌≡◌, ◌⊎◌, ℕ, if◌then◌else◌, List, [], ◌++◌, take, drop, length, codes, decimal, Option, Some, None, MatchOption}
+-- The output of `upc-lab explain`. If the first line of the input is the word `source`, the rest is a source of assembly, and the
+-- answer is the fault that `upc check` finds, and an explanation of it, or that there is none. Otherwise the input is a script.
+use Rattle.std.specs.Prelude.{◌≡◌, ◌⊎◌, ℕ, Bool, true, false, if◌then◌else◌, List, [], ◌++◌, take, drop, length, codes, decimal, Option, Some, None, MatchOption}
 use Rattle.std.specs.Str.{bytes_eq}
 use Rattle.bpf_asm.specs.Faults.{IsFault}
 use Rattle.bpf_asm.specs.Meaning.{IsMeaning}
@@ -11,7 +11,9 @@ use Rattle.bpf_verify.specs.Accepted.{IsAccepted}
 use Rattle.bpf_verify.specs.Faults.{FailsFirst}
 use Rattle.bpf_verify.specs.declared.fault.Fault.{Fault}
 use Rattle.lab_faults.specs.CodeReasons.{IsCodeExplanation}
+use Rattle.lab_faults.specs.Hints.{hints_of}
 use Rattle.lab_faults.specs.SourceReasons.{source_explanation}
+use Rattle.lab_scripts.specs.ScriptText.{IsScriptExplained}
 use Rattle.text_io.specs.Gathered.{gathered}
 use Rattle.text_io.specs.declared.ending.Done.{Done}
 use Rattle.text_io.specs.declared.ending.Done.TheVariants.{Whole, Ended}
@@ -20,10 +22,6 @@ use Rattle.upc_programs.specs.Check.{most_source_octets}
 use Rattle.upc_programs.specs.SourceFaults.{asm_fault}
 use Rattle.upc_words.specs.FaultLines.{line, too_long}
 
--- The maximum number of octets of an input: those of a source, and a first line.
-abbrev pub most_explained_octets : ℕ
-most_explained_octets = 1048584
-
 -- The octets after the first line, if that is the word `source`.
 unfoldable pub source_after : List ℕ → Option (List ℕ)
 source_after octets =
@@ -31,14 +29,15 @@ source_after octets =
     (if bytes_eq (take 8 octets) (codes "source\r\n") then Some (drop 8 octets) else
     (if bytes_eq octets (codes "source") then Some [] else None))
 
--- The answer to an input whose first line is another.
-abbrev pub no_source : List ℕ
-no_source = codes "fault explain 1 NoSource\nline 1: the first line is to be the word `source`\n"
+-- What is left of an input that begins with the line `source`, or not, once that line was read.
+abbrev pub PassesSource : Bool → List ℕ → List ℕ → Type 0
+PassesSource true before after = source_after before ≡ Some after
+PassesSource false before after = (source_after before ≡ None) × (after ≡ before)
 
--- The answer to a code: that there is no fault, or the fault of `check` and its explanation.
+-- The answer to a code: that there is no fault, with hints, or the fault of `check` and its explanation.
 abbrev pub ExplainsCode : List ℕ → List Instr → List ℕ → Done → Type 0
 ExplainsCode source code text done =
-    (IsAccepted code × (text ≡ line (codes "accepted " ++ decimal (length code))) × (done ≡ Whole))
+    (IsAccepted code × (text ≡ line (codes "accepted " ++ decimal (length code)) ++ hints_of (source_lines source) code) × (done ≡ Whole))
     ⊎ ((fault : Fault) × FailsFirst code fault
     × ((more : List ℕ) × IsCodeExplanation (source_lines source) code fault more × (text ≡ verify_fault fault ++ more)) × (done ≡ Ended))
 
@@ -52,15 +51,10 @@ ExplainsSource source text done =
 abbrev pub ExplainsWithin : Option (List ℕ) → List ℕ → Done → Type 0
 ExplainsWithin found text done = MatchOption found ((text ≡ too_long) × (done ≡ Ended)) (λ source. ExplainsSource source text done)
 
--- The answer to the rest of an input, or that its first line is another.
-abbrev pub ExplainsRest : Option (List ℕ) → List ℕ → Done → Type 0
-ExplainsRest found text done =
-    MatchOption found ((text ≡ no_source) × (done ≡ Ended)) (λ source. ExplainsWithin (gathered most_source_octets source) text done)
+-- The output for a whole source, and how the run ends.
+abbrev pub IsSourceText : List ℕ → List ℕ → Done → Type 0
+IsSourceText source text done = ExplainsWithin (gathered most_source_octets source) text done
 
--- The answer to the input, or `too_long` if it is over the limit.
-abbrev pub ExplainsInput : Option (List ℕ) → List ℕ → Done → Type 0
-ExplainsInput found text done = MatchOption found ((text ≡ too_long) × (done ≡ Ended)) (λ octets. ExplainsRest (source_after octets) text done)
-
--- The output for a whole input, and how the run ends.
+-- The output for a whole input, and how the run ends: that for the source after the first line, or that for a script.
 abbrev pub IsExplainText : List ℕ → List ℕ → Done → Type 0
-IsExplainText octets text done = ExplainsInput (gathered most_explained_octets octets) text done
+IsExplainText octets text done = MatchOption (source_after octets) (IsScriptExplained octets text done) (λ source. IsSourceText source text done)

@@ -1,8 +1,9 @@
 -- The mnemonics and the forms of their operands.
-use Rattle.std.specs.Prelude.{ℕ, ◌+◌, ◌==◌, Bool, true, false, ◌||◌, if◌then◌else◌, List, [], ◌∷◌, codes, length, max, Option, Some, None}
+use Rattle.std.specs.Prelude.{ℕ, ◌+◌, ◌==◌, Bool, false, if◌then◌else◌, List, [], ◌∷◌, codes, max, Option, Some, None}
 use Rattle.std.specs.Option.{is_some}
 use Rattle.std.specs.Str.{bytes_eq}
 use Rattle.bpf_asm.specs.Numbers.{number_of_word}
+use Rattle.lab_scripts.specs.Meant.{is_near}
 use Rattle.lab_faults.specs.FoundTokens.{is_name, token_octets}
 use Rattle.lab_faults.specs.declared.forms.Form.{Form}
 use Rattle.lab_faults.specs.declared.forms.Form.TheVariants as form
@@ -34,15 +35,6 @@ form_among word (row ∷ rows) = if bytes_eq word row.0 then Some row.1 else for
 abbrev pub spells_number : ℕ → Option ℕ → Bool
 spells_number value None = false
 spells_number value (Some number) = number == value
-
--- Whether one octet is added, dropped or changed between two words, or none.
-abbrev pub is_near : List ℕ → List ℕ → Bool
-is_near [] [] = true
-is_near [] (octet ∷ rest) = length rest == 0
-is_near (octet ∷ rest) [] = length rest == 0
-is_near (octet ∷ rest) (other ∷ more) =
-    if octet == other then is_near rest more else
-    (bytes_eq rest more || bytes_eq rest (other ∷ more) || bytes_eq (octet ∷ rest) more)
 
 -- The first of these mnemonics that is near a word.
 abbrev pub near_among : List ℕ → List (List ℕ × Form) → Option (List ℕ)

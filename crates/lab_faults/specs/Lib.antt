@@ -6,6 +6,7 @@ pub mod BadLines
 pub mod SourceReasons
 pub mod CodePaths
 pub mod CodeReasons
+pub mod Hints
 pub mod Explained
 pub mod AsCheck
 pub mod inner

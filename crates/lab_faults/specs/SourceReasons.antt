@@ -5,7 +5,8 @@ use Rattle.bpf_asm.specs.SourceLines.{without_comment}
 use Rattle.bpf_asm.specs.declared.fault.AsmFault.{AsmFault}
 use Rattle.bpf_asm.specs.declared.fault.AsmKind.{AsmKind}
 use Rattle.bpf_asm.specs.declared.fault.AsmKind.TheVariants as asm
-use Rattle.lab_faults.specs.BadLines.{bad_line_sentence, column_of, first_no_number, no_number_sentence, octets_of, quoted, wrong_token}
+use Rattle.lab_faults.specs.BadLines.{bad_line_sentence, column_of, first_no_number, no_number_sentence, octets_of, wrong_token}
+use Rattle.lab_scripts.specs.Places.{place_words, quoted}
 use Rattle.lab_faults.specs.Forms.{form_among, known_mnemonics}
 use Rattle.lab_faults.specs.FoundTokens.{token_octets}
 use Rattle.lab_faults.specs.LinesFound.{count_between, instruction_lines, instruction_tokens, label_line, line_numbered, tokens_of_line}
@@ -73,11 +74,6 @@ abbrev pub source_sentence : List (List ℕ) → AsmKind → List ℕ → List �
 source_sentence lines asm.BadLine said blamed = bad_line_sentence (without_comment said) (instruction_tokens said)
 source_sentence lines asm.BadNumber said blamed = no_number_sentence blamed
 source_sentence lines kind said blamed = label_sentence kind blamed (label_line blamed 1 lines)
-
--- A line, and a column if there is one.
-abbrev pub place_words : ℕ → Option ℕ → List ℕ
-place_words number None = codes "line " ++ (decimal number ++ codes ": ")
-place_words number (Some column) = codes "line " ++ (decimal number ++ (codes " column " ++ (decimal column ++ codes ": ")))
 
 -- The explanation of a fault on a line that says this: its line, the column of the token that is wrong, and a sentence.
 abbrev pub line_explanation : List (List ℕ) → AsmFault → List ℕ → Option FoundToken → List ℕ

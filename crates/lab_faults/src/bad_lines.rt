@@ -2,13 +2,15 @@
 
 ghost use Rattle.std.specs.Prelude.{◌≡◌, ◌++◌, OnOk, option_map, slice_get};
 ghost use Rattle.bpf_asm.specs.Numbers.{number_of_word};
-ghost use Rattle.lab_faults.specs.BadLines.{bad_line_sentence, column_of, first_no_number, first_number, first_word_sentence, is_no_number, no_mnemonic_sentence, no_number_sentence, octets_of, operands_sentence, perhaps_text, quoted, wrong_operand, wrong_token};
+ghost use Rattle.lab_scripts.specs.Meant.{perhaps_text};
+ghost use Rattle.lab_faults.specs.BadLines.{bad_line_sentence, column_of, first_no_number, first_number, first_word_sentence, is_no_number, no_mnemonic_sentence, no_number_sentence, octets_of, operands_sentence, wrong_operand, wrong_token};
 ghost use Rattle.lab_faults.specs.Forms.{known_mnemonics, near_among};
 ghost use Rattle.lab_faults.specs.FoundTokens.{token_octets};
 
 use crate::forms::{Form, form_of, most_fitting, near, operands_text};
 use crate::tokens::{FoundToken, digit, is_name, token_octets};
 use bpf_asm::number;
+use lab_scripts::{add_perhaps, add_quoted};
 use std::alloc::AllocError;
 use upc_words::add_text;
 
@@ -70,16 +72,6 @@ pub(crate) fn first_number(text: &[u8], tokens: &[FoundToken]) -> Option<FoundTo
     None
 }
 
-/// Appends octets between grave accents.
-#[tactic(auto, using(std::proofs::lemmas::List::append_assoc))]
-pub(crate) fn add_quoted(answers: &mut Vec<u8>, octets: &[u8]) -> Result<(), AllocError>
-    ensures { OnOk result (answers.new.items ≡ answers.old.items ++ quoted octets.now) }
-{
-    add_text(answers, b"`")?;
-    add_text(answers, octets)?;
-    add_text(answers, b"`")
-}
-
 /// Appends the sentence about a word that is no number.
 #[tactic(auto, using(std::proofs::lemmas::List::append_assoc))]
 pub(crate) fn add_no_number(answers: &mut Vec<u8>, word: &[u8]) -> Result<(), AllocError>
@@ -90,21 +82,6 @@ pub(crate) fn add_no_number(answers: &mut Vec<u8>, word: &[u8]) -> Result<(), Al
         answers,
         b" is no number; a number is of decimal digits, or of hexadecimal digits after 0x, and at most 4294967295",
     )
-}
-
-/// Appends the mnemonic that was perhaps meant.
-#[tactic(auto, using(std::proofs::lemmas::List::append_assoc))]
-fn add_perhaps(answers: &mut Vec<u8>, meant: Option<&[u8]>) -> Result<(), AllocError>
-    ensures { OnOk result (answers.new.items ≡ answers.old.items ++ perhaps_text (option_map (λ meant. meant.now) meant.entry)) }
-{
-    match meant {
-        None => Ok(()),
-        Some(mnemonic) => {
-            add_text(answers, b"; perhaps ")?;
-            add_quoted(answers, mnemonic)?;
-            add_text(answers, b" is meant")
-        }
-    }
 }
 
 /// Appends the mnemonic that was perhaps meant by a word.

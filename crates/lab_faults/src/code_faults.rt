@@ -10,10 +10,10 @@ ghost use Rattle.lab_faults.specs.CodeReasons.{IsCodeExplanation, IsRest, blamed
 use crate::bad_lines::{column_of, first_number, token_at};
 use crate::lines_found::{instruction_lines, line_numbered};
 use crate::path::path_to;
-use crate::source_faults::add_place;
 use crate::tokens::{FoundToken, after_label, before_comment, tokens_of};
 use bpf_code::Instr;
 use bpf_verify::Fault;
+use lab_scripts::add_place;
 use std::alloc::{AllocError, Global};
 use upc_words::{add_number, add_text};
 
@@ -120,7 +120,7 @@ fn add_code_place(
 }
 
 /// Returns the number at a place, or 0 if there is none.
-fn number_at(numbers: &[usize], place: usize) -> usize
+pub(crate) fn number_at(numbers: &[usize], place: usize) -> usize
     ensures { result ≡ slice_index numbers.now place }
 {
     match numbers.get(place) {

@@ -2,18 +2,18 @@
 
 ghost use Rattle.std.specs.Prelude.{◌≡◌, ◌++◌, codes, decimal, length, IfOk, OnOk, option_map};
 ghost use Rattle.text_io.specs.Devices.{Adds};
-ghost use Rattle.text_io.specs.Gathered.{gathered};
 ghost use Rattle.text_io.specs.Serving.{IsServed};
-ghost use Rattle.lab_faults.specs.Explained.{ExplainsCode, ExplainsInput, ExplainsRest, ExplainsSource, ExplainsWithin, IsExplainText, no_source, source_after};
-ghost use Rattle.upc_programs.specs.Check.{most_source_octets};
+ghost use Rattle.lab_faults.specs.Explained.{ExplainsCode, ExplainsSource, ExplainsWithin, IsExplainText, IsSourceText};
 ghost use Rattle.upc_words.specs.FaultLines.{line};
 
+use crate::ahead::Ahead;
 use crate::code_faults::add_code_explanation;
+use crate::hints::add_hints;
 use crate::source_faults::add_source_explanation;
-use crate::tokens::{behind, front};
 use bpf_asm::{AsmFault, AsmKind, assemble};
 use bpf_code::Instr;
 use bpf_verify::first_fault;
+use lab_scripts::explain_script;
 use std::alloc::{AllocError, Global};
 use text_io::{Done, Input, Output, RunFault, gather, give_last};
 use upc_codes::add_verify_fault;
@@ -21,10 +21,7 @@ use upc_programs::add_asm_fault;
 use upc_words::{add_number, add_text, add_too_long};
 
 /// The maximum number of octets of a source.
-const MOST_SOURCE_OCTETS: usize = 1048576;
-
-/// The maximum number of octets of an input: those of a source, and a first line.
-const MOST_EXPLAINED_OCTETS: u32 = 1048584;
+const MOST_SOURCE_OCTETS: u32 = 1048576;
 
 /// Appends that a code of this many instructions has no fault.
 #[tactic(auto, using(std::proofs::lemmas::List::append_assoc))]
@@ -37,7 +34,8 @@ fn add_accepted(answers: &mut Vec<u8>, size: usize) -> Result<(), AllocError>
     Ok(())
 }
 
-/// Answers a code: that it has no fault, or its first one and an explanation.
+/// Answers a code: that it has no fault, with hints, or its first one and an explanation.
+#[tactic(auto, using(std::proofs::lemmas::List::append_assoc))]
 fn explain_code(
     alloc: Global,
     source: &[u8],
@@ -49,6 +47,7 @@ fn explain_code(
     match first_fault(code) {
         None => {
             add_accepted(answers, code.len())?;
+            add_hints(alloc, answers, source, code)?;
             Ok(Done::Whole)
         }
         Some(fault) => {
@@ -79,63 +78,17 @@ fn explain_source(alloc: Global, source: &[u8], answers: &mut Vec<u8>) -> Result
     }
 }
 
-/// Returns the octets after the first line, if that is the word `source`.
-#[tactic(auto, unfolding(crate::specs::Explained::source_after))]
-fn source_after(octets: &[u8]) -> Option<&[u8]>
-    ensures { option_map (λ source. source.now) result ≡ source_after octets.now }
-{
-    if front(octets, 7) == b"source\n".as_slice() {
-        return Some(behind(octets, 7));
-    }
-    if front(octets, 8) == b"source\r\n".as_slice() {
-        return Some(behind(octets, 8));
-    }
-    if octets == b"source".as_slice() {
-        Some(&[])
-    } else {
-        None
-    }
-}
-
 /// Answers a source within the limit, or one over it.
-fn explain_within(alloc: Global, source: &[u8], answers: &mut Vec<u8>) -> Result<Done, AllocError>
-    ensures { IfOk result (λ done. Adds (λ text. ExplainsWithin (gathered most_source_octets source.now) text done)
-        answers.old.items answers.new.items) }
-{
-    if source.len() > MOST_SOURCE_OCTETS {
-        add_too_long(answers)?;
-        return Ok(Done::Ended);
-    }
-    explain_source(alloc, source, answers)
-}
-
-/// Answers an input by the source after its first line.
-fn explain_rest(alloc: Global, octets: &[u8], answers: &mut Vec<u8>) -> Result<Done, AllocError>
-    ensures { IfOk result (λ done. Adds (λ text. ExplainsRest (source_after octets.now) text done) answers.old.items answers.new.items) }
-{
-    match source_after(octets) {
-        Some(source) => explain_within(alloc, source, answers),
-        None => {
-            add_text(
-                answers,
-                b"fault explain 1 NoSource\nline 1: the first line is to be the word `source`\n",
-            )?;
-            Ok(Done::Ended)
-        }
-    }
-}
-
-/// Answers the whole input, or an input over the limit.
 fn answer_gathered(
     alloc: Global,
     found: Option<Vec<u8>>,
     answers: &mut Vec<u8>,
 ) -> Result<Done, AllocError>
-    ensures { IfOk result (λ done. Adds (λ text. ExplainsInput (option_map (λ octets. octets.items) found) text done)
+    ensures { IfOk result (λ done. Adds (λ text. ExplainsWithin (option_map (λ octets. octets.items) found) text done)
         answers.old.items answers.new.items) }
 {
     match found {
-        Some(octets) => explain_rest(alloc, &octets, answers),
+        Some(source) => explain_source(alloc, &source, answers),
         None => {
             add_too_long(answers)?;
             Ok(Done::Ended)
@@ -143,21 +96,16 @@ fn answer_gathered(
     }
 }
 
-/// Answers the word `source` on the first line and a source of assembly after it: the fault that `upc check` finds, with its line, the
-/// column of the token that is wrong and a sentence, or that there is none. docs/LAB.md has the format.
-///
-/// # Errors
-///
-/// `ReadFailed` or `WriteFailed` if that device failed; the run ends at the first failure. `NoMemory` if an
-/// allocation fails. The output is then a prefix of the text.
-pub fn explain_faults<I: Input, O: Output>(
+/// Answers a source: the fault that `upc check` finds, with its line, the column of the token that is wrong and a sentence, or that
+/// there is none.
+fn explain_gathered<I: Input, O: Output>(
     alloc: Global,
     input: &mut I,
     output: &mut O,
 ) -> Result<Done, RunFault>
-    ensures { IsServed IsExplainText I.Input input.old input.new O.Output output.old output.new result }
+    ensures { IsServed IsSourceText I.Input input.old input.new O.Output output.old output.new result }
 {
-    let found = match gather(alloc, input, MOST_EXPLAINED_OCTETS) {
+    let found = match gather(alloc, input, MOST_SOURCE_OCTETS) {
         Ok(found) => found,
         Err(fault) => return Err(fault),
     };
@@ -165,5 +113,26 @@ pub fn explain_faults<I: Input, O: Output>(
     match answer_gathered(alloc, found, &mut answers) {
         Err(_) => Err(RunFault::NoMemory),
         Ok(done) => give_last(output, &mut answers, done),
+    }
+}
+
+/// Answers the word `source` on the first line and a source of assembly after it by the fault that `upc check` finds, and a script by
+/// the fault lines of `upc run`, each with its line, the column of the word that is wrong and a sentence. docs/LAB.md has the format.
+///
+/// # Errors
+///
+/// `ReadFailed` or `WriteFailed` if that device failed; the run ends at the first failure. `NoMemory` if an
+/// allocation fails. The output is then a prefix of the text.
+pub fn explain_faults<I: Ahead, O: Output>(
+    alloc: Global,
+    input: &mut I,
+    output: &mut O,
+) -> Result<Done, RunFault>
+    ensures { IsServed IsExplainText I.Input input.old input.new O.Output output.old output.new result }
+{
+    match input.pass_source() {
+        Err(fault) => Err(fault),
+        Ok(true) => explain_gathered(alloc, input, output),
+        Ok(false) => explain_script(alloc, input, output),
     }
 }

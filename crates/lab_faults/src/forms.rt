@@ -2,10 +2,11 @@
 
 ghost use Rattle.std.specs.Prelude.{◌≡◌, map, option_map, slice_get};
 ghost use Rattle.bpf_asm.specs.Numbers.{number_of_word};
-ghost use Rattle.lab_faults.specs.Forms.{fits_slot, fitting, form_among, is_near, known_mnemonics, most_fitting, near_among, operands_text, shapes_of, slots_of, spells_number};
+ghost use Rattle.lab_faults.specs.Forms.{fits_slot, fitting, form_among, known_mnemonics, most_fitting, near_among, operands_text, shapes_of, slots_of, spells_number};
 
 use crate::tokens::{FoundToken, is_name, token_octets};
 use bpf_asm::number;
+use lab_scripts::is_near;
 
 /// What a mnemonic takes.
 #[derive(Clone, Copy)]
@@ -148,30 +149,6 @@ pub(crate) fn form_of(word: &[u8]) -> Option<Form>
     ensures { result ≡ form_among word.now known_mnemonics }
 {
     form_among(word, &MNEMONICS)
-}
-
-/// Returns whether one octet is added, dropped or changed between two words, or none.
-fn is_near(word: &[u8], other: &[u8]) -> bool
-    ensures { result ≡ is_near word.now other.now }
-{
-    let mut left = word;
-    let mut right = other;
-    while let [octet, rest @ ..] = left {
-        match right {
-            [] => return rest.is_empty(),
-            [equal, more @ ..] => {
-                if octet != equal {
-                    return rest == more || rest == right || left == more;
-                }
-                left = rest;
-                right = more;
-            }
-        }
-    }
-    match right {
-        [] => true,
-        [_, more @ ..] => more.is_empty(),
-    }
 }
 
 /// Returns the first of these mnemonics that is near a word.

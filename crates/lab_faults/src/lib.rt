@@ -1,16 +1,19 @@
-//! `upc-lab explain`: where a source is faulty, what is wrong there, and what would be right.
+//! `upc-lab explain`: where a source or a script is faulty, what is wrong there, and what would be right.
 #![tactic(auto)]
 
+mod ahead;
 mod bad_lines;
 mod code_faults;
 mod explaining;
 mod forms;
+mod hints;
 pub mod laws;
 mod lines_found;
 mod path;
 mod source_faults;
 mod tokens;
 
+pub use ahead::{Ahead, LookedAt};
 pub use explaining::explain_faults;
 pub use forms::{Form, Shape, Slot};
 pub use tokens::FoundToken;

@@ -4,16 +4,16 @@ ghost use Rattle.std.specs.Prelude.{◌≡◌, ◌++◌, IfOk, OnOk, slice_get, 
 ghost use Rattle.bpf_asm.specs.SourceLines.{source_lines, without_comment};
 ghost use Rattle.lab_faults.specs.FoundTokens.{after_label, found_tokens};
 ghost use Rattle.lab_faults.specs.LinesFound.{instruction_tokens, label_line};
-ghost use Rattle.lab_faults.specs.SourceReasons.{blamed_token, failing_label, failing_operand, label_fails, label_sentence, label_words, line_explanation, missing_label, place_words, source_explanation, source_sentence, takes_label};
+ghost use Rattle.lab_faults.specs.SourceReasons.{blamed_token, failing_label, failing_operand, label_fails, label_sentence, label_words, line_explanation, missing_label, source_explanation, source_sentence, takes_label};
 
 use crate::bad_lines::{
-    add_bad_line, add_no_number, add_quoted, column_of, first_no_number, octets_of, token_at,
-    wrong_token,
+    add_bad_line, add_no_number, column_of, first_no_number, octets_of, token_at, wrong_token,
 };
 use crate::forms::{Form, form_of};
 use crate::lines_found::{count_between, instruction_lines, label_line, line_numbered};
 use crate::tokens::{FoundToken, after_label, before_comment, token_octets, tokens_of};
 use bpf_asm::{AsmFault, AsmKind};
+use lab_scripts::{add_place, add_quoted};
 use std::alloc::{AllocError, Global};
 use upc_words::{add_number, add_text};
 
@@ -188,27 +188,6 @@ fn add_sentence(
         }
         AsmKind::BadNumber => add_no_number(answers, blamed),
         _ => add_label_sentence(answers, kind, blamed, label_line(alloc, source, blamed)?),
-    }
-}
-
-/// Appends a line number, and a column if there is one.
-#[tactic(auto, using(std::proofs::lemmas::List::append_assoc))]
-pub(crate) fn add_place(
-    answers: &mut Vec<u8>,
-    number: usize,
-    column: Option<usize>,
-) -> Result<(), AllocError>
-    ensures { OnOk result (answers.new.items ≡ answers.old.items ++ place_words number column) }
-{
-    add_text(answers, b"line ")?;
-    add_number(answers, number as u64)?;
-    match column {
-        None => add_text(answers, b": "),
-        Some(column) => {
-            add_text(answers, b" column ")?;
-            add_number(answers, column as u64)?;
-            add_text(answers, b": ")
-        }
     }
 }
 

@@ -41,7 +41,7 @@ lab_input_of lab.Asm = codes "reading rules from the terminal, to its end"
 lab_input_of lab.List = codes "reading a program from the terminal, to its end"
 lab_input_of lab.Trace = codes "reading a program and cells from the terminal, to its end"
 lab_input_of lab.Size = codes "reading contracts from the terminal, to its end"
-lab_input_of lab.Explain = codes "reading a line `source` and a source from the terminal, to its end"
+lab_input_of lab.Explain = codes "reading a script from the terminal, or a line `source` and a source, to its end"
 
 -- The name of the subcommand, and what it waits for.
 abbrev pub lab_notice : Subcommand → List ℕ

@@ -31,7 +31,7 @@ pub enum Subcommand {
     Trace,
     /// Print the buckets of contracts, and the rates that they police.
     Size,
-    /// Print the fault of a source, with its line and column and a sentence.
+    /// Print the faults of a script or a source, each with its line and column and a sentence.
     Explain,
 }
 
@@ -128,8 +128,8 @@ fn with_program_subcommands<'a>(
         alloc,
         command,
         "explain",
-        "Read a line `source` and a source of assembly, and explain its fault",
-        "Example: (echo source; cat program.s) | upc-lab explain",
+        "Explain the faults of a script, or after a line `source` that of a source of assembly",
+        "Example: upc-lab explain < examples/desk-refusals.run",
     )
 }
 

@@ -11,12 +11,12 @@ ghost use Rattle.upc_lab.specs.LabText.{IsLabText};
 
 use crate::choice::Subcommand;
 use crate::reason::Reasoned;
-use lab_faults::explain_faults;
+use lab_faults::{Ahead, explain_faults};
 use lab_programs::{list_program, trace_cells};
 use lab_rules::{assemble_rules, compile_rules, decide_cells};
 use lab_sizes::size_contracts;
 use std::alloc::Global;
-use text_io::{Done, Failed, Input, Output, RunFault, give_all};
+use text_io::{Done, Failed, Output, RunFault, give_all};
 use upc_choice::Stop;
 use upc_exit::{status, tell};
 
@@ -84,7 +84,7 @@ pub fn shell_status(status: u8, closed: bool) -> u8
 }
 
 /// Runs a subcommand over the whole input.
-fn run<I: Input, O: Output>(
+fn run<I: Ahead, O: Output>(
     alloc: Global,
     subcommand: Subcommand,
     input: &mut I,
@@ -105,7 +105,7 @@ fn run<I: Input, O: Output>(
 
 /// Does what the words ask for, and returns the exit status: it runs the subcommand, writes the help, or writes a message
 /// about the words. A failure also gets a message.
-pub fn carry_out<I: Input + Reasoned, O: Output + Reasoned, E: Output>(
+pub fn carry_out<I: Ahead + Reasoned, O: Output + Reasoned, E: Output>(
     alloc: Global,
     chosen: Result<Subcommand, Stop>,
     input: &mut I,

@@ -11,7 +11,7 @@ mod tests;
 
 pub use choice::{Subcommand, choose};
 pub use invocation::{carry_out, shell_status};
-pub use lab_faults::explain_faults;
+pub use lab_faults::{LookedAt, explain_faults};
 pub use lab_programs::{list_program, trace_cells};
 pub use lab_rules::{assemble_rules, compile_rules, decide_cells};
 pub use lab_sizes::size_contracts;
@@ -32,7 +32,7 @@ fn main(rt: HostRuntime) -> ExitCode {
     {
         let _ = eprintln!(rt; "{}", awaited(subcommand));
     }
-    let mut input = Knowing::new(rt.alloc(), rt.stdin());
+    let mut input = LookedAt::new(rt.alloc(), Knowing::new(rt.alloc(), rt.stdin()));
     let mut output = Knowing::new(rt.alloc(), rt.stdout());
     let mut errors = Giving::new(rt.stderr());
     let status = carry_out(rt.alloc(), chosen, &mut input, &mut output, &mut errors);

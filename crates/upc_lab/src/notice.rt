@@ -21,6 +21,6 @@ pub fn awaited(subcommand: Subcommand) -> &'static str
             "upc-lab trace: reading a program and cells from the terminal, to its end",
         Subcommand::Size => "upc-lab size: reading contracts from the terminal, to its end",
         Subcommand::Explain =>
-            "upc-lab explain: reading a line `source` and a source from the terminal, to its end",
+            "upc-lab explain: reading a script from the terminal, or a line `source` and a source, to its end",
     }
 }

@@ -3,6 +3,7 @@
 ghost use Rattle.std.specs.Prelude.{◌≡◌, ℕ, List, Bool, unwrap_or, IsSome, [], None};
 ghost use Rattle.text_io.specs.Devices.{one_more};
 
+use lab_faults::LookedAt;
 use std::alloc::Global;
 use std::io::{Error, ErrorKind, Read, Write};
 use text_io::{Failed, FaultyInput, FaultyOutput, Input, Output};
@@ -124,6 +125,20 @@ impl<D> Reasoned for Knowing<D> {
 
     fn is_closed(&self) -> bool {
         self.closed
+    }
+}
+
+impl<I: Reasoned> Reasoned for LookedAt<I> {
+    ghost reason = { λ it. I.reason it.input };
+
+    ghost is_closed = { λ it. I.is_closed it.input };
+
+    fn reason(&self) -> &[u8] {
+        self.input.reason()
+    }
+
+    fn is_closed(&self) -> bool {
+        self.input.is_closed()
     }
 }
 

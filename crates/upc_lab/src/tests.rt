@@ -4,7 +4,7 @@
 
 ghost use Rattle.std.specs.Prelude.{[], true};
 
-use crate::{Reasoned, Subcommand, carry_out, choose, shell_status};
+use crate::{LookedAt, Reasoned, Subcommand, carry_out, choose, shell_status};
 use std::alloc::{AllocError, Global};
 use std::process::Abort;
 use std::test::Fail;
@@ -37,7 +37,7 @@ fn run_words(
     gives: usize,
 ) -> Result<Left, AllocError> {
     let chosen = chosen_by(alloc, line)?;
-    let mut input = FaultyInput::new(octets, takes);
+    let mut input = LookedAt::new(alloc, FaultyInput::new(octets, takes));
     let mut output = FaultyOutput::new(alloc, gives);
     let mut errors = FaultyOutput::new(alloc, 10000);
     let status = carry_out(alloc, chosen, &mut input, &mut output, &mut errors);
@@ -209,7 +209,7 @@ impl Reasoned for Unread {
 #[test]
 fn nothing_is_said_if_nobody_reads(rt: HostRuntime) -> Result<(), Fail> {
     let chosen = chosen_by(rt.alloc(), "rules")?;
-    let mut input = FaultyInput::new(b"otherwise -> 7\n", 100);
+    let mut input = LookedAt::new(rt.alloc(), FaultyInput::new(b"otherwise -> 7\n", 100));
     let mut output = Unread(0);
     let mut errors = FaultyOutput::new(rt.alloc(), 100);
     let status = carry_out(rt.alloc(), chosen, &mut input, &mut output, &mut errors);

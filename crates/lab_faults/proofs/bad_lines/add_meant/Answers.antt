@@ -1,5 +1,5 @@
 use Rattle.std.proofs.Common.{◌≡◌, ◌++◌, ℕ, List, Option, OnOk, subst}
-use Rattle.lab_faults.specs.BadLines.{perhaps_text}
+use Rattle.lab_scripts.specs.Meant.{perhaps_text}
 use Rattle.lab_faults.proofs.bad_lines.add_meant.Goals as goal
 
 pub returns : goal.returns

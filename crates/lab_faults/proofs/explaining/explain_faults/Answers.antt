@@ -1,12 +1,9 @@
--- Before the first write, the empty text is a prefix of some answer.
-use Rattle.std.proofs.Common.{ℕ, List, option_map, rules, subst, sym}
-use Rattle.std.proofs.lemmas.Result.{IfOk-weaker}
-use Rattle.text_io.specs.Devices.{TakesEnough}
-use Rattle.text_io.specs.Limits.{most_ahead}
-use Rattle.text_io.specs.declared.ending.Done.{Done}
+-- The input is a source after the line `source`, or a script.
+use Rattle.std.proofs.Common.{Bool, subst, rules}
 use Rattle.text_io.proofs.Public.{nothing-begins}
-use Rattle.lab_faults.specs.Explained.{IsExplainText}
-use Rattle.lab_faults.proofs.Answered.{enough, some-explain_text}
+use Rattle.lab_faults.specs.Explained.{IsExplainText, PassesSource}
+use Rattle.lab_faults.proofs.Answered.{some-explain_text}
+use Rattle.lab_faults.proofs.Chosen.{served_script, served_source}
 use Rattle.lab_faults.proofs.explaining.explain_faults.Goals as goal
 
 pub returns-in-Err : goal.returns-in-Err
@@ -21,33 +18,18 @@ returns-in-Err g c =
       writing = search rules;
     }
 
-pub returns-in-Err-answer_gathered : goal.returns-in-Err-answer_gathered
-returns-in-Err-answer_gathered g c =
-    let octets = g.I.Input.rest c.args.input.now in
-    record {
-      text = search rules;
-      front = λ _ _. nothing-begins (IsExplainText octets) (g.O.Output.held c.args.output.now) (some-explain_text octets);
-      left = search rules;
-      whole = search rules;
-      reading = search rules;
-      writing = search rules;
-    }
+pub returns-in-Ok-true : goal.returns-in-Ok-true
+returns-in-Ok-true g c =
+    let old = g.I.Input.rest c.args.input.now in
+    let read = g.I.Input.rest c.pass_source.new.self in
+    served_source g.I.Input c.args.input.now c.pass_source.new.self c.explain_gathered.new.input g.O.Output c.args.output.now c.explain_gathered.new.output
+    c.explain_gathered.result c.in-Ok-true.ensures.reading
+    (λ known. subst (λ (b : Bool). PassesSource b old read) c.in-Ok-true.field-0-test (c.in-Ok-true.ensures.octets known)) c.explain_gathered.ensures
 
-pub returns : goal.returns
-returns g c =
-    let octets = g.I.Input.rest c.args.input.now in
-    let left = g.I.Input.rest c.gather.new.input in
-    let told = c.in-Ok-answer_gathered.ensures in
-    record {
-      text = search rules;
-      front = search rules;
-      left = λ known.
-          let taken : TakesEnough (λ needed. (text : List ℕ) × IsExplainText needed text c.in-Ok-answer_gathered.done) most_ahead octets left =
-          enough octets left (option_map (λ octets. octets.items) c.in-Ok.found) told.0 c.in-Ok-answer_gathered.done
-          (c.in-Ok.ensures.whole known) (c.in-Ok.ensures.left known) told.2 in
-          let P : Done → Type 0 = λ done. TakesEnough (λ needed. (text : List ℕ) × IsExplainText needed text done) most_ahead octets left in
-          IfOk-weaker c.give_last.result _ _ (λ done same. subst P (sym same) taken) c.give_last.ensures.done;
-      whole = search rules;
-      reading = search rules;
-      writing = search rules;
-    }
+pub returns-in-Ok-false : goal.returns-in-Ok-false
+returns-in-Ok-false g c =
+    let old = g.I.Input.rest c.args.input.now in
+    let read = g.I.Input.rest c.pass_source.new.self in
+    served_script g.I.Input c.args.input.now c.pass_source.new.self c.explain_script.new.input g.O.Output c.args.output.now c.explain_script.new.output
+    c.explain_script.result c.in-Ok-false.ensures.reading
+    (λ known. subst (λ (b : Bool). PassesSource b old read) c.in-Ok-false.field-0-test (c.in-Ok-false.ensures.octets known)) c.explain_script.ensures

@@ -1,0 +1,126 @@
+-- The answer to an input is that to the source after its first line, or that to a script.
+use Rattle.std.proofs.Common.{◌≡◌, inl, inr, ℕ, List, [], ◌∷◌, ◌++◌, Option, Some, None, Result, codes, option_map, refl, sym, ap, ◌∙◌, subst, append_assoc, append-nil}
+use Rattle.std.proofs.lemmas.Result.{IfOk-weaker, on_err_weaker}
+use Rattle.std.specs.Option.{MatchOption}
+use Rattle.text_io.specs.Devices.{Adds}
+use Rattle.text_io.specs.Failures.{read_failures}
+use Rattle.text_io.specs.Printing.{IsFront}
+use Rattle.text_io.specs.Serving.{IsServed}
+use Rattle.text_io.specs.declared.device.Input.{Ghosts as InputView}
+use Rattle.text_io.specs.declared.device.Output.{Ghosts as OutputView}
+use Rattle.text_io.specs.declared.ending.Done.{Done}
+use Rattle.text_io.specs.declared.ending.Done.TheVariants.{Ended}
+use Rattle.text_io.specs.declared.ending.RunFault.{RunFault}
+use Rattle.lab_faults.specs.Explained.{IsExplainText, IsSourceText, source_after}
+use Rattle.lab_faults.proofs.Answered.{empty-told}
+use Rattle.lab_faults.proofs.SourceFront.{SourceFront, source_front}
+use Rattle.lab_scripts.specs.ScriptText.{IsScriptExplained, ScriptWorld, after_answer, before_script}
+
+-- The text of an input that begins with the line `source`, and of one that doesn't.
+of_source : (octets source text : List ℕ) (done : Done) → source_after octets ≡ Some source → IsSourceText source text done → IsExplainText octets text done
+of_source octets source text done is told =
+    let P : Option (List ℕ) → Type 0 = λ found. MatchOption found (IsScriptExplained octets text done) (λ source. IsSourceText source text done) in
+    subst P (sym is) told
+
+of_script : (octets text : List ℕ) (done : Done) → source_after octets ≡ None → IsScriptExplained octets text done → IsExplainText octets text done
+of_script octets text done is told =
+    let P : Option (List ℕ) → Type 0 = λ found. MatchOption found (IsScriptExplained octets text done) (λ source. IsSourceText source text done) in
+    subst P (sym is) told
+
+-- The front of an output with a text.
+front_as : (One Other : List ℕ → Done → Type 0) (before after : List ℕ) → ((text : List ℕ) (done : Done) → One text done → Other text done)
+    → Adds (IsFront One) before after → Adds (IsFront Other) before after
+front_as One Other before after onto (text, grew, (more, done, told)) = (text, grew, (more, done, onto (text ++ more) done told))
+
+-- No part of the empty list has an octet.
+none_before : (x y : List ℕ) → [] ≡ x ++ y → x ≡ []
+none_before [] y e = refl
+none_before (octet ∷ x) y e = let no = e in cc
+
+only_source : source_after (codes "source") ≡ Some []
+unfolding source_after
+only_source = refl
+
+-- Enough of the source is enough of the input.
+enough_source : (octets source left needed ahead : List ℕ) → SourceFront octets source → source ≡ needed ++ (ahead ++ left)
+    → (whole : List ℕ) × (octets ≡ whole ++ (ahead ++ left)) × (source_after whole ≡ Some needed)
+enough_source octets source left needed ahead begins cut = (
+  begins.front ++ needed,
+  begins.cut ∙ ap (λ (xs : List ℕ). begins.front ++ xs) cut ∙ sym (append_assoc begins.front needed (ahead ++ left)),
+  elim begins.starts [
+    | inl any ↦ any needed
+    | inr alone ↦
+        let none : needed ≡ [] = none_before needed (ahead ++ left) (sym alone.1 ∙ cut) in
+        ap source_after (ap (λ (xs : List ℕ). begins.front ++ xs) none ∙ append-nil begins.front ∙ alone.0) ∙ only_source ∙ ap (λ (xs : List ℕ). Some xs) (sym none)
+  ],
+)
+
+-- A script that is the word `source` opens no card.
+ended_by : (done : Done) (more : List ℕ) (next : Option ScriptWorld) (Later : ScriptWorld → Type 0) → next ≡ None
+    → MatchOption next ((more ≡ []) × (done ≡ Ended)) Later → done ≡ Ended
+ended_by done more None Later is ends = ends.1
+ended_by done more (Some world) Later is ends = let no = is in cc
+
+no_card_source : (text : List ℕ) (done : Done) → IsScriptExplained (codes "source") text done → done ≡ Ended
+no_card_source text done (here, more, next, is, (answer, after, steps, e, to), rest) =
+    ended_by done more next _ (to ∙ ap (option_map (after_answer before_script answer)) steps.1) rest
+
+-- Octets that are a front of an input that doesn't begin with the line `source` don't either, unless they are the word alone.
+module _ (octets needed behind : List ℕ) (cut : octets ≡ needed ++ behind) (none : source_after octets ≡ None) (text : List ℕ) (done : Done) (told : IsScriptExplained needed text done) where
+  front_told : (found : Option (List ℕ)) → source_after needed ≡ found → (text' : List ℕ) × IsExplainText needed text' done
+  front_told None is = (text, of_script needed text done is told)
+  front_told (Some source) is =
+      let begins = source_front needed source is in
+      elim begins.starts [
+        | inl any ↦
+            let whole : octets ≡ begins.front ++ (source ++ behind) = cut ∙ ap (λ (xs : List ℕ). xs ++ behind) begins.cut ∙ append_assoc begins.front source behind in
+            let no : Some (source ++ behind) ≡ None = sym (any (source ++ behind)) ∙ ap source_after (sym whole) ∙ none in
+            absurd cc
+        | inr alone ↦
+            let word : needed ≡ codes "source" = begins.cut ∙ ap (λ (xs : List ℕ). begins.front ++ xs) alone.1 ∙ append-nil begins.front ∙ alone.0 in
+            let ends : done ≡ Ended = no_card_source text done (subst (λ (xs : List ℕ). IsScriptExplained xs text done) word told) in
+            let empty = subst (λ (xs : List ℕ). IsSourceText xs empty-told.0 Ended) (sym alone.1) empty-told.1 in
+            (empty-told.0, subst (λ (d : Done). IsExplainText needed empty-told.0 d) (sym ends) (of_source needed source empty-told.0 Ended is empty))
+      ]
+
+module _ {Source : Type 0} (I : InputView Source) (source read source' : Source) {Sink : Type 0} (O : OutputView Sink) (sink sink' : Sink)
+    (result : Result Done RunFault) (same : I.failures read ≡ I.failures source) where
+  -- The source after the first line was answered.
+  pub served_source : (I.is_known → source_after (I.rest source) ≡ Some (I.rest read)) → IsServed IsSourceText I read source' O sink sink' result
+      → IsServed IsExplainText I source source' O sink sink' result
+  served_source begins served = record {
+    text = λ ki ko. IfOk-weaker result _ _ (λ done adds. (adds.0, adds.1, of_source (I.rest source) (I.rest read) adds.0 done (begins ki) adds.2)) (served.text ki ko);
+    front = λ ki ko. on_err_weaker result
+        (front_as (IsSourceText (I.rest read)) (IsExplainText (I.rest source)) (O.held sink) (O.held sink') (λ text done. of_source (I.rest source) (I.rest read) text done (begins ki)))
+        (served.front ki ko);
+    left = λ ki. IfOk-weaker result _ _
+        (λ done (needed, ahead, cut, few, (text, told)).
+        let whole = enough_source (I.rest source) (I.rest read) (I.rest source') needed ahead (source_front (I.rest source) (I.rest read) (begins ki)) cut in
+        (whole.0, ahead, whole.1, few, (text, of_source whole.0 needed text done whole.2 told)))
+        (served.left ki);
+    whole = served.whole;
+    reading = served.reading ∙ ap (read_failures result) same;
+    writing = served.writing;
+  }
+
+  -- The script was answered.
+  pub served_script : (I.is_known → (source_after (I.rest source) ≡ None) × (I.rest read ≡ I.rest source)) → IsServed IsScriptExplained I read source' O sink sink' result
+      → IsServed IsExplainText I source source' O sink sink' result
+  served_script begins served = record {
+    text = λ ki ko. IfOk-weaker result _ _
+        (λ done adds. (adds.0, adds.1, of_script (I.rest source) adds.0 done (begins ki).0 (subst (λ (xs : List ℕ). IsScriptExplained xs adds.0 done) (begins ki).1 adds.2)))
+        (served.text ki ko);
+    front = λ ki ko. on_err_weaker result
+        (front_as (IsScriptExplained (I.rest read)) (IsExplainText (I.rest source)) (O.held sink) (O.held sink')
+        (λ text done told. of_script (I.rest source) text done (begins ki).0 (subst (λ (xs : List ℕ). IsScriptExplained xs text done) (begins ki).1 told)))
+        (served.front ki ko);
+    left = λ ki. IfOk-weaker result _ _
+        (λ done (needed, ahead, cut, few, (text, told)).
+        let whole = sym (begins ki).1 ∙ cut in
+        let again = front_told (I.rest source) needed (ahead ++ I.rest source') whole (begins ki).0 text done told (source_after needed) refl in
+        (needed, ahead, whole, few, again))
+        (served.left ki);
+    whole = served.whole;
+    reading = served.reading ∙ ap (read_failures result) same;
+    writing = served.writing;
+  }

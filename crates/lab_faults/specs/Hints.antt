@@ -1,0 +1,54 @@
+-- Hints about a source without a fault.
+use Rattle.std.specs.Prelude.{◌≡◌, ℕ, ◌+◌, Bool, true, nat_lt, if◌then◌else◌, List, [], ◌∷◌, ◌++◌, codes, length, slice_get, slice_index, Option}
+use Rattle.bpf_asm.specs.SourceLines.{without_comment}
+use Rattle.bpf_code.specs.declared.instr.Instr.{Instr}
+use Rattle.bpf_code.specs.declared.instr.Instr.TheVariants.{LoadAbs, LoadInd, LdxMsh}
+use Rattle.bpf_interp.specs.Packet.{octets_loaded}
+use Rattle.bpf_interp.specs.State.{State, Ended}
+use Rattle.bpf_interp.specs.Step.{Does}
+use Rattle.lab_faults.specs.BadLines.{column_of, first_number}
+use Rattle.lab_faults.specs.LinesFound.{instruction_lines, instruction_tokens, line_numbered}
+use Rattle.lab_faults.specs.declared.tokens.FoundToken.{FoundToken}
+use Rattle.lab_scripts.specs.Places.{place_words}
+use Rattle.upc_words.specs.FaultLines.{line}
+
+-- The number of octets that a cell has at least if the instruction loads from it. Other instructions need none.
+abbrev pub octets_needed : Instr → ℕ
+octets_needed (LoadAbs size k) = k + octets_loaded size
+octets_needed (LoadInd size k) = k + octets_loaded size
+octets_needed (LdxMsh k) = k + 1
+octets_needed _ = 0
+
+-- Whether the instruction loads from outside of each cell.
+abbrev pub is_past_cell : Instr → Bool
+is_past_cell i = nat_lt 52 (octets_needed i)
+
+-- An instruction that loads from outside of each cell ends the program with 0, whatever the machine holds.
+abbrev pub OutsideEndsProgram : Type 0
+OutsideEndsProgram =
+    (cell : List ℕ) (i : Instr) (pc a x : ℕ) (m : List (ℕ × ℕ)) (next : State) → length cell ≡ 52 → is_past_cell i ≡ true
+    → Does cell i pc a x m next → next ≡ Ended 0
+
+-- The token of such an instruction that is wrong: its offset, or the mnemonic of a load of a header's length.
+abbrev pub hinted_token : Instr → List ℕ → Option FoundToken
+hinted_token (LdxMsh k) said = slice_get (instruction_tokens said) 0
+hinted_token _ said = first_number (without_comment said) (instruction_tokens said)
+
+-- The hint about such an instruction on a line of this number.
+abbrev pub outside_hint : List (List ℕ) → ℕ → Instr → List ℕ
+outside_hint lines number i =
+    codes "hint " ++ (place_words number (column_of (hinted_token i (line_numbered lines number)))
+    ++ line (codes "a cell has the octets 0 to 51, so this load always ends the program with 0"))
+
+-- The hint about an instruction, or nothing.
+abbrev pub hint_at : List (List ℕ) → ℕ → Instr → List ℕ
+hint_at lines number i = if is_past_cell i then outside_hint lines number i else []
+
+-- The hints about the instructions of a code from this place on, if these are the numbers of the lines of instructions.
+abbrev pub hints_from : List (List ℕ) → List ℕ → ℕ → List Instr → List ℕ
+hints_from lines numbers place [] = []
+hints_from lines numbers place (i ∷ code) = hint_at lines (slice_index numbers place) i ++ hints_from lines numbers (place + 1) code
+
+-- The hints about a code.
+unfoldable pub hints_of : List (List ℕ) → List Instr → List ℕ
+hints_of lines code = hints_from lines (instruction_lines 1 lines) 0 code
