@@ -68,7 +68,7 @@ fn in_words(alloc: Global, error: &Error) -> Vec<u8> {
 
 impl<D> Knowing<D> {
     ghost use Rattle.std.specs.Prelude.{◌↔◌, IsTrue};
-    ghost use Rattle.std_io.specs.IoError.{error_kind};
+    ghost use Rattle.std.specs.IoError.{error_kind};
 
     /// Keeps the reason of a failed call, and counts the call.
     fn fail(&mut self, error: Error) -> Failed
