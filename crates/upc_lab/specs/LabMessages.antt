@@ -1,27 +1,15 @@
 -- What `upc-lab` says beside its answers.
-use Rattle.std.specs.Prelude.{ℕ, ◌==◌, Bool, ◌&&◌, if◌then◌else◌, List, [], ◌∷◌, ◌++◌, codes}
+use Rattle.std.specs.Prelude.{ℕ, List, ◌++◌, codes}
 use Rattle.text_io.specs.declared.ending.RunFault.{RunFault}
 use Rattle.text_io.specs.declared.ending.RunFault.TheVariants.{ReadFailed, WriteFailed, NoMemory}
 use Rattle.upc_lab.specs.declared.choice.Subcommand.{Subcommand}
 use Rattle.upc_lab.specs.declared.choice.Subcommand.TheVariants as lab
 
--- A colon and the reason, or nothing if no reason is known.
-abbrev pub because : List ℕ → List ℕ
-because [] = []
-because (octet ∷ octets) = codes ": " ++ octet ∷ octets
-
--- The message for each failure, with the reason that the input or the output knows. There is none if nobody reads the
--- output: whoever closed the pipe doesn't want to hear of it.
-abbrev pub lab_failure_line : List ℕ → List ℕ → Bool → RunFault → List ℕ
-lab_failure_line read written closed ReadFailed = codes "upc-lab: reading failed" ++ (because read ++ codes "\n")
-lab_failure_line read written closed WriteFailed =
-    if closed then [] else codes "upc-lab: writing failed" ++ (because written ++ codes "\n")
-lab_failure_line read written closed NoMemory = codes "upc-lab: out of memory\n"
-
--- The exit status as a shell expects it: 141, which is 128 and the number of the signal PIPE, if a run failed because nobody
--- reads the output.
-abbrev pub shell_status_of : ℕ → Bool → ℕ
-shell_status_of status closed = if closed && (status == 3) then 141 else status
+-- The message for each failure.
+abbrev pub lab_failure_line : RunFault → List ℕ
+lab_failure_line ReadFailed = codes "upc-lab: reading failed\n"
+lab_failure_line WriteFailed = codes "upc-lab: writing failed\n"
+lab_failure_line NoMemory = codes "upc-lab: out of memory\n"
 
 -- The name of a subcommand.
 abbrev pub lab_name_of : Subcommand → List ℕ

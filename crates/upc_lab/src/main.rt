@@ -5,21 +5,19 @@ mod choice;
 mod invocation;
 mod laws;
 mod notice;
-mod reason;
 #[cfg(test)]
 mod tests;
 
 pub use choice::{Subcommand, choose};
-pub use invocation::{carry_out, shell_status};
+pub use invocation::carry_out;
 pub use lab_faults::{LookedAt, explain_faults};
 pub use lab_programs::{list_program, trace_cells};
 pub use lab_rules::{assemble_rules, compile_rules, decide_cells};
 pub use lab_sizes::size_contracts;
 pub use notice::awaited;
-pub use reason::{Knowing, Reasoned};
 use std::io::IsTerminal;
 use std::process::ExitCode;
-use text_io::Giving;
+use text_io::{Giving, Taking};
 use upc_choice::{OfProcess, Stop, words_after_name};
 
 fn main(rt: HostRuntime) -> ExitCode {
@@ -32,9 +30,8 @@ fn main(rt: HostRuntime) -> ExitCode {
     {
         let _ = eprintln!(rt; "{}", awaited(subcommand));
     }
-    let mut input = LookedAt::new(rt.alloc(), Knowing::new(rt.alloc(), rt.stdin()));
-    let mut output = Knowing::new(rt.alloc(), rt.stdout());
+    let mut input = LookedAt::new(rt.alloc(), Taking::new(rt.stdin()));
+    let mut output = Giving::new(rt.stdout());
     let mut errors = Giving::new(rt.stderr());
-    let status = carry_out(rt.alloc(), chosen, &mut input, &mut output, &mut errors);
-    ExitCode::from(shell_status(status, output.is_closed()))
+    ExitCode::from(carry_out(rt.alloc(), chosen, &mut input, &mut output, &mut errors))
 }

@@ -2,13 +2,11 @@
 //!
 //! Whole texts and their answers are data: examples/, and what tests/rules makes.
 
-ghost use Rattle.std.specs.Prelude.{[], true};
-
-use crate::{LookedAt, Reasoned, Subcommand, carry_out, choose, shell_status};
+use crate::{LookedAt, Subcommand, carry_out, choose};
 use std::alloc::{AllocError, Global};
 use std::process::Abort;
 use std::test::Fail;
-use text_io::{Failed, FaultyInput, FaultyOutput, Output};
+use text_io::{FaultyInput, FaultyOutput};
 use upc_choice::Stop;
 
 /// The exit status, the output and the messages of a run.
@@ -169,59 +167,6 @@ fn a_device_that_fails_is_told_and_ends_with_status_3(rt: HostRuntime) -> Result
         (b"otherwise -> 7\n", 100, 5),
         (3, b"accep", writing),
     )?;
-    Ok(())
-}
-
-/// An output that nobody reads: each call fails.
-#[derive(Drop)]
-struct Unread(u64);
-
-impl Output for Unread {
-    ghost is_known = { Unit {0} };
-
-    ghost held = { λ unread. [] };
-
-    ghost failures = { λ unread. unread.0 };
-
-    fn give(&mut self, octets: &[u8]) -> Result<usize, Failed> {
-        if octets.is_empty() {
-            return Ok(0);
-        }
-        self.0 = self.0.wrapping_add(1);
-        Err(Failed)
-    }
-}
-
-impl Reasoned for Unread {
-    ghost reason = { λ unread. [] };
-
-    ghost is_closed = { λ unread. true };
-
-    fn reason(&self) -> &[u8] {
-        &[]
-    }
-
-    fn is_closed(&self) -> bool {
-        true
-    }
-}
-
-#[test]
-fn nothing_is_said_if_nobody_reads(rt: HostRuntime) -> Result<(), Fail> {
-    let chosen = chosen_by(rt.alloc(), "rules")?;
-    let mut input = LookedAt::new(rt.alloc(), FaultyInput::new(b"otherwise -> 7\n", 100));
-    let mut output = Unread(0);
-    let mut errors = FaultyOutput::new(rt.alloc(), 100);
-    let status = carry_out(rt.alloc(), chosen, &mut input, &mut output, &mut errors);
-    assert_eq!(rt; (status, errors.held.as_slice()), (3, b"".as_slice()));
-    assert_eq!(rt;
-        (
-            shell_status(3, true),
-            shell_status(3, false),
-            shell_status(1, true)
-        ),
-        (141, 3, 1)
-    );
     Ok(())
 }
 
