@@ -22,6 +22,15 @@ fn put(octets: &mut [u8; 148], order: Order, numbers: &[(usize, u32)]) {
     }
 }
 
+/// Puts the first 68 octets of a record at octet 76.
+fn put_record(octets: &mut [u8; 148], record: &[u8]) {
+    for (place, octet) in record.iter().enumerate() {
+        if place < 68 {
+            octets[76 + place] = *octet;
+        }
+    }
+}
+
 /// A file with numbers in this order: a section header at octet 0, an interface of link type 197 at octet 28, and a packet with a
 /// record of 68 octets at octet 48. Then these numbers of four octets are put at these places.
 fn blocks_of(order: Order, changes: [(usize, u32); 2]) -> [u8; 148] {
@@ -42,7 +51,7 @@ fn blocks_of(order: Order, changes: [(usize, u32); 2]) -> [u8; 148] {
         (144, 100),
     ];
     put(&mut octets, order, &numbers);
-    octets[76..144].copy_from_slice(&octets_of(3, 2, 68)[..68]);
+    put_record(&mut octets, &octets_of(3, 2, 68));
     put(&mut octets, order, &changes);
     octets
 }
