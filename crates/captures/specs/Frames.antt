@@ -44,7 +44,7 @@ abbrev pub held_frame : ℕ → ℕ → Result (Format × Option (List ℕ)) Rec
 held_frame at size held =
     or_fault held (λ it. if nat_lt (at + size) (2 ^ 64) then Ok (record { size = size; after = it.0; held = it.1 }) else Err TooFar)
 
--- The frame of this size with which octets begin, if they are so many.
+-- The frame of this size at the start of the octets, if there are that many.
 abbrev pub frame_of_size : Format → ℕ → List ℕ → Result ℕ RecordFault → Option (Result Frame RecordFault)
 frame_of_size format at octets (Err reason) = Some (Err reason)
 frame_of_size format at octets (Ok size) =

@@ -23,7 +23,7 @@ abbrev pub half_in_order : Order → List ℕ → ℕ
 half_in_order HighestFirst octets = big_number 2 octets
 half_in_order LowestFirst octets = little_number 2 octets
 
--- How many octets a frame has that says this number: those before what the number counts, and so many more. The number has a
+-- How many octets a frame has that says this number: those before what the number counts, and as many more as it says. The number has a
 -- least and a greatest value.
 abbrev pub sized : ℕ → ℕ → ℕ → ℕ → Result ℕ RecordFault
 sized before least most said =

@@ -25,7 +25,7 @@ abbrev pub EndsReading : Format → ℕ → List ℕ → Option Fault → Type 0
 EndsReading format at octets None = octets ≡ []
 EndsReading format at octets (Some fault) = (fault.at ≡ at) × IsRecordFault format at octets fault.reason
 
--- What is given of a frame, after so many records: the record in it, or nothing if it holds none.
+-- What is given of a frame after this many records: the record in it, or nothing if it holds none.
 abbrev pub IsGiven : ℕ → Option (List ℕ) → Option Record → Type 0
 IsGiven count None None = Unit {0}
 IsGiven count None (Some said) = ⊥
@@ -43,7 +43,7 @@ records_in [] = []
 records_in (None ∷ frames) = records_in frames
 records_in (Some said ∷ frames) = said ∷ records_in frames
 
--- After so many records, at this place, octets are frames of which this is given, in order, and then end: the whole capture was
+-- After this many records, at this place, the octets are frames of which this is given, in order, and then end: the whole capture was
 -- read, or this is its first fault.
 abbrev pub IsFraming : Format → ℕ → ℕ → List ℕ → List (Option Record) → Option Fault → Type 0
 IsFraming format count at octets [] ending = EndsReading format at octets ending
@@ -51,12 +51,12 @@ IsFraming format count at octets (given ∷ frames) ending =
     (frame : Frame) × (first_frame format at octets ≡ Some (Ok frame)) × IsGiven count frame.held given
     × IsFraming frame.after (count_after count given) (at + frame.size) (drop frame.size octets) frames ending
 
--- After so many records, at this place, octets are read as these records in order, and then end.
+-- After this many records, at this place, the octets are read as these records in order, and then end.
 abbrev pub IsReading : Format → ℕ → ℕ → List ℕ → List Record → Option Fault → Type 0
 IsReading format count at octets records ending =
     (frames : List (Option Record)) × IsFraming format count at octets frames ending × (records ≡ records_in frames)
 
--- A reader goes on by one frame, of so many octets, of which this is given. A frame has one octet at least.
+-- A reader goes on by one frame of this many octets, of which this is given. A frame has one octet at least.
 pub record TakesFrame (before : Reader) (octets : List ℕ) (given : Option Record) (own : ℕ) (after : Reader) : Type 0 where
   pub frame : Frame
   pub first : first_frame before.format before.at octets ≡ Some (Ok frame)

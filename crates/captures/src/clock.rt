@@ -12,7 +12,7 @@ pub struct Tick {
 }
 
 impl Tick {
-    /// Makes a tick of so many nanoseconds. Returns none if there are none.
+    /// Makes a tick of this many nanoseconds. Returns none if the number is 0.
     pub fn new(nanoseconds: u64) -> Option<Tick>
         ensures none { IsNone result ↔ (nanoseconds ≡ 0) }
         ensures some { IfSome result (λ tick. tick.nanoseconds ≡ nanoseconds) }

@@ -59,7 +59,7 @@ fn cell_from(octets: &[u8], place: usize) -> Result<Cell, NoCell>
     }
 }
 
-/// Returns the cell of a record whose type holds cells, with so many octets of multi-channel header before them.
+/// Returns the cell of a record whose type holds cells, after this many octets of multi-channel header.
 fn received_cell(octets: &[u8], channel: usize) -> Result<Cell, NoCell>
     requires header { 16 ≤ length octets.now }
     requires small { channel ≤ 4 }

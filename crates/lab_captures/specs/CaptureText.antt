@@ -37,7 +37,7 @@ records_text rules world [] ending = (rules.closes world ending, done_at ending)
 records_text rules world (said ∷ records) ending =
     text_then (rules.steps world said).0 (rules.steps world said).1 (λ next. records_text rules next records ending)
 
--- After so many records, at this place, in this world, the text answers octets, and the run ends in this way.
+-- After this many records, at this place, in this world, the text answers the octets, and the run ends in this way.
 abbrev pub IsRecordsText : {World : Type 0} → CaptureRules World → Format → ℕ → ℕ → World → List ℕ → List ℕ → Done → Type 0
 IsRecordsText rules format count at world octets text done =
     (records : List Record) × (ending : Option Fault) × IsReading format count at octets records ending

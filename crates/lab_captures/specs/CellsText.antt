@@ -1,4 +1,4 @@
--- The output of `upc-lab cells`: a line of a script for each cell of a capture, and comments about the records that were passed over.
+-- The text of the cells of a capture: a line of a script for each cell of a capture, and comments about the records that were passed over.
 use Rattle.std.specs.Prelude.{◌≡◌, ◌+◌, ◌-◌, ◌^◌, ◌==◌, nat_lt, min, max, if◌then◌else◌, Bool, ℕ, List, [], ◌++◌, codes, decimal, Option, Some, None, is_some, unwrap_or, Result, Ok, Err}
 use Rattle.hex.specs.Hex.{encode_lower}
 use Rattle.captures.specs.Moments.{whole_ticks}
@@ -49,7 +49,7 @@ pub record CellsWorld : Type 0 where
   pub clock : Option (ℕ × ℕ)
   pub passed : PassedOver
 
--- The state at first, with a tick of so many nanoseconds and the interface that was asked for.
+-- The state at first, with a tick of this many nanoseconds and the interface that was asked for.
 abbrev pub cells_start : ℕ → Option ℕ → CellsWorld
 cells_start tick interface =
     record { tick = tick; asked = is_some interface; interface = interface; clock = None; passed = none_passed }
@@ -120,7 +120,7 @@ cells_closes world ending = passed_lines world.passed ++ ending_line ending
 abbrev pub cells_rules : CaptureRules CellsWorld
 cells_rules = record { steps = cells_steps; closes = cells_closes }
 
--- The output for a whole file, and how the run ends, with a tick of so many nanoseconds and the interface that was asked for.
+-- The output for a whole file, and how the run ends, with a tick of this many nanoseconds and the interface that was asked for.
 abbrev pub IsCellsText : ℕ → Option ℕ → List ℕ → List ℕ → Done → Type 0
 IsCellsText tick interface = IsCaptureText cells_rules (cells_start tick interface)
 

@@ -1,4 +1,4 @@
-//! `upc-lab cells`: the cells of a capture as lines of a script.
+//! The cells of a capture as lines of a script. No subcommand uses this yet.
 
 ghost use Rattle.std.specs.Prelude.{◌≡◌, ◌++◌, IfOk, OnOk};
 ghost use Rattle.hex.specs.Hex.{encode_lower};

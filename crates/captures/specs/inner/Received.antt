@@ -12,7 +12,7 @@ IsCellFrom octets place (Err (CutShort number)) = (length octets < place + 52) �
 IsCellFrom octets place (Err (OtherType number)) = ⊥
 IsCellFrom octets place (Err Errored) = ⊥
 
--- What a record with so many octets of multi-channel header holds.
+-- What a record holds that has this many octets of multi-channel header.
 abbrev pub IsReceived : List ℕ → ℕ → Result (List ℕ) NoCell → Type 0
 IsReceived octets channel (Err Errored) = IsErrored octets
 IsReceived octets channel (Err (OtherType number)) = ⊥
