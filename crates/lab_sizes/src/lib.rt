@@ -15,4 +15,5 @@ pub use fault::SizeFault;
 pub use figures::{CellRate, Figures, Sustained, VbrKind};
 pub use size::size_contracts;
 pub use size_text::{add_size_fault, add_sizes};
+pub use size_words::duration;
 pub use sizing::{SizedRate, Sizes, sized};

@@ -19,8 +19,9 @@ fn in_units(digits: &[u8], scale: u64) -> Option<u64>
     count.checked_mul(scale)
 }
 
-/// Returns the nanoseconds of a time.
-fn duration(word: &[u8]) -> Option<u64>
+/// Returns the nanoseconds that a time spells: a number, and then ns, us, ms or s. None if the word is no time, or one of more than
+/// 2^64 - 1 nanoseconds.
+pub fn duration(word: &[u8]) -> Option<u64>
     ensures { result ≡ duration_of word.now }
 {
     if let Some(digits) = word.strip_suffix(b"ns") {

@@ -1,5 +1,5 @@
 -- clap's definitions, computed for the command `upc-lab`.
-use Rattle.std.proofs.Common.{◌≡◌, ◌∙◌, ◌&&◌, ⊎_elim, Bool, ap, ap₂, codes, find, refl, subst, sym, true, false, inl, inr, List, [], ◌∷◌, Option, Some, None, IfErr, IfOk, IfSome, IsErrAnd, IsOkAnd, IsSome, IsSomeAnd, Ok, Err, is_some, option_map, Result}
+use Rattle.std.proofs.Common.{◌≡◌, ◌∙◌, ◌&&◌, ◌||◌, ⊎_elim, Bool, ap, ap₂, codes, find, refl, subst, sym, true, false, inl, inr, List, [], ◌∷◌, Option, Some, None, IfErr, IfOk, IfSome, IsErrAnd, IsOkAnd, IsSome, IsSomeAnd, Ok, Err, is_some, option_map, Result}
 use Rattle.std.specs.List.{list_all}
 use Rattle.std.specs.Borrow.{Bor}
 use Rattle.std.specs.Prelude.{Box}
@@ -25,7 +25,7 @@ use Rattle.upc_choice.specs.Stopping.{IsStopFor, StopsAt}
 use Rattle.upc_choice.specs.declared.choice.Stop.{Stop}
 use Rattle.upc_choice.specs.declared.choice.Stop.TheVariants.{NoMemory}
 use Rattle.upc_choice.proofs.Public.{Finds, find_both, finds, has_requests_alone, is_plain_subcommand, memory_alone, stops_at}
-use Rattle.upc_lab.specs.LabWords.{NamesLab, lab_app, lab_faults_in, lab_line, lab_named, lab_subcommands}
+use Rattle.upc_lab.specs.LabWords.{NamesLab, begins_cells, lab_app, lab_faults_in, lab_line, lab_named, lab_subcommands}
 use Rattle.upc_lab.specs.inner.FoundName.{lab_name_in}
 use Rattle.upc_lab.specs.declared.choice.Subcommand.{Subcommand}
 
@@ -56,8 +56,9 @@ name_at a words given m name is all met matches =
 
 -- ---- words without an error
 
+-- A name in the table, or `cells`, whose options another command reads.
 abbrev is_named : Text → Bool
-is_named name = is_some (lab_named name)
+is_named name = is_some (lab_named name) || bytes_eq name (codes "cells")
 
 lab_is_plain : list_all (is_plain_subcommand is_named) (built lab_app).subs ≡ true
 unfolding lab_app with_name clap_on_literals
@@ -104,17 +105,28 @@ named_at : (given : List Text) (found : Option Text) → Finds is_named given fo
 named_at given found (inl h) none = absurd (end_refused given h.0 none)
 named_at given found (inr h) none = h
 
-some_named : (name : Option (Bor Text)) (text : Text) → option_map (λ text. text.now) name ≡ Some text → is_named text ≡ true
+-- Words that don't begin with `cells` have a name in the table.
+is_other : (known cells : Bool) → known || cells ≡ true → cells ≡ false → known ≡ true
+is_other true cells h no = refl
+is_other false true h no = let bad : true ≡ false = no in cc
+is_other false false h no = h
+
+in_table : (given : List Text) (found : Option Text) (h : IsNamed given found) → begins_cells given ≡ false → is_some (lab_named h.0) ≡ true
+in_table given found h plain =
+    is_other (is_some (lab_named h.0)) (bytes_eq h.0 (codes "cells")) h.4 (sym (ap begins_cells h.2) ∙ plain)
+
+some_named : (name : Option (Bor Text)) (text : Text) → option_map (λ text. text.now) name ≡ Some text → is_some (lab_named text) ≡ true
     → IsSomeAnd name (λ text. IsSome (lab_named text.now))
 some_named None text same h = cc
-some_named (Some found) text same h = let is : found.now ≡ text = cc in subst (λ name. is_named name ≡ true) (sym is) h
+some_named (Some found) text same h = let is : found.now ≡ text = cc in subst (λ name. is_some (lab_named name) ≡ true) (sym is) h
 
-pub named_in : (given : List Text) (found : Result (Option (Bor Text)) Error) → FailsBy (lab_faults_in given) found → IfOk found (λ name. option_map (λ text. text.now) name ≡ lab_name_in given)
+pub named_in : (given : List Text) (found : Result (Option (Bor Text)) Error) → begins_cells given ≡ false → FailsBy (lab_faults_in given) found
+    → IfOk found (λ name. option_map (λ text. text.now) name ≡ lab_name_in given)
     → IfOk found (λ name. IsSomeAnd name (λ text. IsSome (lab_named text.now)))
-named_in given (Ok name) none met =
+named_in given (Ok name) plain none met =
     let h = named_at given (lab_name_in given) (found_in given none) none in
-    some_named name h.0 (met ∙ h.3) h.4
-named_in given (Err error) kinds met = tt
+    some_named name h.0 (met ∙ h.3) (in_table given (lab_name_in given) h plain)
+named_in given (Err error) plain kinds met = tt
 
 abbrev is_taken : Text → Bool
 is_taken name = is_empty (lab_faults_in (name ∷ [])) && is_empty (lab_faults_in (name ∷ codes "--" ∷ []))
@@ -143,9 +155,7 @@ taken_at given subcommand h =
 
 pub record LabAnswers (given : List Text) (answer : Result Subcommand Stop) : Type 0 where
   pub asked : IfOk answer (NamesLab given)
-  pub faultless : IfOk answer (λ _. lab_faults_in given ≡ [])
   pub stopped : IfErr answer (StopsAt (lab_faults_in given))
-  pub taken : lab_faults_in given ≡ [] → IfErr answer (λ stop. stop ≡ NoMemory)
   pub granted : (subcommand : Subcommand) → NamesLab given subcommand → IfErr answer (λ stop. stop ≡ NoMemory)
 
 names_it : (given : List Text) (name : Option (Bor Text)) (subcommand : Subcommand) → IsNamed given (option_map (λ text. text.now) name)
@@ -174,9 +184,7 @@ answers given (Ok name) (Ok subcommand) none met named stopped =
     let h = named_at given (option_map (λ text. text.now) name) (subst (λ o. Finds is_named given o) (sym met) (found_in given none)) none in
     record {
       asked = names_it given name subcommand h (if_ok (λ text it. lab_named text.now ≡ Some it) name subcommand named);
-      faultless = none;
       stopped = tt;
-      taken = λ _. tt;
       granted = λ _ _. tt;
     }
 answers given (Ok name) (Err stop) none met named stopped =
@@ -185,8 +193,6 @@ answers given (Ok name) (Err stop) none met named stopped =
 answers given (Err error) (Ok subcommand) kinds met named stopped = absurd stopped
 answers given (Err error) (Err stop) kinds met named stopped = record {
   asked = tt;
-  faultless = tt;
   stopped = stops_at (lab_faults_in given) error stop kinds stopped;
-  taken = memory_alone (lab_faults_in given) error stop kinds stopped;
   granted = λ subcommand asks. memory_alone (lab_faults_in given) error stop kinds stopped (taken_at given subcommand asks);
 }

@@ -1,15 +1,23 @@
 -- What `upc-lab` says beside its answers.
-use Rattle.std.specs.Prelude.{ℕ, List, ◌++◌, codes}
+use Rattle.std.specs.Prelude.{ℕ, ◌==◌, Bool, ◌&&◌, if◌then◌else◌, List, [], ◌++◌, codes}
 use Rattle.text_io.specs.declared.ending.RunFault.{RunFault}
 use Rattle.text_io.specs.declared.ending.RunFault.TheVariants.{ReadFailed, WriteFailed, NoMemory}
+use Rattle.upc_lab.specs.declared.choice.Asked.{Asked}
+use Rattle.upc_lab.specs.declared.choice.Asked.TheVariants.{Plain, Cells}
 use Rattle.upc_lab.specs.declared.choice.Subcommand.{Subcommand}
 use Rattle.upc_lab.specs.declared.choice.Subcommand.TheVariants as lab
 
--- The message for each failure.
-abbrev pub lab_failure_line : RunFault → List ℕ
-lab_failure_line ReadFailed = codes "upc-lab: reading failed\n"
-lab_failure_line WriteFailed = codes "upc-lab: writing failed\n"
-lab_failure_line NoMemory = codes "upc-lab: out of memory\n"
+-- The message for each failure, with what the input and the output say of their own last failures. There is none if nobody reads the
+-- output: whoever closed the pipe doesn't want to hear of it.
+abbrev pub lab_failure_line : List ℕ → List ℕ → Bool → RunFault → List ℕ
+lab_failure_line read written closed ReadFailed = read
+lab_failure_line read written closed WriteFailed = if closed then [] else written
+lab_failure_line read written closed NoMemory = codes "upc-lab: out of memory\n"
+
+-- The exit status as a shell expects it: 141, which is 128 and the number of the signal PIPE, if a run failed because nobody
+-- reads the output.
+abbrev pub shell_status_of : ℕ → Bool → ℕ
+shell_status_of status closed = if closed && (status == 3) then 141 else status
 
 -- The name of a subcommand.
 abbrev pub lab_name_of : Subcommand → List ℕ
@@ -34,3 +42,8 @@ lab_input_of lab.Explain = codes "reading a script from the terminal, or a line 
 -- The name of the subcommand, and what it waits for.
 abbrev pub lab_notice : Subcommand → List ℕ
 lab_notice subcommand = codes "upc-lab " ++ lab_name_of subcommand ++ codes ": " ++ lab_input_of subcommand
+
+-- The notice for what was asked.
+abbrev pub asked_notice : Asked → List ℕ
+asked_notice (Plain subcommand) = lab_notice subcommand
+asked_notice (Cells options) = codes "upc-lab cells: reading a capture from the terminal, to its end"

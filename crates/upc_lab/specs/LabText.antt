@@ -1,5 +1,6 @@
 -- The output of each subcommand of `upc-lab`.
 use Rattle.std.specs.Prelude.{ℕ, List}
+use Rattle.lab_captures.specs.CellsText.{IsCellsText}
 use Rattle.lab_faults.specs.Explained.{IsExplainText}
 use Rattle.lab_programs.specs.ListedProgram.{IsListText}
 use Rattle.lab_programs.specs.Trace.{IsTraceText}
@@ -8,10 +9,12 @@ use Rattle.lab_rules.specs.RulesText.{MayBeRulesText}
 use Rattle.lab_rules.specs.WhyText.{IsWhyText}
 use Rattle.lab_sizes.specs.SizeText.{IsSizesText}
 use Rattle.text_io.specs.declared.ending.Done.{Done}
+use Rattle.upc_lab.specs.declared.choice.Asked.{Asked}
+use Rattle.upc_lab.specs.declared.choice.Asked.TheVariants.{Plain, Cells}
 use Rattle.upc_lab.specs.declared.choice.Subcommand.{Subcommand}
 use Rattle.upc_lab.specs.declared.choice.Subcommand.TheVariants as lab
 
--- The output for a whole input, and how the run ends.
+-- The output of a subcommand without options for a whole input, and how the run ends.
 abbrev pub IsLabText : Subcommand → List ℕ → List ℕ → Done → Type 0
 IsLabText lab.Rules = MayBeRulesText
 IsLabText lab.Why = IsWhyText
@@ -20,3 +23,8 @@ IsLabText lab.List = IsListText
 IsLabText lab.Trace = IsTraceText
 IsLabText lab.Size = IsSizesText
 IsLabText lab.Explain = IsExplainText
+
+-- The output for a whole input, and how the run ends.
+abbrev pub IsAskedText : Asked → List ℕ → List ℕ → Done → Type 0
+IsAskedText (Plain subcommand) = IsLabText subcommand
+IsAskedText (Cells options) = IsCellsText options.tick.nanoseconds options.interface

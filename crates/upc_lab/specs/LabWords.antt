@@ -1,12 +1,17 @@
 -- The subcommand of `upc-lab` that the command line names, and the errors of the command line, by clap's definitions for a simple
 -- command.
-use Rattle.std.specs.Prelude.{◌≡◌, List, [], ◌∷◌, ◌++◌, Option, Some, true, fold, find, codes, option_map}
+use Rattle.std.specs.Prelude.{◌≡◌, List, [], ◌∷◌, ◌++◌, Bool, Option, Some, true, false, MatchBool, drop, fold, find, codes, option_map}
 use Rattle.std.specs.Str.{bytes_eq}
 use Rattle.clap.specs.Walk.{Text}
 use Rattle.clap.specs.Simple.{App, new_app, on_top}
 use Rattle.clap.specs.Kinds.{Kinds}
 use Rattle.clap.specs.Faults.{fault_of}
+use Rattle.lab_options.specs.CellsOptions.{AsksCells, IsCellsStop}
 use Rattle.upc_choice.specs.Choice.{IsEnd, with_name}
+use Rattle.upc_choice.specs.Stopping.{StopsAt}
+use Rattle.upc_choice.specs.declared.choice.Stop.{Stop}
+use Rattle.upc_lab.specs.declared.choice.Asked.{Asked}
+use Rattle.upc_lab.specs.declared.choice.Asked.TheVariants.{Plain, Cells}
 use Rattle.upc_lab.specs.declared.choice.Subcommand.{Subcommand}
 use Rattle.upc_lab.specs.declared.choice.Subcommand.TheVariants as lab
 
@@ -14,7 +19,7 @@ use Rattle.upc_lab.specs.declared.choice.Subcommand.TheVariants as lab
 abbrev pub rules_subcommands : List (Text × Subcommand)
 rules_subcommands = (codes "rules", lab.Rules) ∷ (codes "why", lab.Why) ∷ (codes "asm", lab.Asm) ∷ []
 
--- The name of each subcommand: those for rules, those for programs, that for contracts, and that for faults.
+-- The name of each subcommand without options: those for rules, those for programs, that for contracts, and that for faults.
 abbrev pub lab_subcommands : List (Text × Subcommand)
 lab_subcommands =
     rules_subcommands ++ (codes "list", lab.List) ∷ (codes "trace", lab.Trace) ∷ (codes "size", lab.Size)
@@ -24,9 +29,10 @@ lab_subcommands =
 abbrev pub lab_alone : App
 lab_alone = on_top (λ top. record top { subcommand_required = true }) (new_app (codes "upc-lab"))
 
--- The command `upc-lab`: its subcommands, and no option except help, which every command has.
+-- The command `upc-lab`: its subcommands, and no option except help, which every command has. Words that begin with `cells` are
+-- those of a command of its own, so its options are not here.
 unfoldable pub lab_app : App
-lab_app = fold (λ app row. with_name app row.0) lab_alone lab_subcommands
+lab_app = with_name (fold (λ app row. with_name app row.0) lab_alone lab_subcommands) (codes "cells")
 
 -- The command line as clap reads it: the program's name, then the words.
 abbrev pub lab_line : List Text → List Text
@@ -44,3 +50,18 @@ lab_named name = option_map (λ row. row.1) (find (λ row. bytes_eq row.0 name) 
 abbrev pub NamesLab : List Text → Subcommand → Type 0
 NamesLab words subcommand =
     (name : Text) × (rest : List Text) × (words ≡ name ∷ rest) × (lab_named name ≡ Some subcommand) × IsEnd rest
+
+-- The first word is `cells`.
+abbrev pub begins_cells : List Text → Bool
+begins_cells [] = false
+begins_cells (word ∷ words) = bytes_eq word (codes "cells")
+
+-- The words ask for this: after `cells` there are its options, and other words name a subcommand without options.
+abbrev pub AsksLab : List Text → Asked → Type 0
+AsksLab words (Plain subcommand) = (begins_cells words ≡ false) × NamesLab words subcommand
+AsksLab words (Cells options) =
+    (begins_cells words ≡ true) × AsksCells (drop 1 words) options.tick.nanoseconds options.interface
+
+-- The Stops that words may give. NoMemory is always allowed.
+abbrev pub IsLabStop : List Text → Stop → Type 0
+IsLabStop words stop = MatchBool (begins_cells words) (IsCellsStop (drop 1 words) stop) (StopsAt (lab_faults_in words) stop)

@@ -2,4 +2,5 @@
 pub mod LabWords
 pub mod LabText
 pub mod LabMessages
+pub mod FailureLines
 pub mod inner

@@ -1,22 +1,24 @@
 //! The words of the command line, read by the crate `clap`.
 
-ghost use Rattle.std.specs.Prelude.{◌≡◌, List, ℕ, [], IfErr, IfOk, IfSome, IsErrAnd, IsOkAnd, IsSome, IsSomeAnd, Some, codes, map, option_map};
+ghost use Rattle.std.specs.Prelude.{◌≡◌, List, ℕ, [], false, true, IfErr, IfOk, IfSome, IsErrAnd, IsOkAnd, IsSome, IsSomeAnd, Some, codes, drop, map, option_map};
 ghost use Rattle.std.specs.String.{string_bytes};
 ghost use Rattle.clap.specs.Values.{kind_of};
 ghost use Rattle.clap.specs.Simple.{app_of};
 ghost use Rattle.clap.specs.Kinds.{FailsBy};
 ghost use Rattle.upc_choice.specs.Choice.{with_name};
 ghost use Rattle.upc_choice.specs.Stopping.{IsStopFor, StopsAt};
-ghost use Rattle.upc_lab.specs.LabWords.{NamesLab, lab_alone, lab_app, lab_faults_in, lab_line, lab_named};
+ghost use Rattle.upc_lab.specs.LabWords.{AsksLab, IsLabStop, NamesLab, begins_cells, lab_alone, lab_app, lab_faults_in, lab_line, lab_named};
+ghost use Rattle.upc_lab.specs.declared.choice.Asked.{Asked as TheAsked};
 ghost use Rattle.upc_lab.specs.inner.FoundName.{lab_name_in};
 ghost use Rattle.upc_lab.specs.inner.RowNamed.{row_named};
 ghost use Rattle.upc_lab.specs.inner.RulesAlone.{rules_app};
 
 use clap::{Command, Error};
+use lab_options::{CellsOptions, cells_options};
 use std::alloc::{AllocError, Global};
 use upc_choice::{Stop, stop_for};
 
-/// What the program should do.
+/// A subcommand without options.
 #[derive(Clone, Copy, Debug, PartialEq, Eq)]
 pub enum Subcommand {
     /// Compile a text of rules, and print the octets of their program.
@@ -35,15 +37,61 @@ pub enum Subcommand {
     Explain,
 }
 
-/// Reads the words after the program's name: the name of one subcommand. The forms of help that `clap` has request help. Any
-/// other word, any further word and no word is an error. As everywhere in `clap`, `--` ends the options and isn't a word
-/// itself, so it may be last.
-pub fn choose(alloc: Global, words: Vec<String>) -> Result<Subcommand, Stop>
-    ensures asked { IfOk result (NamesLab (map string_bytes words.items)) }
-    ensures faultless { IfOk result (λ _. lab_faults_in (map string_bytes words.items) ≡ []) }
-    ensures stopped { IfErr result (StopsAt (lab_faults_in (map string_bytes words.items))) }
-    ensures taken { lab_faults_in (map string_bytes words.items) ≡ []
+/// What the program should do.
+#[derive(Clone, Copy, Debug, PartialEq, Eq)]
+pub enum Asked {
+    /// Run a subcommand without options.
+    Plain(Subcommand),
+    /// Print the cells of a capture as lines of a script.
+    Cells(CellsOptions),
+}
+
+/// Reads the words after the program's name: `cells` and its options, or the name of another subcommand. The forms of help that
+/// `clap` has request help. Any other word, any further word and no word is an error. As everywhere in `clap`, `--` ends the
+/// options and isn't a word itself, so it may be last.
+pub fn choose(alloc: Global, words: Vec<String>) -> Result<Asked, Stop>
+    ensures asked { IfOk result (AsksLab (map string_bytes words.items)) }
+    ensures stopped { IfErr result (IsLabStop (map string_bytes words.items)) }
+    ensures granted { (asked : TheAsked) → AsksLab (map string_bytes words.items) asked
         → IfErr result (λ stop. stop ≡ Stop.NoMemory) }
+{
+    if begins_cells(words.as_slice()) {
+        match cells_options(alloc, without_first(words)) {
+            Ok(options) => Ok(Asked::Cells(options)),
+            Err(stop) => Err(stop),
+        }
+    } else {
+        match choose_plain(alloc, words) {
+            Ok(subcommand) => Ok(Asked::Plain(subcommand)),
+            Err(stop) => Err(stop),
+        }
+    }
+}
+
+/// Returns whether the first word is `cells`.
+fn begins_cells(words: &[String]) -> bool
+    ensures { result ≡ begins_cells (map string_bytes words.now) }
+{
+    match words {
+        [word, ..] => word.as_bytes() == b"cells".as_slice(),
+        [] => false,
+    }
+}
+
+/// Removes the first word.
+fn without_first(mut words: Vec<String>) -> Vec<String>
+    requires { begins_cells (map string_bytes words.items) ≡ true }
+    ensures { map string_bytes result.items ≡ drop 1 (map string_bytes words.items) }
+{
+    words.remove(0);
+    words
+}
+
+/// Reads words that don't begin with `cells`: the name of a subcommand without options.
+fn choose_plain(alloc: Global, words: Vec<String>) -> Result<Subcommand, Stop>
+    requires { begins_cells (map string_bytes words.items) ≡ false }
+    ensures asked { IfOk result (NamesLab (map string_bytes words.items)) }
+    ensures stopped { IfErr result (StopsAt (lab_faults_in (map string_bytes words.items))) }
     ensures granted { (subcommand : Subcommand) → NamesLab (map string_bytes words.items) subcommand
         → IfErr result (λ stop. stop ≡ Stop.NoMemory) }
 {
@@ -124,12 +172,19 @@ fn with_program_subcommands<'a>(
         "Print the buckets of contracts on paper, and the rates that they police",
         "Example: echo cbr1 pcr 353207 cdvt 250us tick 100ns | upc-lab size",
     )?;
-    with_subcommand(
+    let command = with_subcommand(
         alloc,
         command,
         "explain",
         "Explain the faults of a script, or after a line `source` that of a source of assembly",
         "Example: upc-lab explain < examples/desk-refusals.run",
+    )?;
+    with_subcommand(
+        alloc,
+        command,
+        "cells",
+        "Print the ATM cells of a capture of a link as lines of a script",
+        "It has options: `upc-lab cells --help` lists them",
     )
 }
 

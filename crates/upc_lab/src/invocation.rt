@@ -5,10 +5,12 @@ ghost use Rattle.text_io.specs.Serving.{IsServed};
 ghost use Rattle.upc_exit.specs.ExitStatus.{status_of};
 ghost use Rattle.upc_exit.specs.Invocation.{CarriesOut, IsStatusFor};
 ghost use Rattle.upc_exit.specs.Messages.{Reports};
-ghost use Rattle.upc_lab.specs.LabMessages.{lab_failure_line};
-ghost use Rattle.upc_lab.specs.LabText.{IsLabText};
+ghost use Rattle.upc_lab.specs.LabMessages.{lab_failure_line, shell_status_of};
+ghost use Rattle.upc_lab.specs.LabText.{IsAskedText, IsLabText};
 
-use crate::choice::Subcommand;
+use crate::choice::{Asked, Subcommand};
+use crate::reason::Reasoned;
+use lab_captures::cells_of_capture;
 use lab_faults::{Ahead, explain_faults};
 use lab_programs::{list_program, trace_cells};
 use lab_rules::{assemble_rules, compile_rules, decide_cells};
@@ -18,33 +20,57 @@ use text_io::{Done, Output, RunFault, give_all};
 use upc_choice::Stop;
 use upc_exit::{status, tell};
 
-/// The message for a failure.
-fn line_of(fault: RunFault) -> &'static [u8]
-    ensures { result.now ≡ lab_failure_line fault }
+/// The message for a failure of a run over these devices.
+fn line_of<'a, I: Reasoned, O: Reasoned>(
+    fault: RunFault,
+    input: &'a I,
+    output: &'a O,
+) -> &'a [u8]
+    ensures { result.now ≡ lab_failure_line (I.message input.now) (O.message output.now) (O.is_closed output.now) fault }
 {
     match fault {
-        RunFault::ReadFailed => b"upc-lab: reading failed\n",
-        RunFault::WriteFailed => b"upc-lab: writing failed\n",
+        RunFault::ReadFailed => input.message(),
+        RunFault::WriteFailed => {
+            if output.is_closed() {
+                &[]
+            } else {
+                output.message()
+            }
+        }
         RunFault::NoMemory => b"upc-lab: out of memory\n",
     }
 }
 
 /// Writes the message for a failed run, and returns the exit status of any run.
-fn report<E: Output>(errors: &mut E, ended: Result<Done, RunFault>) -> u8
+fn report<I: Reasoned, O: Reasoned, E: Output>(
+    ended: Result<Done, RunFault>,
+    input: &I,
+    output: &O,
+    errors: &mut E,
+) -> u8
     ensures status { result ≡ status_of ended }
-    ensures told { E.is_known → Reports lab_failure_line E.Output errors.old errors.new ended }
+    ensures reported { E.is_known → Reports
+        (lab_failure_line (I.message input.now) (O.message output.now) (O.is_closed output.now))
+        E.Output errors.old errors.new ended }
 {
     match ended {
         Ok(_) => status(&ended),
         Err(fault) => {
-            tell(errors, line_of(fault));
+            tell(errors, line_of(fault, input, output));
             status(&ended)
         }
     }
 }
 
-/// Runs a subcommand over the whole input.
-fn run<I: Ahead, O: Output>(
+/// Returns the exit status as a shell expects it: 141 if a run failed because nobody reads the output.
+pub fn shell_status(status: u8, closed: bool) -> u8
+    ensures { result ≡ shell_status_of status closed }
+{
+    if closed && status == 3 { 141 } else { status }
+}
+
+/// Runs a subcommand without options over the whole input.
+fn run_plain<I: Ahead, O: Output>(
     alloc: Global,
     subcommand: Subcommand,
     input: &mut I,
@@ -63,32 +89,49 @@ fn run<I: Ahead, O: Output>(
     }
 }
 
+/// Runs what was asked for over the whole input.
+fn run<I: Ahead, O: Output>(
+    alloc: Global,
+    asked: Asked,
+    input: &mut I,
+    output: &mut O,
+) -> Result<Done, RunFault>
+    ensures { IsServed (IsAskedText asked) I.Input input.old input.new O.Output output.old output.new result }
+{
+    match asked {
+        Asked::Plain(subcommand) => run_plain(alloc, subcommand, input, output),
+        Asked::Cells(options) =>
+            cells_of_capture(alloc, options.tick, options.interface, input, output),
+    }
+}
+
 /// Does what the words ask for, and returns the exit status: it runs the subcommand, writes the help, or writes a message
 /// about the words. A failure also gets a message.
-pub fn carry_out<I: Ahead, O: Output, E: Output>(
+pub fn carry_out<I: Ahead + Reasoned, O: Output + Reasoned, E: Output>(
     alloc: Global,
-    chosen: Result<Subcommand, Stop>,
+    chosen: Result<Asked, Stop>,
     input: &mut I,
     output: &mut O,
     errors: &mut E,
 ) -> u8
-    ensures carried { I.is_known → O.is_known → E.is_known → CarriesOut lab_failure_line IsLabText chosen I.Input input.old input.new
-        O.Output output.old output.new E.Output errors.old errors.new result }
+    ensures carried { I.is_known → O.is_known → E.is_known → CarriesOut
+        (lab_failure_line (I.message input.new) (O.message output.new) (O.is_closed output.new))
+        IsAskedText chosen I.Input input.old input.new O.Output output.old output.new E.Output errors.old errors.new result }
     ensures status { IsStatusFor chosen result }
 {
     match chosen {
-        Ok(subcommand) => {
-            let ended = run(alloc, subcommand, input, output);
-            report(errors, ended)
+        Ok(asked) => {
+            let ended = run(alloc, asked, input, output);
+            report(ended, input, output, errors)
         }
         Err(Stop::Help(text)) => match give_all(output, text.as_bytes()) {
             Ok(()) => 0,
-            Err(_) => report(errors, Err(RunFault::WriteFailed)),
+            Err(_) => report(Err(RunFault::WriteFailed), input, output, errors),
         },
         Err(Stop::Words(text)) => {
             tell(errors, text.as_bytes());
             2
         }
-        Err(Stop::NoMemory) => report(errors, Err(RunFault::NoMemory)),
+        Err(Stop::NoMemory) => report(Err(RunFault::NoMemory), input, output, errors),
     }
 }

@@ -2,10 +2,10 @@
 
 ghost use Rattle.std.specs.Prelude.{ℕ, List};
 ghost use Rattle.text_io.specs.declared.ending.Done.{Done as TheDone};
-ghost use Rattle.upc_lab.specs.LabText.{IsLabText};
-ghost use Rattle.upc_lab.specs.declared.choice.Subcommand.{Subcommand as TheSubcommand};
+ghost use Rattle.upc_lab.specs.LabText.{IsAskedText};
+ghost use Rattle.upc_lab.specs.declared.choice.Asked.{Asked as TheAsked};
 
-/// Each subcommand has an answer to every input.
+/// Each subcommand, with any options, has an answer to every input.
 pub fn each_input_has_an_answer()
-    ensures { (subcommand : TheSubcommand) (octets : List ℕ) → (answer : List ℕ) × (done : TheDone) × IsLabText subcommand octets answer done }
+    ensures { (asked : TheAsked) (octets : List ℕ) → (answer : List ℕ) × (done : TheDone) × IsAskedText asked octets answer done }
 {}

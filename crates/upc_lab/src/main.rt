@@ -5,19 +5,23 @@ mod choice;
 mod invocation;
 mod laws;
 mod notice;
+mod reason;
 #[cfg(test)]
 mod tests;
 
-pub use choice::{Subcommand, choose};
-pub use invocation::carry_out;
+pub use choice::{Asked, Subcommand, choose};
+pub use invocation::{carry_out, shell_status};
+pub use lab_captures::cells_of_capture;
 pub use lab_faults::{LookedAt, explain_faults};
+pub use lab_options::{CellsOptions, cells_options};
 pub use lab_programs::{list_program, trace_cells};
 pub use lab_rules::{assemble_rules, compile_rules, decide_cells};
 pub use lab_sizes::size_contracts;
 pub use notice::awaited;
+pub use reason::{Knowing, Reasoned, Work};
 use std::io::IsTerminal;
 use std::process::ExitCode;
-use text_io::{Giving, Taking};
+use text_io::Giving;
 use upc_choice::{OfProcess, Stop, words_after_name};
 
 fn main(rt: HostRuntime) -> ExitCode {
@@ -25,13 +29,15 @@ fn main(rt: HostRuntime) -> ExitCode {
         Ok(words) => choose(rt.alloc(), words),
         Err(_) => Err(Stop::NoMemory),
     };
-    if let Ok(subcommand) = chosen
+    if let Ok(asked) = chosen
         && rt.stdin().is_terminal()
     {
-        let _ = eprintln!(rt; "{}", awaited(subcommand));
+        let _ = eprintln!(rt; "{}", awaited(asked));
     }
-    let mut input = LookedAt::new(rt.alloc(), Taking::new(rt.stdin()));
-    let mut output = Giving::new(rt.stdout());
+    let stdin = Knowing::new(rt.alloc(), Work::Reading, rt.stdin());
+    let mut input = LookedAt::new(rt.alloc(), stdin);
+    let mut output = Knowing::new(rt.alloc(), Work::Writing, rt.stdout());
     let mut errors = Giving::new(rt.stderr());
-    ExitCode::from(carry_out(rt.alloc(), chosen, &mut input, &mut output, &mut errors))
+    let status = carry_out(rt.alloc(), chosen, &mut input, &mut output, &mut errors);
+    ExitCode::from(shell_status(status, output.is_closed()))
 }

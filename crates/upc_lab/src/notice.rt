@@ -1,13 +1,23 @@
 //! What the program says if its input is a terminal, because nothing else shows that it waits for input.
 
 ghost use Rattle.std.specs.Prelude.{◌≡◌, Some};
-ghost use Rattle.upc_lab.specs.LabMessages.{lab_name_of, lab_notice};
+ghost use Rattle.upc_lab.specs.LabMessages.{asked_notice, lab_name_of, lab_notice};
 ghost use Rattle.upc_lab.specs.LabWords.{lab_named};
 
-use crate::choice::Subcommand;
+use crate::choice::{Asked, Subcommand};
 
-/// Returns the notice for a subcommand, which begins with its name.
-pub fn awaited(subcommand: Subcommand) -> &'static str
+/// Returns the notice for what was asked, which begins with the name of the subcommand.
+pub fn awaited(asked: Asked) -> &'static str
+    ensures { result.now ≡ asked_notice asked }
+{
+    match asked {
+        Asked::Plain(subcommand) => notice_of(subcommand),
+        Asked::Cells(_) => "upc-lab cells: reading a capture from the terminal, to its end",
+    }
+}
+
+/// Returns the notice for a subcommand without options, which begins with its name.
+fn notice_of(subcommand: Subcommand) -> &'static str
     ensures text { result.now ≡ lab_notice subcommand }
     ensures named { lab_named (lab_name_of subcommand) ≡ Some subcommand }
 {

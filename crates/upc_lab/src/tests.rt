@@ -1,12 +1,15 @@
-//! Tests of the command line, of `rules` over devices that move little or fail, and of `why`.
+//! Tests of the command line, of subcommands over devices that move little or fail, and of `why`.
 //!
 //! Whole texts and their answers are data: examples/, and what tests/rules makes.
 
-use crate::{LookedAt, Subcommand, carry_out, choose};
+ghost use Rattle.std.specs.Prelude.{◌++◌, [], codes, false, true};
+
+use crate::{Asked, CellsOptions, LookedAt, Reasoned, carry_out, choose, shell_status};
+use captures::Tick;
 use std::alloc::{AllocError, Global};
 use std::process::Abort;
 use std::test::Fail;
-use text_io::{FaultyInput, FaultyOutput};
+use text_io::{Failed, FaultyInput, FaultyOutput, Output};
 use upc_choice::Stop;
 
 /// The exit status, the output and the messages of a run.
@@ -14,10 +17,38 @@ use upc_choice::Stop;
 struct Left {
     status: u8,
     written: Vec<u8>,
-    told: Vec<u8>,
+    messages: Vec<u8>,
 }
 
-fn chosen_by(alloc: Global, line: &str) -> Result<Result<Subcommand, Stop>, AllocError> {
+impl<'a> Reasoned for FaultyInput<'a> {
+    ghost message = { λ input. codes "upc-lab: reading failed\n" };
+
+    ghost is_closed = { λ input. false };
+
+    fn message(&self) -> &[u8] {
+        b"upc-lab: reading failed\n"
+    }
+
+    fn is_closed(&self) -> bool {
+        false
+    }
+}
+
+impl Reasoned for FaultyOutput {
+    ghost message = { λ output. codes "upc-lab: writing failed: no room\n" };
+
+    ghost is_closed = { λ output. false };
+
+    fn message(&self) -> &[u8] {
+        b"upc-lab: writing failed: no room\n"
+    }
+
+    fn is_closed(&self) -> bool {
+        false
+    }
+}
+
+fn chosen_by(alloc: Global, line: &str) -> Result<Result<Asked, Stop>, AllocError> {
     let mut words = Vec::new(alloc);
     for word in line.split_whitespace() {
         words.push(String::from_str(alloc, word)?)?;
@@ -42,7 +73,7 @@ fn run_words(
     Ok(Left {
         status,
         written: output.held,
-        told: errors.held,
+        messages: errors.held,
     })
 }
 
@@ -89,12 +120,12 @@ fn expect<R: Abort>(
     rt: &R,
     alloc: Global,
     (octets, takes, gives): (&[u8], usize, usize),
-    (status, written, told): (u8, &[u8], &[u8]),
+    (status, written, messages): (u8, &[u8], &[u8]),
 ) -> Result<(), AllocError> {
     let left = run_words(alloc, "rules", octets, takes, gives)?;
     assert_eq!(rt;
-        (left.status, left.written.as_slice(), left.told.as_slice()),
-        (status, written, told),
+        (left.status, left.written.as_slice(), left.messages.as_slice()),
+        (status, written, messages),
         "{takes} {gives}"
     );
     Ok(())
@@ -112,10 +143,15 @@ fn a_subcommand_is_chosen_by_its_name_alone(rt: HostRuntime) -> Result<(), Fail>
         ("trace", true),
         ("size", true),
         ("explain", true),
+        ("cells", true),
+        ("cells --tick 1us", true),
         ("", false),
         ("--", false),
         ("rules rules", false),
         ("Rules", false),
+        ("-- cells", false),
+        ("cells rules", false),
+        ("rules cells", false),
         ("--version", false),
     ] {
         let answer = chosen_by(rt.alloc(), line)?;
@@ -150,9 +186,9 @@ fn rules_are_answered_by_their_program_or_their_fault(rt: HostRuntime) -> Result
 }
 
 #[test]
-fn a_device_that_fails_is_told_and_ends_with_status_3(rt: HostRuntime) -> Result<(), Fail> {
+fn a_device_that_fails_is_reported_and_ends_with_status_3(rt: HostRuntime) -> Result<(), Fail> {
     let reading = b"upc-lab: reading failed\n".as_slice();
-    let writing = b"upc-lab: writing failed\n".as_slice();
+    let writing = b"upc-lab: writing failed: no room\n".as_slice();
     for takes in [0, 5, 15] {
         expect(
             &rt,
@@ -181,9 +217,73 @@ fn help_is_written_and_nothing_is_read(rt: HostRuntime) -> Result<(), Fail> {
         ("help asm", "upc-lab asm"),
     ] {
         let left = run_words(rt.alloc(), line, b"any -> 7\n", 0, 10000)?;
-        assert!(rt; left.status == 0 && left.told.is_empty(), "{line}");
+        assert!(rt; left.status == 0 && left.messages.is_empty(), "{line}");
         let text = String::from_utf8(left.written).map_err(|_| Fail::new("help is a text"))?;
         assert!(rt; text.as_str().contains(part), "{line}");
     }
+    Ok(())
+}
+
+#[test]
+fn the_options_of_cells_are_read(rt: HostRuntime) -> Result<(), Fail> {
+    let answer = chosen_by(rt.alloc(), "cells --interface 1 --tick 1us")?;
+    let options = CellsOptions {
+        tick: Tick::new(1000).expect(&rt, "a tick"),
+        interface: Some(1),
+    };
+    assert!(rt; matches!(answer, Ok(Asked::Cells(found)) if found == options));
+    Ok(())
+}
+
+/// An output that nobody reads: each call fails.
+#[derive(Drop)]
+struct Unread(u64);
+
+impl Output for Unread {
+    ghost is_known = { Unit {0} };
+
+    ghost held = { λ unread. [] };
+
+    ghost failures = { λ unread. unread.0 };
+
+    fn give(&mut self, octets: &[u8]) -> Result<usize, Failed> {
+        if octets.is_empty() {
+            return Ok(0);
+        }
+        self.0 = self.0.wrapping_add(1);
+        Err(Failed)
+    }
+}
+
+impl Reasoned for Unread {
+    ghost message = { λ unread. [] };
+
+    ghost is_closed = { λ unread. true };
+
+    fn message(&self) -> &[u8] {
+        &[]
+    }
+
+    fn is_closed(&self) -> bool {
+        true
+    }
+}
+
+#[test]
+fn no_message_is_written_if_nobody_reads(rt: HostRuntime) -> Result<(), Fail> {
+    let chosen = chosen_by(rt.alloc(), "rules")?;
+    let mut input = LookedAt::new(rt.alloc(), FaultyInput::new(b"otherwise -> 7\n", 100));
+    let mut output = Unread(0);
+    let mut errors = FaultyOutput::new(rt.alloc(), 100);
+    let status = carry_out(rt.alloc(), chosen, &mut input, &mut output, &mut errors);
+    assert_eq!(rt; (status, errors.held.as_slice()), (3, b"".as_slice()));
+    assert_eq!(rt;
+        (
+            shell_status(3, true),
+            shell_status(3, false),
+            shell_status(1, true)
+        ),
+        (141, 3, 1)
+    );
     Ok(())
 }

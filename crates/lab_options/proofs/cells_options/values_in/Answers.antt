@@ -1,0 +1,21 @@
+-- What clap promises of a simple command, for `upc-lab cells`.
+use Rattle.std.proofs.Common.{Err, Ok}
+use Rattle.clap.specs.declared.parser.matches.ArgMatches.{ArgMatches}
+use Rattle.lab_options.proofs.Choosing.{kinds_at, value_at}
+use Rattle.lab_options.proofs.cells_options.values_in.Goals as goal
+
+pub returns-in-Ok-clause-kinds : goal.returns-in-Ok-clause-kinds
+returns-in-Ok-clause-kinds c = λ given all.
+    kinds_at {T = ArgMatches} _ _ given (Ok c.in-Ok.matches) c.requires all c.in-Ok.ensures.kinds
+
+pub returns-in-Ok-clause-tick : goal.returns-in-Ok-clause-tick
+returns-in-Ok-clause-tick c = λ given all.
+    value_at _ _ given _ c.in-Ok.matches _ c.requires all c.get_str.ensures c.in-Ok.ensures.matches
+
+pub returns-in-Ok-clause-interface : goal.returns-in-Ok-clause-interface
+returns-in-Ok-clause-interface c = λ given all.
+    value_at _ _ given _ c.in-Ok.matches _ c.requires all c.get_str-interface.ensures c.in-Ok.ensures.matches
+
+pub returns-in-Err-clause-kinds : goal.returns-in-Err-clause-kinds
+returns-in-Err-clause-kinds c = λ given all.
+    kinds_at {T = ArgMatches} _ _ given (Err c.in-Err.error) c.requires all c.in-Err.ensures.kinds

@@ -1,0 +1,5 @@
+-- The options of the subcommands over captures. Read the modules in this order:
+pub mod OptionLines
+pub mod OptionValues
+pub mod CellsOptions
+pub mod inner

@@ -1,0 +1,42 @@
+//! The values of options.
+
+ghost use Rattle.std.specs.Prelude.{◌≡◌, option_map};
+ghost use Rattle.lab_options.specs.OptionValues.{interface_of, tick_of};
+ghost use Rattle.lab_options.specs.inner.Answered.{IsWrongValue};
+
+use captures::Tick;
+use lab_sizes::duration;
+use std::alloc::Global;
+use upc_choice::Stop;
+use upc_script::number;
+
+/// Returns the tick that the value of `--tick` spells, if it has one.
+pub(crate) fn tick_of(text: Option<&str>) -> Option<Tick>
+    ensures { option_map (λ tick. tick.nanoseconds) result ≡ tick_of (option_map (λ text. text.now) text) }
+{
+    let nanoseconds = duration(text?.as_bytes())?;
+    Tick::new(nanoseconds)
+}
+
+/// Returns the interface that the value of `--interface` spells, or none without that option. None if the value is wrong.
+pub(crate) fn interface_of(text: Option<&str>) -> Option<Option<u8>>
+    ensures { result ≡ interface_of (option_map (λ text. text.now) text) }
+{
+    let Some(text) = text else {
+        return Some(None);
+    };
+    match number(text.as_bytes()) {
+        Some(interface) if interface <= 3 => Some(Some(interface as u8)),
+        _ => None,
+    }
+}
+
+/// Returns why the words give no options: a value is wrong, and this message says which and what is right.
+pub(crate) fn wrong_value(alloc: Global, message: &str) -> Stop
+    ensures { IsWrongValue result }
+{
+    match String::from_str(alloc, message) {
+        Ok(text) => Stop::Words(text),
+        Err(_) => Stop::NoMemory,
+    }
+}

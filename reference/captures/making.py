@@ -1,0 +1,70 @@
+"""Random captures, most of them well formed."""
+import struct
+
+SECTION_TYPE = 0x0A0D0D0A
+
+
+def record(draw, time):
+    """Returns a record at this time, and mostly a cell."""
+    kind = draw.choice([3] * 12 + [7] * 3 + [2, 1])
+    flags = draw.choice([0] * 10 + [4, 0x14, 0x24]) | (draw.choice([0] * 30 + [1]))
+    octets = bytes(4) * (kind == 7) + bytes([0, 0x10, 6, draw.choice([0x40, 0x50])]) + draw.randbytes(48)
+    if draw.random() < 0.05:
+        octets = octets[:draw.randrange(len(octets))]
+    extensions = b""
+    for left in range(draw.choice([0] * 8 + [1, 2])):
+        extensions = bytes([0x80 if extensions else 5]) + draw.randbytes(7) + extensions
+    kind |= 0x80 * bool(extensions)
+    octets = extensions + octets + bytes(draw.choice([0] * 5 + [4]))
+    return struct.pack("<QBBHHH", time % 2**64, kind, flags, 0, 0, len(octets))[:10] + struct.pack(">HHH", 16 + len(octets), 0, len(octets)) + octets
+
+
+def records(draw):
+    time, made = draw.choice([0, 1_700_000_000 << 32, 2**64 - 2**33]), []
+    for _ in range(draw.randrange(12)):
+        made.append(record(draw, time))
+        time += draw.choice([1, 2**20, 2**32, -5, 12345])
+    return made
+
+
+def in_pcap(draw, made):
+    order = draw.choice("<>")
+    magic = draw.choice([0xA1B2C3D4, 0xA1B23C4D])
+    packets = [struct.pack(order + "IIII", 7, 7, len(it), len(it)) + it for it in made]
+    link = draw.choice([197] * 20 + [1])
+    return struct.pack(order + "IHHIIII", magic, 2, 4, 0, 0, 65535, link) + b"".join(packets)
+
+
+def block(order, kind, body):
+    body += bytes(-len(body) % 4)
+    size = 12 + len(body)
+    return struct.pack(order + "II", kind, size) + body + struct.pack(order + "I", size)
+
+
+def in_pcapng(draw, made):
+    blocks, interfaces = [], None
+    for it in made + [None]:
+        if interfaces is None or draw.random() < 0.1:
+            order, interfaces = draw.choice("<>"), draw.choice([1, 1, 2])
+            blocks.append(block(order, SECTION_TYPE, struct.pack(order + "IHHq", 0x1A2B3C4D, 1, 0, -1)))
+            blocks += [block(order, 1, struct.pack(order + "HHI", 197, 0, 0))] * interfaces
+        if draw.random() < 0.1:
+            blocks.append(block(order, draw.choice([2, 3, 5, 0x80000001]), draw.randbytes(8)))
+        if it is not None:
+            interface = draw.randrange(interfaces)
+            blocks.append(block(order, 6, struct.pack(order + "IIIII", interface, 1, 2, len(it), len(it)) + it))
+    return b"".join(blocks)
+
+
+def capture(draw):
+    """Returns the octets of a capture. A third of them has an octet or a length changed, or is cut off."""
+    made = records(draw)
+    octets = draw.choice([lambda: b"".join(made), lambda: in_pcap(draw, made), lambda: in_pcapng(draw, made)])()
+    if octets and draw.random() < 0.33:
+        place = draw.randrange(min(len(octets), draw.choice([40, 10**6])))
+        octets = draw.choice([
+            octets[:place],
+            octets[:place] + draw.randbytes(1) + octets[place + 1:],
+            octets[:place] + draw.choice([b"\0\0\0\0", b"\xff\xff\xff\xff", b"text of a capture"]) + octets[place + 4:],
+        ])
+    return octets
