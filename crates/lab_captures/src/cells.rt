@@ -1,4 +1,4 @@
-//! The cells of a capture as lines of a script: `upc-lab cells`.
+//! The cells of a capture as lines of a script. No subcommand uses this yet.
 
 ghost use Rattle.std.specs.Prelude.{◌≡◌, ◌++◌, IfOk, OnOk};
 ghost use Rattle.hex.specs.Hex.{encode_lower};

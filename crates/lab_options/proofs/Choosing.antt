@@ -15,8 +15,8 @@ use Rattle.lab_options.specs.CellsOptions.{AsksCells, IsCellsStop, cells_app, wr
 use Rattle.lab_options.specs.OptionLines.{kinds_in, line_of, value_in}
 use Rattle.lab_options.specs.OptionValues.{interface_of, tick_of}
 use Rattle.lab_options.specs.inner.Answered.{AnswersValues}
-use Rattle.lab_options.specs.declared.cells_options.CellsOptions.{CellsOptions}
-use Rattle.lab_options.specs.declared.cells_options.Written.{Written}
+use Rattle.lab_options.specs.declared.cells.CellsOptions.{CellsOptions}
+use Rattle.lab_options.specs.declared.cells.Written.{Written}
 use Rattle.upc_choice.specs.Stopping.{IsStopFor, StopsAt}
 use Rattle.upc_choice.specs.declared.choice.Stop.{Stop}
 use Rattle.upc_choice.specs.declared.choice.Stop.TheVariants.{Help, Words, NoMemory}

@@ -32,10 +32,10 @@ abbrev pub written_interface : List Text → Option Text
 written_interface words = value_in cells_app words (codes "interface")
 
 -- The words have no error for clap, and ask for a tick of this many nanoseconds and for this interface, if any.
-pub record AsksCells (words : List Text) (nanoseconds : ℕ) (interface : Option ℕ) : Type 0 where
+pub record AsksCells (words : List Text) (nanoseconds : ℕ) (asked : Option ℕ) : Type 0 where
   pub faultless : kinds_in cells_app words ≡ []
   pub tick : tick_of (written_tick words) ≡ Some nanoseconds
-  pub interface : interface_of (written_interface words) ≡ Some interface
+  pub interface : interface_of (written_interface words) ≡ Some asked
 
 -- A value spells nothing.
 abbrev pub HasWrongValue : List Text → Type 0

@@ -1,10 +1,10 @@
 //! The options of `upc-lab`'s subcommands over captures, read by the crate `clap`.
 #![tactic(auto)]
 
-mod cells_options;
+mod cells;
 mod line;
 #[cfg(test)]
 mod tests;
 mod values;
 
-pub use cells_options::{CellsOptions, cells_options};
+pub use cells::{CellsOptions, cells_options};

@@ -25,7 +25,10 @@ fn options_have_their_values_or_their_defaults(rt: HostRuntime) -> Result<(), Fa
     ] {
         let answer = cells_options(rt.alloc(), words_of(rt.alloc(), line)?);
         let tick = Tick::new(nanoseconds).expect(&rt, "a tick");
-        assert!(rt; matches!(answer, Ok(options) if options == CellsOptions { tick, interface }), "{line}");
+        assert!(rt;
+            matches!(answer, Ok(options) if options == CellsOptions { tick, interface }),
+            "{line}"
+        );
     }
     Ok(())
 }

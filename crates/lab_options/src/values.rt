@@ -12,7 +12,7 @@ use upc_script::number;
 
 /// Returns the tick that the value of `--tick` spells, if it has one.
 pub(crate) fn tick_of(text: Option<&str>) -> Option<Tick>
-    ensures { option_map (λ tick. tick.nanoseconds) result ≡ tick_of (option_map (λ text. text.now) text) }
+    ensures { option_map (λ tick. tick.nanoseconds) result ≡ tick_of (option_map (λ text. text.now) text.entry) }
 {
     let nanoseconds = duration(text?.as_bytes())?;
     Tick::new(nanoseconds)
@@ -20,7 +20,7 @@ pub(crate) fn tick_of(text: Option<&str>) -> Option<Tick>
 
 /// Returns the interface that the value of `--interface` spells, or none without that option. None if the value is wrong.
 pub(crate) fn interface_of(text: Option<&str>) -> Option<Option<u8>>
-    ensures { result ≡ interface_of (option_map (λ text. text.now) text) }
+    ensures { result ≡ interface_of (option_map (λ text. text.now) text.entry) }
 {
     let Some(text) = text else {
         return Some(None);

@@ -1,8 +1,8 @@
 -- The answers to values of options.
-use Rattle.std.specs.Prelude.{◌≡◌, ◌⊎◌, ⊤, ⊥, Option, Some, None, Result, Ok, Err}
+use Rattle.std.specs.Prelude.{◌≡◌, ◌⊎◌, ⊤, Option, Some, None, Result, Ok, Err}
 use Rattle.clap.specs.Walk.{Text}
 use Rattle.lab_options.specs.OptionValues.{interface_of, tick_of}
-use Rattle.lab_options.specs.declared.cells_options.CellsOptions.{CellsOptions}
+use Rattle.lab_options.specs.declared.cells.CellsOptions.{CellsOptions}
 use Rattle.upc_choice.specs.declared.choice.Stop.{Stop}
 use Rattle.upc_choice.specs.declared.choice.Stop.TheVariants.{Help, Words, NoMemory}
 

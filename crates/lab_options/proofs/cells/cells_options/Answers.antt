@@ -1,10 +1,12 @@
 -- The options are those that clap finds in the words, if their values spell something.
 use Rattle.std.proofs.Common.{rules, map}
 use Rattle.std.specs.String.{string_bytes}
+use Rattle.lab_options.specs.CellsOptions.{cells_app}
 use Rattle.lab_options.proofs.Choosing.{answers}
-use Rattle.lab_options.proofs.cells_options.cells_options.Goals as goal
+use Rattle.lab_options.proofs.cells.cells_options.Goals as goal
 
 pub returns : goal.returns
+unfolding cells_app
 returns c =
     let found = c.values_in-found in
     let all = answers (map string_bytes c.args.words.items) found.result c.answer_to.result (found.ensures.kinds _ (search rules))

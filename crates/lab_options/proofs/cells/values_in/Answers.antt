@@ -2,7 +2,7 @@
 use Rattle.std.proofs.Common.{Err, Ok}
 use Rattle.clap.specs.declared.parser.matches.ArgMatches.{ArgMatches}
 use Rattle.lab_options.proofs.Choosing.{kinds_at, value_at}
-use Rattle.lab_options.proofs.cells_options.values_in.Goals as goal
+use Rattle.lab_options.proofs.cells.values_in.Goals as goal
 
 pub returns-in-Ok-clause-kinds : goal.returns-in-Ok-clause-kinds
 returns-in-Ok-clause-kinds c = λ given all.
@@ -14,7 +14,7 @@ returns-in-Ok-clause-tick c = λ given all.
 
 pub returns-in-Ok-clause-interface : goal.returns-in-Ok-clause-interface
 returns-in-Ok-clause-interface c = λ given all.
-    value_at _ _ given _ c.in-Ok.matches _ c.requires all c.get_str-interface.ensures c.in-Ok.ensures.matches
+    value_at _ _ given _ c.in-Ok.matches _ c.requires all c.get_str-in-Ok.ensures c.in-Ok.ensures.matches
 
 pub returns-in-Err-clause-kinds : goal.returns-in-Err-clause-kinds
 returns-in-Err-clause-kinds c = λ given all.

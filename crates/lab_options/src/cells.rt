@@ -113,7 +113,7 @@ fn values_in<'a>(command: Command<'a>, words: &'a [String]) -> Result<Written<'a
 
 /// Returns the options that these values spell.
 fn read(alloc: Global, written: Written) -> Result<CellsOptions, Stop>
-    ensures { AnswersValues (option_map (λ text. text.now) written.tick) (option_map (λ text. text.now) written.interface) result }
+    ensures { AnswersValues (option_map (λ text. text.now) written.entry.tick) (option_map (λ text. text.now) written.entry.interface) result }
 {
     let Some(tick) = tick_of(written.tick) else {
         return Err(wrong_value(
