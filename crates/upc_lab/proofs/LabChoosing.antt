@@ -25,8 +25,10 @@ use Rattle.upc_choice.specs.Stopping.{IsStopFor, StopsAt}
 use Rattle.upc_choice.specs.declared.choice.Stop.{Stop}
 use Rattle.upc_choice.specs.declared.choice.Stop.TheVariants.{NoMemory}
 use Rattle.upc_choice.proofs.Public.{Finds, find_both, finds, has_requests_alone, is_plain_subcommand, memory_alone, stops_at}
-use Rattle.upc_lab.specs.LabWords.{NamesLab, begins_cells, lab_app, lab_faults_in, lab_line, lab_named, lab_subcommands}
+use Rattle.upc_lab.specs.LabWords.{AsksLab, NamesLab, begins_cells, lab_app, lab_faults_in, lab_line, lab_named, lab_subcommands}
 use Rattle.upc_lab.specs.inner.FoundName.{lab_name_in}
+use Rattle.upc_lab.specs.declared.choice.Asked.{Asked}
+use Rattle.upc_lab.specs.declared.choice.Asked.TheVariants.{Plain, Cells}
 use Rattle.upc_lab.specs.declared.choice.Subcommand.{Subcommand}
 
 pub lab_is_simple : is_simple lab_app ≡ true
@@ -107,9 +109,9 @@ named_at given found (inr h) none = h
 
 -- Words that don't begin with `cells` have a name in the table.
 is_other : (known cells : Bool) → known || cells ≡ true → cells ≡ false → known ≡ true
-is_other true cells h no = refl
-is_other false true h no = let bad : true ≡ false = no in cc
-is_other false false h no = h
+is_other true cells h plain = refl
+is_other false true h plain = cc
+is_other false false h plain = h
 
 in_table : (given : List Text) (found : Option Text) (h : IsNamed given found) → begins_cells given ≡ false → is_some (lab_named h.0) ≡ true
 in_table given found h plain =
@@ -196,3 +198,11 @@ answers given (Err error) (Err stop) kinds met named stopped = record {
   stopped = stops_at (lab_faults_in given) error stop kinds stopped;
   granted = λ subcommand asks. memory_alone (lab_faults_in given) error stop kinds stopped (taken_at given subcommand asks);
 }
+
+-- ---- the contract of `choose`
+
+-- What words that don't begin with `cells` ask for is a subcommand without options.
+pub granted_plain : (words : List Text) (stop : Stop) (asked : Asked) → begins_cells words ≡ false
+    → ((subcommand : Subcommand) → NamesLab words subcommand → stop ≡ NoMemory) → AsksLab words asked → stop ≡ NoMemory
+granted_plain words stop (Plain subcommand) other granted h = granted subcommand h.1
+granted_plain words stop (Cells options) other granted h = let bad : true ≡ false = sym h.0 ∙ other in cc

@@ -21,11 +21,7 @@ use upc_choice::Stop;
 use upc_exit::{status, tell};
 
 /// The message for a failure of a run over these devices.
-fn line_of<'a, I: Reasoned, O: Reasoned>(
-    fault: RunFault,
-    input: &'a I,
-    output: &'a O,
-) -> &'a [u8]
+fn line_of<'a, I: Reasoned, O: Reasoned>(fault: RunFault, input: &'a I, output: &'a O) -> &'a [u8]
     ensures { result.now ≡ lab_failure_line (I.message input.now) (O.message output.now) (O.is_closed output.now) fault }
 {
     match fault {
@@ -100,8 +96,13 @@ fn run<I: Ahead, O: Output>(
 {
     match asked {
         Asked::Plain(subcommand) => run_plain(alloc, subcommand, input, output),
-        Asked::Cells(options) =>
-            cells_of_capture(alloc, options.tick, options.interface, input, output),
+        Asked::Cells(options) => cells_of_capture(
+            alloc,
+            options.tick,
+            options.interface,
+            input,
+            output,
+        ),
     }
 }
 

@@ -124,7 +124,11 @@ fn expect<R: Abort>(
 ) -> Result<(), AllocError> {
     let left = run_words(alloc, "rules", octets, takes, gives)?;
     assert_eq!(rt;
-        (left.status, left.written.as_slice(), left.messages.as_slice()),
+        (
+            left.status,
+            left.written.as_slice(),
+            left.messages.as_slice()
+        ),
         (status, written, messages),
         "{takes} {gives}"
     );
