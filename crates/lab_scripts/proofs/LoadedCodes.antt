@@ -10,7 +10,7 @@ use Rattle.bpf_verify.specs.declared.fault.Fault.{Fault}
 use Rattle.bpf_verify.specs.declared.fault.Fault.TheVariants as fault
 use Rattle.card_core.specs.Shapes.{shape_fault}
 use Rattle.card_core.specs.Refusals.{load_fault, refusal}
-use Rattle.card_core.specs.Steps.{Cuts, Enters, FindsNoMemory, IsRefused, Judges, Loads, Picks, Releases, Reloads, Retires, SetsUp, Succeeds, WorldStep, left_by, left_by_judge, left_by_pick}
+use Rattle.card_core.specs.Steps.{Cuts, Enters, FindsNoMemory, IsRefused, Judges, Picks, Releases, Reloads, Retires, SetsUp, Succeeds, WorldStep, left_by, left_by_judge, left_by_pick}
 use Rattle.card_core.specs.World.{Loading, PortState, World, entered, outside, picked}
 use Rattle.card_core.specs.declared.answer.Answer.{Answer}
 use Rattle.card_core.specs.declared.ask.Ask.{Ask}
@@ -32,7 +32,7 @@ use Rattle.upc_cell.specs.declared.vc.Vc.{Vc}
 use Rattle.upc_codes.specs.CodeFaults.{decode_fault, verify_fault}
 use Rattle.upc_codes.specs.Program.{ProgramReading, ReadsAs, is_program, is_refused}
 use Rattle.upc_run.specs.RunSide.{run_side}
-use Rattle.upc_run.specs.RunText.{Arrives, AsksConnection, Card, IsAnswered, LoadsOctets, Obeys, OpensCard, OpensOrObeys, PolicesCell, PolicesOctets, RefusesLine, RunSteps, RunWorld, TakesCommand, TakesNamed, TakesReading, new_card}
+use Rattle.upc_run.specs.RunText.{AsksConnection, Card, IsAnswered, LoadsOctets, Obeys, OpensCard, OpensOrObeys, PolicesCell, PolicesOctets, RefusesLine, RunSteps, RunWorld, TakesCommand, TakesNamed, TakesReading, new_card}
 use Rattle.upc_script.specs.ProgramNames.{program_named}
 use Rattle.upc_script.specs.Rates.{first_wanted_fault}
 use Rattle.upc_script.specs.ReplyTexts.{program_name}

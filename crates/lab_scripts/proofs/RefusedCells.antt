@@ -1,5 +1,5 @@
 -- A connection whose code names none of its contracts refuses each cell.
-use Rattle.std.proofs.Common.{◌≡◌, ℕ, zero, suc, ◌+◌, ◌-◌, ◌≤◌, ◌==◌, ◌&&◌, Bool, true, false, if◌then◌else◌, List, [], ◌∷◌, Option, Some, None, length, slice_get, nat_le, refl, sym, ap, ◌∙◌, subst, arith}
+use Rattle.std.proofs.Common.{◌≡◌, ℕ, zero, suc, ◌+◌, ◌-◌, ◌≤◌, ◌==◌, ◌&&◌, Bool, true, false, if◌then◌else◌, List, [], ◌∷◌, Option, Some, None, length, slice_get, nat_le, refl, sym, ap, subst, arith}
 use Rattle.std.proofs.lemmas.Bool.Decides.{nat_tests}
 use Rattle.std.proofs.lemmas.Option.{slice_get_past}
 use Rattle.bpf_code.specs.Flow.{StandsAt}
@@ -13,7 +13,7 @@ use Rattle.bpf_interp.specs.Step.{Does, LoadsNumber, Step}
 use Rattle.bpf_interp.specs.Value.{EndsIn}
 use Rattle.leaky.specs.declared.contract.Contract.{Contract}
 use Rattle.line_record.specs.History.{buckets_after_cells, named_verdict, numbered}
-use Rattle.lab_scripts.specs.ContractNumbers.{RefusesEachCell, is_contract_number, may_name, names_no_contract, names_none, names_none_of}
+use Rattle.lab_scripts.specs.ContractNumbers.{RefusesEachCell, is_contract_number, may_name, names_no_contract}
 
 module _ (count : ℕ) (packet : List ℕ) where
   -- The machine goes on, or has ended with a value that names no contract.
