@@ -134,7 +134,7 @@ def place_of(number, found, place):
 
 
 def add_answer(explained, dialogue, number, found):
-    """Adds what is said of a line with these words."""
+    """Adds the lines about a line with these words."""
     words = [it.group() for it in found]
     side = dialogue.card.side if dialogue.is_open else "uni"
     try:
