@@ -1,4 +1,4 @@
-"""Where `upc-lab explain` finds the faults of a script: their lines and columns, but no sentences."""
+"""Where `upc-lab explain` finds the faults of a script: their lines and columns, but no sentences. And its hints, whole."""
 import re
 
 from policer.cell import PATH_BITS
@@ -43,20 +43,20 @@ BLAMED = {
 
 def is_command(words, side):
     """Returns whether the words spell a command on a card of this side, whatever the card then says."""
-    command, *behind = words
+    command, *rest = words
     try:
         if command == b"setup":
-            contracts_of(behind[3:])
-        elif (command, len(behind)) not in COMMANDS:
+            contracts_of(rest[3:])
+        elif (command, len(rest)) not in COMMANDS:
             return False
         if command in (b"setup", b"reload", b"release", b"cut"):
-            connection_of(*behind[:2], side)
+            connection_of(*rest[:2], side)
         if command in (b"setup", b"reload"):
-            program_of(behind[2])
+            program_of(rest[2])
         if command == b"retire":
-            program_of(behind[0])
+            program_of(rest[0])
         if command == b"cell":
-            number_of(behind[0])
+            number_of(rest[0])
     except Fault:
         return False
     return True
@@ -97,42 +97,94 @@ def blamed_place(fault, words, side):
     return BLAMED[fault.family, fault.name]
 
 
-def explanations_of(text):
-    """Returns for each fault of a script its line and how its explanation begins, the last line otherwise, and the status."""
-    dialogue, told, number = RunDialogue(), [], 0
+def may_name(instruction, count):
+    """Returns whether an instruction may return the number of one of this many contracts."""
+    return instruction.mnemonic == "ret" and (instruction.form == "a" or 1 <= instruction.k <= count)
+
+
+def hint_of(program, count):
+    """Returns the hint about a program under this many contracts, or None."""
+    if any(may_name(instruction, count) for instruction in program):
+        return None
+    numbers = "1, the number of the contract" if count == 1 else "1 to %d, the numbers of the contracts" % count
+    return "this program never returns %s, so each cell of the connection is refused" % numbers
+
+
+class Explained:
+    """The wanted lines, each with whether it is whole or only begins so."""
+
+    def __init__(self):
+        self.lines, self.is_faulty = [], False
+
+    def add_whole(self, line):
+        """Adds a line."""
+        self.lines.append((line, True))
+
+    def add_fault(self, fault, start):
+        """Adds a fault line, and how its explanation begins."""
+        self.is_faulty = True
+        self.add_whole(fault)
+        self.lines.append((start, False))
+
+
+def place_of(number, found, place):
+    """Returns the line and the column of the word at a place, if there is one."""
+    column = "" if place is None else " column %d" % (found[place].start() + 1)
+    return "line %d%s: " % (number, column)
+
+
+def add_answer(explained, dialogue, number, found):
+    """Adds the lines about a line with these words."""
+    words = [it.group() for it in found]
+    side = dialogue.card.side if dialogue.is_open else "uni"
+    try:
+        dialogue.answer(words)
+    except Fault as fault:
+        explained.add_fault(fault.line(), place_of(number, found, blamed_place(fault, words, side)))
+        return
+    if words[0] == b"setup":
+        hint = hint_of(dialogue.card.programs[program_of(words[3])], len(words) - 4)
+        if hint:
+            explained.add_whole("hint " + place_of(number, found, 3) + hint)
+
+
+def explained_script(text):
+    """Returns the wanted lines of a script."""
+    explained, dialogue, number = Explained(), RunDialogue(), 0
     try:
         for number, line in enumerate(limited_lines(text), start=1):
             found = list(WORDS.finditer(line))
-            words = [it.group() for it in found]
-            if asks_nothing(words):
+            if asks_nothing([it.group() for it in found]):
                 continue
-            side = dialogue.card.side if dialogue.is_open else "uni"
-            try:
-                dialogue.answer(words)
-            except Fault as fault:
-                place = blamed_place(fault, words, side)
-                column = "" if place is None else " column %d" % (found[place].start() + 1)
-                told.append((fault.line(), "line %d%s: " % (number, column)))
-                if not dialogue.is_open:
-                    return told, None, 1
+            add_answer(explained, dialogue, number, found)
+            if not dialogue.is_open:
+                return explained
     except Fault as fault:
-        return told + [(fault.line(), "a line has at most ")], None, 1
+        explained.add_fault(fault.line(), "a line has at most ")
+        return explained
     if not dialogue.is_open:
-        return told + [("fault script 2 NoCard", "no line opens a card")], None, 1
-    return told, None if told else "no fault in %d line%s" % (number, "" if number == 1 else "s"), int(bool(told))
+        explained.add_fault("fault script 2 NoCard", "no line opens a card")
+    elif not explained.is_faulty:
+        explained.add_whole("no fault in %d line%s" % (number, "" if number == 1 else "s"))
+    return explained
+
+
+def is_wanted(line, want, is_whole):
+    """Returns whether a line is the wanted one, or begins so and goes on with a sentence."""
+    return line == want.encode() if is_whole else line.startswith(want.encode()) and len(line) > len(want) + 8
 
 
 def wrong_script_explanation(text, ours):
     """Returns what is wrong with the answer to a script, its status and messages, or None."""
-    told, last, status = explanations_of(text)
-    lines = ours[0].split(b"\n")
+    explained = explained_script(text)
+    status = int(explained.is_faulty)
     if ours[1:] != (status, b""):
         return f"status {ours[1:]} in place of {status}"
-    wanted = [it for pair in told for it in pair] + ([last] if last else []) + [""]
+    lines = ours[0].split(b"\n")
+    wanted = explained.lines + [("", True)]
     if len(lines) != len(wanted):
         return f"{len(lines)} lines in place of {len(wanted)}"
-    for at, (line, want) in enumerate(zip(lines, wanted)):
-        is_explanation = at % 2 == 1 and at < 2 * len(told)
-        if not (line.startswith(want.encode()) and len(line) > len(want) + 8 if is_explanation else line == want.encode()):
+    for line, (want, is_whole) in zip(lines, wanted):
+        if not is_wanted(line, want, is_whole):
             return f"{line} in place of {want}"
     return None

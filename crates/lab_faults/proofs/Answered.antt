@@ -29,33 +29,33 @@ use Rattle.upc_programs.specs.Check.{most_source_octets}
 use Rattle.upc_programs.specs.SourceFaults.{asm_fault}
 use Rattle.upc_words.specs.FaultLines.{line, too_long}
 
-rest-told : (code : List Instr) (numbers : List ℕ) (fault : Fault) → FailsFirst code fault → (text : List ℕ) × IsRest code numbers fault text
-rest-told code numbers fault.Empty fails = (line [], refl)
-rest-told code numbers fault.TooLong fails = (line [], refl)
-rest-told code numbers (fault.BadScratch at) fails = (line [], refl)
-rest-told code numbers (fault.ZeroDivisor at) fails = (line [], refl)
-rest-told code numbers (fault.BadShift at) fails = (line [], refl)
-rest-told code numbers (fault.JumpOutside at) fails = (line [], refl)
-rest-told code numbers fault.NoReturn fails = (line [], refl)
-rest-told code numbers (fault.Unwritten at word) fails =
+some-rest : (code : List Instr) (numbers : List ℕ) (fault : Fault) → FailsFirst code fault → (text : List ℕ) × IsRest code numbers fault text
+some-rest code numbers fault.Empty fails = (line [], refl)
+some-rest code numbers fault.TooLong fails = (line [], refl)
+some-rest code numbers (fault.BadScratch at) fails = (line [], refl)
+some-rest code numbers (fault.ZeroDivisor at) fails = (line [], refl)
+some-rest code numbers (fault.BadShift at) fails = (line [], refl)
+some-rest code numbers (fault.JumpOutside at) fails = (line [], refl)
+some-rest code numbers fault.NoReturn fails = (line [], refl)
+some-rest code numbers (fault.Unwritten at word) fails =
     let witness = fails.4.1 in
     (line (numbers_text numbers (reverse witness.0 ++ at ∷ [])), (witness.0, (witness.1, witness.2), refl))
 
-code-told : (source : List ℕ) (code : List Instr) → (text : List ℕ) × (done : Done) × ExplainsCode source code text done
-code-told source code =
+some-code_answer : (source : List ℕ) (code : List Instr) → (text : List ℕ) × (done : Done) × ExplainsCode source code text done
+some-code_answer source code =
     elim (accepted-or_fault code) [
       | inl accepted ↦ (line (codes "accepted " ++ decimal (length code)) ++ hints_of (source_lines source) code, Whole, inl (accepted, refl, refl))
       | inr found ↦
           let lines = source_lines source in
-          let rest = rest-told code (instruction_lines 1 lines) found.0 found.1 in
+          let rest = some-rest code (instruction_lines 1 lines) found.0 found.1 in
           let more = code_start lines (length code) found.0 ++ (code_sentence found.0 ++ rest.0) in
           (verify_fault found.0 ++ more, Ended, inr (found.0, found.1, (more, (rest.0, rest.1, refl), refl), refl))
     ]
 
-source-told : (source : List ℕ) → (text : List ℕ) × (done : Done) × ExplainsSource source text done
-source-told source =
+some-source_answer : (source : List ℕ) → (text : List ℕ) × (done : Done) × ExplainsSource source text done
+some-source_answer source =
     elim (meaning-or_fault source) [
-      | inl meant ↦ let told = code-told source meant.0 in (told.0, told.1, inl (meant.0, meant.1, told.2))
+      | inl meant ↦ let answered = some-code_answer source meant.0 in (answered.0, answered.1, inl (meant.0, meant.1, answered.2))
       | inr found ↦ (asm_fault found.0 ++ source_explanation (source_lines source) found.0, Ended, inr (found.0, found.1, refl, refl))
     ]
 
@@ -66,7 +66,7 @@ faulty-code source code never =
       | inl accepted ↦ absurd (never accepted)
       | inr found ↦
           let lines = source_lines source in
-          let rest = rest-told code (instruction_lines 1 lines) found.0 found.1 in
+          let rest = some-rest code (instruction_lines 1 lines) found.0 found.1 in
           let more = code_start lines (length code) found.0 ++ (code_sentence found.0 ++ rest.0) in
           (verify_fault found.0 ++ more, inr (found.0, found.1, (more, (rest.0, rest.1, refl), refl), refl))
     ]
@@ -84,28 +84,28 @@ never-accepted code means accepted =
     omega (arith, none, some)
 
 -- The source without a line has a fault.
-pub empty-told : (text : List ℕ) × ExplainsSource [] text Ended
-empty-told =
+pub empty-source_answer : (text : List ℕ) × ExplainsSource [] text Ended
+empty-source_answer =
     elim (meaning-or_fault []) [
-      | inl meant ↦ let told = faulty-code [] meant.0 (never-accepted meant.0 meant.1) in (told.0, inl (meant.0, meant.1, told.1))
+      | inl meant ↦ let answered = faulty-code [] meant.0 (never-accepted meant.0 meant.1) in (answered.0, inl (meant.0, meant.1, answered.1))
       | inr found ↦ (asm_fault found.0 ++ source_explanation (source_lines []) found.0, inr (found.0, found.1, refl, refl))
     ]
 
-within-told : (found : Option (List ℕ)) → (text : List ℕ) × (done : Done) × ExplainsWithin found text done
-within-told None = (too_long, Ended, (refl, refl))
-within-told (Some source) = source-told source
+some-within_answer : (found : Option (List ℕ)) → (text : List ℕ) × (done : Done) × ExplainsWithin found text done
+some-within_answer None = (too_long, Ended, (refl, refl))
+some-within_answer (Some source) = some-source_answer source
 
 -- Every source has an answer.
 pub some-source_text : (source : List ℕ) → (text : List ℕ) × (done : Done) × IsSourceText source text done
-some-source_text source = within-told (gathered most_source_octets source)
+some-source_text source = some-within_answer (gathered most_source_octets source)
 
-input-told : (octets : List ℕ) (found : Option (List ℕ))
+some-input_answer : (octets : List ℕ) (found : Option (List ℕ))
     → (text : List ℕ) × (done : Done) × MatchOption found (IsScriptExplained octets text done) (λ source. IsSourceText source text done)
-input-told octets None = some-script_text octets
-input-told octets (Some source) = some-source_text source
+some-input_answer octets None = some-script_text octets
+some-input_answer octets (Some source) = some-source_text source
 
 pub some-explain_text : (octets : List ℕ) → (text : List ℕ) × (done : Done) × IsExplainText octets text done
-some-explain_text octets = input-told octets (source_after octets)
+some-explain_text octets = some-input_answer octets (source_after octets)
 
 -- One octet more than the limit is over the limit.
 gathered-none : (octets : List ℕ) → length octets ≡ most_source_octets + 1 → gathered most_source_octets octets ≡ None
@@ -114,12 +114,12 @@ gathered-none octets sized = ap (λ n. if nat_lt most_source_octets n then None 
 -- The octets read are enough for the answer.
 pub enough : (octets left : List ℕ) (found : Option (List ℕ)) (text : List ℕ) (done : Done) → found ≡ gathered most_source_octets octets
     → LeavesBehind most_source_octets found octets left → ExplainsWithin found text done
-    → TakesEnough (λ needed. (told : List ℕ) × IsSourceText needed told done) most_ahead octets left
-enough octets left None text done is behind tells =
+    → TakesEnough (λ needed. (answered : List ℕ) × IsSourceText needed answered done) most_ahead octets left
+enough octets left None text done is later tells =
     let P : Option (List ℕ) → Type 0 = λ found. ExplainsWithin found text done in
     let none : length {A = ℕ} [] ≤ most_ahead = omega arith in
-    (behind.0, [], behind.1, none, (text, subst P (sym (gathered-none behind.0 behind.2)) tells))
-enough octets left (Some source) text done is behind tells =
+    (later.0, [], later.1, none, (text, subst P (sym (gathered-none later.0 later.2)) tells))
+enough octets left (Some source) text done is later tells =
     let P : Option (List ℕ) → Type 0 = λ found. ExplainsWithin found text done in
     let none : length {A = ℕ} [] ≤ most_ahead = omega arith in
-    (octets, [], sym (append-nil octets) ∙ ap (λ xs. octets ++ xs) (sym behind), none, (text, subst P is tells))
+    (octets, [], sym (append-nil octets) ∙ ap (λ xs. octets ++ xs) (sym later), none, (text, subst P is tells))

@@ -12,25 +12,25 @@ use Rattle.text_io.specs.declared.ending.Done.{Done}
 use Rattle.text_io.specs.declared.ending.Done.TheVariants.{Ended}
 use Rattle.text_io.specs.declared.ending.RunFault.{RunFault}
 use Rattle.lab_faults.specs.Explained.{IsExplainText, IsSourceText, source_after}
-use Rattle.lab_faults.proofs.Answered.{empty-told}
+use Rattle.lab_faults.proofs.Answered.{empty-source_answer}
 use Rattle.lab_faults.proofs.SourceFront.{SourceFront, source_front}
 use Rattle.lab_scripts.specs.ScriptText.{IsScriptExplained, ScriptWorld, after_answer, before_script}
 
 -- The text of an input that begins with the line `source`, and of one that doesn't.
 of_source : (octets source text : List ℕ) (done : Done) → source_after octets ≡ Some source → IsSourceText source text done → IsExplainText octets text done
-of_source octets source text done is told =
+of_source octets source text done is answered =
     let P : Option (List ℕ) → Type 0 = λ found. MatchOption found (IsScriptExplained octets text done) (λ source. IsSourceText source text done) in
-    subst P (sym is) told
+    subst P (sym is) answered
 
 of_script : (octets text : List ℕ) (done : Done) → source_after octets ≡ None → IsScriptExplained octets text done → IsExplainText octets text done
-of_script octets text done is told =
+of_script octets text done is answered =
     let P : Option (List ℕ) → Type 0 = λ found. MatchOption found (IsScriptExplained octets text done) (λ source. IsSourceText source text done) in
-    subst P (sym is) told
+    subst P (sym is) answered
 
 -- The front of an output with a text.
 front_as : (One Other : List ℕ → Done → Type 0) (before after : List ℕ) → ((text : List ℕ) (done : Done) → One text done → Other text done)
     → Adds (IsFront One) before after → Adds (IsFront Other) before after
-front_as One Other before after onto (text, grew, (more, done, told)) = (text, grew, (more, done, onto (text ++ more) done told))
+front_as One Other before after onto (text, grew, (more, done, answered)) = (text, grew, (more, done, onto (text ++ more) done answered))
 
 -- No part of the empty list has an octet.
 none_before : (x y : List ℕ) → [] ≡ x ++ y → x ≡ []
@@ -66,21 +66,21 @@ no_card_source text done (here, more, next, is, (answer, after, steps, e, to), r
     ended_by done more next _ (to ∙ ap (option_map (after_answer before_script answer)) steps.1) rest
 
 -- Octets that are a front of an input that doesn't begin with the line `source` don't either, unless they are the word alone.
-module _ (octets needed behind : List ℕ) (cut : octets ≡ needed ++ behind) (none : source_after octets ≡ None) (text : List ℕ) (done : Done) (told : IsScriptExplained needed text done) where
-  front_told : (found : Option (List ℕ)) → source_after needed ≡ found → (text' : List ℕ) × IsExplainText needed text' done
-  front_told None is = (text, of_script needed text done is told)
-  front_told (Some source) is =
+module _ (octets needed later : List ℕ) (cut : octets ≡ needed ++ later) (none : source_after octets ≡ None) (text : List ℕ) (done : Done) (answered : IsScriptExplained needed text done) where
+  front_answer : (found : Option (List ℕ)) → source_after needed ≡ found → (text' : List ℕ) × IsExplainText needed text' done
+  front_answer None is = (text, of_script needed text done is answered)
+  front_answer (Some source) is =
       let begins = source_front needed source is in
       elim begins.starts [
         | inl any ↦
-            let whole : octets ≡ begins.front ++ (source ++ behind) = cut ∙ ap (λ (xs : List ℕ). xs ++ behind) begins.cut ∙ append_assoc begins.front source behind in
-            let no : Some (source ++ behind) ≡ None = sym (any (source ++ behind)) ∙ ap source_after (sym whole) ∙ none in
+            let whole : octets ≡ begins.front ++ (source ++ later) = cut ∙ ap (λ (xs : List ℕ). xs ++ later) begins.cut ∙ append_assoc begins.front source later in
+            let no : Some (source ++ later) ≡ None = sym (any (source ++ later)) ∙ ap source_after (sym whole) ∙ none in
             absurd cc
         | inr alone ↦
             let word : needed ≡ codes "source" = begins.cut ∙ ap (λ (xs : List ℕ). begins.front ++ xs) alone.1 ∙ append-nil begins.front ∙ alone.0 in
-            let ends : done ≡ Ended = no_card_source text done (subst (λ (xs : List ℕ). IsScriptExplained xs text done) word told) in
-            let empty = subst (λ (xs : List ℕ). IsSourceText xs empty-told.0 Ended) (sym alone.1) empty-told.1 in
-            (empty-told.0, subst (λ (d : Done). IsExplainText needed empty-told.0 d) (sym ends) (of_source needed source empty-told.0 Ended is empty))
+            let ends : done ≡ Ended = no_card_source text done (subst (λ (xs : List ℕ). IsScriptExplained xs text done) word answered) in
+            let empty = subst (λ (xs : List ℕ). IsSourceText xs empty-source_answer.0 Ended) (sym alone.1) empty-source_answer.1 in
+            (empty-source_answer.0, subst (λ (d : Done). IsExplainText needed empty-source_answer.0 d) (sym ends) (of_source needed source empty-source_answer.0 Ended is empty))
       ]
 
 module _ {Source : Type 0} (I : InputView Source) (source read source' : Source) {Sink : Type 0} (O : OutputView Sink) (sink sink' : Sink)
@@ -94,9 +94,9 @@ module _ {Source : Type 0} (I : InputView Source) (source read source' : Source)
         (front_as (IsSourceText (I.rest read)) (IsExplainText (I.rest source)) (O.held sink) (O.held sink') (λ text done. of_source (I.rest source) (I.rest read) text done (begins ki)))
         (served.front ki ko);
     left = λ ki. IfOk-weaker result _ _
-        (λ done (needed, ahead, cut, few, (text, told)).
+        (λ done (needed, ahead, cut, few, (text, answered)).
         let whole = enough_source (I.rest source) (I.rest read) (I.rest source') needed ahead (source_front (I.rest source) (I.rest read) (begins ki)) cut in
-        (whole.0, ahead, whole.1, few, (text, of_source whole.0 needed text done whole.2 told)))
+        (whole.0, ahead, whole.1, few, (text, of_source whole.0 needed text done whole.2 answered)))
         (served.left ki);
     whole = served.whole;
     reading = served.reading ∙ ap (read_failures result) same;
@@ -112,12 +112,12 @@ module _ {Source : Type 0} (I : InputView Source) (source read source' : Source)
         (served.text ki ko);
     front = λ ki ko. on_err_weaker result
         (front_as (IsScriptExplained (I.rest read)) (IsExplainText (I.rest source)) (O.held sink) (O.held sink')
-        (λ text done told. of_script (I.rest source) text done (begins ki).0 (subst (λ (xs : List ℕ). IsScriptExplained xs text done) (begins ki).1 told)))
+        (λ text done answered. of_script (I.rest source) text done (begins ki).0 (subst (λ (xs : List ℕ). IsScriptExplained xs text done) (begins ki).1 answered)))
         (served.front ki ko);
     left = λ ki. IfOk-weaker result _ _
-        (λ done (needed, ahead, cut, few, (text, told)).
+        (λ done (needed, ahead, cut, few, (text, answered)).
         let whole = sym (begins ki).1 ∙ cut in
-        let again = front_told (I.rest source) needed (ahead ++ I.rest source') whole (begins ki).0 text done told (source_after needed) refl in
+        let again = front_answer (I.rest source) needed (ahead ++ I.rest source') whole (begins ki).0 text done answered (source_after needed) refl in
         (needed, ahead, whole, few, again))
         (served.left ki);
     whole = served.whole;

@@ -5,3 +5,4 @@ pub mod Public
 pub mod SameFaults
 pub mod SourceFront
 pub mod Walking
+pub mod TokensFound

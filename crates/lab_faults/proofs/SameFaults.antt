@@ -24,14 +24,14 @@ both_ended checked text more ended done p q e = record { alike = q ∙ sym p; be
 
 reading-same : (source : List ℕ) (code : List Instr) (reading : ProgramReading) (checked text : List ℕ) (ended done : Done) → ChecksAs code reading → IsCheckAnswer reading checked ended
     → ExplainsCode source code text done → NamesSameFault checked text ended done
-reading-same source code (is_program accepted) checked text ended done checks told (inl fine) = both_whole checked text ended done told.1 fine.2
-reading-same source code (is_program accepted) checked text ended done checks told (inr found) = absurd (refused-from_fault code found.0 found.1 checks.0)
-reading-same source code (is_refused refused) checked text ended done checks told (inl fine) = absurd (refused-from_fault code checks.0 checks.1 fine.0)
-reading-same source code (is_refused refused) checked text ended done checks told (inr found) =
+reading-same source code (is_program accepted) checked text ended done checks answered (inl fine) = both_whole checked text ended done answered.1 fine.2
+reading-same source code (is_program accepted) checked text ended done checks answered (inr found) = absurd (refused-from_fault code found.0 found.1 checks.0)
+reading-same source code (is_refused refused) checked text ended done checks answered (inl fine) = absurd (refused-from_fault code checks.0 checks.1 fine.0)
+reading-same source code (is_refused refused) checked text ended done checks answered (inr found) =
     let same = one_comes_first code found.0 checks.0 found.1 checks.1 in
     let more = found.2.0 in
-    both_ended checked text more ended done told.1 found.3
-    (found.2.2 ∙ ap (λ (f : Fault). verify_fault f ++ more) same ∙ ap (λ (xs : List ℕ). xs ++ more) (sym checks.2 ∙ sym told.0))
+    both_ended checked text more ended done answered.1 found.3
+    (found.2.2 ∙ ap (λ (f : Fault). verify_fault f ++ more) same ∙ ap (λ (xs : List ℕ). xs ++ more) (sym checks.2 ∙ sym answered.0))
 
 source-same : (source checked text : List ℕ) (ended done : Done) → TellsSource source checked ended → ExplainsSource source text done → NamesSameFault checked text ended done
 source-same source checked text ended done (inl p) (inl q) =

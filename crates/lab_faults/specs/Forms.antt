@@ -76,7 +76,7 @@ slots_of shape.NegativeLabels =
     slot.Mark 35 ∷ slot.Mark 45 ∷ slot.Number ∷ slot.Mark 44 ∷ slot.Name ∷ slot.Mark 44 ∷ slot.Name ∷ []
 slots_of shape.XLabels = slot.X ∷ slot.Mark 44 ∷ slot.Name ∷ slot.Mark 44 ∷ slot.Name ∷ []
 
--- Whether the octets of a token may stand in a slot.
+-- Whether the octets of a token may be in a slot.
 abbrev pub fits_slot : Slot → List ℕ → Bool
 fits_slot (slot.Mark octet) token = bytes_eq token (octet ∷ [])
 fits_slot slot.X token = bytes_eq token (codes "x")

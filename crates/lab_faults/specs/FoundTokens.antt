@@ -1,8 +1,9 @@
 -- The tokens of a source line, with their columns. They are those of the assembler: the longest runs of octets of words, and each
 -- other octet that is no blank.
-use Rattle.std.specs.Prelude.{ℕ, ◌+◌, ◌-◌, Bool, false, ◌&&◌, not, if◌then◌else◌, List, [], ◌∷◌, ◌++◌, take, drop, codes, Option, Some, None}
+use Rattle.std.specs.Prelude.{◌≡◌, ℕ, ◌+◌, ◌-◌, Bool, false, ◌&&◌, not, if◌then◌else◌, List, [], ◌∷◌, ◌++◌, map, take, drop, codes, Option, Some, None}
+use Rattle.std.specs.List.{filter_map}
 use Rattle.std.specs.Str.{bytes_eq}
-use Rattle.bpf_asm.specs.Tokens.{is_word}
+use Rattle.bpf_asm.specs.Tokens.{is_word, token_of, tokens_of}
 use Rattle.text_io.specs.Words.{is_blank, is_digit}
 use Rattle.lab_faults.specs.declared.tokens.FoundToken.{FoundToken}
 
@@ -39,6 +40,10 @@ found_tokens text = found_from 1 false text
 -- The octets of a token.
 abbrev pub token_octets : List ℕ → FoundToken → List ℕ
 token_octets text token = take token.size (drop (token.column - 1) text)
+
+-- The octets of the tokens that are found are those of the assembler's tokens, in order.
+abbrev pub FindsTokens : Type 0
+FindsTokens = (text : List ℕ) → filter_map token_of (map (token_octets text) (found_tokens text)) ≡ tokens_of text
 
 -- The octets are a word that doesn't begin with a digit.
 abbrev pub is_name : List ℕ → Bool

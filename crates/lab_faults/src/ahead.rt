@@ -4,7 +4,7 @@ ghost use Rattle.std.specs.Prelude.{◌≡◌, ◌≢◌, ◌≤◌, ◌++◌, �
 ghost use Rattle.text_io.specs.Failures.{read_failures};
 ghost use Rattle.lab_faults.specs.Explained.{PassesSource, source_after};
 
-use crate::tokens::{behind, front};
+use crate::tokens::{after, front};
 use std::alloc::{AllocError, Global};
 use text_io::{Failed, Input, RunFault};
 
@@ -96,10 +96,10 @@ fn source_after(octets: &[u8]) -> Option<&[u8]>
     ensures { option_map (λ source. source.now) result ≡ source_after octets.now }
 {
     if front(octets, 7) == b"source\n".as_slice() {
-        return Some(behind(octets, 7));
+        return Some(after(octets, 7));
     }
     if front(octets, 8) == b"source\r\n".as_slice() {
-        return Some(behind(octets, 8));
+        return Some(after(octets, 8));
     }
     if octets == b"source".as_slice() {
         Some(&[])

@@ -75,7 +75,7 @@ fn add_unwritten(answers: &mut Vec<u8>, word: u32) -> Result<(), AllocError>
 }
 
 /// Appends the sentence about a fault.
-fn add_code_sentence(answers: &mut Vec<u8>, fault: Fault) -> Result<(), AllocError>
+pub(crate) fn add_code_sentence(answers: &mut Vec<u8>, fault: Fault) -> Result<(), AllocError>
     ensures { OnOk result (answers.new.items ≡ answers.old.items ++ code_sentence fault) }
 {
     match fault {

@@ -173,7 +173,7 @@ pub(crate) fn near(word: &[u8]) -> Option<&'static [u8]>
 }
 
 /// Returns what may come after a mnemonic.
-fn shapes_of(form: Form) -> &'static [Shape]
+pub(crate) fn shapes_of(form: Form) -> &'static [Shape]
     ensures { result.now ≡ shapes_of form }
 {
     match form {
@@ -236,7 +236,7 @@ fn slots_of(shape: Shape) -> &'static [Slot]
     }
 }
 
-/// Returns whether the octets of a token may stand in a slot.
+/// Returns whether the octets of a token may be in a slot.
 fn fits_slot(slot: Slot, token: &[u8]) -> bool
     ensures { result ≡ fits_slot slot token.now }
 {

@@ -2,6 +2,7 @@
 
 ghost use Rattle.lab_faults.specs.Hints.{OutsideEndsProgram};
 ghost use Rattle.lab_faults.specs.AsCheck.{NamesFaultsOfCheck};
+ghost use Rattle.lab_faults.specs.FoundTokens.{FindsTokens};
 
 /// The answer of `explain` to a source begins with the fault line of `upc check`, and is a fault only where that is.
 pub fn explain_names_the_faults_of_check()
@@ -11,4 +12,9 @@ pub fn explain_names_the_faults_of_check()
 /// A load for which a hint is given ends the program with 0 on every cell, whatever the registers and the scratch memory hold.
 pub fn a_load_from_outside_ends_the_program()
     ensures { OutsideEndsProgram }
+{}
+
+/// The tokens that are found, by their columns and sizes, are those of the assembler.
+pub fn found_tokens_are_those_of_the_assembler()
+    ensures { FindsTokens }
 {}

@@ -11,6 +11,8 @@ pub mod laws;
 mod lines_found;
 mod path;
 mod source_faults;
+#[cfg(test)]
+mod tests;
 mod tokens;
 
 pub use ahead::{Ahead, LookedAt};

@@ -133,7 +133,7 @@ fn add_missing_label(answers: &mut Vec<u8>, label: &[u8]) -> Result<(), AllocErr
 
 /// Appends the sentence about a label.
 #[tactic(auto, using(std::proofs::lemmas::List::append_assoc))]
-fn add_label_sentence(
+pub(crate) fn add_label_sentence(
     answers: &mut Vec<u8>,
     kind: AsmKind,
     label: &[u8],

@@ -145,7 +145,7 @@ pub(crate) fn front(text: &[u8], size: usize) -> &[u8]
 }
 
 /// Returns what follows this many octets of a text.
-pub(crate) fn behind(text: &[u8], size: usize) -> &[u8]
+pub(crate) fn after(text: &[u8], size: usize) -> &[u8]
     ensures { result.now ≡ drop size text.now }
 {
     if size < text.len() {
@@ -159,7 +159,7 @@ pub(crate) fn behind(text: &[u8], size: usize) -> &[u8]
 pub(crate) fn token_octets(text: &[u8], token: FoundToken) -> &[u8]
     ensures { result.now ≡ token_octets text.now token }
 {
-    front(behind(text, token.column.saturating_sub(1)), token.size)
+    front(after(text, token.column.saturating_sub(1)), token.size)
 }
 
 /// Returns whether octets are a word that does not begin with a digit.

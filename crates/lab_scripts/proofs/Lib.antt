@@ -1,4 +1,9 @@
 pub mod Added
+pub mod CommandWords
+pub mod KeptPrograms
+pub mod LoadedCodes
 pub mod Naming
 pub mod Public
+pub mod RefusedCells
 pub mod Turning
+pub mod WordsFound

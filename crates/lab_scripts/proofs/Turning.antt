@@ -6,47 +6,66 @@ use Rattle.text_io.specs.declared.machine.Turn.TheVariants.{GoesOn, Ends}
 use Rattle.upc_cell.specs.declared.side.Side.{Side}
 use Rattle.upc_run.specs.RunSide.{run_side}
 use Rattle.upc_run.specs.RunText.{RunWorld, run_rules}
+use Rattle.lab_scripts.proofs.KeptPrograms.{kept_after}
+use Rattle.lab_scripts.proofs.LoadedCodes.{codes_follow}
+use Rattle.lab_scripts.specs.LoadedPrograms.{loaded_codes, loaded_programs}
+use Rattle.lab_scripts.specs.ScriptFaults.{is_fault_line}
 use Rattle.lab_scripts.specs.ScriptText.{ScriptWorld, after_answer, explained, one_line_more, script_rules}
-use Rattle.lab_scripts.specs.ToldFaults.{is_fault_line}
+use Rattle.lab_scripts.specs.declared.contract_numbers.NamesNone.{NamesNone}
+use Rattle.lab_scripts.specs.inner.ProgramsKept.{ProgramsAfter, loaded_digits}
 use Rattle.lab_scripts.specs.inner.ScriptLaws.{ShowsScript}
 
-module _ (Shows Shows' : RunWorld → Type 0) (met : ℕ) (faulty : Bool) (line told old new : List ℕ) (side : Option Side)
-    (is_side : (world : RunWorld) → Shows world → side ≡ run_side world) where
+module _ (Shows Shows' : RunWorld → Type 0) (met : ℕ) (faulty : Bool) (programs programs' : List NamesNone) (line answer old new : List ℕ) (side : Option Side)
+    (is_side : (world : RunWorld) → Shows world → side ≡ run_side world) (kept : ProgramsAfter (loaded_digits side line answer) programs programs') where
   abbrev text : List ℕ
-  text = explained side (one_line_more met) line told
+  text = explained programs side (one_line_more met) line answer
 
-  same_text : (world : ScriptWorld) → ShowsScript Shows met faulty world → text ≡ explained (run_side world.run) (one_line_more world.met) line told
+  same_text : (world : ScriptWorld) → ShowsScript Shows met faulty programs world
+      → text ≡ explained (loaded_programs world.run) (run_side world.run) (one_line_more world.met) line answer
   same_text world shown =
-      ap (λ (s : Option Side). explained s (one_line_more met) line told) (is_side world.run shown.runs)
-      ∙ ap (λ (n : ℕ). explained (run_side world.run) (one_line_more n) line told) (sym shown.counts)
+      ap (λ (ps : List NamesNone). explained ps side (one_line_more met) line answer) shown.keeps
+      ∙ ap (λ (s : Option Side). explained (loaded_programs world.run) s (one_line_more met) line answer) (is_side world.run shown.runs)
+      ∙ ap (λ (n : ℕ). explained (loaded_programs world.run) (run_side world.run) (one_line_more n) line answer) (sym shown.counts)
 
-  from : (turn : Turn) (world : ScriptWorld) → ShowsScript Shows met faulty world → TurnsFrom run_rules world.run line told turn Shows'
-      → TurnsFrom script_rules world line text turn (ShowsScript Shows' (one_line_more met) (faulty || is_fault_line told))
-  from Ends world shown steps = (told, None, steps, same_text world shown, refl)
+  kept_on : (world : ScriptWorld) → ShowsScript Shows met faulty programs world → ProgramsAfter (loaded_digits (run_side world.run) line answer) programs programs'
+  kept_on world shown = subst (λ (s : Option Side). ProgramsAfter (loaded_digits s line answer) programs programs') (is_side world.run shown.runs) kept
+
+  from : (turn : Turn) (world : ScriptWorld) → ShowsScript Shows met faulty programs world → TurnsFrom run_rules world.run line answer turn Shows'
+      → TurnsFrom script_rules world line text turn (ShowsScript Shows' (one_line_more met) (faulty || is_fault_line answer) programs')
+  from Ends world shown steps = (answer, None, steps, same_text world shown, refl)
   from GoesOn world shown goes = (
-    after_answer world told goes.0,
+    after_answer world answer goes.0,
     record {
       runs = goes.1;
       counts = ap one_line_more shown.counts;
-      blames = ap (λ (b : Bool). b || is_fault_line told) shown.blames;
+      blames = ap (λ (b : Bool). b || is_fault_line answer) shown.blames;
+      keeps =
+          kept_after (loaded_digits (run_side world.run) line answer) (loaded_codes world.run) (loaded_codes goes.0) programs programs' shown.keeps
+          (codes_follow world.run goes.0 line answer goes.2) (kept_on world shown);
     },
-    (told, Some goes.0, goes.2, same_text world shown, refl),
+    (answer, Some goes.0, goes.2, same_text world shown, refl),
   )
 
-  explained-here : (turn : Turn) → Answers run_rules Shows line turn Shows' [] told → new ≡ old ++ text
-      → Answers script_rules (ShowsScript Shows met faulty) line turn (ShowsScript Shows' (one_line_more met) (faulty || is_fault_line told)) old new
+  explained-here : (turn : Turn) → Answers run_rules Shows line turn Shows' [] answer → new ≡ old ++ text
+      → Answers script_rules (ShowsScript Shows met faulty programs) line turn (ShowsScript Shows' (one_line_more met) (faulty || is_fault_line answer) programs') old new
   explained-here turn answers added =
       (text, added, λ world sound shown. from turn world shown (subst (λ (here : List ℕ). TurnsFrom run_rules world.run line here turn Shows') (sym answers.1) (answers.2 world.run sound shown.runs)))
 
-  -- The text for a line follows from the answer of `run`.
-  pub turn-explained : (turn : Turn) (start looked read : List ℕ) (number : ℕ) (faulty' : Bool) → start ≡ [] → looked ≡ told → read ≡ told
-      → number ≡ one_line_more met → faulty' ≡ (faulty || is_fault_line looked)
-      → Answers run_rules Shows line turn Shows' start told → new ≡ old ++ explained side number line read
-      → Answers script_rules (ShowsScript Shows met faulty) line turn (ShowsScript Shows' number faulty') old new
-  turn-explained turn start looked read number faulty' empty same same' counted blamed answers added =
-      let Blamed : Bool → Type 0 = λ b. Answers script_rules (ShowsScript Shows met faulty) line turn (ShowsScript Shows' number b) old new in
-      let Counted : ℕ → Type 0 = λ n. Answers script_rules (ShowsScript Shows met faulty) line turn (ShowsScript Shows' n (faulty || is_fault_line told)) old new in
-      let first = subst (λ (xs : List ℕ). Answers run_rules Shows line turn Shows' xs told) empty answers in
-      let now : new ≡ old ++ text =
-      added ∙ ap (λ (n : ℕ). old ++ explained side n line read) counted ∙ ap (λ (xs : List ℕ). old ++ explained side (one_line_more met) line xs) same' in
-      subst Blamed (sym (blamed ∙ ap (λ (xs : List ℕ). faulty || is_fault_line xs) same)) (subst Counted (sym counted) (explained-here turn first now))
+-- The text for a line follows from the answer of `run`.
+pub turn-explained : (Shows Shows' : RunWorld → Type 0) (met : ℕ) (faulty : Bool) (programs programs' listed : List NamesNone) (line answer old new : List ℕ) (side : Option Side)
+    (turn : Turn) (start looked read loading : List ℕ) (number : ℕ) (faulty' : Bool)
+    → ((world : RunWorld) → Shows world → side ≡ run_side world) → start ≡ [] → looked ≡ answer → read ≡ answer → loading ≡ answer → listed ≡ programs
+    → number ≡ one_line_more met → faulty' ≡ (faulty || is_fault_line looked) → Answers run_rules Shows line turn Shows' start answer
+    → new ≡ old ++ explained listed side number line read → ProgramsAfter (loaded_digits side line loading) programs programs'
+    → Answers script_rules (ShowsScript Shows met faulty programs) line turn (ShowsScript Shows' number faulty' programs') old new
+turn-explained Shows Shows' met faulty programs programs' listed line answer old new side turn start looked read loading number faulty' is_side empty same same' same'' list counted blamed answers added
+    keeps =
+    let Blamed : Bool → Type 0 = λ b. Answers script_rules (ShowsScript Shows met faulty programs) line turn (ShowsScript Shows' number b programs') old new in
+    let Counted : ℕ → Type 0 = λ n. Answers script_rules (ShowsScript Shows met faulty programs) line turn (ShowsScript Shows' n (faulty || is_fault_line answer) programs') old new in
+    let first = subst (λ (xs : List ℕ). Answers run_rules Shows line turn Shows' xs answer) empty answers in
+    let kept = subst (λ (xs : List ℕ). ProgramsAfter (loaded_digits side line xs) programs programs') same'' keeps in
+    let now : new ≡ old ++ explained programs side (one_line_more met) line answer =
+    added ∙ ap (λ (ps : List NamesNone). old ++ explained ps side number line read) list ∙ ap (λ (n : ℕ). old ++ explained programs side n line read) counted
+    ∙ ap (λ (xs : List ℕ). old ++ explained programs side (one_line_more met) line xs) same' in
+    subst Blamed (sym (blamed ∙ ap (λ (xs : List ℕ). faulty || is_fault_line xs) same))
+    (subst Counted (sym counted) (explained-here Shows Shows' met faulty programs programs' line answer old new side is_side kept turn first now))

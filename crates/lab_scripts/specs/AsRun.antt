@@ -4,9 +4,11 @@ use Rattle.text_io.specs.declared.ending.Done.{Done}
 use Rattle.upc_cell.specs.declared.side.Side.{Side}
 use Rattle.upc_run.specs.RunText.{IsRunText}
 use Rattle.lab_scripts.specs.ScriptText.{IsScriptExplained, explained}
+use Rattle.lab_scripts.specs.declared.contract_numbers.NamesNone.{NamesNone}
 
--- A line of a script, the side of the card before it, and the answer of `run` to it.
+-- A line of a script, the programs loaded and the side of the card before it, and the answer of `run` to it.
 pub record AnsweredLine : Type 0 where
+  pub programs : List NamesNone
   pub side : Option Side
   pub number : ℕ
   pub said : List ℕ
@@ -16,20 +18,20 @@ pub record AnsweredLine : Type 0 where
 abbrev pub answers_of : List AnsweredLine → List ℕ
 answers_of lines = flat_map (λ line. line.answer) lines
 
--- What `explain` prints for these lines: for each fault line that line and its explanation, and nothing for any other.
+-- What `explain` prints for these lines: for each fault line that line and its explanation, and for any other a hint or nothing.
 abbrev pub explained_of : List AnsweredLine → List ℕ
-explained_of lines = flat_map (λ line. explained line.side line.number line.said line.answer) lines
+explained_of lines = flat_map (λ line. explained line.programs line.side line.number line.said line.answer) lines
 
 -- Both texts come from the same answers of `run` to the same lines. After them `run` answers the end of the script, or a line over the
 -- limits, and `explain` prints the same and then perhaps a sentence.
-pub record NamesFaultsAt (told text : List ℕ) : Type 0 where
+pub record NamesFaultsAt (answers text : List ℕ) : Type 0 where
   pub lines : List AnsweredLine
   pub last : List ℕ
   pub more : List ℕ
-  pub answered : told ≡ answers_of lines ++ last
+  pub answered : answers ≡ answers_of lines ++ last
   pub explains : text ≡ explained_of lines ++ (last ++ more)
 
 -- The faults that `explain` names are those of `run`, in the same order.
 abbrev pub NamesFaultsOfRun : Type 0
 NamesFaultsOfRun =
-    (octets told text : List ℕ) (ended done : Done) → IsRunText octets told ended → IsScriptExplained octets text done → NamesFaultsAt told text
+    (octets answers text : List ℕ) (ended done : Done) → IsRunText octets answers ended → IsScriptExplained octets text done → NamesFaultsAt answers text

@@ -1,6 +1,6 @@
 -- The words of a line, with their columns.
-use Rattle.std.specs.Prelude.{ℕ, ◌+◌, ◌-◌, Bool, false, ◌&&◌, not, if◌then◌else◌, List, [], ◌∷◌, ◌++◌, take, drop}
-use Rattle.text_io.specs.Words.{is_blank}
+use Rattle.std.specs.Prelude.{◌≡◌, ℕ, ◌+◌, ◌-◌, Bool, false, ◌&&◌, not, if◌then◌else◌, List, [], ◌∷◌, ◌++◌, map, take, drop}
+use Rattle.text_io.specs.Words.{is_blank, words_of}
 use Rattle.lab_scripts.specs.declared.found_words.FoundWord.{FoundWord}
 
 -- How many octets the word has that these octets begin with.
@@ -30,3 +30,7 @@ found_words line = words_from 1 false line
 -- The octets of a word.
 abbrev pub word_octets : List ℕ → FoundWord → List ℕ
 word_octets line word = take word.size (drop (word.column - 1) line)
+
+-- The octets of the words that are found are the words of the line, in order.
+abbrev pub FindsWords : Type 0
+FindsWords = (line : List ℕ) → map (word_octets line) (found_words line) ≡ words_of line

@@ -3,9 +3,13 @@ pub mod Places
 pub mod Meant
 pub mod FoundWords
 pub mod ScriptForms
-pub mod ToldFaults
+pub mod CommandFits
+pub mod ScriptFaults
 pub mod WrongWords
 pub mod ScriptReasons
+pub mod ContractNumbers
+pub mod LoadedPrograms
+pub mod SetupHints
 pub mod ScriptText
 pub mod AsRun
 pub mod inner

@@ -11,11 +11,11 @@ use Rattle.upc_script.specs.declared.script_words.Wanted.TheVariants as wanted
 use Rattle.upc_words.specs.FaultLines.{line}
 use Rattle.lab_scripts.specs.FoundWords.{found_words, word_octets}
 use Rattle.lab_scripts.specs.Places.{place_words}
-use Rattle.lab_scripts.specs.ToldFaults.{told_fault}
+use Rattle.lab_scripts.specs.ScriptFaults.{explained_fault}
 use Rattle.lab_scripts.specs.WrongWords.{wrong_sentence, wrong_word}
 use Rattle.lab_scripts.specs.declared.found_words.FoundWord.{FoundWord}
-use Rattle.lab_scripts.specs.declared.told_faults.ScriptFault.{ScriptFault}
-use Rattle.lab_scripts.specs.declared.told_faults.ScriptFault.TheVariants as fault
+use Rattle.lab_scripts.specs.declared.script_faults.ScriptFault.{ScriptFault}
+use Rattle.lab_scripts.specs.declared.script_faults.ScriptFault.TheVariants as fault
 
 -- Whether a bucket of a contract has a fault.
 abbrev pub has_bad_bucket : Option Wanted → Bool
@@ -178,4 +178,4 @@ fault_explanation side number said words found =
 
 -- The explanation of a fault line, on a card of this side or before there is one.
 abbrev pub script_explanation : Option Side → ℕ → List ℕ → List ℕ → List ℕ
-script_explanation side number said answer = fault_explanation side number said (found_words said) (told_fault answer)
+script_explanation side number said answer = fault_explanation side number said (found_words said) (explained_fault answer)

@@ -1,5 +1,5 @@
 -- The output of `upc-lab explain` for a script. Each line that `upc run` answers by a fault line has that fault line and its
--- explanation. Other answers are left out.
+-- explanation. Other answers are left out, but a setup may have a hint.
 use Rattle.std.specs.Prelude.{◌≡◌, ℕ, ◌+◌, ◌==◌, ◌||◌, min, Bool, false, if◌then◌else◌, List, [], ◌++◌, codes, decimal, Option, Some, None, option_map, MatchBool}
 use Rattle.text_io.specs.Lines.{lines_of}
 use Rattle.text_io.specs.Printing.{Rules, Prints}
@@ -10,8 +10,11 @@ use Rattle.upc_cell.specs.declared.side.Side.{Side}
 use Rattle.upc_run.specs.RunSide.{run_side}
 use Rattle.upc_run.specs.RunText.{IsSoundRun, RunSteps, RunWorld}
 use Rattle.upc_words.specs.FaultLines.{too_long}
+use Rattle.lab_scripts.specs.LoadedPrograms.{loaded_programs}
 use Rattle.lab_scripts.specs.ScriptReasons.{script_explanation}
-use Rattle.lab_scripts.specs.ToldFaults.{is_fault_line}
+use Rattle.lab_scripts.specs.ScriptFaults.{is_fault_line}
+use Rattle.lab_scripts.specs.SetupHints.{setup_hint}
+use Rattle.lab_scripts.specs.declared.contract_numbers.NamesNone.{NamesNone}
 
 -- The world of `run`, the number of lines so far, and whether one of them had a fault.
 pub record ScriptWorld : Type 0 where
@@ -23,12 +26,13 @@ pub record ScriptWorld : Type 0 where
 abbrev pub one_line_more : ℕ → ℕ
 one_line_more met = min (met + 1) 18446744073709551615
 
--- The text for a line of this number that `run` answers so, on a card of this side or before there is one: nothing, or the fault line
--- and its explanation.
-abbrev pub explained : Option Side → ℕ → List ℕ → List ℕ → List ℕ
-explained side number said answer = if is_fault_line answer then answer ++ script_explanation side number said answer else []
+-- The text for a line of this number with this answer of `run`, on a card of this side or before there is one, after these programs
+-- were loaded: the fault line and its explanation, or for an answer without a fault perhaps a hint.
+abbrev pub explained : List NamesNone → Option Side → ℕ → List ℕ → List ℕ → List ℕ
+explained programs side number said answer =
+    if is_fault_line answer then answer ++ script_explanation side number said answer else setup_hint programs number said
 
--- The world after a line that `run` answers so, if `run` goes on.
+-- The world after a line with this answer, if `run` goes on.
 abbrev pub after_answer : ScriptWorld → List ℕ → RunWorld → ScriptWorld
 after_answer world answer next = record {
   run = next;
@@ -40,7 +44,7 @@ after_answer world answer next = record {
 abbrev pub ExplainsLine : ScriptWorld → List ℕ → List ℕ → Option ScriptWorld → Type 0
 ExplainsLine world said text next =
     (answer : List ℕ) × (after : Option RunWorld) × RunSteps world.run said answer after
-    × (text ≡ explained (run_side world.run) (one_line_more world.met) said answer) × (next ≡ option_map (after_answer world answer) after)
+    × (text ≡ explained (loaded_programs world.run) (run_side world.run) (one_line_more world.met) said answer) × (next ≡ option_map (after_answer world answer) after)
 
 -- A number of lines, in words.
 abbrev pub lines_text : ℕ → List ℕ

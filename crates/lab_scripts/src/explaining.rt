@@ -2,11 +2,15 @@
 
 ghost use Rattle.std.specs.Prelude.{◌≡◌, ◌++◌, ◌||◌, OnOk};
 ghost use Rattle.text_io.specs.Serving.{IsServed};
+ghost use Rattle.lab_scripts.specs.ScriptFaults.{is_fault_line};
+ghost use Rattle.lab_scripts.specs.ScriptReasons.{script_explanation};
 ghost use Rattle.lab_scripts.specs.ScriptText.{IsScriptExplained, explained, lines_text, no_fault_line, one_line_more};
-ghost use Rattle.lab_scripts.specs.ToldFaults.{is_fault_line};
 
+use crate::contract_numbers::NamesNone;
+use crate::loaded_programs::add_loaded;
 use crate::reasons::add_script_explanation;
-use crate::told_faults::is_fault_line;
+use crate::script_faults::is_fault_line;
+use crate::setup_hints::add_setup_hint;
 use std::alloc::{AllocError, Global};
 use text_io::{Done, Input, Machine, Output, RunFault, Turn, answer_lines};
 use upc_card_lines::add_no_card;
@@ -36,23 +40,39 @@ fn add_no_fault(answers: &mut Vec<u8>, met: usize) -> Result<(), AllocError>
     add_text(answers, b"\n")
 }
 
-/// Appends the text for a line of this number that `run` answers so.
+/// Appends a fault line and its explanation.
 #[tactic(auto, using(std::proofs::lemmas::List::append_assoc))]
-fn add_explained(
+fn add_fault(
     alloc: Global,
     answers: &mut Vec<u8>,
     side: Option<Side>,
     number: usize,
     line: &[u8],
-    told: &[u8],
+    answer: &[u8],
 ) -> Result<(), AllocError>
-    ensures { OnOk result (answers.new.items ≡ answers.old.items ++ explained side number line.now told.now) }
+    ensures { OnOk result (answers.new.items ≡ answers.old.items ++ (answer.now ++ script_explanation side number line.now answer.now)) }
 {
-    if is_fault_line(told) {
-        add_text(answers, told)?;
-        add_script_explanation(alloc, answers, side, number, line, told)?;
+    add_text(answers, answer)?;
+    add_script_explanation(alloc, answers, side, number, line, answer)
+}
+
+/// Appends the text for a line of this number with this answer, after these programs were loaded.
+fn add_explained(
+    alloc: Global,
+    answers: &mut Vec<u8>,
+    programs: &[NamesNone],
+    side: Option<Side>,
+    number: usize,
+    line: &[u8],
+    answer: &[u8],
+) -> Result<(), AllocError>
+    ensures { OnOk result (answers.new.items ≡ answers.old.items ++ explained programs.now side number line.now answer.now) }
+{
+    if is_fault_line(answer) {
+        add_fault(alloc, answers, side, number, line, answer)
+    } else {
+        add_setup_hint(alloc, answers, programs, number, line)
     }
-    Ok(())
 }
 
 /// Returns the number of lines after one more.
@@ -62,11 +82,11 @@ fn one_line_more(met: usize) -> usize
     met.saturating_add(1)
 }
 
-/// Returns whether a line had a fault, after one that `run` answers so.
-fn is_faulty_after(faulty: bool, told: &[u8]) -> bool
-    ensures { result ≡ (faulty || is_fault_line told.now) }
+/// Returns whether a line had a fault, after one with this answer.
+fn is_faulty_after(faulty: bool, answer: &[u8]) -> bool
+    ensures { result ≡ (faulty || is_fault_line answer.now) }
 {
-    faulty || is_fault_line(told)
+    faulty || is_fault_line(answer)
 }
 
 /// The machine of `run`, with what explanations need beside.
@@ -78,6 +98,8 @@ struct Explaining {
     met: usize,
     /// Whether one of them had a fault.
     faulty: bool,
+    /// Which contracts each program names, in the order of the programs' names.
+    programs: Vec<NamesNone>,
 }
 
 impl Machine for Explaining {
@@ -86,17 +108,26 @@ impl Machine for Explaining {
 
     ghost World = { ScriptWorld };
 
-    ghost shows = { λ it world. ShowsScript (⟦<Policing as Machine>⟧.shows it.run) it.met it.faulty world };
+    ghost shows = { λ it world. ShowsScript (⟦<Policing as Machine>⟧.shows it.run) it.met it.faulty it.programs.items world };
 
     ghost rules = { script_rules };
 
     fn answer(&mut self, line: &[u8], answers: &mut Vec<u8>) -> Result<Turn, AllocError> {
         let side = self.run.side();
-        let mut told = Vec::new(self.alloc);
-        let turn = self.run.answer(line, &mut told)?;
+        let mut answer = Vec::new(self.alloc);
+        let turn = self.run.answer(line, &mut answer)?;
         self.met = one_line_more(self.met);
-        self.faulty = is_faulty_after(self.faulty, &told);
-        add_explained(self.alloc, answers, side, self.met, line, &told)?;
+        self.faulty = is_faulty_after(self.faulty, &answer);
+        add_explained(
+            self.alloc,
+            answers,
+            &self.programs,
+            side,
+            self.met,
+            line,
+            &answer,
+        )?;
+        add_loaded(self.alloc, &mut self.programs, side, line, &answer)?;
         Ok(turn)
     }
 
@@ -127,8 +158,8 @@ impl Machine for Explaining {
     ghost is_total = { script-total };
 }
 
-/// Answers each line of a script that `upc run` answers by a fault line: by that line, and the explanation of it. docs/LAB.md has the
-/// format.
+/// Answers each line of a script that `upc run` answers by a fault line: by that line, and the explanation of it. A setup whose program
+/// names no contract has a hint. docs/LAB.md has the format.
 ///
 /// # Errors
 ///
@@ -146,6 +177,7 @@ pub fn explain_script<I: Input, O: Output>(
         run: Policing::new(alloc),
         met: 0,
         faulty: false,
+        programs: Vec::new(alloc),
     };
     answer_lines(alloc, input, output, &mut explaining)
 }

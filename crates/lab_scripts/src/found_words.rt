@@ -89,7 +89,7 @@ pub(crate) fn front(text: &[u8], size: usize) -> &[u8]
 }
 
 /// Returns what follows this many octets of a text.
-fn behind(text: &[u8], size: usize) -> &[u8]
+fn after(text: &[u8], size: usize) -> &[u8]
     ensures { result.now ≡ drop size text.now }
 {
     if size < text.len() {
@@ -103,5 +103,5 @@ fn behind(text: &[u8], size: usize) -> &[u8]
 pub(crate) fn word_octets(line: &[u8], word: FoundWord) -> &[u8]
     ensures { result.now ≡ word_octets line.now word }
 {
-    front(behind(line, word.column.saturating_sub(1)), word.size)
+    front(after(line, word.column.saturating_sub(1)), word.size)
 }

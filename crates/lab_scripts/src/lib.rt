@@ -1,19 +1,26 @@
-//! `upc-lab explain` of a script: each fault line of `upc run`, with the line, the column of the word that is wrong, and a sentence.
+//! `upc-lab explain` of a script: each fault line of `upc run`, with the line, the column of the word that is wrong, and a sentence; and
+//! hints.
 #![tactic(auto)]
 
+mod contract_numbers;
 mod explaining;
 mod forms;
 mod found_words;
 pub mod laws;
+mod loaded_programs;
 mod meant;
 mod places;
 mod reasons;
-mod told_faults;
+mod script_faults;
+mod setup_hints;
+#[cfg(test)]
+mod tests;
 mod wrong_words;
 
+pub use contract_numbers::NamesNone;
 pub use explaining::explain_script;
 pub use forms::{ScriptForm, ScriptSlot};
 pub use found_words::FoundWord;
 pub use meant::{add_perhaps, is_near};
 pub use places::{add_place, add_quoted};
-pub use told_faults::ScriptFault;
+pub use script_faults::ScriptFault;

@@ -9,7 +9,7 @@ ghost use Rattle.lab_scripts.specs.ScriptReasons.{bad_contract, bad_of_two, buck
 
 use crate::found_words::{FoundWord, word_octets, words_of};
 use crate::places::add_place;
-use crate::told_faults::{ScriptFault, told_fault};
+use crate::script_faults::{ScriptFault, explained_fault};
 use crate::wrong_words::{add_wrong, word_at, wrong_word};
 use arrayvec::ArrayVec;
 use std::alloc::{AllocError, Global};
@@ -117,7 +117,7 @@ fn blamed_place(fault: ScriptFault, line: &[u8], words: &[FoundWord]) -> usize
 }
 
 /// Returns the sentence about a fault of the line's words, or nothing.
-fn word_fault_text(fault: ScriptFault) -> &'static [u8]
+pub(crate) fn word_fault_text(fault: ScriptFault) -> &'static [u8]
     ensures { result.now ≡ word_fault_text fault }
 {
     match fault {
@@ -138,7 +138,7 @@ fn word_fault_text(fault: ScriptFault) -> &'static [u8]
 }
 
 /// Returns the sentence about a fault of a program's octets, or nothing.
-fn code_fault_text(fault: ScriptFault) -> &'static [u8]
+pub(crate) fn code_fault_text(fault: ScriptFault) -> &'static [u8]
     ensures { result.now ≡ code_fault_text fault }
 {
     match fault {
@@ -171,7 +171,7 @@ fn code_fault_text(fault: ScriptFault) -> &'static [u8]
 }
 
 /// Returns the sentence about a fault of the desk, or nothing.
-fn desk_fault_text(fault: ScriptFault) -> &'static [u8]
+pub(crate) fn desk_fault_text(fault: ScriptFault) -> &'static [u8]
     ensures { result.now ≡ desk_fault_text fault }
 {
     match fault {
@@ -196,7 +196,7 @@ fn desk_fault_text(fault: ScriptFault) -> &'static [u8]
 }
 
 /// Returns the sentence about a cell that isn't judged, or nothing.
-fn cell_fault_text(fault: ScriptFault) -> &'static [u8]
+pub(crate) fn cell_fault_text(fault: ScriptFault) -> &'static [u8]
     ensures { result.now ≡ cell_fault_text fault }
 {
     match fault {
@@ -293,7 +293,7 @@ fn add_own(
 }
 
 /// Returns whether the line is no command.
-fn is_no_command(fault: ScriptFault) -> bool
+pub(crate) fn is_no_command(fault: ScriptFault) -> bool
     ensures { result ≡ is_no_command fault }
 {
     matches!(fault, ScriptFault::BadLine | ScriptFault::NoCard)
@@ -386,5 +386,5 @@ pub(crate) fn add_script_explanation(
     ensures { OnOk result (answers.new.items ≡ answers.old.items ++ script_explanation side number line.now answer.now) }
 {
     let words = words_of(alloc, line)?;
-    add_fault_explanation(answers, side, number, line, &words, told_fault(answer))
+    add_fault_explanation(answers, side, number, line, &words, explained_fault(answer))
 }

@@ -79,7 +79,7 @@ fn add_program(answers: &mut Vec<u8>, word: &[u8]) -> Result<(), AllocError>
 }
 
 /// Appends what is wrong with a word in a slot.
-fn add_slot_text(
+pub(crate) fn add_slot_text(
     answers: &mut Vec<u8>,
     side: Side,
     slot: ScriptSlot,
@@ -109,7 +109,7 @@ fn add_slot_text(
 }
 
 /// Returns what a command takes, in words.
-fn takes_text(form: ScriptForm) -> &'static [u8]
+pub(crate) fn takes_text(form: ScriptForm) -> &'static [u8]
     ensures { result.now ≡ takes_text form }
 {
     match form {

@@ -8,14 +8,17 @@ use Rattle.text_io.specs.declared.ending.Done.TheVariants.{Whole, Ended}
 use Rattle.upc_card_lines.specs.CardFaults.{no_card}
 use Rattle.upc_run.specs.RunText.{IsSoundRun, RunSteps, RunWorld}
 use Rattle.upc_run.specs.inner.RunLaws.{run-total}
+use Rattle.lab_scripts.specs.LoadedPrograms.{loaded_programs}
+use Rattle.lab_scripts.specs.declared.contract_numbers.NamesNone.{NamesNone}
 use Rattle.lab_scripts.specs.ScriptText.{ClosesScript, ScriptWorld, after_answer, explained, no_card_at_all, no_fault_line, one_line_more, script_rules}
 use Rattle.upc_run.specs.RunSide.{run_side}
 
--- The machine shows the world with what it counts, if its part for `run` shows the world of `run`.
-pub record ShowsScript (ShowsRun : RunWorld → Type 0) (met : ℕ) (faulty : Bool) (world : ScriptWorld) : Type 0 where
+-- The machine shows the world with what it counts and keeps of programs, if its part for `run` shows the world of `run`.
+pub record ShowsScript (ShowsRun : RunWorld → Type 0) (met : ℕ) (faulty : Bool) (programs : List NamesNone) (world : ScriptWorld) : Type 0 where
   pub runs : ShowsRun world.run
   pub counts : world.met ≡ met
   pub blames : world.faulty ≡ faulty
+  pub keeps : programs ≡ loaded_programs world.run
 
 sound_after : (before after : ScriptWorld) (said answer : List ℕ) (next : Option RunWorld) → IsSoundRun before.run → RunSteps before.run said answer next
     → Some after ≡ option_map (after_answer before answer) next → IsSoundRun after.run
@@ -38,7 +41,10 @@ pub script-total : IsTotal script_rules
 script-total = record {
   keeps = λ before said text after sound steps. sound_after before after said steps.0 steps.1 sound steps.2 steps.4;
   step = λ world said sound.
-      let told = run-total.step world.run said sound in
-      (explained (run_side world.run) (one_line_more world.met) said told.0, option_map (after_answer world told.0) told.1, (told.0, told.1, told.2, refl, refl));
+      let run = run-total.step world.run said sound in (
+        explained (loaded_programs world.run) (run_side world.run) (one_line_more world.met) said run.0,
+        option_map (after_answer world run.0) run.1,
+        (run.0, run.1, run.2, refl, refl),
+      );
   close = λ world sound. closes_by world.run world;
 }

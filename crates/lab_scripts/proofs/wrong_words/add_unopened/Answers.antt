@@ -1,4 +1,4 @@
-use Rattle.std.proofs.Common.{◌≡◌, codes}
+use Rattle.std.proofs.Common.{codes}
 use Rattle.std.proofs.lemmas.Result.{on_ok_weaker}
 use Rattle.lab_scripts.specs.Places.{quoted}
 use Rattle.lab_scripts.specs.WrongWords.{meant_opening, unopened_sentence}

@@ -1,8 +1,8 @@
 -- The faults of a script, by the fault lines of `upc run`.
 use Rattle.std.specs.Prelude.{ℕ, Bool, if◌then◌else◌, List, [], ◌∷◌, codes, length, take, Option, Some, None}
 use Rattle.std.specs.Str.{bytes_eq}
-use Rattle.lab_scripts.specs.declared.told_faults.ScriptFault.{ScriptFault}
-use Rattle.lab_scripts.specs.declared.told_faults.ScriptFault.TheVariants as fault
+use Rattle.lab_scripts.specs.declared.script_faults.ScriptFault.{ScriptFault}
+use Rattle.lab_scripts.specs.declared.script_faults.ScriptFault.TheVariants as fault
 
 -- Whether an answer is a fault line.
 abbrev pub is_fault_line : List ℕ → Bool
@@ -50,7 +50,7 @@ fault_or None other = other
 fault_or (Some found) other = Some found
 
 -- The fault of a fault line.
-abbrev pub told_fault : List ℕ → Option ScriptFault
-told_fault answer =
+abbrev pub explained_fault : List ℕ → Option ScriptFault
+explained_fault answer =
     fault_or (fault_among answer word_faults) (fault_or (fault_among answer code_faults)
     (fault_or (fault_among answer desk_faults) (fault_among answer cell_faults)))

@@ -1,7 +1,7 @@
 -- Loop invariant: the answer begins with none of the rows so far.
 use Rattle.std.proofs.Common.{◌≡◌, length, map}
-use Rattle.lab_scripts.specs.ToldFaults.{fault_among}
-use Rattle.lab_scripts.proofs.told_faults.fault_among.Given as goal
+use Rattle.lab_scripts.specs.ScriptFaults.{fault_among}
+use Rattle.lab_scripts.proofs.script_faults.fault_among.Given as goal
 
 abbrev pub invariant-loop-left : goal.invariant-loop-left
 invariant-loop-left l = fault_among l.answer (map (λ row. (row.0.now, row.1)) l.left) ≡ fault_among l.answer (map (λ row. (row.0.now, row.1)) l.rows)

@@ -1,7 +1,7 @@
 //! The faults of a script, by the fault lines of `upc run`.
 
 ghost use Rattle.std.specs.Prelude.{◌≡◌, map};
-ghost use Rattle.lab_scripts.specs.ToldFaults.{cell_faults, code_faults, desk_faults, fault_among, is_fault_line, told_fault, word_faults};
+ghost use Rattle.lab_scripts.specs.ScriptFaults.{cell_faults, code_faults, desk_faults, fault_among, is_fault_line, explained_fault, word_faults};
 
 use crate::found_words::front;
 
@@ -83,7 +83,7 @@ pub enum ScriptFault {
 }
 
 /// How the lines begin of faults of the line's words.
-const WORD_FAULTS: [(&[u8], ScriptFault); 10] = [
+pub(crate) const WORD_FAULTS: [(&[u8], ScriptFault); 10] = [
     (b"fault script 1 ", ScriptFault::BadLine),
     (b"fault script 2 ", ScriptFault::NoCard),
     (b"fault script 3 ", ScriptFault::BadHex),
@@ -97,7 +97,7 @@ const WORD_FAULTS: [(&[u8], ScriptFault); 10] = [
 ];
 
 /// How the lines begin of faults of a program's octets.
-const CODE_FAULTS: [(&[u8], ScriptFault); 10] = [
+pub(crate) const CODE_FAULTS: [(&[u8], ScriptFault); 10] = [
     (b"fault decode 1 ", ScriptFault::Ragged),
     (b"fault decode 2 ", ScriptFault::UnknownCode),
     (b"fault verify 1 ", ScriptFault::NoInstruction),
@@ -111,7 +111,7 @@ const CODE_FAULTS: [(&[u8], ScriptFault); 10] = [
 ];
 
 /// How the lines begin of faults of the desk.
-const DESK_FAULTS: [(&[u8], ScriptFault); 10] = [
+pub(crate) const DESK_FAULTS: [(&[u8], ScriptFault); 10] = [
     (b"fault desk 1 ", ScriptFault::NoProgram),
     (b"fault desk 2 ", ScriptFault::NoConnection),
     (b"fault desk 3 ", ScriptFault::Taken),
@@ -125,7 +125,7 @@ const DESK_FAULTS: [(&[u8], ScriptFault); 10] = [
 ];
 
 /// How the lines begin of cells that aren't judged.
-const CELL_FAULTS: [(&[u8], ScriptFault); 6] = [
+pub(crate) const CELL_FAULTS: [(&[u8], ScriptFault); 6] = [
     (b"fault arrive 1 ", ScriptFault::CellUnknown),
     (b"fault arrive 2 ", ScriptFault::CellReleased),
     (b"fault arrive 3 ", ScriptFault::CellStale),
@@ -180,8 +180,8 @@ fn cell_fault(answer: &[u8]) -> Option<ScriptFault>
 }
 
 /// Returns the fault of a fault line.
-pub(crate) fn told_fault(answer: &[u8]) -> Option<ScriptFault>
-    ensures { result ≡ told_fault answer.now }
+pub(crate) fn explained_fault(answer: &[u8]) -> Option<ScriptFault>
+    ensures { result ≡ explained_fault answer.now }
 {
     if let Some(fault) = word_fault(answer) {
         return Some(fault);
