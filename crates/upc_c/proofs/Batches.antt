@@ -1,6 +1,6 @@
 -- Cells of a buffer, judged one after another.
 use Rattle.std.proofs.Common.{◌≡◌, ℕ, suc, ◌+◌, ◌*◌, ◌-◌, ◌<◌, ◌≤◌, min, List, [], ◌∷◌, ◌++◌, length, take, drop, set, get_or, Some, None, refl, sym, ap, subst, ◌∙◌, arith, length-take, length-drop, length-set, drop-set-lt, append_assoc, take-append-drop}
-use Rattle.std.specs.Prelude.{◌⊎◌, Result, IfOk, IfErr, slice_get}
+use Rattle.std.specs.Prelude.{◌⊎◌, Result, IfOk, IfErr}
 use Rattle.std.proofs.lemmas.Grind.{drop_more_same}
 use Rattle.std.proofs.lemmas.List.{drop-drop, drop_min, take_min, take_more, take_more_set}
 use Rattle.std.proofs.lemmas.Option.{slice_get-get_or}

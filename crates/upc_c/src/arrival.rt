@@ -9,7 +9,6 @@ ghost use Rattle.upc_c.specs.CardArrival.{IsArrivalFault, IsPoliced, reason_of_a
 ghost use Rattle.upc_c.specs.CardHandle.{card_in, card_missing};
 ghost use Rattle.upc_c.specs.CellHeader.{IsCellFault};
 ghost use Rattle.upc_c.specs.Faults.{call_result, no_fault, out_of_memory};
-ghost use Rattle.upc_c.specs.Judging.{number_of_verdict};
 ghost use Rattle.upc_c.specs.inner.CellsOnCore.{PolicesOn, RefusesOn};
 ghost use Rattle.upc_c.specs.inner.ReachedCore.{IsReachedCore};
 ghost use Rattle.upc_c.specs.inner.Numbered.{IsNumbered};

@@ -1,4 +1,4 @@
-use Rattle.std.proofs.Common.{◌≡◌, ℕ, length, le_antisymm, sym, subst}
+use Rattle.std.proofs.Common.{◌≡◌, length, le_antisymm, subst}
 use Rattle.upc_c.proofs.Batches.{first-kept, first-more, first-none, refuses-next}
 use Rattle.upc_c.specs.inner.CellsOnCore.{PolicesFirst}
 use Rattle.upc_c.proofs.batch.police_each.Goals as goal
