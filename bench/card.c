@@ -1,6 +1,7 @@
-/* The library's upc_card_arrive on the traffic of bench/policing.rt.in: random cells among 256 connections of two VBR.3 contracts
- * each, named by a program of four instructions. Prints the least time a cell of many rounds, and how many cells passed. What
- * Core::arrive takes, which it calls, bench/run prints. */
+/* The library's upc_card_arrive and upc_card_arrive_many on the traffic of bench/policing.rt.in: random cells among 256 connections
+ * of two VBR.3 contracts each, named by a program of four instructions. Prints the least time a cell of many rounds, and how many
+ * cells passed: of calls for a cell each, and of calls for as many cells as the name says. What Core::arrive takes, which they
+ * call, bench/run prints. */
 #include <stdio.h>
 #include <string.h>
 #include <time.h>
@@ -9,6 +10,8 @@
 enum { CONNECTIONS = 256, CELLS = 4096, JOURNAL = 4096, ROUNDS = 280, ROUNDS_A_CUT = 25 };
 
 static uint8_t cells[CELLS][UPC_CELL_OCTETS], came[CELLS][UPC_CELL_OCTETS];
+static uint64_t moments[CELLS];
+static upc_answer answers[CELLS];
 
 static uint64_t random_bits(void)
 {
@@ -52,22 +55,52 @@ static uint32_t make_card(upc_card *card, upc_fault *fault)
 	return 0;
 }
 
-/* One round from this moment on: nanoseconds a cell, or -1 where a cell wasn't judged. */
-static double measure(upc_card *card, uint64_t moment, unsigned long *passed)
+/* Judges the cells of a round from this moment on, each by a call. Returns 0 where a cell wasn't judged. */
+static int judge_each(upc_card *card, uint64_t moment, unsigned long *passed)
 {
-	struct timespec begun, ended;
 	upc_answer answer;
 	upc_fault fault;
 	int k;
 
-	memcpy(came, cells, sizeof cells);
-	clock_gettime(CLOCK_MONOTONIC, &begun);
 	for (k = 0; k < CELLS; k++) {
 		if (upc_card_arrive(card, came[k], UPC_CELL_OCTETS, moment += 3, &answer, &fault) != 0)
-			return -1;
+			return 0;
 		*passed += answer.verdict == UPC_PASS;
 	}
+	return 1;
+}
+
+/* The same with this many cells for each call. */
+static int judge_bursts(upc_card *card, int burst, uint64_t moment, unsigned long *passed)
+{
+	upc_fault fault;
+	size_t done;
+	int k, of;
+
+	for (k = 0; k < CELLS; k += burst) {
+		for (of = 0; of < burst; of++)
+			moments[of] = moment += 3;
+		if (upc_card_arrive_many(card, came[k], sizeof came - (size_t)k * sizeof *came, sizeof *came, moments, (size_t)burst, answers,
+		                         CELLS, &done, &fault) != 0)
+			return 0;
+		for (of = 0; of < burst; of++)
+			*passed += answers[of].verdict == UPC_PASS;
+	}
+	return 1;
+}
+
+/* One round from this moment on: nanoseconds a cell, or -1 where a cell wasn't judged. */
+static double measure(upc_card *card, int burst, uint64_t moment, unsigned long *passed)
+{
+	struct timespec begun, ended;
+	int judged;
+
+	memcpy(came, cells, sizeof cells);
+	clock_gettime(CLOCK_MONOTONIC, &begun);
+	judged = burst == 1 ? judge_each(card, moment, passed) : judge_bursts(card, burst, moment, passed);
 	clock_gettime(CLOCK_MONOTONIC, &ended);
+	if (!judged)
+		return -1;
 	return ((double)(ended.tv_sec - begun.tv_sec) * 1e9 + (double)(ended.tv_nsec - begun.tv_nsec)) / CELLS;
 }
 
@@ -83,24 +116,29 @@ static uint32_t cut_all(upc_card *card, upc_fault *fault)
 	return 0;
 }
 
-int main(void)
+/* Prints the least time of many rounds on a card of its own. Returns 0 where a call refused. */
+static int print_least(const char *name, int burst)
 {
 	upc_card card = {0, 0};
 	unsigned long passed = 0;
 	double least = 1e9;
 	upc_fault fault;
-	int k, failed;
+	int k, failed = make_card(&card, &fault) != 0;
 
-	make_cells();
-	failed = make_card(&card, &fault) != 0;
 	for (k = 0; k < ROUNDS && !failed; k++) {
-		double it = measure(&card, (uint64_t)k * 3 * CELLS, &passed);
+		double it = measure(&card, burst, (uint64_t)k * 3 * CELLS, &passed);
 		least = it < least ? it : least;
 		failed = it < 0 || (k % ROUNDS_A_CUT == ROUNDS_A_CUT - 1 && cut_all(&card, &fault) != 0);
 	}
 	upc_card_free(&card);
-	if (failed)
-		return 1;
-	printf("upc_card_arrive %.2f ns a cell, %lu of %lu cells passed\n", least, passed, (unsigned long)ROUNDS * CELLS);
-	return 0;
+	if (!failed)
+		printf("%s %.2f ns a cell, %lu of %lu cells passed\n", name, least, passed, (unsigned long)ROUNDS * CELLS);
+	return !failed;
+}
+
+int main(void)
+{
+	make_cells();
+	return !(print_least("upc_card_arrive", 1) && print_least("upc_card_arrive_many:32", 32) &&
+	         print_least("upc_card_arrive_many:4096", CELLS));
 }

@@ -1,17 +1,17 @@
 /* upc.h: the proved policer for ATM cells, as a library for C and C++.
  *
  * Each call returns 0, or the constant of the fault for which it refused, such as UPC_VERIFY_UNWRITTEN, and fills
- * *fault with zeros, or with that fault. A call that refuses writes nothing else.
+ * *fault with zeros, or with that fault. A call that refuses writes nothing else, except upc_card_arrive_many.
  *
- * Each call first looks for null pointers. A fault may be null: then only the result says it. Octets, contracts, meters and
- * entries may be at null if the length next to them is 0. Any other null pointer is refused as UPC_NULL_POINTER, and
- * nothing is read. The two calls that free do nothing with null. These tests are C, made by a script and tested.
+ * Each call first looks for null pointers. A fault may be null: then only the result says it. Octets, moments, contracts,
+ * meters, entries and answers may be at null if the length next to them is 0. Any other null pointer is refused as
+ * UPC_NULL_POINTER, and nothing is read. The two calls that free do nothing with null. These tests are C, made by a script and tested.
  *
  * What a call answers behind them is proved (crates/upc_c/README.md) if its caller keeps these rules, which nothing checks:
  *
- *  - Each pointer that isn't null points to memory of its type, aligned for it; octets, contracts, meters and entries to as
- *    many as the length next to them says, which take at most PTRDIFF_MAX octets. The call may read them, and write if the
- *    pointer is to no const.
+ *  - Each pointer that isn't null points to memory of its type, aligned for it; octets, moments, contracts, meters, entries
+ *    and answers to as many as the length next to them says, which take at most PTRDIFF_MAX octets. The call may read them,
+ *    and write if the pointer is to no const.
  *  - Memory that a call may write is borrowed by that argument alone: it overlaps none of the others, and no other
  *    thread reads or writes it before the call returns. Memory that a call may only read is not changed before that.
  *  - Calls that the list below marks with "memory" allocate by malloc and realloc and free by free, all of one
@@ -99,7 +99,7 @@ enum upc_kind {
  * itself: */
 enum upc_call {
 	UPC_NO_MEMORY = 257,      /* malloc or realloc returned null */
-	UPC_NO_ROOM = 258,        /* the room is too small; place: the octets, entries or meters that are needed */
+	UPC_NO_ROOM = 258,        /* the room is too small; place: the octets, entries, meters or answers that are needed */
 	UPC_UNKNOWN_KIND = 259,   /* the contract is of none of the four kinds */
 	UPC_LATE_LEVELS = 260,    /* the levels are above UPC_LAST_LEVEL */
 	UPC_UNKNOWN_SIDE = 261,   /* the side is none of enum upc_side */
@@ -473,6 +473,16 @@ uint32_t upc_card_cut(upc_card *card, uint16_t path, uint16_t channel, upc_entry
  * UPC_ARRIVE_MOMENT_BACK, UPC_ARRIVE_JOURNAL_FULL. */
 uint32_t upc_card_arrive(upc_card *card, uint8_t *octets, size_t length, uint64_t moment, upc_answer *answer,
                          upc_fault *fault) UPC_RESULT;
+
+/* Judges `count` cells one after another, as that many calls of upc_card_arrive do. Cell k, from 0, has the 52 octets from
+ * octets[k * stride] on, and arrived at moments[k]; its answer becomes answers[k]. A stride of UPC_CELL_OCTETS is that of cells
+ * without a gap; if it is less, cells overlap, and each is judged as the one before it left the octets. Stops at the first cell
+ * that is refused: that cell and the later ones change nothing. *done becomes the number of judged cells, also if the call
+ * refuses, unless a pointer is null. It doesn't allocate.
+ * Faults: UPC_NO_ROOM if there are fewer than `count` answers, and then no cell is judged; else those of upc_card_arrive for cell
+ * *done. If some of its octets are beyond the end of the buffer, that is UPC_CELL_WRONG_LENGTH, with the number of the others. */
+uint32_t upc_card_arrive_many(upc_card *card, uint8_t *octets, size_t length, size_t stride, const uint64_t *moments, size_t count,
+                              upc_answer *answers, size_t answers_length, size_t *done, upc_fault *fault) UPC_RESULT;
 
 #undef UPC_RESULT
 #undef UPC_SIZE

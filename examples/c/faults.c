@@ -264,6 +264,50 @@ static void tell_journal(const char *what, uint32_t number, const upc_journal *j
 	memcpy(room, room_before, sizeof room);
 }
 
+/* Up to three cells on VPI/VCI 1/1 in one call, all at one moment. */
+static void arrive_many(const char *what, upc_card *card, size_t length, size_t stride, uint64_t moment, size_t count, size_t room)
+{
+	uint8_t octets[3 * UPC_CELL_OCTETS] = {0}, before[3 * UPC_CELL_OCTETS];
+	const uint64_t moments[] = {moment, moment, moment};
+	upc_answer answers[3], unread[3];
+	size_t done = 77, k;
+
+	for (k = 0; k < 3; k++)
+		octets[UPC_CELL_OCTETS * k + 1] = octets[UPC_CELL_OCTETS * k + 3] = 0x10;
+	memcpy(before, octets, sizeof octets);
+	memset(answers, 7, sizeof answers);
+	memset(unread, 7, sizeof unread);
+	tell(what, upc_card_arrive_many(card, octets, length, stride, moments, count, answers, room, &done, &fault), octets, before,
+	     sizeof octets);
+	printf("%s: %lu judged\n", what, (unsigned long)done);
+	for (k = 0; k < done && k < 3; k++)
+		printf("%s: moment %lu verdict %u value %u number %lu line %u\n", what, (unsigned long)answers[k].moment,
+		       (unsigned)answers[k].verdict, (unsigned)answers[k].value, (unsigned long)answers[k].number,
+		       (unsigned)answers[k].line);
+	if (memcmp(answers + k, unread + k, sizeof answers - k * sizeof *answers) != 0)
+		printf("%s: it wrote after the answers\n", what);
+}
+
+/* Several cells in one call, on a connection whose empty journal holds two. */
+static void card_batches(upc_card *card)
+{
+	upc_journal journal;
+
+	arrive_many("three cells, two answers", card, 156, 52, 9, 3, 2);
+	arrive_many("no cells", card, 0, 0, 9, 0, 0);
+	arrive_many("a short cell after one", card, 103, 52, 9, 2, 3);
+	arrive_many("a cell far beyond the octets", card, 156, (size_t)-1, 9, 2, 3);
+	arrive_many("a cell more", card, 156, 52, 9, 1, 1);
+	tell_journal("cut", upc_card_cut(card, 1, 1, room, 3, &journal, &fault), &journal);
+	arrive_many("three cells", card, 156, 52, 9, 3, 3);
+	tell_journal("cut", upc_card_cut(card, 1, 1, room, 3, &journal, &fault), &journal);
+	arrive_many("one cell twice", card, 52, 0, 9, 2, 2);
+	tell_journal("cut", upc_card_cut(card, 1, 1, room, 3, &journal, &fault), &journal);
+	arrive_many("late cells", card, 156, 52, UPC_LAST_MOMENT + 1, 2, 2);
+	arrive_many("earlier cells", card, 156, 52, 8, 2, 2);
+	arrive_many("a cell between others", card, 155, 51, 9, 2, 2);
+}
+
 /* The size that a card reports. */
 static void tell_shape(const char *what, upc_card *card)
 {
@@ -346,6 +390,9 @@ static void kept_card(void)
 	memset(room_before, 0xa5, sizeof room_before);
 	memcpy(room, room_before, sizeof room);
 	arrive("no card", &card, 1, 52, 0);
+	arrive_many("several on no card", &card, 156, 52, 0, 3, 3);
+	arrive_many("several and no card, the first short", &card, 51, 0, 0, 3, 3);
+	arrive_many("none on no card", &card, 156, 52, 0, 0, 3);
 	tell_shape("the size of no card", &card);
 	inspect("inspect no card", &card, 1, 1);
 	read_state("state of no card", &card, 1, 1, 2);
@@ -378,6 +425,8 @@ static void kept_card(void)
 	tell_journal("cut", upc_card_cut(&card, 1, 1, room, 2, &journal, &fault), &journal);
 	tell_journal("cut an empty journal", upc_card_cut(&card, 1, 1, room, 0, &journal, &fault), &journal);
 	arrive("cell after the cut", &card, 1, 52, 9);
+	tell_journal("cut", upc_card_cut(&card, 1, 1, room, 2, &journal, &fault), &journal);
+	card_batches(&card);
 	tell_journal("release on a large path", upc_card_release(&card, 256, 1, room, 3, &journal, &fault), &journal);
 	tell_journal("release", upc_card_release(&card, 1, 1, room, 3, &journal, &fault), &journal);
 	tell("retire", upc_card_retire(&card, &id, &fault), "", "", 0);

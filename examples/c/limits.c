@@ -274,6 +274,48 @@ static void fill_journal(void)
 	printf("%d cells in a journal\n", (int)JOURNAL);
 }
 
+/* As many cells in one call as a journal has room for, and one more; a cell every 53 octets. */
+static void judge_burst(void)
+{
+	static const upc_shape shape = {UPC_UNI, 1, 1, 1, JOURNAL};
+	static const upc_contract vbr = {UPC_VBR3, 1, 0, 2, 0};
+	enum { CELLS = JOURNAL + 1, STRIDE = 53 };
+	uint8_t *cells = (uint8_t *)room_of(STRIDE * CELLS), octets[8];
+	uint64_t *moments = (uint64_t *)room_of(CELLS * sizeof *moments);
+	upc_answer *answers = (upc_answer *)room_of(CELLS * sizeof *answers);
+	upc_card card = {0, 0};
+	size_t done = 0;
+	upc_id id;
+	uint32_t k;
+
+	put_return(octets, 1);
+	ask(upc_card_new(&shape, &card, &fault) == 0 && upc_card_load(&card, octets, sizeof octets, &id, &fault) == 0 &&
+	        upc_card_setup(&card, 255, 0, &id, &vbr, 1, &fault) == 0,
+	    "a card for a burst");
+	memset(cells, 0, STRIDE * CELLS);
+	for (k = 0; k < CELLS; k++) {
+		cells[STRIDE * k] = 0x0f;
+		cells[STRIDE * k + 1] = 0xf0;
+		moments[k] = k;
+	}
+	refused("one cell more in a burst",
+	        upc_card_arrive_many(&card, cells, STRIDE * CELLS, STRIDE, moments, CELLS, answers, CELLS, &done, &fault),
+	        UPC_ARRIVE_JOURNAL_FULL);
+	ask(done == JOURNAL, "the cells of a burst");
+	for (k = 0; k < JOURNAL; k++)
+		ask(answers[k].verdict == (k % 2 ? UPC_TAG : UPC_PASS) && answers[k].moment == k && answers[k].number == k / 2 + 1 &&
+		        cells[STRIDE * k + 3] == k % 2 && cells[STRIDE * k + 52] == 0,
+		    "a cell of a burst");
+	refused("one answer less",
+	        upc_card_arrive_many(&card, cells, STRIDE * CELLS, STRIDE, moments, CELLS, answers, CELLS - 1, &done, &fault), UPC_NO_ROOM);
+	ask(done == 0 && fault.place == CELLS, "the answers that are needed");
+	upc_card_free(&card);
+	free(cells);
+	free(moments);
+	free(answers);
+	printf("%d cells in one call\n", (int)JOURNAL);
+}
+
 int main(void)
 {
 	assemble(65536);
@@ -285,5 +327,6 @@ int main(void)
 	load_all();
 	set_up_all();
 	fill_journal();
+	judge_burst();
 	return 0;
 }

@@ -130,17 +130,23 @@ static uint32_t cut(upc_fault *fault)
 	return number == 0 || (entry.moment == 7 && entry.verdict == 7) ? number : 99;
 }
 
-/* Makes the calls that don't allocate: the number of cells of a journal, and the counts of its line. */
+/* Makes the calls that don't allocate: the number of cells of a journal, the counts of its line, and cells that arrive. */
 static uint32_t inspect(upc_fault *fault)
 {
+	uint8_t two[2][UPC_CELL_OCTETS] = {{0, 0x10, 0x06, 0x50}, {0, 0x10, 0x06, 0x50}};
+	const uint64_t moments[] = {0, 1};
+	upc_answer answers[2];
 	upc_counts counts;
-	size_t cells = 7;
+	size_t cells = 7, done = 7;
 	uint32_t number = upc_card_journal(&card, 1, 101, &cells, fault);
 
 	if (number != 0 || cells != 0 || requests != 0)
 		return 99;
 	number = upc_card_counts(&card, 1, 101, &counts, fault);
-	return number == 0 && counts.passed >= 1 && requests == 0 ? 0 : 99;
+	if (number != 0 || counts.passed < 1 || requests != 0)
+		return 99;
+	number = upc_card_arrive_many(&card, two[0], sizeof two, sizeof *two, moments, 2, answers, 2, &done, fault);
+	return number == 0 && done == 2 && requests == 0 ? 0 : 99;
 }
 
 /* Makes the call with each request refused in turn, until none is. Returns whether each result was right. */

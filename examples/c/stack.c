@@ -144,6 +144,16 @@ static void arrive(void)
 	number = upc_card_arrive(&card, it, sizeof it, 9, &answer, &fault);
 }
 
+static void arrive_many(void)
+{
+	uint8_t cells[2][UPC_CELL_OCTETS] = {{0, 0x10, 0x06, 0x40}, {0, 0x10, 0x06, 0x40}};
+	const uint64_t moments[] = {9, 10};
+	upc_answer answers[2];
+	size_t done;
+
+	number = upc_card_arrive_many(&card, cells[0], sizeof cells, sizeof *cells, moments, 2, answers, 2, &done, &fault);
+}
+
 static void journal(void)
 {
 	size_t cells;
@@ -238,7 +248,7 @@ int main(int words, char **arguments)
 	                 {"upc_check, no program", check_unknown}, {"upc_program_new", new_program},
 	                 {"upc_program_run", run_program}, {"upc_program_free", free_program}, {"upc_card_new", new_card}, {"upc_card_shape", get_shape},
 	                 {"upc_card_load", load}, {"upc_card_load, no program", load_unknown}, {"upc_card_setup", set_up},
-	                 {"upc_card_arrive", arrive}, {"upc_card_journal", journal}, {"upc_card_counts", counts},
+	                 {"upc_card_arrive", arrive}, {"upc_card_arrive_many", arrive_many}, {"upc_card_journal", journal}, {"upc_card_counts", counts},
 	                 {"upc_card_state", state}, {"upc_card_next", next},
 	                 {"upc_card_cut", cut}, {"upc_card_arrive", arrive}, {"upc_card_reload", reload},
 	                 {"upc_card_release", release}, {"upc_card_retire", retire}, {"upc_card_free", free_card}};

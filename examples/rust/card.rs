@@ -45,6 +45,10 @@ extern "C" {
     fn upc_card_load(card: &mut Held, octets: *const u8, length: usize, id: &mut Id, fault: &mut Fault) -> u32;
     fn upc_card_setup(card: &mut Held, path: u16, channel: u16, id: &Id, contracts: *const Contract, count: usize, fault: &mut Fault) -> u32;
     fn upc_card_arrive(card: &mut Held, octets: *mut u8, length: usize, moment: u64, answer: &mut Answer, fault: &mut Fault) -> u32;
+    fn upc_card_arrive_many(
+        card: &mut Held, octets: *mut u8, length: usize, stride: usize, moments: *const u64, count: usize, answers: *mut Answer, room: usize,
+        done: &mut usize, fault: &mut Fault,
+    ) -> u32;
     fn upc_card_journal(card: &Held, path: u16, channel: u16, cells: &mut usize, fault: &mut Fault) -> u32;
     fn upc_card_counts(card: &Held, path: u16, channel: u16, counts: &mut Counts, fault: &mut Fault) -> u32;
     fn upc_card_cut(card: &mut Held, path: u16, channel: u16, room: *mut Entry, length: usize, journal: &mut Journal, fault: &mut Fault) -> u32;
@@ -83,6 +87,19 @@ impl Card {
         ask(|answer, fault| unsafe { upc_card_arrive(&mut self.held, cell.as_mut_ptr(), cell.len(), moment, answer, fault) })
     }
 
+    /// Judges a cell for each of the moments, up to the first that is refused. Returns the answers, and the fault of that cell.
+    pub fn arrive_all(&mut self, cells: &mut [[u8; 52]], moments: &[u64]) -> (Vec<Answer>, Option<Fault>) {
+        let mut answers = vec![Answer::default(); moments.len()];
+        let (octets, length) = (cells.as_mut_ptr().cast(), 52 * cells.len());
+        let (first, count, room) = (moments.as_ptr(), moments.len(), answers.as_mut_ptr());
+        let (mut done, mut fault) = (0, Fault::default());
+        let result = unsafe {
+            upc_card_arrive_many(&mut self.held, octets, length, 52, first, count, room, count, &mut done, &mut fault)
+        };
+        answers.truncate(done);
+        (answers, (result != 0).then_some(fault))
+    }
+
     pub fn counts(&self, path: u16, channel: u16) -> Result<Counts, Fault> {
         ask(|counts, fault| unsafe { upc_card_counts(&self.held, path, channel, counts, fault) })
     }
@@ -119,6 +136,12 @@ fn police(mut card: Card) -> Result<(), Fault> {
         println!("{} {} {}", entry.moment, entry.value, entry.verdict);
     }
     println!("{} {}", card.cut(1, 100)?.len(), card.cut(1, 101).unwrap_err().number);
+    // The third cell comes before the second.
+    let mut cells = [[0; 52]; 3];
+    cells.iter_mut().for_each(|cell| cell[..4].copy_from_slice(&[0x00, 0x10, 0x06, 0x40]));
+    let (answers, fault) = card.arrive_all(&mut cells, &[30, 40, 39]);
+    println!("{:?} {:?}", answers.iter().map(|it| it.verdict).collect::<Vec<_>>(), cells.map(|cell| cell[3] & 1));
+    println!("{:?}", fault.map(|it| (it.number, it.place)));
     Ok(())
 }
 

@@ -42,7 +42,7 @@ class Calls:
         self.held, self.program = Handle(), None
         self.card, self.model = Handle(), None
         self.ways = [getattr(self, name) for name in dir(self) if name.startswith("try_")]
-        weights = {"try_arrive": 12, "try_setup": 4, "try_cut": 2, "try_inspect": 2, "try_state": 2, "try_load": 2, "try_run": 3, "try_judge": 4}
+        weights = {"try_arrive": 12, "try_many": 6, "try_setup": 4, "try_cut": 2, "try_inspect": 2, "try_state": 2, "try_load": 2, "try_run": 3, "try_judge": 4}
         self.weights = [weights.get(way.__name__, 1) for way in self.ways]
 
     def one(self):

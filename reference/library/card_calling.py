@@ -2,8 +2,10 @@
 
 import ctypes
 
+from policer.faults import Fault as ReferenceFault
+
 from library.calling import Calls, Different, same
-from library.model import LAST_MOMENT, CardModel, Refused, checked, contract_of, refused_call
+from library.model import LAST_MOMENT, CardModel, Refused, checked, contract_of, refused_call, translated
 from library.structs import Answer, Contract, Counts, Cursor, Entry, Id, Journal, Meter, Shape, State, octets, values_of
 
 
@@ -210,11 +212,14 @@ class CardCalls(Calls):
             self.model.release(vc)
             self.ended.add(after)
 
+    def next_moment(self):
+        """The moment of the next cell, seldom one that is refused."""
+        self.moment += self.rng.choice((0, 1, 3, 10, 40))
+        return self.moment if self.rng.random() < 0.95 else self.rng.choice((0, max(0, self.moment - 20), LAST_MOMENT + 1))
+
     def try_arrive(self):
         """upc_card_arrive."""
-        it, answer = self.cell(), Answer()
-        self.moment += self.rng.choice((0, 1, 3, 10, 40))
-        moment = self.moment if self.rng.random() < 0.95 else self.rng.choice((0, max(0, self.moment - 20), LAST_MOMENT + 1))
+        it, answer, moment = self.cell(), Answer(), self.next_moment()
         shared = octets(it)
 
         def arrived():
@@ -233,3 +238,44 @@ class CardCalls(Calls):
         line = self.model.lines.setdefault(vc, answer.line)
         same("upc_card_arrive, the answer", values_of(answer), (verdict, value, self.model.counts[vc][verdict], moment, name, line))
 
+
+    def try_many(self):
+        """upc_card_arrive_many: cells of a buffer, which may overlap, end beyond it, or be more than there are answers."""
+        count, stride = self.rng.choice((0, 1, 2, 3, 6)), self.rng.choice((52, 52, 52, 53, 60, 51, 4, 3, 1, 0, 2**63, 2**64 - 1))
+        length, room = max(0, count + self.rng.choice((0, 0, 0, 0, 2, -1))), bytearray()
+        for place in range(count if stride < 100 else min(count, 1)):
+            room.extend(bytes(max(0, place * stride + 52 - len(room))))
+            room[place * stride : place * stride + 52] = self.cell()[:52]
+        room = room[: len(room) - self.rng.choice((1, 30, 60))] if self.rng.random() < 0.1 else room
+        moments = [self.next_moment() for _ in range(count)]
+        shared, answers = octets(bytes(room)), (Answer * max(1, length))(*(Answer(7, 7, 7, 7, Id(7, 7), 7) for _ in range(length)))
+        found, refused = self.judged(room, stride, moments) if count <= length else ([], refused_call("NoRoom", count))
+        given = (shared if room else None, ctypes.c_size_t(len(room)), ctypes.c_size_t(stride))
+        given += ((ctypes.c_uint64 * count)(*moments) if count else None, ctypes.c_size_t(count))
+        done = ctypes.c_size_t(77)
+        given += (answers if length else None, ctypes.c_size_t(length), ctypes.byref(done))
+        self.call("upc_card_arrive_many", refused, ctypes.byref(self.card), *given)
+        same("upc_card_arrive_many, the judged cells", done.value, len(found))
+        same("upc_card_arrive_many, the octets", bytes(shared)[: len(room)], bytes(room))
+        for (vc, *wanted), answer in zip(found, answers):
+            same("upc_card_arrive_many, an answer", values_of(answer), (*wanted, self.model.lines.setdefault(vc, answer.line)))
+        for answer in answers[len(found) : length]:
+            same("upc_card_arrive_many, another answer", values_of(answer), (7, 7, 7, 7, (7, 7), 7))
+
+    def judged(self, room, stride, moments):
+        """Judges cells of a buffer, in which the leaving cells are written. Returns the connection and the answer of each, without
+        the line, up to the first that is refused, and its refusal."""
+        found = []
+        for place, moment in enumerate(moments):
+            it = bytes(room[place * stride : place * stride + 52])
+            try:
+                if len(it) != 52:
+                    raise Refused("cell", 1, len(it))
+                vc, verdict, value, name, leaving = self.there().arrived(moment, it)
+            except Refused as refused:
+                return found, refused
+            except ReferenceFault as fault:
+                return found, translated(fault)
+            room[place * stride : place * stride + 52] = leaving
+            found.append((vc, verdict, value, self.model.counts[vc][verdict], moment, name))
+        return found, None

@@ -1,3 +1,4 @@
+mod Batches
 mod Boxes
 mod CardArrivals
 mod CardBoxes

@@ -15,5 +15,6 @@ pub mod CardInspection
 pub mod CardState
 pub mod CardJournal
 pub mod CardArrival
+pub mod CardBatch
 pub mod ListedFaults
 pub mod inner

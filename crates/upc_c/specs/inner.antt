@@ -5,3 +5,4 @@ pub mod ReachedCore
 pub mod ToldLine
 pub mod HandOut
 pub mod WrittenState
+pub mod CellsOnCore

@@ -1,14 +1,15 @@
 //! Cells that arrive at a card that C has.
 
-ghost use Rattle.std.specs.Prelude.{◌≡◌, ◌≢◌, ◌⊎◌, None, Some, Ok, IfOk, IfErr, OnErr};
+ghost use Rattle.std.specs.Prelude.{◌≡◌, ◌≢◌, ◌⊎◌, length, None, Some, IfOk, IfErr, OnErr};
 ghost use Rattle.card_core.specs.Arrival.{AnswersArrival};
 ghost use Rattle.card_core.specs.Sections.{answer_to, unjudged_answer};
 ghost use Rattle.card_core.specs.Steps.{cell_after};
 ghost use Rattle.card_core.specs.declared.answer.Answer.TheVariants.{NoMemory};
-ghost use Rattle.upc_c.specs.CardArrival.{ArrivesAtCard, IsArrivalFault, IsPoliced, RefusesCell, reason_of_answer};
+ghost use Rattle.upc_c.specs.CardArrival.{IsArrivalFault, IsPoliced, reason_of_answer};
 ghost use Rattle.upc_c.specs.CardHandle.{card_in, card_missing};
+ghost use Rattle.upc_c.specs.CellHeader.{IsCellFault};
 ghost use Rattle.upc_c.specs.Faults.{call_result, no_fault, out_of_memory};
-ghost use Rattle.upc_c.specs.Judging.{number_of_verdict};
+ghost use Rattle.upc_c.specs.inner.CellsOnCore.{PolicesOn, RefusesOn};
 ghost use Rattle.upc_c.specs.inner.ReachedCore.{IsReachedCore};
 ghost use Rattle.upc_c.specs.inner.Numbered.{IsNumbered};
 
@@ -62,6 +63,7 @@ fn told_unjudged(reason: Unjudged) -> UpcFault
 }
 
 /// Takes all steps of a cell at port 0 of a core.
+#[inline(always)]
 fn arrive_at(core: &mut Core, cell: &Cell, moment: u64) -> Result<Judgement, Unjudged>
     requires { IsReachedCore core.old }
     ensures answers { AnswersArrival core.old 0 cell.now moment (answer_to cell.now result) core.new }
@@ -75,39 +77,58 @@ fn arrive_at(core: &mut Core, cell: &Cell, moment: u64) -> Result<Judgement, Unj
     }
 }
 
-/// Takes all steps of a cell on the card.
-fn arrive_on(
-    alloc: Global,
-    card: &mut UpcCard,
-    cell: &Cell,
-    moment: u64,
-) -> Result<Judgement, UpcFault>
-    ensures judged { IfOk result (λ judgement.
-        ArrivesAtCard card.old card.new cell.now moment (answer_to cell.now (Ok judgement))) }
-    ensures refused { IfErr result (λ fault. ((card_in card.old ≡ None) × (fault ≡ card_missing))
-        ⊎ RefusesCell card.old card.new cell.now moment fault) }
-    ensures left { OnErr result (card_in card.new ≡ card_in card.old) }
-    ensures memory { IfErr result (λ fault. fault ≢ out_of_memory) }
-    ensures numbered { IfErr result IsNumbered }
-{
-    let Some(mut core) = take_core(alloc, card) else {
-        return Err(card_missing());
-    };
-    let answered = arrive_at(&mut core, cell, moment);
-    put_core(card, core);
-    match answered {
-        Ok(judgement) => Ok(judgement),
-        Err(reason) => Err(told_unjudged(reason)),
-    }
-}
-
 /// Writes the octets of the leaving cell.
+#[inline(always)]
 fn leave(octets: &mut [u8], cell: &Cell, verdict: Verdict)
     requires { octets.old ≡ cell.now }
     ensures { octets.new ≡ cell_after verdict cell.now }
 {
     if verdict == Verdict::Tag {
         octets.copy_from_slice(cell.tagged().bytes());
+    }
+}
+
+/// Judges the cell of these octets on the core. If the verdict is Tag, the octets become the tagged cell.
+#[inline(always)]
+pub(crate) fn police(core: &mut Core, octets: &mut [u8], moment: u64) -> Result<UpcAnswer, UpcFault>
+    requires { IsReachedCore core.old }
+    ensures policed { IfOk result (λ answer.
+        PolicesOn core.old core.new octets.old moment answer octets.new) }
+    ensures refused { IfErr result (RefusesOn core.old octets.old moment) }
+    ensures reached { IsReachedCore core.new }
+    ensures left { OnErr result (core.new ≡ core.old) }
+    ensures octets_left { OnErr result (octets.new ≡ octets.old) }
+    ensures memory { IfErr result (λ fault. fault ≢ out_of_memory) }
+    ensures numbered { IfErr result IsNumbered }
+{
+    let cell = match cell_of(octets) {
+        Ok(cell) => cell,
+        Err(found) => return Err(found),
+    };
+    let judgement = match arrive_at(core, &cell, moment) {
+        Ok(judgement) => judgement,
+        Err(reason) => return Err(told_unjudged(reason)),
+    };
+    leave(octets, &cell, judgement.verdict);
+    Ok(UpcAnswer {
+        verdict: number_of(judgement.verdict),
+        value: judgement.value,
+        number: judgement.number,
+        moment: judgement.moment,
+        program: numbers_of(judgement.program),
+        line: judgement.line,
+    })
+}
+
+/// Returns the error of a cell of these octets if there is no card.
+pub(crate) fn fault_without_card(octets: &[u8]) -> UpcFault
+    ensures fault { IsCellFault octets.now result ⊎ ((length octets.now ≡ 52) × (result ≡ card_missing)) }
+    ensures memory { result ≢ out_of_memory }
+    ensures numbered { IsNumbered result }
+{
+    match cell_of(octets) {
+        Ok(_) => card_missing(),
+        Err(found) => found,
     }
 }
 
@@ -131,22 +152,16 @@ pub extern "C" fn upc_card_arrive(
     ensures octets_left { result ≢ 0 → octets.new ≡ octets.old }
     ensures answer_left { result ≢ 0 → answer.new ≡ answer.old }
 {
-    let cell = match cell_of(octets) {
-        Ok(cell) => cell,
-        Err(found) => return told(fault, found),
+    let Some(mut core) = take_core(alloc, card) else {
+        return told(fault, fault_without_card(octets));
     };
-    let judgement = match arrive_on(alloc, card, &cell, moment) {
-        Ok(judgement) => judgement,
-        Err(found) => return told(fault, found),
-    };
-    leave(octets, &cell, judgement.verdict);
-    *answer = UpcAnswer {
-        verdict: number_of(judgement.verdict),
-        value: judgement.value,
-        number: judgement.number,
-        moment: judgement.moment,
-        program: numbers_of(judgement.program),
-        line: judgement.line,
-    };
-    fine(fault)
+    let policed = police(&mut core, octets, moment);
+    put_core(card, core);
+    match policed {
+        Ok(found) => {
+            *answer = found;
+            fine(fault)
+        }
+        Err(found) => told(fault, found),
+    }
 }

@@ -2,6 +2,7 @@
 #![tactic(auto)]
 
 mod arrival;
+mod batch;
 mod burst;
 mod card;
 mod card_making;
@@ -36,6 +37,7 @@ mod telling;
 mod version;
 
 pub use arrival::{UpcAnswer, upc_card_arrive};
+pub use batch::upc_card_arrive_many;
 pub use burst::upc_burst_tolerance;
 pub use card::UpcCard;
 pub use card_making::{upc_card_free, upc_card_new};
