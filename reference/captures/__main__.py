@@ -1,0 +1,37 @@
+"""Compares `upc-lab fit` with the reference on random captures.
+
+    python3 -m captures UPC_LAB [COUNT] [SEED]
+
+A capture has ERF records, in a third of the cases inside a pcap file, of a few connections and now and then of others; some records hold
+no good cell, some times go back, some captures are cut off or have a changed octet. The last line is 'N passed, M failed'.
+"""
+import subprocess
+import sys
+
+from captures.fitting import fitted
+from captures.making import case_of, edges
+
+
+def ran(program, case):
+    """Returns what the program prints for a case, and its status."""
+    words = [program, "fit", "--increment", str(case.increment), "--tick", f"{case.tick}ns", "--side", case.side]
+    words += [] if case.interface is None else ["--interface", str(case.interface)]
+    it = subprocess.run(words, input=case.octets, stdout=subprocess.PIPE, stderr=subprocess.PIPE)
+    return it.stdout.decode(), it.returncode
+
+
+def main(program, count="200", seed="1"):
+    """Compares, and returns the exit status."""
+    failed = 0
+    cases = edges() + [case_of(seed, number) for number in range(int(count))]
+    for number, case in enumerate(cases, -len(edges())):
+        ours, theirs = ran(program, case), fitted(*case)
+        if ours != theirs:
+            failed += 1
+            print(f"capture {number} of seed {seed}: {str(ours)[:1000]} for {str(theirs)[:1000]}")
+    print(f"{len(cases) - failed} passed, {failed} failed")
+    return 1 if failed else 0
+
+
+if __name__ == "__main__":
+    sys.exit(main(*sys.argv[1:]))
