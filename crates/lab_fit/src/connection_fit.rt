@@ -42,9 +42,8 @@ impl ConnectionFit {
         ensures { result ≡ (if is_in_64_bits (fit_after increment self moment number)
             then Some (fit_after increment self moment number) else None) }
     {
-        let needed = self
-            .level
-            .saturating_sub(moment.saturating_sub(self.charged));
+        let elapsed = moment.saturating_sub(self.charged);
+        let needed = self.level.saturating_sub(elapsed);
         let cells = self.cells.checked_add(1)?;
         let level = needed.checked_add(increment)?;
         Some(ConnectionFit {

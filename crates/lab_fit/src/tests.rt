@@ -93,7 +93,7 @@ fn least_limits_by_hand(rt: HostRuntime) -> Result<(), Fail> {
             4,
             0x8000_0000_0000_0000,
             None,
-            b"fault fit 2 TooLarge 3\n",
+            b"fault fit 2 TooLarge 4\n",
             Done::Ended,
         ),
     ] {
