@@ -5,3 +5,4 @@ pub mod LeastLemmas
 pub mod LineLemmas
 pub mod MomentLemmas
 pub mod RunLemmas
+pub mod OrderLemmas

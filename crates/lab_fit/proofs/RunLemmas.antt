@@ -48,48 +48,64 @@ held-with fit fits new is =
     ] in
     choice (is_in_64_bits fit) refl
 
+-- The states grew by one, which is the one after a cell.
+pub record GrewBy (increment : ℕ) (fits : List ConnectionFit) (vc : Vc) (moment number : ℕ) (new : List ConnectionFit) : Type 0 where
+  pub fit : ConnectionFit
+  pub own : fit.vc ≡ vc
+  pub is : with_fit fit fits ≡ new
+  pub after : fit ≡ fit_after increment (unwrap_or (fit_in vc fits) (no_cells vc number)) moment number
+
+pub grew-by : (increment : ℕ) (fits : List ConnectionFit) (vc : Vc) (moment number : ℕ) (new : List ConnectionFit)
+    → fits_after increment fits vc moment number ≡ Ok new → GrewBy increment fits vc moment number new
+grew-by increment fits vc moment number new is =
+    let choice : (found : Option ConnectionFit) → fit_in vc fits ≡ found → GrewBy increment fits vc moment number new = elim [
+      | Some fit ↦ λ e.
+          let after = fit_after increment fit moment number in
+          record {
+            fit = after;
+            own = fit_in-own fits vc fit e;
+            is = held-with after fits new
+                (ap (λ (found : Option ConnectionFit). fits_from increment fits found vc moment number) (sym e) ∙ is);
+            after = ap (λ (found : Option ConnectionFit). fit_after increment (unwrap_or found (no_cells vc number)) moment number) (sym e);
+          }
+      | None ↦ λ e.
+          let after = fit_after increment (no_cells vc number) moment number in
+          let held : cond (nat_le most_connections (length fits)) (Err TooManyConnections) (Ok (with_fit after fits)) ≡ Ok new =
+          ap (λ (found : Option ConnectionFit). fits_from increment fits found vc moment number) (sym e) ∙ is in
+          let few : (b : Bool) → nat_le most_connections (length fits) ≡ b → with_fit after fits ≡ new = elim [
+            | true ↦ λ full. absurd (
+                let no : ◌≡◌ {A = Result (List ConnectionFit) FitFault} (Err TooManyConnections) (Ok new) =
+                ap (λ b. cond b (Err TooManyConnections) (Ok (with_fit after fits))) (sym full) ∙ held in
+                cc)
+            | false ↦ λ full.
+                let grew : ◌≡◌ {A = Result (List ConnectionFit) FitFault} (Ok (with_fit after fits)) (Ok new) =
+                ap (λ b. cond b (Err TooManyConnections) (Ok (with_fit after fits))) (sym full) ∙ held in
+                cc
+          ] in
+          record {
+            fit = after;
+            own = refl;
+            is = few (nat_le most_connections (length fits)) refl;
+            after = ap (λ (found : Option ConnectionFit). fit_after increment (unwrap_or found (no_cells vc number)) moment number) (sym e);
+          }
+    ] in
+    choice (fit_in vc fits) refl
+
 -- What a cell does to the states.
 record TakesCell (increment : ℕ) (fits : List ConnectionFit) (vc : Vc) (moment number : ℕ) (new : List ConnectionFit) : Type 0 where
   here : fit_in vc new ≡ Some (fit_after increment (unwrap_or (fit_in vc fits) (no_cells vc number)) moment number)
   others : (other : Vc) → other ≢ vc → fit_in other new ≡ fit_in other fits
 
-takes-with : (increment : ℕ) (fits : List ConnectionFit) (vc : Vc) (moment number : ℕ) (new : List ConnectionFit) (fit : ConnectionFit)
-    → fit.vc ≡ vc → with_checked_fit fit fits ≡ Ok new
-    → fit ≡ fit_after increment (unwrap_or (fit_in vc fits) (no_cells vc number)) moment number
-    → TakesCell increment fits vc moment number new
-takes-with increment fits vc moment number new fit own is same =
-    let grew : with_fit fit fits ≡ new = held-with fit fits new is in
-    record {
-      here = ap (λ (v : Vc). fit_in v new) (sym own) ∙ ap (fit_in fit.vc) (sym grew) ∙ fit_in-with fits fit
-          ∙ ap (λ (f : ConnectionFit). Some f) same;
-      others = λ other away.
-          ap (fit_in other) (sym grew) ∙ fit_in-others fits fit other (λ e. away (e ∙ own));
-    }
-
 takes-cell : (increment : ℕ) (fits : List ConnectionFit) (vc : Vc) (moment number : ℕ) (new : List ConnectionFit)
     → fits_after increment fits vc moment number ≡ Ok new → TakesCell increment fits vc moment number new
 takes-cell increment fits vc moment number new is =
-    let choice : (found : Option ConnectionFit) → fit_in vc fits ≡ found → TakesCell increment fits vc moment number new = elim [
-      | Some fit ↦ λ e.
-          let own : fit.vc ≡ vc = fit_in-own fits vc fit e in
-          takes-with increment fits vc moment number new (fit_after increment fit moment number) own
-          (ap (λ (found : Option ConnectionFit). fits_from increment fits found vc moment number) (sym e) ∙ is)
-          (ap (λ (found : Option ConnectionFit). fit_after increment (unwrap_or found (no_cells vc number)) moment number) (sym e))
-      | None ↦ λ e.
-          let fit = fit_after increment (no_cells vc number) moment number in
-          let held : cond (nat_le most_connections (length fits)) (Err TooManyConnections) (with_checked_fit fit fits) ≡ Ok new =
-          ap (λ (found : Option ConnectionFit). fits_from increment fits found vc moment number) (sym e) ∙ is in
-          let few : (b : Bool) → nat_le most_connections (length fits) ≡ b → with_checked_fit fit fits ≡ Ok new = elim [
-            | true ↦ λ full. absurd (
-                let no : ◌≡◌ {A = Result (List ConnectionFit) FitFault} (Err TooManyConnections) (Ok new) =
-                ap (λ b. cond b (Err TooManyConnections) (with_checked_fit fit fits)) (sym full) ∙ held in
-                cc)
-            | false ↦ λ full. ap (λ b. cond b (Err TooManyConnections) (with_checked_fit fit fits)) (sym full) ∙ held
-          ] in
-          takes-with increment fits vc moment number new fit refl (few (nat_le most_connections (length fits)) refl)
-          (ap (λ (found : Option ConnectionFit). fit_after increment (unwrap_or found (no_cells vc number)) moment number) (sym e))
-    ] in
-    choice (fit_in vc fits) refl
+    let grew = grew-by increment fits vc moment number new is in
+    record {
+      here = ap (λ (v : Vc). fit_in v new) (sym grew.own) ∙ ap (fit_in grew.fit.vc) (sym grew.is) ∙ fit_in-with fits grew.fit
+          ∙ ap (λ (f : ConnectionFit). Some f) grew.after;
+      others = λ other away.
+          ap (fit_in other) (sym grew.is) ∙ fit_in-others fits grew.fit other (λ e. away (e ∙ grew.own));
+    }
 
 -- A record after which the run goes on.
 record GoesOn (world : FitWorld) (answer : Filtered) (after : FilterState) (number : ℕ) (next : FitWorld) : Type 0 where

@@ -1,12 +1,12 @@
 -- A table that leads to the states of connections, before and after a change.
-use Rattle.std.proofs.Common.{◌≡◌, ◌≢◌, ℕ, ◌<◌, ◌≤◌, List, [], ◌∷◌, ◌++◌, length, set, Bool, true, false, cond, Option, Some, None, Ok, Err, refl, sym, ap, ◌∙◌, subst, inl, inr}
+use Rattle.std.proofs.Common.{◌≡◌, ◌≢◌, ℕ, ◌<◌, ◌≤◌, List, [], ◌∷◌, ◌++◌, length, set, cond, Option, Some, None, Ok, Err, refl, sym, ap, ◌∙◌, subst, inl, inr}
 use Rattle.std.specs.Prelude.{slice_get}
 use Rattle.std.proofs.lemmas.Bool.{cases_eq, le-leb, lt-leb}
-use Rattle.std.proofs.lemmas.Option.{cond_some, same_Some, slice_get_within}
+use Rattle.std.proofs.lemmas.Option.{same_Some, slice_get_within}
 use Rattle.upc_cell.specs.declared.vc.Vc.{Vc}
 use Rattle.upc_cell.proofs.Public.{vc_cases}
 use Rattle.vc_lines.specs.Lines.{ConnectionTable, HasSameLines, MovesTo, line_of}
-use Rattle.lab_fit.specs.Fits.{fit_after, fit_in, fits_after, fits_from, is_in_64_bits, most_connections, no_cells, with_checked_fit, with_fit}
+use Rattle.lab_fit.specs.Fits.{fit_after, fit_in, fits_after, fits_from, most_connections, no_cells, with_fit}
 use Rattle.lab_fit.specs.declared.connection_fit.ConnectionFit.{ConnectionFit}
 use Rattle.lab_fit.specs.declared.fault.FitFault.{FitFault}
 use Rattle.lab_fit.specs.declared.fault.FitFault.TheVariants.{TooManyConnections, TooLarge}
@@ -154,35 +154,15 @@ module _ (increment : ℕ) (fits : List ConnectionFit) (vc : Vc) (moment number 
   from-none : fits_after increment fits vc moment number ≡ fits_from increment fits None vc moment number
   from-none = ap (λ (found : Option ConnectionFit). fits_from increment fits found vc moment number) none
 
-  from-few : length fits < most_connections → fits_after increment fits vc moment number ≡ with_checked_fit First fits
-  from-few few =
-      from-none
-      ∙ ap (λ b. cond b (Err TooManyConnections) (with_checked_fit First fits)) (lt-leb most_connections (length fits) few)
-
   pub fits_after-full : most_connections ≤ length fits → fits_after increment fits vc moment number ≡ Err TooManyConnections
   fits_after-full full =
       from-none
-      ∙ ap (λ b. cond b (Err TooManyConnections) (with_checked_fit First fits)) (le-leb most_connections (length fits) full)
+      ∙ ap (λ b. cond b (Err TooManyConnections) (Ok (with_fit First fits))) (le-leb most_connections (length fits) full)
 
-  pub fits_after-large : length fits < most_connections → None ≡ cond (is_in_64_bits First) (Some First) None
-      → fits_after increment fits vc moment number ≡ Err TooLarge
-  fits_after-large few large =
-      let choice : (b : Bool) → is_in_64_bits First ≡ b → with_checked_fit First fits ≡ Err TooLarge = elim [
-        | true ↦ λ e. absurd (
-            let no : None ≡ Some First = large ∙ ap (λ b. cond b (Some First) None) e in cc)
-        | false ↦ λ e. ap (λ b. cond b (Ok (with_fit First fits)) (Err TooLarge)) e
-      ] in
-      from-few few ∙ choice (is_in_64_bits First) refl
-
-  -- The state after it.
-  pub first-is : (fit : ConnectionFit) → Some fit ≡ cond (is_in_64_bits First) (Some First) None → fit ≡ First
-  first-is fit held = sym (cond_some (is_in_64_bits First) First fit (sym held)).1
-
-  pub fits_after-first : length fits < most_connections → (fit : ConnectionFit) → Some fit ≡ cond (is_in_64_bits First) (Some First) None
+  pub fits_after-first : length fits < most_connections → (fit : ConnectionFit) → fit ≡ First
       → (new : List ConnectionFit) → new ≡ fits ++ fit ∷ [] → fits_after increment fits vc moment number ≡ Ok new
-  fits_after-first few fit held new is =
-      let parts = cond_some (is_in_64_bits First) First fit (sym held) in
-      let grew : new ≡ fits ++ First ∷ [] = is ∙ ap (λ (f : ConnectionFit). fits ++ f ∷ []) (sym parts.1) in
-      from-few few
-      ∙ ap (λ b. cond b (Ok (with_fit First fits)) (Err TooLarge)) parts.0
+  fits_after-first few fit same new is =
+      let grew : new ≡ fits ++ First ∷ [] = is ∙ ap (λ (f : ConnectionFit). fits ++ f ∷ []) same in
+      from-none
+      ∙ ap (λ b. cond b (Err TooManyConnections) (Ok (with_fit First fits))) (lt-leb most_connections (length fits) few)
       ∙ ap (taken_as None) (with_fit-new fits First none ∙ sym grew)

@@ -1,5 +1,8 @@
 -- Laws of `fit`, in the words of the leaky bucket.
-use Rattle.std.specs.Prelude.{◌≡◌, ℕ, ◌+◌, ◌<◌, ◌≤◌, ◌↔◌, Option, MatchOption, List, [], ◌∷◌, ◌++◌, map, filter, length}
+use Rattle.std.specs.Prelude.{◌≡◌, ℕ, ◌+◌, ◌^◌, ◌<◌, ◌≤◌, ◌↔◌, Option, MatchOption, List, [], ◌∷◌, ◌++◌, map, filter, length}
+use Rattle.std.specs.BTreeMap.{is_at}
+use Rattle.std.specs.Map.{lookup}
+use Rattle.std.specs.Ordering.{nat_cmp}
 use Rattle.captures.specs.declared.fault.Fault.{Fault}
 use Rattle.captures.specs.declared.reader.Record.{Record}
 use Rattle.lab_captures.specs.CaptureText.{RunsThrough, done_at, records_text}
@@ -13,7 +16,7 @@ use Rattle.upc_cell.specs.Connection.{is_same_vc, vc_of}
 use Rattle.upc_cell.specs.declared.side.Side.{Side}
 use Rattle.upc_cell.specs.declared.vc.Vc.{Vc}
 use Rattle.lab_fit.specs.Fits.{fit_in}
-use Rattle.lab_fit.specs.FitText.{FitWorld, IsFitText, fit_closes, fit_rules, fit_start}
+use Rattle.lab_fit.specs.FitText.{FitWorld, IsFitText, connection_key, fit_closes, fit_rules, fit_start, put_in_order}
 use Rattle.lab_fit.specs.declared.connection_fit.ConnectionFit.{ConnectionFit}
 
 -- The cells of a connection, with headers read at this side.
@@ -60,6 +63,13 @@ FitsAreWritten = (increment tick : ℕ) (interface : Option ℕ) (side : Side) (
     → RunsThrough fit_rules (fit_start increment tick interface side) records last
     → (ending : Option Fault)
     → records_text fit_rules (fit_start increment tick interface side) records ending ≡ (fit_closes last ending, done_at ending)
+
+-- After such a run, the table has one line for each connection with cells, that of its state, and none for another. A channel has 16 bits.
+abbrev pub LinesAreOfConnections : Type 0
+LinesAreOfConnections = (increment tick : ℕ) (interface : Option ℕ) (side : Side) (records : List Record) (last : FitWorld)
+    → RunsThrough fit_rules (fit_start increment tick interface side) records last
+    → (vc : Vc) → vc.vci < 2 ^ 16
+    → lookup (is_at (nat_cmp (connection_key vc))) (put_in_order [] last.fits) ≡ fit_in vc last.fits
 
 -- A file has exactly one output.
 abbrev pub CapturesHaveOneFitText : Type 0

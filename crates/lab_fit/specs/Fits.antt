@@ -55,7 +55,7 @@ abbrev pub fits_from : ℕ → List ConnectionFit → Option ConnectionFit → V
 fits_from increment fits (Some fit) vc moment number = with_checked_fit (fit_after increment fit moment number) fits
 fits_from increment fits None vc moment number =
     if nat_le most_connections (length fits) then Err TooManyConnections
-    else with_checked_fit (fit_after increment (no_cells vc number) moment number) fits
+    else Ok (with_fit (fit_after increment (no_cells vc number) moment number) fits)
 
 -- The states after a cell of this connection at this moment, whose record has this number, or why the cell ends the run.
 abbrev pub fits_after : ℕ → List ConnectionFit → Vc → ℕ → ℕ → Result (List ConnectionFit) FitFault

@@ -23,15 +23,15 @@ pub struct ConnectionFit {
 }
 
 impl ConnectionFit {
-    /// Returns the state before the first cell, whose record has this number.
-    pub(crate) fn new(vc: Vc, number: u64) -> ConnectionFit
-        ensures { result ≡ no_cells vc number }
+    /// Returns the state after the first cell of this connection.
+    pub(crate) fn first(vc: Vc, increment: u64, moment: u64, number: u64) -> ConnectionFit
+        ensures { result ≡ fit_after increment (no_cells vc number) moment number }
     {
         ConnectionFit {
             vc,
-            cells: 0,
-            level: 0,
-            charged: 0,
+            cells: 1,
+            level: increment,
+            charged: moment,
             limit: 0,
             number,
         }

@@ -86,13 +86,8 @@ impl Connections {
         if self.fits().len() >= MOST_CONNECTIONS {
             return Ok(Some(FitFault::TooManyConnections));
         }
-        match ConnectionFit::new(vc, number).after(increment, moment, number) {
-            None => Ok(Some(FitFault::TooLarge)),
-            Some(fit) => {
-                self.add(fit)?;
-                Ok(None)
-            }
-        }
+        self.add(ConnectionFit::first(vc, increment, moment, number))?;
+        Ok(None)
     }
 
     /// Adds the state of another connection. At most 65,534 others have states, so the table is never full.
