@@ -1,1 +1,1 @@
-"""The cells of captures, read again: `upc-lab cells` in Python, from the public formats."""
+"""Captures, read again: `upc-lab cells` and `upc-lab fit` in Python, from the public formats."""

@@ -56,7 +56,7 @@ def in_pcapng(draw, made):
     return b"".join(blocks)
 
 
-def capture(draw):
+def capture_of(draw):
     """Returns the octets of a capture. A third of them has an octet or a length changed, or is cut off."""
     made = records(draw)
     octets = draw.choice([lambda: b"".join(made), lambda: in_pcap(draw, made), lambda: in_pcapng(draw, made)])()

@@ -1,4 +1,5 @@
 pub mod Texts
 pub mod Progresses
 pub mod CaptureTexts
+pub mod CountedLemmas
 pub mod Public

@@ -37,6 +37,12 @@ records_text rules world [] ending = (rules.closes world ending, done_at ending)
 records_text rules world (said ∷ records) ending =
     text_then (rules.steps world said).0 (rules.steps world said).1 (λ next. records_text rules next records ending)
 
+-- A run over these records goes on after each, and then is in this world.
+abbrev pub RunsThrough : {World : Type 0} → CaptureRules World → World → List Record → World → Type 0
+RunsThrough rules world [] last = last ≡ world
+RunsThrough {World = World} rules world (said ∷ records) last =
+    (next : World) × ((rules.steps world said).1 ≡ Some next) × RunsThrough rules next records last
+
 -- After this many records, at this place, in this world, the text answers the octets, and the run ends in this way.
 abbrev pub IsRecordsText : {World : Type 0} → CaptureRules World → Format → ℕ → ℕ → World → List ℕ → List ℕ → Done → Type 0
 IsRecordsText rules format count at world octets text done =

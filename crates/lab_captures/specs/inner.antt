@@ -2,4 +2,3 @@
 pub mod Waiting
 pub mod Steps
 pub mod Progress
-pub mod CellsShown

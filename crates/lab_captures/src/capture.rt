@@ -89,8 +89,13 @@ fn close_short<O: Output, F: Follower>(
     }
 }
 
-/// Runs a follower over the records of a capture.
-pub(crate) fn follow_capture<I: Input, O: Output, F: Follower>(
+/// Runs a follower over the records of a capture, in bounded memory: two buffers of 131,072 octets, and the answers that are not written yet.
+///
+/// # Errors
+///
+/// `ReadFailed` or `WriteFailed` if that device failed; the run ends at the first failure. `NoMemory` if an
+/// allocation fails. The output is then a prefix of the text.
+pub fn follow_capture<I: Input, O: Output, F: Follower>(
     alloc: Global,
     input: &mut I,
     output: &mut O,

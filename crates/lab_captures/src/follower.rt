@@ -2,14 +2,15 @@
 
 ghost use Rattle.std.specs.Prelude.{◌≡◌, ◌++◌, IfOk, OnOk};
 ghost use Rattle.lab_captures.specs.CaptureText.{CaptureRules};
-ghost use Rattle.lab_captures.specs.inner.Steps.{FollowsRecord, StepsBy};
+ghost use Rattle.lab_captures.specs.Following.{FollowsRecord};
+ghost use Rattle.lab_captures.specs.inner.Steps.{StepsBy};
 
 use captures::{Fault, Next, Reader, Record};
 use std::alloc::AllocError;
 use text_io::Turn;
 
 /// A program that gets one record after another and answers each.
-pub(crate) trait Follower {
+pub trait Follower {
     ghost World: { Type 0 };
 
     ghost world: { Self → World };

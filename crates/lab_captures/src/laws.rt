@@ -1,8 +1,13 @@
 //! Laws of the definitions that this crate's contracts cite. Each function does nothing; its contract is the law.
 
-ghost use Rattle.lab_captures.specs.CellsText.{CapturesHaveOneCellsText};
+ghost use Rattle.lab_captures.specs.CellsText.{CapturesHaveOneCellsText, CellsAreWritten};
 
 /// A file has one text of `cells`, for each tick and interface.
 pub fn captures_have_one_text()
     ensures { CapturesHaveOneCellsText }
+{}
+
+/// A run of `cells` that no record ends writes a line for each cell that counts.
+pub fn cells_are_written()
+    ensures { CellsAreWritten }
 {}

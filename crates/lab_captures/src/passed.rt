@@ -1,7 +1,7 @@
 //! Records that were passed over.
 
 ghost use Rattle.std.specs.Prelude.{◌≡◌, ◌++◌, OnOk};
-ghost use Rattle.lab_captures.specs.CellsText.{none_passed, passed_lines, one_more_record, tally_line, without_cell as with_one_more};
+ghost use Rattle.lab_captures.specs.PassedRecords.{none_passed, passed_lines, one_more_record, tally_line, without_cell as with_one_more};
 
 use captures::NoCell;
 use std::alloc::AllocError;

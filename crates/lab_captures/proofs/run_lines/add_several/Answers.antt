@@ -1,7 +1,7 @@
 use Rattle.std.proofs.Common.{◌++◌, ◌∙◌, ap, append_assoc, codes, decimal}
 use Rattle.upc_words.specs.FaultLines.{line}
 use Rattle.lab_captures.proofs.Progresses.{on_done}
-use Rattle.lab_captures.proofs.cells.add_several.Goals as goal
+use Rattle.lab_captures.proofs.run_lines.add_several.Goals as goal
 
 pub returns : goal.returns
 returns c =

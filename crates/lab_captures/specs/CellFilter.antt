@@ -1,0 +1,82 @@
+-- Which cells of a capture count, and at which moments: those of one interface whose time is not before that of an earlier one.
+use Rattle.std.specs.Prelude.{◌-◌, ◌==◌, nat_lt, max, if◌then◌else◌, Bool, ℕ, List, [], ◌∷◌, Option, Some, None, is_some, option_map, unwrap_or, Result, Ok, Err}
+use Rattle.captures.specs.Moments.{whole_ticks}
+use Rattle.captures.specs.declared.content.NoCell.{NoCell}
+use Rattle.captures.specs.declared.reader.Record.{Record}
+use Rattle.lab_captures.specs.PassedRecords.{none_passed, one_more_record, without_cell}
+use Rattle.lab_captures.specs.declared.filter.CellFilter.{CellFilter}
+use Rattle.lab_captures.specs.declared.filter.Filtered.{Filtered}
+use Rattle.lab_captures.specs.declared.filter.Filtered.TheVariants.{Counts, Passed, Several}
+use Rattle.lab_captures.specs.declared.passed.PassedOver.{PassedOver}
+
+-- The state of a filter: the nanoseconds of a tick, whether an interface was asked for, the interface that was, or that of the first cell,
+-- the time of the first record and the latest time of a cell, and the records passed over.
+pub record FilterState : Type 0 where
+  pub tick : ℕ
+  pub asked : Bool
+  pub interface : Option ℕ
+  pub clock : Option (ℕ × ℕ)
+  pub passed : PassedOver
+
+-- The state of this filter.
+abbrev pub filter_state : CellFilter → FilterState
+filter_state filter = record {
+  tick = filter.tick.nanoseconds;
+  asked = filter.asked;
+  interface = filter.interface;
+  clock = option_map (λ clock. (clock.first, clock.latest)) filter.clock;
+  passed = filter.passed;
+}
+
+-- The state at first, with a tick of this many nanoseconds and the interface that was asked for.
+abbrev pub filter_start : ℕ → Option ℕ → FilterState
+filter_start tick interface =
+    record { tick = tick; asked = is_some interface; interface = interface; clock = None; passed = none_passed }
+
+-- A cell of the right interface, where the first record came at the one time and the latest cell at the other.
+abbrev pub filter_at_time : FilterState → ℕ → ℕ → Record → List ℕ → Filtered × FilterState
+filter_at_time state first latest said cell =
+    if nat_lt said.time latest
+    then (Passed, record state { clock = Some (first, latest); passed = record state.passed { back = one_more_record state.passed.back said.number } })
+    else (
+      Counts (whole_ticks (said.time - first) state.tick) cell,
+      record state { clock = Some (first, max latest said.time) },
+    )
+
+-- A cell of some interface.
+abbrev pub filter_at_interface : FilterState → ℕ → ℕ → Record → List ℕ → Option ℕ → Filtered × FilterState
+filter_at_interface state first latest said cell None =
+    filter_at_time (record state { interface = Some said.interface }) first latest said cell
+filter_at_interface state first latest said cell (Some interface) =
+    if interface == said.interface then filter_at_time state first latest said cell
+    else if state.asked
+    then (Passed, record state { clock = Some (first, latest); passed = record state.passed { other_interface = one_more_record state.passed.other_interface said.number } })
+    else (Several interface said.interface, state)
+
+-- A record, by what it holds.
+abbrev pub filter_content : FilterState → ℕ × ℕ → Record → Result (List ℕ) NoCell → Filtered × FilterState
+filter_content state clock said (Err why) =
+    (Passed, record state { clock = Some clock; passed = without_cell state.passed why said.number })
+filter_content state clock said (Ok cell) = filter_at_interface state clock.0 clock.1 said cell state.interface
+
+-- What a record is in this state, and the next state. The first record's time is moment 0.
+abbrev pub filter_record : FilterState → Record → Filtered × FilterState
+filter_record state said = filter_content state (unwrap_or state.clock (said.time, said.time)) said said.content
+
+-- A cell that counts: the number of its record, its moment and its octets.
+pub record CountedCell : Type 0 where
+  pub number : ℕ
+  pub moment : ℕ
+  pub cell : List ℕ
+
+-- The cells that count among a record with this number and those after it.
+abbrev pub counted_then : Filtered → ℕ → List CountedCell → List CountedCell
+counted_then (Counts moment cell) number later = record { number = number; moment = moment; cell = cell } ∷ later
+counted_then Passed number later = later
+counted_then (Several one other) number later = []
+
+-- The cells that count among these records, in order, from this state on.
+abbrev pub counted_cells : FilterState → List Record → List CountedCell
+counted_cells state [] = []
+counted_cells state (said ∷ records) =
+    counted_then (filter_record state said).0 said.number (counted_cells (filter_record state said).1 records)

@@ -1,0 +1,20 @@
+-- The lines that several subcommands over captures have.
+use Rattle.std.specs.Prelude.{ℕ, List, [], ◌++◌, codes, decimal, Option, Some, None}
+use Rattle.captures.specs.declared.fault.Fault.{Fault}
+use Rattle.lab_captures.specs.CaptureFaults.{capture_fault_line}
+use Rattle.lab_captures.specs.PassedRecords.{passed_lines}
+use Rattle.lab_captures.specs.declared.passed.PassedOver.{PassedOver}
+use Rattle.upc_words.specs.FaultLines.{line}
+
+-- The answer to a cell of a second interface, where none was asked for.
+abbrev pub several_line : ℕ → ℕ → List ℕ
+several_line one other = (codes "fault interface 1 Several " ++ decimal one) ++ line (codes " " ++ decimal other)
+
+-- The fault at which the reading ended, if there is one.
+abbrev pub ending_line : Option Fault → List ℕ
+ending_line None = []
+ending_line (Some fault) = capture_fault_line fault
+
+-- The end of a text: the comments, and the fault if there is one.
+abbrev pub closing_lines : PassedOver → Option Fault → List ℕ
+closing_lines passed ending = passed_lines passed ++ ending_line ending

@@ -1,0 +1,110 @@
+//! Which cells of a capture count, and at which moments.
+
+ghost use Rattle.std.specs.Prelude.{◌≡◌};
+ghost use Rattle.lab_captures.specs.CellFilter.{filter_at_interface, filter_at_time, filter_record, filter_start, filter_state};
+
+use crate::passed::PassedOver;
+use captures::{Clock, Record, Tick};
+use upc_cell::Cell;
+
+/// What a record is to a run that reads the cells of one interface.
+#[derive(Clone, Copy, PartialEq, Eq, Debug)]
+pub enum Filtered {
+    /// Its cell counts: the moment, in whole ticks since the first record, and the cell.
+    Counts(u64, Cell),
+    /// It is passed over.
+    Passed,
+    /// Its cell is of a second interface, and none was asked for: the first interface, and this one.
+    Several(u8, u8),
+}
+
+/// Says of each record of a capture whether its cell counts. If an interface was asked for, its cells count, otherwise those of the first
+/// cell's interface. A cell with a time before that of an earlier one does not count.
+#[derive(Clone, Copy, Drop, Debug)]
+pub struct CellFilter {
+    tick: Tick,
+    /// Whether an interface was asked for.
+    asked: bool,
+    /// The interface that was asked for, or that of the first cell.
+    interface: Option<u8>,
+    /// None before the first record.
+    clock: Option<Clock>,
+    passed: PassedOver,
+}
+
+impl CellFilter {
+    /// Starts with this tick, for the interface that was asked for.
+    pub fn new(tick: Tick, interface: Option<u8>) -> CellFilter
+        ensures { filter_state result ≡ filter_start tick.nanoseconds interface }
+    {
+        CellFilter {
+            tick,
+            asked: interface.is_some(),
+            interface,
+            clock: None,
+            passed: PassedOver::none(),
+        }
+    }
+
+    // no edit: it returns a field
+    /// Returns the records passed over so far.
+    pub fn passed(&self) -> PassedOver
+        ensures { result ≡ (filter_state self.now).passed }
+    {
+        self.passed
+    }
+
+    /// Reads a cell of the right interface.
+    fn read_at(&mut self, mut clock: Clock, said: &Record, cell: &Cell) -> Filtered
+        ensures { filter_at_time (filter_state self.old) clock.first clock.latest said.now cell.now
+            ≡ (result, filter_state self.new) }
+    {
+        let moment = clock.read(said.time, self.tick);
+        self.clock = Some(clock);
+        match moment {
+            None => {
+                self.passed.back = self.passed.back.with(said.number);
+                Filtered::Passed
+            }
+            Some(moment) => Filtered::Counts(moment, *cell),
+        }
+    }
+
+    /// Reads a cell.
+    fn read_cell(&mut self, clock: Clock, said: &Record, cell: &Cell) -> Filtered
+        ensures { filter_at_interface (filter_state self.old) clock.first clock.latest said.now cell.now self.old.interface
+            ≡ (result, filter_state self.new) }
+    {
+        match self.interface {
+            None => self.interface = Some(said.interface),
+            Some(interface) if interface == said.interface => {}
+            Some(interface) => {
+                if !self.asked {
+                    return Filtered::Several(interface, said.interface);
+                }
+                self.passed.other_interface = self.passed.other_interface.with(said.number);
+                self.clock = Some(clock);
+                return Filtered::Passed;
+            }
+        }
+        self.read_at(clock, said, cell)
+    }
+
+    /// Reads the next record. After `Several` the filter is as before.
+    pub fn read(&mut self, said: &Record) -> Filtered
+        ensures { filter_record (filter_state self.old) said.now ≡ (result, filter_state self.new) }
+    {
+        let clock = match self.clock {
+            Some(clock) => clock,
+            None => Clock::new(said.time),
+        };
+        match &said.content {
+            Err(why) => {
+                self.clock = Some(clock);
+                self.passed = self.passed.without_cell(*why, said.number);
+                Filtered::Passed
+            }
+            Ok(cell) => self.read_cell(clock, said, cell),
+        }
+    }
+}

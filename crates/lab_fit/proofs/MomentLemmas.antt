@@ -1,0 +1,132 @@
+-- The moments of cells that count never go back.
+use Rattle.std.proofs.Common.{◌≡◌, ℕ, ◌+◌, ◌-◌, ◌*◌, ◌/◌, ◌%◌, ◌^◌, ◌<◌, ◌≤◌, ◌==◌, max, nat_lt, Bool, true, false, cond, List, [], ◌∷◌, Option, Some, None, Result, Ok, Err, refl, sym, subst, arith}
+use Rattle.std.specs.Bool.{⊤}
+use Rattle.std.specs.Prelude.{MatchOption, filter, unwrap_or}
+use Rattle.std.proofs.lemmas.Bool.{ltb-false}
+use Rattle.std.proofs.lemmas.Nat.{div-add-mod', le-div}
+use Rattle.captures.specs.Moments.{whole_ticks}
+use Rattle.captures.specs.declared.content.NoCell.{NoCell}
+use Rattle.captures.specs.declared.reader.Record.{Record}
+use Rattle.lab_captures.specs.CellFilter.{CountedCell, FilterState, counted_cells, counted_then, filter_at_interface, filter_at_time, filter_content, filter_record, filter_start}
+use Rattle.lab_captures.specs.PassedRecords.{one_more_record}
+use Rattle.lab_captures.specs.declared.filter.Filtered.{Filtered}
+use Rattle.lab_captures.specs.declared.filter.Filtered.TheVariants.{Counts, Passed, Several}
+use Rattle.leaky.specs.Moments.{GoesOn}
+use Rattle.upc_cell.specs.Connection.{is_same_vc, vc_of}
+use Rattle.lab_fit.specs.FitLaws.{MomentsGoOn, moments_counted}
+
+div-grows : (a b d : ℕ) → 0 < d → a ≤ b → a / d ≤ b / d
+div-grows a b d some less =
+    let parts : a / d * d + a % d ≡ a = div-add-mod' a d in
+    le-div (a / d) b d some (omega (arith, parts, less))
+
+-- A later time has no fewer ticks.
+ticks-grow : (a b tick : ℕ) → 0 < tick → a ≤ b → whole_ticks a tick ≤ whole_ticks b tick
+ticks-grow a b tick some less = div-grows (a * 1000000000) (b * 1000000000) (2 ^ 32 * tick) (omega arith) (omega arith)
+
+-- No cell that counted so far came after this moment.
+abbrev IsOn : FilterState → ℕ → Type 0
+IsOn state earliest =
+    MatchOption state.clock (earliest ≡ 0) (λ clock. (clock.0 ≤ clock.1) × (earliest ≤ whole_ticks (clock.1 - clock.0) state.tick))
+
+-- The next cell that counts is not before it.
+abbrev IsNext : ℕ → ℕ → Filtered → FilterState → Type 0
+IsNext tick earliest (Counts moment cell) after = (earliest ≤ moment) × (IsOn after moment × (after.tick ≡ tick))
+IsNext tick earliest Passed after = IsOn after earliest × (after.tick ≡ tick)
+IsNext tick earliest (Several one other) after = ⊤
+
+abbrev Reads : ℕ → ℕ → Filtered × FilterState → Type 0
+Reads tick earliest read = IsNext tick earliest read.0 read.1
+
+module _ (said : Record) (first latest earliest : ℕ) (ordered : first ≤ latest) where
+  at-time : (state : FilterState) (cell : List ℕ) → 0 < state.tick → earliest ≤ whole_ticks (latest - first) state.tick
+      → Reads state.tick earliest (filter_at_time state first latest said cell)
+  at-time state cell some on =
+      let back : Filtered × FilterState = (
+        Passed,
+        record state { clock = Some (first, latest); passed = record state.passed { back = one_more_record state.passed.back said.number } },
+      ) in
+      let moment = whole_ticks (said.time - first) state.tick in
+      let counts : Filtered × FilterState = (Counts moment cell, record state { clock = Some (first, max latest said.time) }) in
+      let choice : (b : Bool) → nat_lt said.time latest ≡ b → Reads state.tick earliest (cond b back counts) = elim [
+        | true ↦ λ e. ((ordered, on), refl)
+        | false ↦ λ e.
+            let late : latest ≤ said.time = ltb-false said.time latest e in
+            let later : whole_ticks (latest - first) state.tick ≤ moment =
+            ticks-grow (latest - first) (said.time - first) state.tick some (omega (arith, late)) in
+            let up : said.time - first ≤ max latest said.time - first = omega (arith, late) in
+            let here : first ≤ max latest said.time = omega (arith, late, ordered) in
+            (omega (arith, on, later), ((here, ticks-grow (said.time - first) (max latest said.time - first) state.tick some up), refl))
+      ] in
+      choice (nat_lt said.time latest) refl
+
+  at-interface : (state : FilterState) (cell : List ℕ) (interface : Option ℕ) → 0 < state.tick → earliest ≤ whole_ticks (latest - first) state.tick
+      → Reads state.tick earliest (filter_at_interface state first latest said cell interface)
+  at-interface state cell None some on = at-time (record state { interface = Some said.interface }) cell some on
+  at-interface state cell (Some interface) some on =
+      let other : Filtered × FilterState = (
+        Passed,
+        record state { clock = Some (first, latest); passed = record state.passed { other_interface = one_more_record state.passed.other_interface said.number } },
+      ) in
+      let several : Filtered × FilterState = (Several interface said.interface, state) in
+      let asked : (b : Bool) → Reads state.tick earliest (cond b other several) = elim [
+        | true ↦ ((ordered, on), refl)
+        | false ↦ tt
+      ] in
+      let choice : (b : Bool) → Reads state.tick earliest (cond b (filter_at_time state first latest said cell) (cond state.asked other several)) = elim [
+        | true ↦ at-time state cell some on
+        | false ↦ asked state.asked
+      ] in
+      choice (interface == said.interface)
+
+  at-content : (state : FilterState) (content : Result (List ℕ) NoCell) → 0 < state.tick → earliest ≤ whole_ticks (latest - first) state.tick
+      → Reads state.tick earliest (filter_content state (first, latest) said content)
+  at-content state (Err why) some on = ((ordered, on), refl)
+  at-content state (Ok cell) some on = at-interface state cell state.interface some on
+
+at-clock : (state : FilterState) (said : Record) (earliest : ℕ) (clock : Option (ℕ × ℕ)) → 0 < state.tick
+    → MatchOption clock (earliest ≡ 0) (λ clock. (clock.0 ≤ clock.1) × (earliest ≤ whole_ticks (clock.1 - clock.0) state.tick))
+    → Reads state.tick earliest (filter_content state (unwrap_or clock (said.time, said.time)) said said.content)
+at-clock state said earliest None some on =
+    let same : said.time ≤ said.time = omega arith in
+    let none : earliest ≤ whole_ticks (said.time - said.time) state.tick = omega (arith, on) in
+    at-content said said.time said.time earliest same state said.content some none
+at-clock state said earliest (Some clock) some on = at-content said clock.0 clock.1 earliest on.0 state said.content some on.1
+
+reads-on : (state : FilterState) (said : Record) (earliest : ℕ) → 0 < state.tick → IsOn state earliest
+    → Reads state.tick earliest (filter_record state said)
+reads-on state said earliest some on = at-clock state said earliest state.clock some on
+
+counted-on : (answer : Filtered) (after : FilterState) (tick earliest number : ℕ) (later : List CountedCell) → IsNext tick earliest answer after
+    → ((from : ℕ) → IsOn after from → after.tick ≡ tick → GoesOn from (moments_counted later))
+    → GoesOn earliest (moments_counted (counted_then answer number later))
+counted-on (Counts moment cell) after tick earliest number later next rest = (next.0, rest moment next.1.0 next.1.1)
+counted-on Passed after tick earliest number later next rest = rest earliest next.0 next.1
+counted-on (Several one other) after tick earliest number later next rest = tt
+
+cells-go-on : (state : FilterState) (records : List Record) (earliest : ℕ) → 0 < state.tick → IsOn state earliest
+    → GoesOn earliest (moments_counted (counted_cells state records))
+cells-go-on state [] earliest some on = tt
+cells-go-on state (said ∷ records) earliest some on =
+    let read = filter_record state said in
+    counted-on read.0 read.1 state.tick earliest said.number (counted_cells read.1 records) (reads-on state said earliest some on)
+    (λ from ahead same. cells-go-on read.1 records from (subst (λ n. 0 < n) (sym same) some) ahead)
+
+-- So do those of some of the cells.
+GoesOn-from : (earlier later : ℕ) (moments : List ℕ) → earlier ≤ later → GoesOn later moments → GoesOn earlier moments
+GoesOn-from earlier later [] less goes = tt
+GoesOn-from earlier later (moment ∷ moments) less goes = (omega (arith, less, goes.0), goes.1)
+
+GoesOn-filter : (test : CountedCell → Bool) (earliest : ℕ) (cells : List CountedCell) → GoesOn earliest (moments_counted cells)
+    → GoesOn earliest (moments_counted (filter test cells))
+GoesOn-filter test earliest [] goes = tt
+GoesOn-filter test earliest (cell ∷ cells) goes =
+    let choice : (b : Bool) → GoesOn earliest (moments_counted (cond b (cell ∷ filter test cells) (filter test cells))) = elim [
+      | true ↦ (goes.0, GoesOn-filter test cell.moment cells goes.1)
+      | false ↦ GoesOn-from earliest cell.moment (moments_counted (filter test cells)) goes.0 (GoesOn-filter test cell.moment cells goes.1)
+    ] in
+    choice (test cell)
+
+pub moments-go-on : MomentsGoOn
+moments-go-on tick interface side records vc some =
+    GoesOn-filter (λ counted. is_same_vc vc (vc_of side counted.cell)) 0 (counted_cells (filter_start tick interface) records) (cells-go-on (filter_start tick interface) records 0 some refl)

@@ -1,0 +1,224 @@
+-- A run of `fit` over records, and the cells that count among them.
+use Rattle.std.proofs.Common.{◌≡◌, ◌≢◌, ℕ, Bool, true, false, cond, List, [], ◌∷◌, Option, Some, None, Result, Ok, Err, refl, sym, ap, ◌∙◌, subst}
+use Rattle.std.specs.Prelude.{MatchOption, length, nat_le, unwrap_or}
+use Rattle.std.proofs.lemmas.Option.{same_Some}
+use Rattle.captures.specs.declared.fault.Fault.{Fault}
+use Rattle.captures.specs.declared.reader.Record.{Record}
+use Rattle.lab_captures.specs.CaptureText.{RunsThrough, done_at, records_text, text_then}
+use Rattle.lab_captures.specs.CellFilter.{CountedCell, FilterState, counted_cells, counted_then, filter_record, filter_start}
+use Rattle.lab_captures.specs.declared.filter.Filtered.{Filtered}
+use Rattle.lab_captures.specs.declared.filter.Filtered.TheVariants.{Counts, Passed, Several}
+use Rattle.text_io.specs.declared.ending.Done.{Done}
+use Rattle.upc_cell.specs.Connection.{is_same_vc, vc_of}
+use Rattle.upc_cell.specs.declared.side.Side.{Side}
+use Rattle.upc_cell.specs.declared.vc.Vc.{Vc}
+use Rattle.upc_cell.proofs.Public.{vc_same, vc_itself}
+use Rattle.lab_fit.specs.Fits.{fit_after, fit_in, fits_after, fits_from, is_in_64_bits, most_connections, no_cells, with_fit, with_checked_fit}
+use Rattle.lab_fit.specs.FitText.{FitWorld, fit_answer, fit_cell_answer, fit_closes, fit_rules, fit_start}
+use Rattle.lab_fit.specs.FitLaws.{FitsAreLeast, FitsAreWritten, IsFitOf, cells_of_vc}
+use Rattle.lab_fit.specs.declared.connection_fit.ConnectionFit.{ConnectionFit}
+use Rattle.lab_fit.specs.declared.fault.FitFault.{FitFault}
+use Rattle.lab_fit.specs.declared.fault.FitFault.TheVariants.{TooManyConnections, TooLarge}
+use Rattle.lab_fit.proofs.FitLemmas.{fit_in-others, fit_in-own, fit_in-with}
+use Rattle.lab_fit.proofs.LeastLemmas.{through, through-is}
+
+-- The state of a connection after these cells of it, if it has one then.
+abbrev over : ℕ → Vc → Option ConnectionFit → List CountedCell → Option ConnectionFit
+over increment vc found [] = found
+over increment vc found (cell ∷ cells) =
+    over increment vc (Some (fit_after increment (unwrap_or found (no_cells vc cell.number)) cell.moment cell.number)) cells
+
+over-through : (increment : ℕ) (vc : Vc) (fit : ConnectionFit) (cells : List CountedCell)
+    → over increment vc (Some fit) cells ≡ Some (through increment fit cells)
+over-through increment vc fit [] = refl
+over-through increment vc fit (cell ∷ cells) = over-through increment vc (fit_after increment fit cell.moment cell.number) cells
+
+-- The new states are those with one more.
+held-with : (fit : ConnectionFit) (fits new : List ConnectionFit) → with_checked_fit fit fits ≡ Ok new → with_fit fit fits ≡ new
+held-with fit fits new is =
+    let choice : (b : Bool) → is_in_64_bits fit ≡ b → with_fit fit fits ≡ new = elim [
+      | true ↦ λ e.
+          let held : ◌≡◌ {A = Result (List ConnectionFit) FitFault} (Ok (with_fit fit fits)) (Ok new) =
+          ap (λ b. cond b (Ok (with_fit fit fits)) (Err TooLarge)) (sym e) ∙ is in
+          cc
+      | false ↦ λ e. absurd (
+          let held : ◌≡◌ {A = Result (List ConnectionFit) FitFault} (Err TooLarge) (Ok new) =
+          ap (λ b. cond b (Ok (with_fit fit fits)) (Err TooLarge)) (sym e) ∙ is in
+          cc)
+    ] in
+    choice (is_in_64_bits fit) refl
+
+-- The states grew by one, which is the one after a cell.
+pub record GrewBy (increment : ℕ) (fits : List ConnectionFit) (vc : Vc) (moment number : ℕ) (new : List ConnectionFit) : Type 0 where
+  pub fit : ConnectionFit
+  pub own : fit.vc ≡ vc
+  pub is : with_fit fit fits ≡ new
+  pub after : fit ≡ fit_after increment (unwrap_or (fit_in vc fits) (no_cells vc number)) moment number
+
+pub grew-by : (increment : ℕ) (fits : List ConnectionFit) (vc : Vc) (moment number : ℕ) (new : List ConnectionFit)
+    → fits_after increment fits vc moment number ≡ Ok new → GrewBy increment fits vc moment number new
+grew-by increment fits vc moment number new is =
+    let choice : (found : Option ConnectionFit) → fit_in vc fits ≡ found → GrewBy increment fits vc moment number new = elim [
+      | Some fit ↦ λ e.
+          let after = fit_after increment fit moment number in
+          record {
+            fit = after;
+            own = fit_in-own fits vc fit e;
+            is = held-with after fits new
+                (ap (λ (found : Option ConnectionFit). fits_from increment fits found vc moment number) (sym e) ∙ is);
+            after = ap (λ (found : Option ConnectionFit). fit_after increment (unwrap_or found (no_cells vc number)) moment number) (sym e);
+          }
+      | None ↦ λ e.
+          let after = fit_after increment (no_cells vc number) moment number in
+          let held : cond (nat_le most_connections (length fits)) (Err TooManyConnections) (Ok (with_fit after fits)) ≡ Ok new =
+          ap (λ (found : Option ConnectionFit). fits_from increment fits found vc moment number) (sym e) ∙ is in
+          let few : (b : Bool) → nat_le most_connections (length fits) ≡ b → with_fit after fits ≡ new = elim [
+            | true ↦ λ full. absurd (
+                let no : ◌≡◌ {A = Result (List ConnectionFit) FitFault} (Err TooManyConnections) (Ok new) =
+                ap (λ b. cond b (Err TooManyConnections) (Ok (with_fit after fits))) (sym full) ∙ held in
+                cc)
+            | false ↦ λ full.
+                let grew : ◌≡◌ {A = Result (List ConnectionFit) FitFault} (Ok (with_fit after fits)) (Ok new) =
+                ap (λ b. cond b (Err TooManyConnections) (Ok (with_fit after fits))) (sym full) ∙ held in
+                cc
+          ] in
+          record {
+            fit = after;
+            own = refl;
+            is = few (nat_le most_connections (length fits)) refl;
+            after = ap (λ (found : Option ConnectionFit). fit_after increment (unwrap_or found (no_cells vc number)) moment number) (sym e);
+          }
+    ] in
+    choice (fit_in vc fits) refl
+
+-- What a cell does to the states.
+record TakesCell (increment : ℕ) (fits : List ConnectionFit) (vc : Vc) (moment number : ℕ) (new : List ConnectionFit) : Type 0 where
+  here : fit_in vc new ≡ Some (fit_after increment (unwrap_or (fit_in vc fits) (no_cells vc number)) moment number)
+  others : (other : Vc) → other ≢ vc → fit_in other new ≡ fit_in other fits
+
+takes-cell : (increment : ℕ) (fits : List ConnectionFit) (vc : Vc) (moment number : ℕ) (new : List ConnectionFit)
+    → fits_after increment fits vc moment number ≡ Ok new → TakesCell increment fits vc moment number new
+takes-cell increment fits vc moment number new is =
+    let grew = grew-by increment fits vc moment number new is in
+    record {
+      here = ap (λ (v : Vc). fit_in v new) (sym grew.own) ∙ ap (fit_in grew.fit.vc) (sym grew.is) ∙ fit_in-with fits grew.fit
+          ∙ ap (λ (f : ConnectionFit). Some f) grew.after;
+      others = λ other away.
+          ap (fit_in other) (sym grew.is) ∙ fit_in-others fits grew.fit other (λ e. away (e ∙ grew.own));
+    }
+
+-- A record after which the run goes on.
+record GoesOn (world : FitWorld) (answer : Filtered) (after : FilterState) (number : ℕ) (next : FitWorld) : Type 0 where
+  increment : next.increment ≡ world.increment
+  side : next.side ≡ world.side
+  filter : next.filter ≡ after
+  silent : (fit_answer world answer after number).0 ≡ []
+  fits : (vc : Vc) (later : List CountedCell) → over world.increment vc (fit_in vc next.fits) (cells_of_vc world.side vc later)
+      ≡ over world.increment vc (fit_in vc world.fits) (cells_of_vc world.side vc (counted_then answer number later))
+
+goes-cell : (world : FitWorld) (moment : ℕ) (cell : List ℕ) (after : FilterState) (number : ℕ) (next : FitWorld)
+    → (answer : Result (List ConnectionFit) FitFault)
+    → fits_after world.increment world.fits (vc_of world.side cell) moment number ≡ answer
+    → (fit_cell_answer world after number answer).1 ≡ Some next → GoesOn world (Counts moment cell) after number next
+goes-cell world moment cell after number next (Err fault) is goes = absurd (let no : None ≡ Some next = goes in cc)
+goes-cell world moment cell after number next (Ok new) is goes =
+    let to : FitWorld = record world { filter = after; fits = new } in
+    let same : to ≡ next = same_Some to next goes in
+    let named = vc_of world.side cell in
+    let counted : CountedCell = record { number = number; moment = moment; cell = cell } in
+    let takes = takes-cell world.increment world.fits named moment number new is in
+    let fits : new ≡ next.fits = ap (λ (w : FitWorld). w.fits) same in
+    record {
+      increment = ap (λ (w : FitWorld). w.increment) (sym same);
+      side = ap (λ (w : FitWorld). w.side) (sym same);
+      filter = ap (λ (w : FitWorld). w.filter) (sym same);
+      silent = ap (λ (r : Result (List ConnectionFit) FitFault). (fit_cell_answer world after number r).0) is;
+      fits = λ vc later.
+          let rest = cells_of_vc world.side vc later in
+          let choice : (b : Bool) → is_same_vc vc named ≡ b
+          → over world.increment vc (fit_in vc new) rest
+          ≡ over world.increment vc (fit_in vc world.fits) (cond b (counted ∷ rest) rest) = elim [
+            | true ↦ λ e.
+                let own : vc ≡ named = vc_same vc named e in
+                let here : fit_in vc new ≡ Some (fit_after world.increment (unwrap_or (fit_in vc world.fits) (no_cells vc number)) moment number) =
+                subst (λ (v : Vc). fit_in v new ≡ Some (fit_after world.increment (unwrap_or (fit_in v world.fits) (no_cells v number)) moment number))
+                (sym own) takes.here in
+                ap (λ (found : Option ConnectionFit). over world.increment vc found rest) here
+            | false ↦ λ e.
+                let away : vc ≢ named = λ own.
+                let itself : is_same_vc vc vc ≡ true = vc_itself vc in
+                let other : is_same_vc vc vc ≡ false = subst (λ (v : Vc). is_same_vc vc v ≡ false) (sym own) e in
+                let no : true ≡ false = sym itself ∙ other in
+                cc in
+                ap (λ (found : Option ConnectionFit). over world.increment vc found rest) (takes.others vc away)
+          ] in
+          ap (λ (fs : List ConnectionFit). over world.increment vc (fit_in vc fs) rest) (sym fits)
+          ∙ choice (is_same_vc vc named) refl;
+    }
+
+goes-on : (world : FitWorld) (answer : Filtered) (after : FilterState) (number : ℕ) (next : FitWorld)
+    → (fit_answer world answer after number).1 ≡ Some next → GoesOn world answer after number next
+goes-on world (Counts moment cell) after number next goes =
+    goes-cell world moment cell after number next (fits_after world.increment world.fits (vc_of world.side cell) moment number) refl goes
+goes-on world Passed after number next goes =
+    let to : FitWorld = record world { filter = after } in
+    let same : to ≡ next = same_Some to next goes in
+    record {
+      increment = ap (λ (w : FitWorld). w.increment) (sym same);
+      side = ap (λ (w : FitWorld). w.side) (sym same);
+      filter = ap (λ (w : FitWorld). w.filter) (sym same);
+      silent = refl;
+      fits = λ vc later.
+          ap (λ (w : FitWorld). over world.increment vc (fit_in vc w.fits) (cells_of_vc world.side vc later)) (sym same);
+    }
+goes-on world (Several one other) after number next goes = absurd (let no : None ≡ Some next = goes in cc)
+
+-- The states of a run.
+run-fits : (world last : FitWorld) (records : List Record) → RunsThrough fit_rules world records last → (vc : Vc)
+    → fit_in vc last.fits ≡ over world.increment vc (fit_in vc world.fits) (cells_of_vc world.side vc (counted_cells world.filter records))
+run-fits world last [] leads vc = ap (λ (w : FitWorld). fit_in vc w.fits) leads
+run-fits world last (said ∷ records) leads vc =
+    let next = leads.0 in
+    let read = filter_record world.filter said in
+    let goes = goes-on world read.0 read.1 said.number next leads.1 in
+    let later = counted_cells read.1 records in
+    let Rest : ℕ → Side → FilterState → Type 0 = λ increment side filter.
+    fit_in vc last.fits ≡ over increment vc (fit_in vc next.fits) (cells_of_vc side vc (counted_cells filter records)) in
+    let rest : Rest next.increment next.side next.filter = run-fits next last records leads.2 vc in
+    let same : Rest world.increment world.side read.1 =
+    subst (λ (f : FilterState). Rest world.increment world.side f) goes.filter
+    (subst (λ (s : Side). Rest world.increment s next.filter) goes.side
+    (subst (λ (n : ℕ). Rest n next.side next.filter) goes.increment rest)) in
+    same ∙ goes.fits vc later
+
+-- What the state is that a connection has after all its cells.
+all-cells : (increment : ℕ) (vc : Vc) (cells : List CountedCell) (found : Option ConnectionFit) → found ≡ over increment vc None cells
+    → MatchOption found (cells ≡ []) (IsFitOf increment cells)
+all-cells increment vc [] found is = subst (λ (f : Option ConnectionFit). MatchOption f (◌≡◌ {A = List CountedCell} [] []) (IsFitOf increment [])) (sym is) refl
+all-cells increment vc (cell ∷ cells) found is =
+    let all = cell ∷ cells in
+    let state = through increment (no_cells vc cell.number) all in
+    let there : Some state ≡ found = sym (is ∙ over-through increment vc (fit_after increment (no_cells vc cell.number) cell.moment cell.number) cells) in
+    subst (λ (f : Option ConnectionFit). MatchOption f (all ≡ []) (IsFitOf increment all)) there (through-is increment vc cell cells)
+
+pub fits-are-least : FitsAreLeast
+fits-are-least increment tick interface side records last leads vc =
+    let start = fit_start increment tick interface side in
+    all-cells increment vc (cells_of_vc side vc (counted_cells (filter_start tick interface) records)) (fit_in vc last.fits)
+    (run-fits start last records leads vc)
+
+-- The text of a run.
+run-text : (world last : FitWorld) (records : List Record) → RunsThrough fit_rules world records last → (ending : Option Fault)
+    → records_text fit_rules world records ending ≡ (fit_closes last ending, done_at ending)
+run-text world last [] leads ending = ap (λ (w : FitWorld). (fit_closes w ending, done_at ending)) (sym leads)
+run-text world last (said ∷ records) leads ending =
+    let next = leads.0 in
+    let read = filter_record world.filter said in
+    let goes = goes-on world read.0 read.1 said.number next leads.1 in
+    let rest : FitWorld → List ℕ × Done = λ w. records_text fit_rules w records ending in
+    ap (λ (here : List ℕ). text_then here (fit_answer world read.0 read.1 said.number).1 rest) goes.silent
+    ∙ ap (λ (after : Option FitWorld). text_then [] after rest) leads.1
+    ∙ run-text next last records leads.2 ending
+
+pub fits-are-written : FitsAreWritten
+fits-are-written increment tick interface side records last leads ending = run-text (fit_start increment tick interface side) last records leads ending

@@ -1,0 +1,29 @@
+use Rattle.std.proofs.Common.{◌≡◌, List, None, sym, subst}
+use Rattle.lab_fit.specs.Fits.{fit_in, fits_after}
+use Rattle.lab_fit.specs.declared.connection_fit.ConnectionFit.{ConnectionFit}
+use Rattle.lab_fit.specs.inner.FitTable.{taken_as}
+use Rattle.lab_fit.proofs.TableLemmas.{KeepsFits-taken, absent-fit, fits_after-taken, found-within}
+use Rattle.lab_fit.proofs.connections.Connections.take.Goals as goal
+
+pub take_at-requires : goal.take_at-requires
+take_at-requires c =
+    found-within c.self.inside.table c.self.inside.fits.items c.self.invariant c.args.vc c.in-Some.place (sym c.in-Some.ensures)
+
+pub invariant_of-self : goal.invariant_of-self
+invariant_of-self c =
+    let a = c.args in
+    KeepsFits-taken c.self.inside.table c.self.inside.fits.items c.self.invariant a.increment a.vc c.in-Some.place a.moment a.number
+    (sym c.in-Some.ensures) c.take_at.result c.take_at.new.fits.items c.take_at.ensures
+
+pub begin-requires : goal.begin-requires
+begin-requires c =
+    subst (λ (fits : List ConnectionFit). fit_in c.args.vc fits ≡ None) c.self.view_is
+    (absent-fit c.self.inside.table c.self.inside.fits.items c.self.invariant c.args.vc (sym c.in-None.ensures))
+
+pub returns-in-Some : goal.returns-in-Some
+returns-in-Some c =
+    let a = c.args in
+    subst (λ (fits : List ConnectionFit). fits_after a.increment fits a.vc a.moment a.number ≡ taken_as c.take_at.result c.take_at.new.fits.items)
+    c.self.view_is
+    (fits_after-taken c.self.inside.table c.self.inside.fits.items c.self.invariant a.increment a.vc c.in-Some.place a.moment a.number
+    (sym c.in-Some.ensures) c.take_at.result c.take_at.new.fits.items c.take_at.ensures)

@@ -1,0 +1,18 @@
+-- A run that could not begin read and wrote nothing.
+use Rattle.std.proofs.Common.{refl}
+use Rattle.lab_captures.proofs.Public.{no_front}
+use Rattle.lab_fit.specs.FitText.{fit_rules, fit_start}
+use Rattle.lab_fit.proofs.fit.fit_capture.Goals as goal
+
+pub returns-in_default : goal.returns-in_default
+returns-in_default g c =
+    record {
+      text = λ ki ko. tt;
+      front = λ ki ko.
+          no_front fit_rules (fit_start c.args.increment c.args.tick.nanoseconds c.args.interface c.args.side) (g.I.Input.rest c.args.input.now)
+          (g.O.Output.held c.args.output.now);
+      left = λ ki. tt;
+      whole = λ ki same. cc;
+      reading = refl;
+      writing = refl;
+    }

@@ -1,0 +1,21 @@
+-- A run of `fit` as its state.
+use Rattle.std.specs.Prelude.{◌≡◌, ℕ, List, ◌++◌, Option}
+use Rattle.lab_captures.specs.CellFilter.{filter_state}
+use Rattle.lab_captures.specs.Following.{world_after}
+use Rattle.text_io.specs.declared.machine.Turn.{Turn}
+use Rattle.lab_fit.specs.FitText.{FitWorld}
+use Rattle.lab_fit.specs.declared.fit.FitRun.{FitRun}
+
+-- The state that a run has.
+abbrev pub fit_world : FitRun → FitWorld
+fit_world run = record {
+  increment = run.increment;
+  side = run.side;
+  filter = filter_state run.filter;
+  fits = run.connections;
+}
+
+-- The answers grew by this text, and the run is then in this state, or ends.
+abbrev pub TurnsFit : List ℕ → List ℕ → Turn → FitRun → List ℕ × Option FitWorld → Type 0
+TurnsFit old new turn after answer =
+    (here : List ℕ) × (new ≡ old ++ here) × (answer ≡ (here, world_after turn (fit_world after)))

@@ -1,0 +1,14 @@
+//! Why a cell ends a run.
+
+use thiserror::Error;
+
+/// Why a cell ends a run. Printed as its number and its name.
+#[derive(Clone, Copy, Debug, PartialEq, Eq, Error)]
+pub enum FitFault {
+    /// It is of a 65,536th connection.
+    #[error("1 TooManyConnections")]
+    TooManyConnections,
+    /// 64 bits don't hold the number of its connection's cells, or the ticks in the bucket after it.
+    #[error("2 TooLarge")]
+    TooLarge,
+}

@@ -1,0 +1,132 @@
+//! The least limits of the connections of a capture.
+
+ghost use Rattle.std.specs.Prelude.{◌≡◌, ◌++◌, IfOk, IfSome, OnOk};
+ghost use Rattle.lab_captures.specs.CellFilter.{filter_state};
+ghost use Rattle.text_io.specs.Serving.{IsServed};
+ghost use Rattle.upc_cell.specs.Connection.{vc_of};
+ghost use Rattle.lab_fit.specs.Fits.{fits_after};
+ghost use Rattle.lab_fit.specs.FitText.{IsFitText, fit_cell_answer, fit_start};
+ghost use Rattle.lab_fit.specs.inner.FitShown.{TurnsFit, fit_world};
+
+use crate::connections::Connections;
+use crate::fit_lines::{add_fit_fault, add_fit_lines, add_heading};
+use captures::{Fault, Record, Tick};
+use lab_captures::{CellFilter, Filtered, Follower, add_closing, add_several, follow_capture};
+use std::alloc::{AllocError, Global};
+use text_io::{Done, Input, Output, RunFault, Turn};
+use upc_cell::{Cell, Side};
+
+/// A run of `fit`.
+#[derive(Drop)]
+pub(crate) struct FitRun {
+    alloc: Global,
+    /// In ticks.
+    increment: u64,
+    /// The side at which headers are read.
+    side: Side,
+    filter: CellFilter,
+    connections: Connections,
+}
+
+impl FitRun {
+    /// Starts a run. Returns None if an allocation fails.
+    fn new(
+        alloc: Global,
+        increment: u64,
+        tick: Tick,
+        interface: Option<u8>,
+        side: Side,
+    ) -> Option<FitRun>
+        ensures { IfSome result (λ run. fit_world run ≡ fit_start increment tick.nanoseconds interface side) }
+    {
+        let connections = Connections::new(alloc)?;
+        Some(FitRun {
+            alloc,
+            increment,
+            side,
+            filter: CellFilter::new(tick, interface),
+            connections,
+        })
+    }
+
+    /// Answers a cell that counts.
+    fn take_cell(
+        &mut self,
+        moment: u64,
+        cell: &Cell,
+        number: u64,
+        answers: &mut Vec<u8>,
+    ) -> Result<Turn, AllocError>
+        ensures { IfOk result (λ turn. TurnsFit answers.old.items answers.new.items turn self.new
+            (fit_cell_answer (fit_world self.old) (filter_state self.old.filter) number
+            (fits_after self.old.increment self.old.connections (vc_of self.old.side cell.now) moment number))) }
+    {
+        let vc = cell.vc_at(self.side);
+        match self.connections.take(self.increment, vc, moment, number)? {
+            None => Ok(Turn::GoesOn),
+            Some(fault) => {
+                add_fit_fault(answers, fault, number)?;
+                Ok(Turn::Ends)
+            }
+        }
+    }
+}
+
+impl Follower for FitRun {
+    ghost use Rattle.lab_fit.specs.FitText.{FitWorld, fit_rules};
+    ghost use Rattle.lab_fit.specs.inner.FitShown.{fit_world};
+
+    ghost World = { FitWorld };
+
+    ghost world = { fit_world };
+
+    ghost rules = { fit_rules };
+
+    fn follow(&mut self, said: &Record, answers: &mut Vec<u8>) -> Result<Turn, AllocError> {
+        match self.filter.read(said) {
+            Filtered::Counts(moment, cell) => self.take_cell(moment, &cell, said.number, answers),
+            Filtered::Passed => Ok(Turn::GoesOn),
+            Filtered::Several(one, other) => {
+                add_several(answers, one, other)?;
+                Ok(Turn::Ends)
+            }
+        }
+    }
+
+    fn close(&self, ending: Option<Fault>, answers: &mut Vec<u8>) -> Result<(), AllocError> {
+        add_heading(answers)?;
+        add_fit_lines(self.alloc, answers, self.connections.fits())?;
+        let passed = self.filter.passed();
+        add_closing(answers, &passed, ending)
+    }
+}
+
+/// Answers a capture by the least limit of each of its connections, in ticks, under which all its cells conform to one bucket of this increment, in
+/// ticks: what is called the observed cell delay variation. A line for each connection, in order of path and channel, has its path, its
+/// channel, the number of its cells, the limit, and the number of the first record whose cell needs that limit. `upc-lab cells` writes the
+/// same cells at the same moments. Headers are read at this side.
+///
+/// A cell of a 65,536th connection ends the run, and so does one after which 64 bits don't hold the number of its connection's cells or the
+/// ticks in the bucket. If no interface is asked for, a cell of a second interface ends the run. Comments say how many records were passed
+/// over and why. Memory is bounded: at most some 60 MB with 65,535 connections, and less than one MB with a few hundred.
+///
+/// # Errors
+///
+/// `ReadFailed` or `WriteFailed` if that device failed; the run ends at the first failure. `NoMemory` if an
+/// allocation fails. The output is then a prefix of the text.
+pub fn fit_capture<I: Input, O: Output>(
+    alloc: Global,
+    increment: u64,
+    tick: Tick,
+    interface: Option<u8>,
+    side: Side,
+    input: &mut I,
+    output: &mut O,
+) -> Result<Done, RunFault>
+    ensures { IsServed (IsFitText increment tick.nanoseconds interface side) I.Input input.old input.new O.Output output.old output.new result }
+{
+    let Some(mut run) = FitRun::new(alloc, increment, tick, interface, side) else {
+        return Err(RunFault::NoMemory);
+    };
+    follow_capture(alloc, input, output, &mut run)
+}

@@ -1,0 +1,120 @@
+//! Least limits by hand, and the texts of faults.
+
+use crate::*;
+use captures::Tick;
+use std::alloc::Global;
+use std::test::Fail;
+use text_io::{Done, Giving, RunFault, Taking};
+use upc_cell::Side;
+
+/// A record with a cell of path 1 and this channel, received after this many seconds at this interface.
+fn record_of(seconds: u8, channel: u8, interface: u8) -> [u8; 68] {
+    let mut octets = [0; 68];
+    octets[4] = seconds;
+    octets[8] = 3;
+    octets[9] = interface;
+    octets[11] = 68;
+    octets[15] = 52;
+    octets[17] = 0x10;
+    octets[18] = channel / 0x10;
+    octets[19] = channel % 0x10 * 0x10;
+    octets
+}
+
+/// The output of `fit` for a capture of such records, and how the run ends, with a tick of one second.
+fn fitted(
+    alloc: Global,
+    records: &[(u8, u8, u8)],
+    increment: u64,
+    interface: Option<u8>,
+) -> Result<(Vec<u8>, Done), RunFault> {
+    let Some(tick) = Tick::new(1_000_000_000) else {
+        return Err(RunFault::NoMemory);
+    };
+    let mut capture = Vec::new(alloc);
+    for (seconds, channel, from) in records {
+        if capture
+            .extend_from_slice(&record_of(*seconds, *channel, *from))
+            .is_err()
+        {
+            return Err(RunFault::NoMemory);
+        }
+    }
+    let mut source = Taking::new(capture.as_slice());
+    let mut sink = Giving::new(Vec::new(alloc));
+    let done = fit_capture(
+        alloc,
+        increment,
+        tick,
+        interface,
+        Side::Uni,
+        &mut source,
+        &mut sink,
+    )?;
+    Ok((sink.writer, done))
+}
+
+#[test]
+fn least_limits_by_hand(rt: HostRuntime) -> Result<(), Fail> {
+    let cells = [
+        (0, 101, 0),
+        (3, 100, 0),
+        (10, 101, 0),
+        (14, 101, 0),
+        (20, 101, 0),
+        (33, 100, 0),
+        (33, 101, 1),
+        (30, 101, 0),
+    ];
+    for (count, increment, interface, text, done) in [
+        (
+            0,
+            10,
+            None,
+            &b"vpi\tvci\tcells\tlimit\trecord\n"[..],
+            Done::Whole,
+        ),
+        (
+            6,
+            10,
+            None,
+            b"vpi\tvci\tcells\tlimit\trecord\n1\t100\t2\t0\t2\n1\t101\t4\t10\t5\n",
+            Done::Whole,
+        ),
+        (
+            8,
+            4,
+            Some(0),
+            b"vpi\tvci\tcells\tlimit\trecord\n1\t100\t2\t0\t2\n1\t101\t4\t0\t1\n# 1 passed over: a time before that of an earlier cell; first record 8\n# 1 passed over: another interface; first record 7\n",
+            Done::Whole,
+        ),
+        (7, 10, None, b"fault interface 1 Several 0 1\n", Done::Ended),
+        (
+            4,
+            0x8000_0000_0000_0000,
+            None,
+            b"fault fit 2 TooLarge 4\n",
+            Done::Ended,
+        ),
+    ] {
+        match fitted(rt.alloc(), &cells[..count], increment, interface) {
+            Ok((printed, ended)) => {
+                assert_eq!(rt; printed.as_slice(), text);
+                assert_eq!(rt; ended, done);
+            }
+            Err(_) => return Err(Fail::new("no text")),
+        }
+    }
+    Ok(())
+}
+
+#[test]
+fn faults_as_text(rt: HostRuntime) -> Result<(), Fail> {
+    for (fault, text) in [
+        (FitFault::TooManyConnections, "1 TooManyConnections"),
+        (FitFault::TooLarge, "2 TooLarge"),
+    ] {
+        assert_eq!(rt; format!(in rt.alloc(); "{fault}")?.as_str(), text);
+    }
+    Ok(())
+}

@@ -1,0 +1,70 @@
+"""Which cells of a capture count, and at which moments; the comments about the records that were passed over."""
+from collections import namedtuple
+
+from captures.formats import Broken, Refused
+from captures.reading import records_of
+
+# A cell that counts: the number of its record, its moment in ticks, and its octets.
+Counted = namedtuple("Counted", "number moment cell")
+
+# Why records are passed over, in the order of the comments.
+REASONS = {
+    "other type": "another type than ATM",
+    "errored": "received with an error",
+    "cut short": "fewer than 52 octets of a cell",
+    "back": "a time before that of an earlier cell",
+    "other interface": "another interface",
+}
+
+
+class Capture:
+    """The cells of a capture that count, for a tick in nanoseconds and an interface or None."""
+
+    def __init__(self, octets, tick, interface):
+        self.tick = tick
+        self.asked = interface
+        self.passed = {reason: [] for reason in REASONS}
+        self.fault = None
+        # The line about a file that isn't read.
+        self.refused = None
+        # The line about a cell of a second interface, if none was asked for. The reading ends there.
+        self.several = None
+        self.cells = []
+        try:
+            self.read(records_of(octets))
+        except Refused as fault:
+            self.refused = f"fault file {fault}\n"
+        except Broken as fault:
+            self.fault = f"fault capture {fault.why} {fault.place}\n"
+
+    def read(self, records):
+        """Sorts the records into those whose cells count and those that are passed over."""
+        begun, chosen, latest = None, self.asked, 0
+        for record in records:
+            begun = record.time if begun is None else begun
+            latest = max(latest, begun)
+            if record.reason:
+                self.passed[record.reason].append(record.number)
+                continue
+            if chosen is None:
+                chosen = record.interface
+            if record.interface != chosen:
+                if self.asked is None:
+                    self.several = f"fault interface 1 Several {chosen} {record.interface}\n"
+                    return
+                self.passed["other interface"].append(record.number)
+            elif record.time < latest:
+                self.passed["back"].append(record.number)
+            else:
+                latest = record.time
+                moment = (record.time - begun) * 10**9 // (2**32 * self.tick)
+                self.cells.append(Counted(record.number, moment, record.cell))
+
+    def closing(self):
+        """Returns the comments, and the fault if there is one."""
+        lines = [
+            f"# {len(self.passed[reason])} passed over: {why}; first record {self.passed[reason][0]}\n"
+            for reason, why in REASONS.items()
+            if self.passed[reason]
+        ]
+        return "".join(lines) + (self.fault or "")
