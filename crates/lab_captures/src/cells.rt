@@ -1,4 +1,4 @@
-//! The cells of a capture as lines of a script. No subcommand uses this yet.
+//! The cells of a capture as lines of a script: `upc-lab cells`.
 
 ghost use Rattle.std.specs.Prelude.{◌≡◌, ◌++◌, OnOk};
 ghost use Rattle.hex.specs.Hex.{encode_lower};

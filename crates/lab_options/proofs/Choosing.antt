@@ -1,18 +1,14 @@
 -- clap's definitions, computed for the command `upc-lab cells`.
-use Rattle.std.proofs.Common.{◌≡◌, ◌∙◌, ap, ap₂, codes, refl, subst, sym, true, inl, inr, ℕ, List, [], ◌∷◌, Option, Some, None, IfErr, IfOk, IsErrAnd, Ok, Err, option_map, Result}
-use Rattle.clap.specs.Faults.{fault_of, is_simple_and_free}
+use Rattle.std.proofs.Common.{◌≡◌, ◌∙◌, ap, refl, sym, true, inl, inr, ℕ, List, [], ◌∷◌, Option, Some, None, IfErr, IfOk, IsErrAnd, Ok, Err, option_map, Result}
+use Rattle.clap.specs.Faults.{is_simple_and_free}
 use Rattle.clap.specs.Kinds.{FailsBy}
-use Rattle.clap.specs.Matches.{first_value, found_of}
-use Rattle.clap.specs.Simple.{App, HasMatchesOf, is_simple, matches_of}
+use Rattle.clap.specs.Simple.{is_simple}
 use Rattle.clap.specs.Values.{kind_of}
-use Rattle.clap.specs.Walk.{Text, first_of}
+use Rattle.clap.specs.Walk.{Text}
 use Rattle.clap.specs.declared.error.Error.{Error}
-use Rattle.clap.specs.declared.parser.matches.ArgMatches.{ArgMatches}
-use Rattle.clap.proofs.FaultLemmas.{fails_as}
 use Rattle.clap.proofs.OnLiterals.{clap_on_literals}
-use Rattle.clap.proofs.WalkLemmas.{first_value-rows}
 use Rattle.lab_options.specs.CellsOptions.{AsksCells, IsCellsStop, cells_app, written_interface, written_tick}
-use Rattle.lab_options.specs.OptionLines.{kinds_in, line_of, value_in}
+use Rattle.lab_options.specs.OptionLines.{kinds_in}
 use Rattle.lab_options.specs.OptionValues.{interface_of, tick_of}
 use Rattle.lab_options.specs.inner.Answered.{AnswersValues}
 use Rattle.lab_options.specs.declared.cells.CellsOptions.{CellsOptions}
@@ -29,18 +25,6 @@ cells_is_simple = refl
 pub cells_is_free : is_simple_and_free cells_app ≡ true
 unfolding cells_app clap_on_literals
 cells_is_free = refl
-
-pub kinds_at : {T : Type 0} (a : App) (words given : List Text) (r : Result T Error) → a ≡ cells_app → words ≡ line_of cells_app given
-    → (is_simple_and_free a ≡ true → FailsBy (fault_of a words) r) → FailsBy (kinds_in cells_app given) r
-unfolding kinds_in
-kinds_at a words given r is all kinds = fails_as r _ _ (ap₂ fault_of is all) (kinds (ap is_simple_and_free is ∙ cells_is_free))
-
-pub value_at : (a : App) (words given : List Text) (name : Text) (m : ArgMatches) (value : Option Text) → a ≡ cells_app → words ≡ line_of cells_app given
-    → value ≡ first_value (found_of m) name → HasMatchesOf a words m → value ≡ value_in cells_app given name
-unfolding value_in
-value_at a words given name m value is all met matches =
-    met ∙ first_value-rows (found_of m) name
-    ∙ ap (first_of name) ((matches (ap is_simple is ∙ cells_is_simple)).0 ∙ ap₂ matches_of is all)
 
 -- ---- the contract of `cells_options`
 

@@ -2,4 +2,5 @@
 pub mod OptionLines
 pub mod OptionValues
 pub mod CellsOptions
+pub mod FitOptions
 pub mod inner

@@ -1,7 +1,10 @@
 -- What the value of an option spells.
-use Rattle.std.specs.Prelude.{◌==◌, if◌then◌else◌, ℕ, Option, Some, None, option_and_then, option_map}
+use Rattle.std.specs.Prelude.{◌==◌, ◌^◌, if◌then◌else◌, ℕ, Option, Some, None, codes, option_and_then, option_map}
+use Rattle.std.specs.Str.{bytes_eq}
 use Rattle.clap.specs.Walk.{Text}
 use Rattle.lab_sizes.specs.SizeWords.{duration_of}
+use Rattle.upc_cell.specs.declared.side.Side.{Side}
+use Rattle.upc_cell.specs.declared.side.Side.TheVariants.{Uni, Nni}
 use Rattle.upc_script.specs.ScriptWords.{number_up_to}
 
 -- A number above 0.
@@ -16,3 +19,18 @@ tick_of text = option_and_then (λ word. option_and_then positive (duration_of w
 abbrev pub interface_of : Option Text → Option (Option ℕ)
 interface_of None = Some None
 interface_of (Some text) = option_map Some (number_up_to 3 text)
+
+-- An increment that a bucket can have: 1 to 2^48 ticks.
+abbrev pub increment_of : Option Text → Option ℕ
+increment_of text = option_and_then (λ word. option_and_then positive (number_up_to (2 ^ 48) word)) text
+
+-- The side that a word names.
+abbrev pub side_named : Text → Option Side
+side_named word =
+    if bytes_eq word (codes "uni") then Some Uni
+    else if bytes_eq word (codes "nni") then Some Nni
+    else None
+
+-- The side at which headers are read.
+abbrev pub side_of : Option Text → Option Side
+side_of text = option_and_then side_named text

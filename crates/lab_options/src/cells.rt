@@ -52,7 +52,7 @@ pub fn cells_options(alloc: Global, words: Vec<String>) -> Result<CellsOptions, 
     answer_to(alloc, found)
 }
 
-fn tick_option<'a>(alloc: Global) -> Arg<'a>
+pub(crate) fn tick_option<'a>(alloc: Global) -> Arg<'a>
     ensures rule { rule_of result ≡ tick_rule }
     ensures own { result.global ≡ false }
 {
@@ -63,7 +63,7 @@ fn tick_option<'a>(alloc: Global) -> Arg<'a>
         .help("The length of a tick: a number with ns, us, ms or s")
 }
 
-fn interface_option<'a>(alloc: Global) -> Arg<'a>
+pub(crate) fn interface_option<'a>(alloc: Global) -> Arg<'a>
     ensures rule { rule_of result ≡ interface_rule }
     ensures own { result.global ≡ false }
 {

@@ -2,9 +2,11 @@
 #![tactic(auto)]
 
 mod cells;
+mod fit;
 mod line;
 #[cfg(test)]
 mod tests;
 mod values;
 
 pub use cells::{CellsOptions, cells_options};
+pub use fit::{FitOptions, fit_options};

@@ -1,9 +1,10 @@
 //! Tests of the options.
 
-use crate::{CellsOptions, cells_options};
+use crate::{CellsOptions, FitOptions, cells_options, fit_options};
 use captures::Tick;
 use std::alloc::{AllocError, Global};
 use std::test::Fail;
+use upc_cell::Side;
 use upc_choice::Stop;
 
 fn words_of(alloc: Global, line: &str) -> Result<Vec<String>, AllocError> {
@@ -58,6 +59,48 @@ fn help_is_requested(rt: HostRuntime) -> Result<(), Fail> {
     for line in ["--help", "-h", "--tick 1us --help"] {
         let answer = cells_options(rt.alloc(), words_of(rt.alloc(), line)?);
         assert!(rt; matches!(answer, Err(Stop::Help(_))), "{line}");
+    }
+    Ok(())
+}
+
+#[test]
+fn fit_wants_an_increment(rt: HostRuntime) -> Result<(), Fail> {
+    let tick = Tick::new(100).expect(&rt, "a tick");
+    for (line, increment, interface, side) in [
+        ("--increment 1", 1, None, Side::Uni),
+        (
+            "--increment 281474976710656 --side nni",
+            1 << 48,
+            None,
+            Side::Nni,
+        ),
+        (
+            "--side=uni --interface 3 --increment=10",
+            10,
+            Some(3),
+            Side::Uni,
+        ),
+    ] {
+        let options = FitOptions {
+            increment,
+            tick,
+            interface,
+            side,
+        };
+        let answer = fit_options(rt.alloc(), words_of(rt.alloc(), line)?);
+        assert!(rt; matches!(answer, Ok(found) if found == options), "{line}");
+    }
+    for line in [
+        "",
+        "--increment 0",
+        "--increment 281474976710657",
+        "--increment x",
+        "--increment 1 --side both",
+        "--increment 1 --tick 0s",
+        "--increment 1 --interface 4",
+    ] {
+        let answer = fit_options(rt.alloc(), words_of(rt.alloc(), line)?);
+        assert!(rt; matches!(answer, Err(Stop::Words(_))), "{line}");
     }
     Ok(())
 }

@@ -1,12 +1,13 @@
 //! The values of options.
 
 ghost use Rattle.std.specs.Prelude.{◌≡◌, option_map};
-ghost use Rattle.lab_options.specs.OptionValues.{interface_of, tick_of};
+ghost use Rattle.lab_options.specs.OptionValues.{increment_of, interface_of, side_of, tick_of};
 ghost use Rattle.lab_options.specs.inner.Answered.{IsWrongValue};
 
 use captures::Tick;
 use lab_sizes::duration;
 use std::alloc::Global;
+use upc_cell::Side;
 use upc_choice::Stop;
 use upc_script::number;
 
@@ -27,6 +28,27 @@ pub(crate) fn interface_of(text: Option<&str>) -> Option<Option<u8>>
     };
     match number(text.as_bytes()) {
         Some(interface) if interface <= 3 => Some(Some(interface as u8)),
+        _ => None,
+    }
+}
+
+/// Returns the increment that the value of `--increment` spells, in ticks.
+pub(crate) fn increment_of(text: Option<&str>) -> Option<u64>
+    ensures { result ≡ increment_of (option_map (λ text. text.now) text.entry) }
+{
+    match number(text?.as_bytes()) {
+        Some(increment) if 0 < increment && increment <= 1 << 48 => Some(increment),
+        _ => None,
+    }
+}
+
+/// Returns the side that the value of `--side` names.
+pub(crate) fn side_of(text: Option<&str>) -> Option<Side>
+    ensures { result ≡ side_of (option_map (λ text. text.now) text.entry) }
+{
+    match text? {
+        "uni" => Some(Side::Uni),
+        "nni" => Some(Side::Nni),
         _ => None,
     }
 }

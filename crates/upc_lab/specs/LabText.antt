@@ -1,6 +1,7 @@
 -- The output of each subcommand of `upc-lab`.
 use Rattle.std.specs.Prelude.{ℕ, List}
 use Rattle.lab_captures.specs.CellsText.{IsCellsText}
+use Rattle.lab_fit.specs.FitText.{IsFitText}
 use Rattle.lab_faults.specs.Explained.{IsExplainText}
 use Rattle.lab_programs.specs.ListedProgram.{IsListText}
 use Rattle.lab_programs.specs.Trace.{IsTraceText}
@@ -10,7 +11,7 @@ use Rattle.lab_rules.specs.WhyText.{IsWhyText}
 use Rattle.lab_sizes.specs.SizeText.{IsSizesText}
 use Rattle.text_io.specs.declared.ending.Done.{Done}
 use Rattle.upc_lab.specs.declared.choice.Asked.{Asked}
-use Rattle.upc_lab.specs.declared.choice.Asked.TheVariants.{Plain, Cells}
+use Rattle.upc_lab.specs.declared.choice.Asked.TheVariants.{Plain, Cells, Fit}
 use Rattle.upc_lab.specs.declared.choice.Subcommand.{Subcommand}
 use Rattle.upc_lab.specs.declared.choice.Subcommand.TheVariants as lab
 
@@ -28,3 +29,4 @@ IsLabText lab.Explain = IsExplainText
 abbrev pub IsAskedText : Asked → List ℕ → List ℕ → Done → Type 0
 IsAskedText (Plain subcommand) = IsLabText subcommand
 IsAskedText (Cells options) = IsCellsText options.tick.nanoseconds options.interface
+IsAskedText (Fit options) = IsFitText options.increment options.tick.nanoseconds options.interface options.side

@@ -7,11 +7,12 @@ use Rattle.clap.specs.Simple.{App, new_app, on_top}
 use Rattle.clap.specs.Kinds.{Kinds}
 use Rattle.clap.specs.Faults.{fault_of}
 use Rattle.lab_options.specs.CellsOptions.{AsksCells, IsCellsStop}
+use Rattle.lab_options.specs.FitOptions.{AsksFit, IsFitStop, asked_by}
 use Rattle.upc_choice.specs.Choice.{IsEnd, with_name}
 use Rattle.upc_choice.specs.Stopping.{StopsAt}
 use Rattle.upc_choice.specs.declared.choice.Stop.{Stop}
 use Rattle.upc_lab.specs.declared.choice.Asked.{Asked}
-use Rattle.upc_lab.specs.declared.choice.Asked.TheVariants.{Plain, Cells}
+use Rattle.upc_lab.specs.declared.choice.Asked.TheVariants.{Plain, Cells, Fit}
 use Rattle.upc_lab.specs.declared.choice.Subcommand.{Subcommand}
 use Rattle.upc_lab.specs.declared.choice.Subcommand.TheVariants as lab
 
@@ -29,10 +30,10 @@ lab_subcommands =
 abbrev pub lab_alone : App
 lab_alone = on_top (λ top. record top { subcommand_required = true }) (new_app (codes "upc-lab"))
 
--- The command `upc-lab`: its subcommands, and no option except help, which every command has. Words that begin with `cells` are
--- those of a command of its own, so its options are not here.
+-- The command `upc-lab`: its subcommands, and no option except help, which every command has. Words that begin with `cells` or `fit`
+-- are those of a command of its own, so their options are not here.
 unfoldable pub lab_app : App
-lab_app = with_name (fold (λ app row. with_name app row.0) lab_alone lab_subcommands) (codes "cells")
+lab_app = with_name (with_name (fold (λ app row. with_name app row.0) lab_alone lab_subcommands) (codes "cells")) (codes "fit")
 
 -- The command line as clap reads it: the program's name, then the words.
 abbrev pub lab_line : List Text → List Text
@@ -51,17 +52,27 @@ abbrev pub NamesLab : List Text → Subcommand → Type 0
 NamesLab words subcommand =
     (name : Text) × (rest : List Text) × (words ≡ name ∷ rest) × (lab_named name ≡ Some subcommand) × IsEnd rest
 
--- The first word is `cells`.
-abbrev pub begins_cells : List Text → Bool
-begins_cells [] = false
-begins_cells (word ∷ words) = bytes_eq word (codes "cells")
+-- The first word is this one.
+abbrev pub begins_with : Text → List Text → Bool
+begins_with name [] = false
+begins_with name (word ∷ words) = bytes_eq word name
 
--- The words ask for this: after `cells` there are its options, and other words name a subcommand without options.
+-- The first word is `cells`, or it is `fit`. Options follow.
+abbrev pub begins_cells : List Text → Bool
+begins_cells = begins_with (codes "cells")
+
+abbrev pub begins_fit : List Text → Bool
+begins_fit = begins_with (codes "fit")
+
+-- The words ask for this: after `cells` and `fit` there are their options, and other words name a subcommand without options.
 abbrev pub AsksLab : List Text → Asked → Type 0
-AsksLab words (Plain subcommand) = (begins_cells words ≡ false) × NamesLab words subcommand
+AsksLab words (Plain subcommand) = (begins_cells words ≡ false) × (begins_fit words ≡ false) × NamesLab words subcommand
 AsksLab words (Cells options) =
     (begins_cells words ≡ true) × AsksCells (drop 1 words) options.tick.nanoseconds options.interface
+AsksLab words (Fit options) =
+    (begins_cells words ≡ false) × (begins_fit words ≡ true) × AsksFit (drop 1 words) (asked_by options)
 
 -- The Stops that words may give. NoMemory is always allowed.
 abbrev pub IsLabStop : List Text → Stop → Type 0
-IsLabStop words stop = MatchBool (begins_cells words) (IsCellsStop (drop 1 words) stop) (StopsAt (lab_faults_in words) stop)
+IsLabStop words stop = MatchBool (begins_cells words) (IsCellsStop (drop 1 words) stop)
+    (MatchBool (begins_fit words) (IsFitStop (drop 1 words) stop) (StopsAt (lab_faults_in words) stop))

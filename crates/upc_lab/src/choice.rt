@@ -7,14 +7,14 @@ ghost use Rattle.clap.specs.Simple.{app_of};
 ghost use Rattle.clap.specs.Kinds.{FailsBy};
 ghost use Rattle.upc_choice.specs.Choice.{with_name};
 ghost use Rattle.upc_choice.specs.Stopping.{IsStopFor, StopsAt};
-ghost use Rattle.upc_lab.specs.LabWords.{AsksLab, IsLabStop, NamesLab, begins_cells, lab_alone, lab_app, lab_faults_in, lab_line, lab_named};
+ghost use Rattle.upc_lab.specs.LabWords.{AsksLab, IsLabStop, NamesLab, begins_cells, begins_fit, begins_with, lab_alone, lab_app, lab_faults_in, lab_line, lab_named};
 ghost use Rattle.upc_lab.specs.declared.choice.Asked.{Asked as TheAsked};
 ghost use Rattle.upc_lab.specs.inner.FoundName.{lab_name_in};
 ghost use Rattle.upc_lab.specs.inner.RowNamed.{row_named};
 ghost use Rattle.upc_lab.specs.inner.RulesAlone.{rules_app};
 
 use clap::{Command, Error};
-use lab_options::{CellsOptions, cells_options};
+use lab_options::{CellsOptions, FitOptions, cells_options, fit_options};
 use std::alloc::{AllocError, Global};
 use upc_choice::{Stop, stop_for};
 
@@ -44,9 +44,11 @@ pub enum Asked {
     Plain(Subcommand),
     /// Print the cells of a capture as lines of a script.
     Cells(CellsOptions),
+    /// Print the least limit of each connection of a capture.
+    Fit(FitOptions),
 }
 
-/// Reads the words after the program's name: `cells` and its options, or the name of another subcommand. The forms of help that
+/// Reads the words after the program's name: `cells` or `fit` and its options, or the name of another subcommand. The forms of help that
 /// `clap` has request help. Any other word, any further word and no word is an error. As everywhere in `clap`, `--` ends the
 /// options and isn't a word itself, so it may be last.
 pub fn choose(alloc: Global, words: Vec<String>) -> Result<Asked, Stop>
@@ -55,9 +57,14 @@ pub fn choose(alloc: Global, words: Vec<String>) -> Result<Asked, Stop>
     ensures granted { (asked : TheAsked) → AsksLab (map string_bytes words.items) asked
         → IfErr result (λ stop. stop ≡ Stop.NoMemory) }
 {
-    if begins_cells(words.as_slice()) {
+    if begins_with(words.as_slice(), b"cells") {
         match cells_options(alloc, without_first(words)) {
             Ok(options) => Ok(Asked::Cells(options)),
+            Err(stop) => Err(stop),
+        }
+    } else if begins_with(words.as_slice(), b"fit") {
+        match fit_options(alloc, without_first(words)) {
+            Ok(options) => Ok(Asked::Fit(options)),
             Err(stop) => Err(stop),
         }
     } else {
@@ -68,28 +75,30 @@ pub fn choose(alloc: Global, words: Vec<String>) -> Result<Asked, Stop>
     }
 }
 
-/// Returns whether the first word is `cells`.
-fn begins_cells(words: &[String]) -> bool
-    ensures { result ≡ begins_cells (map string_bytes words.now) }
+/// Returns whether the first word is this one.
+fn begins_with(words: &[String], name: &[u8]) -> bool
+    ensures { result ≡ begins_with name.now (map string_bytes words.now) }
 {
     match words {
-        [word, ..] => word.as_bytes() == b"cells".as_slice(),
+        [word, ..] => word.as_bytes() == name,
         [] => false,
     }
 }
 
-/// Removes the first word.
+/// Removes the first word, if there is one.
 fn without_first(mut words: Vec<String>) -> Vec<String>
-    requires { begins_cells (map string_bytes words.items) ≡ true }
     ensures { map string_bytes result.items ≡ drop 1 (map string_bytes words.items) }
 {
-    words.remove(0);
+    if !words.is_empty() {
+        words.remove(0);
+    }
     words
 }
 
-/// Reads words that don't begin with `cells`: the name of a subcommand without options.
+/// Reads words that begin with neither `cells` nor `fit`: the name of a subcommand without options.
 fn choose_plain(alloc: Global, words: Vec<String>) -> Result<Subcommand, Stop>
-    requires { begins_cells (map string_bytes words.items) ≡ false }
+    requires cells { begins_cells (map string_bytes words.items) ≡ false }
+    requires fit { begins_fit (map string_bytes words.items) ≡ false }
     ensures asked { IfOk result (NamesLab (map string_bytes words.items)) }
     ensures stopped { IfErr result (StopsAt (lab_faults_in (map string_bytes words.items))) }
     ensures granted { (subcommand : Subcommand) → NamesLab (map string_bytes words.items) subcommand
@@ -179,12 +188,19 @@ fn with_program_subcommands<'a>(
         "Explain the faults of a script, or after a line `source` that of a source of assembly",
         "Example: upc-lab explain < examples/desk-refusals.run",
     )?;
-    with_subcommand(
+    let command = with_subcommand(
         alloc,
         command,
         "cells",
         "Print the ATM cells of a capture of a link as lines of a script",
         "It has options: `upc-lab cells --help` lists them",
+    )?;
+    with_subcommand(
+        alloc,
+        command,
+        "fit",
+        "Print the least limit under which all cells of each connection of a capture conform",
+        "It has options: `upc-lab fit --help` lists them",
     )
 }
 

@@ -12,6 +12,7 @@ use crate::choice::{Asked, Subcommand};
 use crate::reason::Reasoned;
 use lab_captures::cells_of_capture;
 use lab_faults::{Ahead, explain_faults};
+use lab_fit::fit_capture;
 use lab_programs::{list_program, trace_cells};
 use lab_rules::{assemble_rules, compile_rules, decide_cells};
 use lab_sizes::size_contracts;
@@ -100,6 +101,15 @@ fn run<I: Ahead, O: Output>(
             alloc,
             options.tick,
             options.interface,
+            input,
+            output,
+        ),
+        Asked::Fit(options) => fit_capture(
+            alloc,
+            options.increment,
+            options.tick,
+            options.interface,
+            options.side,
             input,
             output,
         ),

@@ -13,6 +13,7 @@ pub fn awaited(asked: Asked) -> &'static str
     match asked {
         Asked::Plain(subcommand) => notice_of(subcommand),
         Asked::Cells(_) => "upc-lab cells: reading a capture from the terminal, to its end",
+        Asked::Fit(_) => "upc-lab fit: reading a capture from the terminal, to its end",
     }
 }
 

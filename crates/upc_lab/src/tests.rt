@@ -149,6 +149,8 @@ fn a_subcommand_is_chosen_by_its_name_alone(rt: HostRuntime) -> Result<(), Fail>
         ("explain", true),
         ("cells", true),
         ("cells --tick 1us", true),
+        ("fit --increment 7", true),
+        ("fit", false),
         ("", false),
         ("--", false),
         ("rules rules", false),
@@ -156,6 +158,7 @@ fn a_subcommand_is_chosen_by_its_name_alone(rt: HostRuntime) -> Result<(), Fail>
         ("-- cells", false),
         ("cells rules", false),
         ("rules cells", false),
+        ("rules fit", false),
         ("--version", false),
     ] {
         let answer = chosen_by(rt.alloc(), line)?;

@@ -2,7 +2,9 @@
 use Rattle.std.specs.Prelude.{◌≡◌, ◌⊎◌, ⊤, Option, Some, None, Result, Ok, Err}
 use Rattle.clap.specs.Walk.{Text}
 use Rattle.lab_options.specs.OptionValues.{interface_of, tick_of}
+use Rattle.lab_options.specs.FitOptions.{FitAsked, asked_by}
 use Rattle.lab_options.specs.declared.cells.CellsOptions.{CellsOptions}
+use Rattle.lab_options.specs.declared.fit.FitOptions.{FitOptions}
 use Rattle.upc_choice.specs.declared.choice.Stop.{Stop}
 use Rattle.upc_choice.specs.declared.choice.Stop.TheVariants.{Help, Words, NoMemory}
 
@@ -18,3 +20,10 @@ AnswersValues tick interface (Ok options) =
 AnswersValues tick interface (Err (Help text)) = ⊥
 AnswersValues tick interface (Err (Words text)) = (tick_of tick ≡ None) ⊎ (interface_of interface ≡ None)
 AnswersValues tick interface (Err NoMemory) = ⊤
+
+-- The options of `fit` that values spell, or words about a wrong one.
+abbrev pub AnswersFit : Option FitAsked → Result FitOptions Stop → Type 0
+AnswersFit spelled (Ok options) = spelled ≡ Some (asked_by options)
+AnswersFit spelled (Err (Help text)) = ⊥
+AnswersFit spelled (Err (Words text)) = spelled ≡ None
+AnswersFit spelled (Err NoMemory) = ⊤
