@@ -8,7 +8,7 @@ use Rattle.clap.specs.Walk.{Text}
 use Rattle.clap.specs.declared.error.Error.{Error}
 use Rattle.clap.proofs.OnLiterals.{clap_on_literals}
 use Rattle.lab_options.specs.FitOptions.{AsksFit, FitAsked, IsFitStop, asked_by, fit_app, fit_asked, fit_values}
-use Rattle.lab_options.specs.OptionLines.{kinds_in, value_in}
+use Rattle.lab_options.specs.OptionLines.{kinds_in, option_value}
 use Rattle.lab_options.specs.inner.Answered.{AnswersFit}
 use Rattle.lab_options.specs.declared.fit.FitOptions.{FitOptions}
 use Rattle.lab_options.specs.declared.fit.WrittenFit.{WrittenFit}
@@ -69,7 +69,7 @@ answers words (Err error) (Err stop) kinds same values stopped = record {
 }
 
 -- Four values that are those of the words spell what the words ask for.
-pub same_values : (words : List Text) (increment tick interface side : Option Text) → increment ≡ value_in fit_app words (codes "increment")
-    → tick ≡ value_in fit_app words (codes "tick") → interface ≡ value_in fit_app words (codes "interface") → side ≡ value_in fit_app words (codes "side")
+pub same_values : (words : List Text) (increment tick interface side : Option Text) → increment ≡ option_value fit_app words (codes "increment")
+    → tick ≡ option_value fit_app words (codes "tick") → interface ≡ option_value fit_app words (codes "interface") → side ≡ option_value fit_app words (codes "side")
     → fit_values increment tick interface side ≡ fit_asked words
 same_values words increment tick interface side one two three four = rw (one, two, three, four) refl

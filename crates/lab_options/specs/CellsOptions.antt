@@ -2,7 +2,7 @@
 use Rattle.std.specs.Prelude.{◌≡◌, ◌⊎◌, ⊤, ℕ, List, [], ◌∷◌, Option, Some, None, codes}
 use Rattle.clap.specs.Simple.{App, new_app, new_rule, with_rule}
 use Rattle.clap.specs.Walk.{Rule, Text}
-use Rattle.lab_options.specs.OptionLines.{kinds_in, value_in}
+use Rattle.lab_options.specs.OptionLines.{kinds_in, option_value}
 use Rattle.lab_options.specs.OptionValues.{interface_of, tick_of}
 use Rattle.upc_choice.specs.Stopping.{AsksHelp, IsFaulty}
 use Rattle.upc_choice.specs.declared.choice.Stop.{Stop}
@@ -24,12 +24,13 @@ interface_rule = record (new_rule (codes "interface")) { long = Some (codes "int
 unfoldable pub cells_app : App
 cells_app = with_rule (with_rule (new_app (codes "upc-lab cells")) tick_rule) interface_rule
 
--- The values of both options in the words.
+-- The value of `--tick` in the words.
 abbrev pub written_tick : List Text → Option Text
-written_tick words = value_in cells_app words (codes "tick")
+written_tick words = option_value cells_app words (codes "tick")
 
+-- The value of `--interface` in the words, if it is given.
 abbrev pub written_interface : List Text → Option Text
-written_interface words = value_in cells_app words (codes "interface")
+written_interface words = option_value cells_app words (codes "interface")
 
 -- The words have no error for clap, and ask for a tick of this many nanoseconds and for this interface, if any.
 pub record AsksCells (words : List Text) (nanoseconds : ℕ) (asked : Option ℕ) : Type 0 where

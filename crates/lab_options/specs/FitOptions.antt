@@ -3,8 +3,8 @@ use Rattle.std.specs.Prelude.{◌≡◌, ◌⊎◌, ⊤, ℕ, List, [], ◌∷�
 use Rattle.clap.specs.Simple.{App, new_app, new_rule, with_rule}
 use Rattle.clap.specs.Walk.{Rule, Text}
 use Rattle.lab_options.specs.CellsOptions.{interface_rule, tick_rule}
-use Rattle.lab_options.specs.OptionLines.{kinds_in, value_in}
-use Rattle.lab_options.specs.OptionValues.{increment_of, interface_of, side_of, tick_of}
+use Rattle.lab_options.specs.OptionLines.{kinds_in, option_value}
+use Rattle.lab_options.specs.OptionValues.{fit_increment_of, interface_of, fit_side_of, tick_of}
 use Rattle.lab_options.specs.declared.fit.FitOptions.{FitOptions}
 use Rattle.upc_cell.specs.declared.side.Side.{Side}
 use Rattle.upc_choice.specs.Stopping.{AsksHelp, IsFaulty}
@@ -55,12 +55,12 @@ fit_values increment tick interface side =
       nanoseconds = nanoseconds;
       interface = asked;
       side = at;
-    }) (side_of side)) (interface_of interface)) (tick_of tick)) (increment_of increment)
+    }) (fit_side_of side)) (interface_of interface)) (tick_of tick)) (fit_increment_of increment)
 
 -- What the values of the options in the words spell.
 abbrev pub fit_asked : List Text → Option FitAsked
-fit_asked words = fit_values (value_in fit_app words (codes "increment")) (value_in fit_app words (codes "tick"))
-    (value_in fit_app words (codes "interface")) (value_in fit_app words (codes "side"))
+fit_asked words = fit_values (option_value fit_app words (codes "increment")) (option_value fit_app words (codes "tick"))
+    (option_value fit_app words (codes "interface")) (option_value fit_app words (codes "side"))
 
 -- The words have no error for clap, and ask for this.
 pub record AsksFit (words : List Text) (asked : FitAsked) : Type 0 where

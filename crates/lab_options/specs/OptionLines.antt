@@ -6,13 +6,13 @@ use Rattle.clap.specs.Simple.{App, matches_of}
 use Rattle.clap.specs.Walk.{Text, first_of}
 
 -- The command line as clap reads it: the name of the command, then the words.
-abbrev pub line_of : App → List Text → List Text
-line_of app words = app.top.name ∷ words
+abbrev pub option_line : App → List Text → List Text
+option_line app words = app.top.name ∷ words
 
 -- The kinds of error in the words; a request for help is one of them. The list is empty if clap accepts the words.
 unfoldable pub kinds_in : App → List Text → Kinds
-kinds_in app words = fault_of app (line_of app words)
+kinds_in app words = fault_of app (option_line app words)
 
 -- The value of the option with this name in words that clap accepts: the one that is given, or the option's default.
-unfoldable pub value_in : App → List Text → Text → Option Text
-value_in app words name = first_of name (matches_of app (line_of app words))
+unfoldable pub option_value : App → List Text → Text → Option Text
+option_value app words name = first_of name (matches_of app (option_line app words))

@@ -21,8 +21,8 @@ interface_of None = Some None
 interface_of (Some text) = option_map Some (number_up_to 3 text)
 
 -- An increment that a bucket can have: 1 to 2^48 ticks.
-abbrev pub increment_of : Option Text → Option ℕ
-increment_of text = option_and_then (λ word. option_and_then positive (number_up_to (2 ^ 48) word)) text
+abbrev pub fit_increment_of : Option Text → Option ℕ
+fit_increment_of text = option_and_then (λ word. option_and_then positive (number_up_to (2 ^ 48) word)) text
 
 -- The side that a word names.
 abbrev pub side_named : Text → Option Side
@@ -32,5 +32,5 @@ side_named word =
     else None
 
 -- The side at which headers are read.
-abbrev pub side_of : Option Text → Option Side
-side_of text = option_and_then side_named text
+abbrev pub fit_side_of : Option Text → Option Side
+fit_side_of text = option_and_then side_named text

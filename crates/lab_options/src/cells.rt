@@ -7,7 +7,7 @@ ghost use Rattle.clap.specs.Simple.{app_of, new_app};
 ghost use Rattle.clap.specs.Walk.{rule_of};
 ghost use Rattle.clap.specs.Kinds.{FailsBy};
 ghost use Rattle.lab_options.specs.CellsOptions.{AsksCells, IsCellsStop, cells_app, interface_rule, tick_rule};
-ghost use Rattle.lab_options.specs.OptionLines.{kinds_in, line_of, value_in};
+ghost use Rattle.lab_options.specs.OptionLines.{kinds_in, option_line, option_value};
 ghost use Rattle.lab_options.specs.inner.Answered.{AnswersValues};
 ghost use Rattle.upc_choice.specs.Stopping.{IsStopFor};
 
@@ -95,12 +95,12 @@ fn cells_command<'a>(alloc: Global) -> Result<Command<'a>, AllocError>
 /// Returns the values of the options in the words, if `clap` accepts them.
 fn values_in<'a>(command: Command<'a>, words: &'a [String]) -> Result<Written<'a>, Error>
     requires { app_of command ≡ cells_app }
-    ensures kinds { (given : List (List ℕ)) → map string_bytes words.entry.now ≡ line_of cells_app given
+    ensures kinds { (given : List (List ℕ)) → map string_bytes words.entry.now ≡ option_line cells_app given
         → FailsBy (kinds_in cells_app given) result }
-    ensures tick { (given : List (List ℕ)) → map string_bytes words.entry.now ≡ line_of cells_app given
-        → IfOk result (λ written. option_map (λ text. text.now) written.tick ≡ value_in cells_app given (codes "tick")) }
-    ensures interface { (given : List (List ℕ)) → map string_bytes words.entry.now ≡ line_of cells_app given
-        → IfOk result (λ written. option_map (λ text. text.now) written.interface ≡ value_in cells_app given (codes "interface")) }
+    ensures tick { (given : List (List ℕ)) → map string_bytes words.entry.now ≡ option_line cells_app given
+        → IfOk result (λ written. option_map (λ text. text.now) written.tick ≡ option_value cells_app given (codes "tick")) }
+    ensures interface { (given : List (List ℕ)) → map string_bytes words.entry.now ≡ option_line cells_app given
+        → IfOk result (λ written. option_map (λ text. text.now) written.interface ≡ option_value cells_app given (codes "interface")) }
 {
     match command.try_get_matches_from(words) {
         Ok(matches) => Ok(Written {

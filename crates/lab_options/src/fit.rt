@@ -7,13 +7,13 @@ ghost use Rattle.clap.specs.Simple.{app_of, new_app};
 ghost use Rattle.clap.specs.Walk.{rule_of};
 ghost use Rattle.clap.specs.Kinds.{FailsBy};
 ghost use Rattle.lab_options.specs.FitOptions.{AsksFit, FitAsked, IsFitStop, asked_by, fit_app, fit_asked, fit_values, increment_rule, side_rule};
-ghost use Rattle.lab_options.specs.OptionLines.{kinds_in, line_of};
+ghost use Rattle.lab_options.specs.OptionLines.{kinds_in, option_line};
 ghost use Rattle.lab_options.specs.inner.Answered.{AnswersFit};
 ghost use Rattle.upc_choice.specs.Stopping.{IsStopFor};
 
 use crate::cells::{interface_option, tick_option};
 use crate::line::{line_of_words, with_option};
-use crate::values::{increment_of, interface_of, side_of, tick_of, wrong_value};
+use crate::values::{fit_increment_of, fit_side_of, interface_of, tick_of, wrong_value};
 use captures::Tick;
 use clap::{Arg, Command, Error};
 use std::alloc::{AllocError, Global};
@@ -109,9 +109,9 @@ fn fit_command<'a>(alloc: Global) -> Result<Command<'a>, AllocError>
 /// Returns the values of the options in the words, if `clap` accepts them.
 fn values_in<'a>(command: Command<'a>, words: &'a [String]) -> Result<WrittenFit<'a>, Error>
     requires { app_of command ≡ fit_app }
-    ensures kinds { (given : List (List ℕ)) → map string_bytes words.entry.now ≡ line_of fit_app given
+    ensures kinds { (given : List (List ℕ)) → map string_bytes words.entry.now ≡ option_line fit_app given
         → FailsBy (kinds_in fit_app given) result }
-    ensures values { (given : List (List ℕ)) → map string_bytes words.entry.now ≡ line_of fit_app given
+    ensures values { (given : List (List ℕ)) → map string_bytes words.entry.now ≡ option_line fit_app given
         → IfOk result (λ written. fit_values (option_map (λ text. text.now) written.increment) (option_map (λ text. text.now) written.tick)
         (option_map (λ text. text.now) written.interface) (option_map (λ text. text.now) written.side) ≡ fit_asked given) }
 {
@@ -131,7 +131,7 @@ fn read(alloc: Global, written: WrittenFit) -> Result<FitOptions, Stop>
     ensures { AnswersFit (fit_values (option_map (λ text. text.now) written.entry.increment) (option_map (λ text. text.now) written.entry.tick)
         (option_map (λ text. text.now) written.entry.interface) (option_map (λ text. text.now) written.entry.side)) result }
 {
-    let Some(increment) = increment_of(written.increment) else {
+    let Some(increment) = fit_increment_of(written.increment) else {
         return Err(wrong_value(
             alloc,
             "error: the value of '--increment' is a number of ticks from 1 to 281474976710656\n",
@@ -149,7 +149,7 @@ fn read(alloc: Global, written: WrittenFit) -> Result<FitOptions, Stop>
             "error: the value of '--interface' is a number from 0 to 3\n",
         ));
     };
-    let Some(side) = side_of(written.side) else {
+    let Some(side) = fit_side_of(written.side) else {
         return Err(wrong_value(alloc, "error: the value of '--side' is uni or nni\n"));
     };
     Ok(FitOptions {

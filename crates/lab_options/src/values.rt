@@ -1,7 +1,7 @@
 //! The values of options.
 
 ghost use Rattle.std.specs.Prelude.{◌≡◌, option_map};
-ghost use Rattle.lab_options.specs.OptionValues.{increment_of, interface_of, side_of, tick_of};
+ghost use Rattle.lab_options.specs.OptionValues.{fit_increment_of, interface_of, fit_side_of, tick_of};
 ghost use Rattle.lab_options.specs.inner.Answered.{IsWrongValue};
 
 use captures::Tick;
@@ -33,8 +33,8 @@ pub(crate) fn interface_of(text: Option<&str>) -> Option<Option<u8>>
 }
 
 /// Returns the increment that the value of `--increment` spells, in ticks.
-pub(crate) fn increment_of(text: Option<&str>) -> Option<u64>
-    ensures { result ≡ increment_of (option_map (λ text. text.now) text.entry) }
+pub(crate) fn fit_increment_of(text: Option<&str>) -> Option<u64>
+    ensures { result ≡ fit_increment_of (option_map (λ text. text.now) text.entry) }
 {
     match number(text?.as_bytes()) {
         Some(increment) if 0 < increment && increment <= 1 << 48 => Some(increment),
@@ -43,8 +43,8 @@ pub(crate) fn increment_of(text: Option<&str>) -> Option<u64>
 }
 
 /// Returns the side that the value of `--side` names.
-pub(crate) fn side_of(text: Option<&str>) -> Option<Side>
-    ensures { result ≡ side_of (option_map (λ text. text.now) text.entry) }
+pub(crate) fn fit_side_of(text: Option<&str>) -> Option<Side>
+    ensures { result ≡ fit_side_of (option_map (λ text. text.now) text.entry) }
 {
     match text? {
         "uni" => Some(Side::Uni),

@@ -11,7 +11,3 @@ work_text Writing = codes "upc-lab: writing failed"
 -- The message without a reason.
 abbrev pub plain_line : Work → List ℕ
 plain_line work = work_text work ++ codes "\n"
-
--- The message with a reason, in the words of the system.
-abbrev pub reasoned_line : Work → List ℕ → List ℕ
-reasoned_line work reason = work_text work ++ (codes ": " ++ (reason ++ codes "\n"))

@@ -57,10 +57,11 @@ abbrev pub begins_with : Text → List Text → Bool
 begins_with name [] = false
 begins_with name (word ∷ words) = bytes_eq word name
 
--- The first word is `cells`, or it is `fit`. Options follow.
+-- The first word is `cells`.
 abbrev pub begins_cells : List Text → Bool
 begins_cells = begins_with (codes "cells")
 
+-- The first word is `fit`.
 abbrev pub begins_fit : List Text → Bool
 begins_fit = begins_with (codes "fit")
 

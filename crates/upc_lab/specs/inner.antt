@@ -2,3 +2,4 @@
 pub mod FoundName
 pub mod RowNamed
 pub mod RulesAlone
+pub mod ReasonedLine

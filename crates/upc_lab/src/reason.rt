@@ -2,7 +2,8 @@
 
 ghost use Rattle.std.specs.Prelude.{◌≡◌, ◌⊎◌, ◌==◌, ℕ, List, Bool, IfOk, if◌then◌else◌, length, unwrap_or, IsSome, [], None};
 ghost use Rattle.text_io.specs.Devices.{one_more};
-ghost use Rattle.upc_lab.specs.FailureLines.{plain_line, reasoned_line, work_text};
+ghost use Rattle.upc_lab.specs.FailureLines.{plain_line, work_text};
+ghost use Rattle.upc_lab.specs.inner.ReasonedLine.{reasoned_line};
 
 use lab_faults::LookedAt;
 use std::alloc::{AllocError, Global};
