@@ -2,6 +2,7 @@
 #![tactic(auto)]
 
 mod capture;
+mod cell_lines;
 mod cells;
 mod driver;
 mod fault_lines;
@@ -13,6 +14,7 @@ mod run_lines;
 mod window;
 
 pub use capture::follow_capture;
+pub use cell_lines::CellLines;
 pub use cells::cells_of_capture;
 pub use filter::{CellFilter, Filtered};
 pub use follower::Follower;

@@ -1,7 +1,7 @@
 //! Records that were passed over.
 
 ghost use Rattle.std.specs.Prelude.{◌≡◌, ◌++◌, OnOk};
-ghost use Rattle.lab_captures.specs.PassedRecords.{none_passed, passed_lines, one_more_record, tally_line, without_cell as with_one_more};
+ghost use Rattle.lab_captures.specs.PassedRecords.{no_tally, none_passed, passed_lines, one_more_record, tally_line, without_cell as with_one_more};
 
 use captures::NoCell;
 use std::alloc::AllocError;
@@ -17,8 +17,15 @@ pub struct Tally {
 }
 
 impl Tally {
+    /// Returns the tally of no record.
+    pub fn none() -> Tally
+        ensures { result ≡ no_tally }
+    {
+        Tally { count: 0, first: 0 }
+    }
+
     /// Returns the tally with one record more, which has this number.
-    pub(crate) fn with(self, number: u64) -> Tally
+    pub fn with(self, number: u64) -> Tally
         ensures { result ≡ one_more_record self number }
     {
         Tally {
@@ -48,7 +55,7 @@ impl PassedOver {
     pub(crate) fn none() -> PassedOver
         ensures { result ≡ none_passed }
     {
-        let none = Tally { count: 0, first: 0 };
+        let none = Tally::none();
         PassedOver {
             other_type: none,
             errored: none,

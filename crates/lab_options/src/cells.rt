@@ -12,7 +12,7 @@ ghost use Rattle.lab_options.specs.inner.Answered.{AnswersValues};
 ghost use Rattle.upc_choice.specs.Stopping.{IsStopFor};
 
 use crate::line::{line_of_words, with_option};
-use crate::values::{interface_of, tick_of, wrong_value};
+use crate::values::{WRONG_INTERFACE, WRONG_TICK, interface_of, tick_of, wrong_value};
 use captures::Tick;
 use clap::{Arg, Command, Error};
 use std::alloc::{AllocError, Global};
@@ -116,16 +116,10 @@ fn read(alloc: Global, written: Written) -> Result<CellsOptions, Stop>
     ensures { AnswersValues (option_map (λ text. text.now) written.entry.tick) (option_map (λ text. text.now) written.entry.interface) result }
 {
     let Some(tick) = tick_of(written.tick) else {
-        return Err(wrong_value(
-            alloc,
-            "error: the value of '--tick' is a number above 0 with ns, us, ms or s, as 100ns\n",
-        ));
+        return Err(wrong_value(alloc, WRONG_TICK));
     };
     let Some(interface) = interface_of(written.interface) else {
-        return Err(wrong_value(
-            alloc,
-            "error: the value of '--interface' is a number from 0 to 3\n",
-        ));
+        return Err(wrong_value(alloc, WRONG_INTERFACE));
     };
     Ok(CellsOptions { tick, interface })
 }

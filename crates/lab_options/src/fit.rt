@@ -13,7 +13,9 @@ ghost use Rattle.upc_choice.specs.Stopping.{IsStopFor};
 
 use crate::cells::{interface_option, tick_option};
 use crate::line::{line_of_words, with_option};
-use crate::values::{fit_increment_of, fit_side_of, interface_of, tick_of, wrong_value};
+use crate::values::{
+    WRONG_INTERFACE, WRONG_TICK, fit_increment_of, fit_side_of, interface_of, tick_of, wrong_value,
+};
 use captures::Tick;
 use clap::{Arg, Command, Error};
 use std::alloc::{AllocError, Global};
@@ -138,16 +140,10 @@ fn read(alloc: Global, written: WrittenFit) -> Result<FitOptions, Stop>
         ));
     };
     let Some(tick) = tick_of(written.tick) else {
-        return Err(wrong_value(
-            alloc,
-            "error: the value of '--tick' is a number above 0 with ns, us, ms or s, as 100ns\n",
-        ));
+        return Err(wrong_value(alloc, WRONG_TICK));
     };
     let Some(interface) = interface_of(written.interface) else {
-        return Err(wrong_value(
-            alloc,
-            "error: the value of '--interface' is a number from 0 to 3\n",
-        ));
+        return Err(wrong_value(alloc, WRONG_INTERFACE));
     };
     let Some(side) = fit_side_of(written.side) else {
         return Err(wrong_value(alloc, "error: the value of '--side' is uni or nni\n"));

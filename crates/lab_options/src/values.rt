@@ -11,6 +11,14 @@ use upc_cell::Side;
 use upc_choice::Stop;
 use upc_script::number;
 
+/// The message about a wrong value of `--tick`.
+pub(crate) const WRONG_TICK: &str =
+    "error: the value of '--tick' is a number above 0 with ns, us, ms or s, as 100ns\n";
+
+/// The message about a wrong value of `--interface`.
+pub(crate) const WRONG_INTERFACE: &str =
+    "error: the value of '--interface' is a number from 0 to 3\n";
+
 /// Returns the tick that the value of `--tick` spells, if it has one.
 pub(crate) fn tick_of(text: Option<&str>) -> Option<Tick>
     ensures { option_map (λ tick. tick.nanoseconds) result ≡ tick_of (option_map (λ text. text.now) text.entry) }

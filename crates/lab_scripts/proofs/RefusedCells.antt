@@ -77,16 +77,16 @@ module _ (count : ℕ) (packet : List ℕ) where
   first_none false later is = (refl, is)
 
   each_none : (code : List Instr) (place : ℕ) (i : Instr) → names_no_contract code count ≡ true → StandsAt code place i → may_name count i ≡ false
-  each_none [] place i none stands = let no = stands in absurd cc
-  each_none (first ∷ code) zero i none stands =
-      let same : first ≡ i = let e = stands in cc in
+  each_none [] place i none there = let no = there in absurd cc
+  each_none (first ∷ code) zero i none there =
+      let same : first ≡ i = let e = there in cc in
       subst (λ (i : Instr). may_name count i ≡ false) same (first_none (may_name count first) (names_no_contract code count) none).0
-  each_none (first ∷ code) (suc place) i none stands =
-      each_none code place i (first_none (may_name count first) (names_no_contract code count) none).1 stands
+  each_none (first ∷ code) (suc place) i none there =
+      each_none code place i (first_none (may_name count first) (names_no_contract code count) none).1 there
 
   module _ (code : List Instr) (none : names_no_contract code count ≡ true) where
     steps_on : (state next : State) → Step code packet state next → NamesNoneYet next
-    steps_on (At pc a x m) next (i, stands, is) = does i pc a x m next (each_none code pc i none stands) is
+    steps_on (At pc a x m) next (i, there, is) = does i pc a x m next (each_none code pc i none there) is
     steps_on (Ended value) next is = absurd is
 
     value_none : (steps : ℕ) (state : State) (value : ℕ) → NamesNoneYet state → EndsIn code packet state value steps → is_contract_number count value ≡ false

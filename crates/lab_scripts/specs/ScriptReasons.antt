@@ -65,7 +65,8 @@ blamed_place fault.MomentBack said words = 1
 blamed_place fault.MomentTooLate said words = 1
 blamed_place _ said words = 0
 
--- The sentence about a fault of the line's words. A line that is no command has another. What is said of a bucket follows its name.
+-- The sentence about a fault of the line's words. A line that is no command has another. The sentence about a bucket comes after the
+-- bucket's name.
 abbrev pub word_fault_text : ScriptFault → List ℕ
 word_fault_text fault.BadHex = codes "this word is no octets; each octet is two hexadecimal digits"
 word_fault_text fault.WrongLength = codes "a cell has 104 hexadecimal digits, or 8 for a header with a payload of zeros"

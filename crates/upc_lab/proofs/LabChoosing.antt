@@ -163,7 +163,9 @@ taken_at given subcommand h =
 
 pub record LabAnswers (given : List Text) (answer : Result Subcommand Stop) : Type 0 where
   pub asked : IfOk answer (NamesLab given)
+  pub faultless : IfOk answer (λ _. lab_faults_in given ≡ [])
   pub stopped : IfErr answer (StopsAt (lab_faults_in given))
+  pub taken : lab_faults_in given ≡ [] → IfErr answer (λ stop. stop ≡ NoMemory)
   pub granted : (subcommand : Subcommand) → NamesLab given subcommand → IfErr answer (λ stop. stop ≡ NoMemory)
 
 names_it : (given : List Text) (name : Option (Bor Text)) (subcommand : Subcommand) → IsNamed given (option_map (λ text. text.now) name)
@@ -192,7 +194,9 @@ answers given (Ok name) (Ok subcommand) none met named stopped =
     let h = named_at given (option_map (λ text. text.now) name) (subst (λ o. Finds is_named given o) (sym met) (found_in given none)) none in
     record {
       asked = names_it given name subcommand h (if_ok (λ text it. lab_named text.now ≡ Some it) name subcommand named);
+      faultless = none;
       stopped = tt;
+      taken = λ _. tt;
       granted = λ _ _. tt;
     }
 answers given (Ok name) (Err stop) none met named stopped =
@@ -201,7 +205,9 @@ answers given (Ok name) (Err stop) none met named stopped =
 answers given (Err error) (Ok subcommand) kinds met named stopped = absurd stopped
 answers given (Err error) (Err stop) kinds met named stopped = record {
   asked = tt;
+  faultless = tt;
   stopped = stops_at (lab_faults_in given) error stop kinds stopped;
+  taken = memory_alone (lab_faults_in given) error stop kinds stopped;
   granted = λ subcommand asks. memory_alone (lab_faults_in given) error stop kinds stopped (taken_at given subcommand asks);
 }
 

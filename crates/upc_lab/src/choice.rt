@@ -53,7 +53,12 @@ pub enum Asked {
 /// options and isn't a word itself, so it may be last.
 pub fn choose(alloc: Global, words: Vec<String>) -> Result<Asked, Stop>
     ensures asked { IfOk result (AsksLab (map string_bytes words.items)) }
+    // Words that begin with another word than `cells` and `fit` are read without an error if and only if clap finds none in them.
+    ensures faultless { begins_cells (map string_bytes words.items) ≡ false → begins_fit (map string_bytes words.items) ≡ false
+        → IfOk result (λ _. lab_faults_in (map string_bytes words.items) ≡ []) }
     ensures stopped { IfErr result (IsLabStop (map string_bytes words.items)) }
+    ensures taken { begins_cells (map string_bytes words.items) ≡ false → begins_fit (map string_bytes words.items) ≡ false
+        → lab_faults_in (map string_bytes words.items) ≡ [] → IfErr result (λ stop. stop ≡ Stop.NoMemory) }
     ensures granted { (asked : TheAsked) → AsksLab (map string_bytes words.items) asked
         → IfErr result (λ stop. stop ≡ Stop.NoMemory) }
 {
@@ -100,7 +105,10 @@ fn choose_plain(alloc: Global, words: Vec<String>) -> Result<Subcommand, Stop>
     requires cells { begins_cells (map string_bytes words.items) ≡ false }
     requires fit { begins_fit (map string_bytes words.items) ≡ false }
     ensures asked { IfOk result (NamesLab (map string_bytes words.items)) }
+    ensures faultless { IfOk result (λ _. lab_faults_in (map string_bytes words.items) ≡ []) }
     ensures stopped { IfErr result (StopsAt (lab_faults_in (map string_bytes words.items))) }
+    ensures taken { lab_faults_in (map string_bytes words.items) ≡ []
+        → IfErr result (λ stop. stop ≡ Stop.NoMemory) }
     ensures granted { (subcommand : Subcommand) → NamesLab (map string_bytes words.items) subcommand
         → IfErr result (λ stop. stop ≡ Stop.NoMemory) }
 {

@@ -3,6 +3,8 @@ use Rattle.std.proofs.Common.{◌≡◌, ℕ, List}
 use Rattle.text_io.specs.declared.ending.Done.{Done}
 use Rattle.upc_run.specs.RunText.{IsRunText}
 use Rattle.upc_run.proofs.one_script.OneScript as run
+pub use Rattle.upc_run.proofs.ArrivalLemmas.{arrives}
+pub use Rattle.upc_run.specs.inner.RunLaws.{arrived-led, cell-some, cut-led, cut-some, run-total}
 
 -- A script has a text of `run`.
 pub some-run_text : (octets : List ℕ) → (text : List ℕ) × (done : Done) × IsRunText octets text done

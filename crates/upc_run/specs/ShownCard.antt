@@ -19,3 +19,9 @@ abbrev pub ShowsRun : Option Held → RunWorld → Type 0
 ShowsRun None None = Unit {0}
 ShowsRun (Some held) (Some card) = ShowsCard held card
 ShowsRun _ _ = ⊥
+
+-- A core agrees with the world of the card; without a core there is no card yet.
+abbrev pub ShowsCore : Option CoreView → RunWorld → Type 0
+ShowsCore None None = Unit {0}
+ShowsCore (Some core) (Some card) = CoreAgrees core card.world
+ShowsCore _ _ = ⊥

@@ -74,6 +74,14 @@ impl ScriptCard {
         }
     }
 
+    /// Returns the core of the card, without the names of the programs.
+    pub fn into_core(self) -> Core
+        ensures { result ≡ self.core }
+    {
+        let ScriptCard { core, .. } = self;
+        core
+    }
+
     /// Returns the side of the card's cells.
     pub fn side(&self) -> Side
         ensures { result ≡ self.now.core.shape.side }

@@ -46,7 +46,7 @@ use Rattle.upc_codes.specs.Program.{ProgramReading, is_program, is_refused, Read
 use Rattle.upc_script.specs.Rates.{AreContracts, IsContract, IsRate, first_of_two, first_wanted_fault, rate_fault, wanted_fault}
 use Rattle.upc_script.specs.ProgramNames.{program_named}
 use Rattle.upc_card_lines.specs.Replies.{reply_text}
-use Rattle.upc_run.specs.RunText.{AsksConnection, Card, IsAnswered, IsLed, IsSoundRun, LoadsOctets, Obeys, OpensCard, PolicesCell, PolicesOctets, RefusesLine, RunCloses, RunWorld, TakesCommand, TakesNamed, TakesReading, OpensOrObeys, id_loaded, ids_loaded, new_card, run_rules}
+use Rattle.upc_run.specs.RunText.{Arrives, AsksConnection, Card, IsAnswered, IsLed, IsSoundRun, LoadsOctets, Obeys, OpensCard, PolicesCell, PolicesOctets, RefusesLine, RunCloses, RunWorld, TakesCommand, TakesNamed, TakesReading, OpensOrObeys, id_loaded, ids_loaded, new_card, run_rules}
 use Rattle.upc_script.specs.declared.script_words.Rate.{Rate}
 use Rattle.upc_script.specs.declared.script_words.Wanted.{Wanted}
 use Rattle.upc_script.specs.declared.script_words.Wanted.TheVariants as wanted
@@ -202,7 +202,7 @@ load-led before after digits text led None refused = led-refused before after ba
 load-led before after digits text led (Some octets) loads = reading-led before after digits text led loads.0 loads.2
 
 -- The line of a cell has an answer.
-cell-some : (before : Card) (moment : ℕ) (octets : List ℕ) → IsLed before → (text : List ℕ) × (after : Card) × PolicesCell before moment octets text after
+pub cell-some : (before : Card) (moment : ℕ) (octets : List ℕ) → IsLed before → (text : List ℕ) × (after : Card) × PolicesCell before moment octets text after
 cell-some before moment octets led =
     let one = step-replied led.shape led.log before.world led.leads (Enter 0 octets moment) tt in
     let entering = enter-goes before.world one.1 octets moment one.0 led.free one.2 in
@@ -250,12 +250,16 @@ answered-led before after shape log entering octets moment given came had same (
           led-of after shape _ (record { leads = third.leads; known = same ∙ third.known }) free.2
     ]
 
-cell-led : (before after : Card) (moment : ℕ) (octets text : List ℕ) → IsLed before → PolicesCell before moment octets text after → IsLed after
-cell-led before after moment octets text led polices =
-    let arrived = polices.arrived in
+-- The card after a cell that arrived.
+pub arrived-led : (before after : Card) (moment : ℕ) (octets : List ℕ) (given : Answer) → IsLed before
+    → Arrives before.world octets moment given after.world → after.names ≡ before.names → IsLed after
+arrived-led before after moment octets given led arrived same =
     let entering = enter-goes before.world arrived.0 octets moment Entered led.free arrived.1 in
     let came = behind-quiet led.shape led.log before.world arrived.0 before.names (Enter 0 octets moment) Entered (behind-of before led) arrived.1 refl in
-    answered-led before after led.shape _ arrived.0 octets moment polices.answer came entering.1 polices.same arrived.2
+    answered-led before after led.shape _ arrived.0 octets moment given came entering.1 same arrived.2
+
+cell-led : (before after : Card) (moment : ℕ) (octets text : List ℕ) → IsLed before → PolicesCell before moment octets text after → IsLed after
+cell-led before after moment octets text led polices = arrived-led before after moment octets polices.answer led polices.arrived polices.same
 
 -- The line of a word of octets has an answer.
 sized-some : (before : Card) (moment : ℕ) (octets : List ℕ) → IsLed before → (b : Bool)
@@ -299,6 +303,13 @@ wanted-led before after vc number wanted text led None takes =
     (λ id asks. led-taken before after (setup vc number wanted) (Setup asks.ask) text led (setup-ports before.world after.world asks.ask) asks.taken) takes
 wanted-led before after vc number wanted text led (Some fault) refused = led-refused before after _ text led refused
 
+-- A cut has an answer, and leads to a card that a log leads to.
+pub cut-some : (before : Card) (vc : Vc) → IsLed before → (text : List ℕ) × (after : Card) × TakesCommand before (cut vc) (Cut vc) text after
+cut-some before vc led = takes before (cut vc) (Cut vc) led tt (λ after reply. cut-told before.world after vc (length before.names) reply)
+
+pub cut-led : (before after : Card) (vc : Vc) (text : List ℕ) → IsLed before → TakesCommand before (cut vc) (Cut vc) text after → IsLed after
+cut-led before after vc text led = led-taken before after (cut vc) (Cut vc) text led (cut-ports before.world after.world vc)
+
 -- Each command has an answer.
 command-some : (before : Card) → IsLed before → (command : Command) → (text : List ℕ) × (after : Card) × Obeys before command text after
 command-some before led (load digits) = load-some before digits led (octets_of_digits digits)
@@ -311,8 +322,7 @@ command-some before led (reload vc number) =
     (λ id. takes before (reload vc number) (Reload vc id) led tt (λ after reply. reload-told before.world after vc id number (length before.names) reply))
 command-some before led (release vc) =
     takes before (release vc) (Release vc) led tt (λ after reply. release-told before.world after vc (length before.names) reply)
-command-some before led (cut vc) =
-    takes before (cut vc) (Cut vc) led tt (λ after reply. cut-told before.world after vc (length before.names) reply)
+command-some before led (cut vc) = cut-some before vc led
 command-some before led (cell moment digits) = digits-some before moment led (octets_of_digits digits)
 
 command-led : (before after : Card) (text : List ℕ) → IsLed before → (command : Command) → Obeys before command text after → IsLed after
@@ -326,8 +336,7 @@ command-led before after text led (reload vc number) obeys =
     (λ id takes. led-taken before after (reload vc number) (Reload vc id) text led (reload-ports before.world after.world vc id) takes) obeys
 command-led before after text led (release vc) obeys =
     led-taken before after (release vc) (Release vc) text led (release-ports before.world after.world vc) obeys
-command-led before after text led (cut vc) obeys =
-    led-taken before after (cut vc) (Cut vc) text led (cut-ports before.world after.world vc) obeys
+command-led before after text led (cut vc) obeys = cut-led before after vc text led obeys
 command-led before after text led (cell moment digits) obeys = digits-led before after moment text led (octets_of_digits digits) obeys
 
 line-some : (before : Card) → IsLed before → (found : Option Command)

@@ -14,4 +14,10 @@ returns c =
     let found = c.found_in-found in
     let all = answers (map string_bytes c.args.words.items) found.result c.answer_to.result (found.ensures.kinds _ (search rules))
     (found.ensures.name _ (search rules)) c.answer_to.ensures.named c.answer_to.ensures.stopped in
-    record { asked = all.asked; stopped = all.stopped; granted = all.granted }
+    record {
+      asked = all.asked;
+      faultless = all.faultless;
+      stopped = all.stopped;
+      taken = all.taken;
+      granted = all.granted;
+    }
