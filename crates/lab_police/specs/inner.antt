@@ -1,0 +1,5 @@
+-- Definitions that only private functions and proofs use.
+pub mod SetUpCard
+pub mod CardArrival
+pub mod PoliceShown
+pub mod PoliceTotal
