@@ -1,5 +1,5 @@
--- A run that could not begin read and wrote nothing.
-use Rattle.std.proofs.Common.{refl}
+-- A run shows the state at first. One that could not begin read and wrote nothing.
+use Rattle.std.proofs.Common.{refl, sym}
 use Rattle.lab_captures.proofs.Public.{fixed_total, no_front}
 use Rattle.lab_fit.specs.FitText.{fit_closes, fit_rules, fit_start, fit_steps}
 use Rattle.lab_fit.proofs.fit.fit_capture.Goals as goal
@@ -16,3 +16,6 @@ returns-in_default g c =
       reading = refl;
       writing = refl;
     }
+
+pub returns : goal.returns
+returns g c = c.follow_capture.ensures (fit_start c.args.increment c.args.tick.nanoseconds c.args.interface c.args.side) tt (sym c.in-Some.ensures)
