@@ -1,3 +1,4 @@
 pub mod Lines
 pub mod Choosing
 pub mod FitChoosing
+pub mod PoliceChoosing

@@ -3,4 +3,5 @@ pub mod OptionLines
 pub mod OptionValues
 pub mod CellsOptions
 pub mod FitOptions
+pub mod PoliceOptions
 pub mod inner

@@ -1,7 +1,9 @@
 -- What the value of an option spells.
-use Rattle.std.specs.Prelude.{◌==◌, ◌^◌, if◌then◌else◌, ℕ, Option, Some, None, codes, option_and_then, option_map}
+use Rattle.std.specs.Prelude.{◌==◌, ◌^◌, if◌then◌else◌, ℕ, Option, Some, None, codes, length, option_and_then, option_map}
 use Rattle.std.specs.Str.{bytes_eq}
 use Rattle.clap.specs.Walk.{Text}
+use Rattle.lab_captures.specs.declared.cell_lines.CellLines.{CellLines}
+use Rattle.lab_captures.specs.declared.cell_lines.CellLines.TheVariants as lines
 use Rattle.lab_sizes.specs.SizeWords.{duration_of}
 use Rattle.upc_cell.specs.declared.side.Side.{Side}
 use Rattle.upc_cell.specs.declared.side.Side.TheVariants.{Uni, Nni}
@@ -34,3 +36,19 @@ side_named word =
 -- The side at which headers are read.
 abbrev pub fit_side_of : Option Text → Option Side
 fit_side_of text = option_and_then side_named text
+
+-- The name of a file, which isn't empty.
+abbrev pub setup_name_of : Option Text → Option Text
+setup_name_of text = option_and_then (λ name. if length name == 0 then None else Some name) text
+
+-- Which cells a word gives lines.
+abbrev pub cell_lines_named : Text → Option CellLines
+cell_lines_named word =
+    if bytes_eq word (codes "all") then Some lines.All
+    else if bytes_eq word (codes "refused") then Some lines.Refused
+    else if bytes_eq word (codes "none") then Some lines.Nothing
+    else None
+
+-- Which cells have lines.
+abbrev pub cell_lines_of : Option Text → Option CellLines
+cell_lines_of text = option_and_then cell_lines_named text

@@ -4,9 +4,11 @@
 mod cells;
 mod fit;
 mod line;
+mod police;
 #[cfg(test)]
 mod tests;
 mod values;
 
 pub use cells::{CellsOptions, cells_options};
 pub use fit::{FitOptions, fit_options};
+pub use police::{PoliceOptions, police_options};

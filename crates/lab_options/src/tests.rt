@@ -1,7 +1,8 @@
 //! Tests of the options.
 
-use crate::{CellsOptions, FitOptions, cells_options, fit_options};
+use crate::{CellsOptions, FitOptions, cells_options, fit_options, police_options};
 use captures::Tick;
+use lab_captures::CellLines;
 use std::alloc::{AllocError, Global};
 use std::test::Fail;
 use upc_cell::Side;
@@ -100,6 +101,49 @@ fn fit_wants_an_increment(rt: HostRuntime) -> Result<(), Fail> {
         "--increment 1 --interface 4",
     ] {
         let answer = fit_options(rt.alloc(), words_of(rt.alloc(), line)?);
+        assert!(rt; matches!(answer, Err(Stop::Words(_))), "{line}");
+    }
+    Ok(())
+}
+
+#[test]
+fn police_wants_a_file(rt: HostRuntime) -> Result<(), Fail> {
+    for (line, setup, nanoseconds, interface, lines) in [
+        ("a.setup", "a.setup", 100, None, CellLines::All),
+        (
+            "--tick 1us b --lines refused",
+            "b",
+            1000,
+            None,
+            CellLines::Refused,
+        ),
+        (
+            "--lines=none --interface=3 -- --tick",
+            "--tick",
+            100,
+            Some(3),
+            CellLines::Nothing,
+        ),
+        ("--lines all /tmp/c", "/tmp/c", 100, None, CellLines::All),
+    ] {
+        let tick = Tick::new(nanoseconds).expect(&rt, "a tick");
+        let answer = police_options(rt.alloc(), words_of(rt.alloc(), line)?);
+        assert!(rt;
+            matches!(&answer, Ok(found) if found.setup.as_str() == setup
+                && (found.tick, found.interface, found.lines) == (tick, interface, lines)),
+            "{line}"
+        );
+    }
+    for line in [
+        "",
+        "a b",
+        "a --lines passed",
+        "a --lines",
+        "a --tick 0s",
+        "a --interface 4",
+        "--lines none",
+    ] {
+        let answer = police_options(rt.alloc(), words_of(rt.alloc(), line)?);
         assert!(rt; matches!(answer, Err(Stop::Words(_))), "{line}");
     }
     Ok(())

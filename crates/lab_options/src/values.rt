@@ -1,10 +1,11 @@
 //! The values of options.
 
 ghost use Rattle.std.specs.Prelude.{◌≡◌, option_map};
-ghost use Rattle.lab_options.specs.OptionValues.{fit_increment_of, interface_of, fit_side_of, tick_of};
+ghost use Rattle.lab_options.specs.OptionValues.{cell_lines_of, fit_increment_of, fit_side_of, interface_of, setup_name_of, tick_of};
 ghost use Rattle.lab_options.specs.inner.Answered.{IsWrongValue};
 
 use captures::Tick;
+use lab_captures::CellLines;
 use lab_sizes::duration;
 use std::alloc::Global;
 use upc_cell::Side;
@@ -57,6 +58,26 @@ pub(crate) fn fit_side_of(text: Option<&str>) -> Option<Side>
     match text? {
         "uni" => Some(Side::Uni),
         "nni" => Some(Side::Nni),
+        _ => None,
+    }
+}
+
+/// Returns the name of the setup file, unless it is empty.
+pub(crate) fn setup_name_of<'a>(text: Option<&'a str>) -> Option<&'a str>
+    ensures { option_map (λ name. name.now) result ≡ setup_name_of (option_map (λ text. text.now) text.entry) }
+{
+    let name = text?;
+    if name.is_empty() { None } else { Some(name) }
+}
+
+/// Returns which cells the value of `--lines` gives lines.
+pub(crate) fn cell_lines_of(text: Option<&str>) -> Option<CellLines>
+    ensures { result ≡ cell_lines_of (option_map (λ text. text.now) text.entry) }
+{
+    match text? {
+        "all" => Some(CellLines::All),
+        "refused" => Some(CellLines::Refused),
+        "none" => Some(CellLines::Nothing),
         _ => None,
     }
 }

@@ -22,15 +22,16 @@ use Rattle.clap.proofs.SimpleLemmas.{is_nil}
 use Rattle.clap.proofs.WalkLemmas.{both}
 use Rattle.lab_options.specs.CellsOptions.{AsksCells}
 use Rattle.lab_options.specs.FitOptions.{AsksFit, FitAsked, asked_by}
+use Rattle.lab_options.specs.PoliceOptions.{AsksPolice, PoliceAsked, police_asked_by}
 use Rattle.upc_choice.specs.Choice.{IsEnd, with_name}
 use Rattle.upc_choice.specs.Stopping.{IsStopFor, StopsAt}
 use Rattle.upc_choice.specs.declared.choice.Stop.{Stop}
 use Rattle.upc_choice.specs.declared.choice.Stop.TheVariants.{NoMemory}
 use Rattle.upc_choice.proofs.Public.{Finds, find_both, finds, has_requests_alone, is_plain_subcommand, memory_alone, stops_at}
-use Rattle.upc_lab.specs.LabWords.{AsksLab, NamesLab, begins_cells, begins_fit, lab_app, lab_faults_in, lab_line, lab_named, lab_subcommands}
+use Rattle.upc_lab.specs.LabWords.{AsksLab, NamesLab, begins_cells, begins_fit, begins_police, lab_app, lab_faults_in, lab_line, lab_named, lab_subcommands}
 use Rattle.upc_lab.specs.inner.FoundName.{lab_name_in}
 use Rattle.upc_lab.specs.declared.choice.Asked.{Asked}
-use Rattle.upc_lab.specs.declared.choice.Asked.TheVariants.{Plain, Cells, Fit}
+use Rattle.upc_lab.specs.declared.choice.Asked.TheVariants.{Plain, Cells, Fit, Police}
 use Rattle.upc_lab.specs.declared.choice.Subcommand.{Subcommand}
 
 pub lab_is_simple : is_simple lab_app ≡ true
@@ -60,9 +61,10 @@ name_at a words given m name is all met matches =
 
 -- ---- words without an error
 
--- A name in the table, or `cells` or `fit`, whose options other commands read.
+-- A name in the table, or `cells`, `fit` or `police`, whose options other commands read.
 abbrev is_named : Text → Bool
-is_named name = is_some (lab_named name) || (bytes_eq name (codes "cells") || bytes_eq name (codes "fit"))
+is_named name =
+    is_some (lab_named name) || (bytes_eq name (codes "cells") || (bytes_eq name (codes "fit") || bytes_eq name (codes "police")))
 
 lab_is_plain : list_all (is_plain_subcommand is_named) (built lab_app).subs ≡ true
 unfolding lab_app with_name clap_on_literals
@@ -109,18 +111,19 @@ named_at : (given : List Text) (found : Option Text) → Finds is_named given fo
 named_at given found (inl h) none = absurd (end_refused given h.0 none)
 named_at given found (inr h) none = h
 
--- Words that begin with neither `cells` nor `fit` have a name in the table.
-is_other : (known cells fit : Bool) → known || (cells || fit) ≡ true → cells ≡ false → fit ≡ false → known ≡ true
-is_other true cells fit h one two = refl
-is_other false true fit h one two = cc
-is_other false false true h one two = cc
-is_other false false false h one two = h
+-- Words that begin with none of `cells`, `fit` and `police` have a name in the table.
+is_other : (known cells fit police : Bool) → known || (cells || (fit || police)) ≡ true → cells ≡ false → fit ≡ false → police ≡ false → known ≡ true
+is_other true cells fit police h one two three = refl
+is_other false true fit police h one two three = cc
+is_other false false true police h one two three = cc
+is_other false false false true h one two three = cc
+is_other false false false false h one two three = h
 
 in_table : (given : List Text) (found : Option Text) (h : IsNamed given found) → begins_cells given ≡ false → begins_fit given ≡ false
-    → is_some (lab_named h.0) ≡ true
-in_table given found h one two =
-    is_other (is_some (lab_named h.0)) (bytes_eq h.0 (codes "cells")) (bytes_eq h.0 (codes "fit")) h.4
-    (sym (ap begins_cells h.2) ∙ one) (sym (ap begins_fit h.2) ∙ two)
+    → begins_police given ≡ false → is_some (lab_named h.0) ≡ true
+in_table given found h one two three =
+    is_other (is_some (lab_named h.0)) (bytes_eq h.0 (codes "cells")) (bytes_eq h.0 (codes "fit")) (bytes_eq h.0 (codes "police")) h.4
+    (sym (ap begins_cells h.2) ∙ one) (sym (ap begins_fit h.2) ∙ two) (sym (ap begins_police h.2) ∙ three)
 
 some_named : (name : Option (Bor Text)) (text : Text) → option_map (λ text. text.now) name ≡ Some text → is_some (lab_named text) ≡ true
     → IsSomeAnd name (λ text. IsSome (lab_named text.now))
@@ -128,13 +131,13 @@ some_named None text same h = cc
 some_named (Some found) text same h = let is : found.now ≡ text = cc in subst (λ name. is_some (lab_named name) ≡ true) (sym is) h
 
 pub named_in : (given : List Text) (found : Result (Option (Bor Text)) Error) → begins_cells given ≡ false → begins_fit given ≡ false
-    → FailsBy (lab_faults_in given) found
+    → begins_police given ≡ false → FailsBy (lab_faults_in given) found
     → IfOk found (λ name. option_map (λ text. text.now) name ≡ lab_name_in given)
     → IfOk found (λ name. IsSomeAnd name (λ text. IsSome (lab_named text.now)))
-named_in given (Ok name) one two none met =
+named_in given (Ok name) one two three none met =
     let h = named_at given (lab_name_in given) (found_in given none) none in
-    some_named name h.0 (met ∙ h.3) (in_table given (lab_name_in given) h one two)
-named_in given (Err error) one two kinds met = tt
+    some_named name h.0 (met ∙ h.3) (in_table given (lab_name_in given) h one two three)
+named_in given (Err error) one two three kinds met = tt
 
 abbrev is_taken : Text → Bool
 is_taken name = is_empty (lab_faults_in (name ∷ [])) && is_empty (lab_faults_in (name ∷ codes "--" ∷ []))
@@ -213,20 +216,22 @@ answers given (Err error) (Err stop) kinds met named stopped = record {
 
 -- ---- the contract of `choose`
 
--- What words that begin with neither `cells` nor `fit` ask for is a subcommand without options.
-pub granted_plain : (words : List Text) (stop : Stop) (asked : Asked) → begins_cells words ≡ false → begins_fit words ≡ false
+-- What words that begin with none of `cells`, `fit` and `police` ask for is a subcommand without options.
+pub granted_plain : (words : List Text) (stop : Stop) (asked : Asked) → begins_cells words ≡ false → begins_fit words ≡ false → begins_police words ≡ false
     → ((subcommand : Subcommand) → NamesLab words subcommand → stop ≡ NoMemory) → AsksLab words asked → stop ≡ NoMemory
-granted_plain words stop (Plain subcommand) one two granted h = granted subcommand h.2
-granted_plain words stop (Cells options) one two granted h = let bad : true ≡ false = sym h.0 ∙ one in cc
-granted_plain words stop (Fit options) one two granted h = let bad : true ≡ false = sym h.1 ∙ two in cc
+granted_plain words stop (Plain subcommand) one two three granted h = granted subcommand h.3
+granted_plain words stop (Cells options) one two three granted h = let bad : true ≡ false = sym h.0 ∙ one in cc
+granted_plain words stop (Fit options) one two three granted h = let bad : true ≡ false = sym h.1 ∙ two in cc
+granted_plain words stop (Police options) one two three granted h = let bad : true ≡ false = sym h.2 ∙ three in cc
 
--- What words that begin with `cells` ask for is in their options, and so it is with `fit`.
+-- What words that begin with `cells` ask for is in their options, and so it is with `fit` and `police`.
 pub granted_cells : (words after : List Text) (stop : Stop) (asked : Asked) → begins_cells words ≡ true → after ≡ drop 1 words
     → ((nanoseconds : ℕ) (interface : Option ℕ) → AsksCells after nanoseconds interface → stop ≡ NoMemory) → AsksLab words asked → stop ≡ NoMemory
 granted_cells words after stop (Plain subcommand) one same granted h = let bad : true ≡ false = sym one ∙ h.0 in cc
 granted_cells words after stop (Cells options) one same granted h =
     granted options.tick.nanoseconds options.interface (subst (λ it. AsksCells it options.tick.nanoseconds options.interface) (sym same) h.1)
 granted_cells words after stop (Fit options) one same granted h = let bad : true ≡ false = sym one ∙ h.0 in cc
+granted_cells words after stop (Police options) one same granted h = let bad : true ≡ false = sym one ∙ h.0 in cc
 
 pub granted_fit : (words after : List Text) (stop : Stop) (asked : Asked) → begins_cells words ≡ false → begins_fit words ≡ true → after ≡ drop 1 words
     → ((asked : FitAsked) → AsksFit after asked → stop ≡ NoMemory) → AsksLab words asked → stop ≡ NoMemory
@@ -234,3 +239,13 @@ granted_fit words after stop (Plain subcommand) one two same granted h = let bad
 granted_fit words after stop (Cells options) one two same granted h = let bad : true ≡ false = sym h.0 ∙ one in cc
 granted_fit words after stop (Fit options) one two same granted h =
     granted (asked_by options) (subst (λ it. AsksFit it (asked_by options)) (sym same) h.2)
+granted_fit words after stop (Police options) one two same granted h = let bad : true ≡ false = sym two ∙ h.1 in cc
+
+pub granted_police : (words after : List Text) (stop : Stop) (asked : Asked) → begins_cells words ≡ false → begins_fit words ≡ false → begins_police words ≡ true
+    → after ≡ drop 1 words
+    → ((asked : PoliceAsked) → AsksPolice after asked → stop ≡ NoMemory) → AsksLab words asked → stop ≡ NoMemory
+granted_police words after stop (Plain subcommand) one two three same granted h = let bad : true ≡ false = sym three ∙ h.2 in cc
+granted_police words after stop (Cells options) one two three same granted h = let bad : true ≡ false = sym h.0 ∙ one in cc
+granted_police words after stop (Fit options) one two three same granted h = let bad : true ≡ false = sym h.1 ∙ two in cc
+granted_police words after stop (Police options) one two three same granted h =
+    granted (police_asked_by options) (subst (λ it. AsksPolice it (police_asked_by options)) (sym same) h.3)

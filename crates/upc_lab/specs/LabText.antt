@@ -3,6 +3,7 @@ use Rattle.std.specs.Prelude.{ℕ, List}
 use Rattle.lab_captures.specs.CellsText.{IsCellsText}
 use Rattle.lab_fit.specs.FitText.{IsFitText}
 use Rattle.lab_faults.specs.Explained.{IsExplainText}
+use Rattle.lab_police.specs.PoliceText.{IsPoliceText}
 use Rattle.lab_programs.specs.ListedProgram.{IsListText}
 use Rattle.lab_programs.specs.Trace.{IsTraceText}
 use Rattle.lab_rules.specs.AsmText.{MayBeAsmText}
@@ -11,7 +12,7 @@ use Rattle.lab_rules.specs.WhyText.{IsWhyText}
 use Rattle.lab_sizes.specs.SizeText.{IsSizesText}
 use Rattle.text_io.specs.declared.ending.Done.{Done}
 use Rattle.upc_lab.specs.declared.choice.Asked.{Asked}
-use Rattle.upc_lab.specs.declared.choice.Asked.TheVariants.{Plain, Cells, Fit}
+use Rattle.upc_lab.specs.declared.choice.Asked.TheVariants.{Plain, Cells, Fit, Police}
 use Rattle.upc_lab.specs.declared.choice.Subcommand.{Subcommand}
 use Rattle.upc_lab.specs.declared.choice.Subcommand.TheVariants as lab
 
@@ -25,8 +26,9 @@ IsLabText lab.Trace = IsTraceText
 IsLabText lab.Size = IsSizesText
 IsLabText lab.Explain = IsExplainText
 
--- The output for a whole input, and how the run ends.
-abbrev pub IsAskedText : Asked → List ℕ → List ℕ → Done → Type 0
-IsAskedText (Plain subcommand) = IsLabText subcommand
-IsAskedText (Cells options) = IsCellsText options.tick.nanoseconds options.interface
-IsAskedText (Fit options) = IsFitText options.increment options.tick.nanoseconds options.interface options.side
+-- The output for the octets of the file that the words name and for a whole input, and how the run ends. Only `police` has a file.
+abbrev pub IsAskedText : List ℕ → Asked → List ℕ → List ℕ → Done → Type 0
+IsAskedText setup (Plain subcommand) = IsLabText subcommand
+IsAskedText setup (Cells options) = IsCellsText options.tick.nanoseconds options.interface
+IsAskedText setup (Police options) = IsPoliceText options.lines options.tick.nanoseconds options.interface setup
+IsAskedText setup (Fit options) = IsFitText options.increment options.tick.nanoseconds options.interface options.side

@@ -8,11 +8,12 @@ use Rattle.clap.specs.Kinds.{Kinds}
 use Rattle.clap.specs.Faults.{fault_of}
 use Rattle.lab_options.specs.CellsOptions.{AsksCells, IsCellsStop}
 use Rattle.lab_options.specs.FitOptions.{AsksFit, IsFitStop, asked_by}
+use Rattle.lab_options.specs.PoliceOptions.{AsksPolice, IsPoliceStop, police_asked_by}
 use Rattle.upc_choice.specs.Choice.{IsEnd, with_name}
 use Rattle.upc_choice.specs.Stopping.{StopsAt}
 use Rattle.upc_choice.specs.declared.choice.Stop.{Stop}
 use Rattle.upc_lab.specs.declared.choice.Asked.{Asked}
-use Rattle.upc_lab.specs.declared.choice.Asked.TheVariants.{Plain, Cells, Fit}
+use Rattle.upc_lab.specs.declared.choice.Asked.TheVariants.{Plain, Cells, Fit, Police}
 use Rattle.upc_lab.specs.declared.choice.Subcommand.{Subcommand}
 use Rattle.upc_lab.specs.declared.choice.Subcommand.TheVariants as lab
 
@@ -30,10 +31,12 @@ lab_subcommands =
 abbrev pub lab_alone : App
 lab_alone = on_top (λ top. record top { subcommand_required = true }) (new_app (codes "upc-lab"))
 
--- The command `upc-lab`: its subcommands, and no option except help, which every command has. Words that begin with `cells` or `fit`
--- are those of a command of its own, so their options are not here.
+-- The command `upc-lab`: its subcommands, and no option except help, which every command has. Words that begin with `cells`,
+-- `fit` or `police` are those of a command of its own, so their options are not here.
 unfoldable pub lab_app : App
-lab_app = with_name (with_name (fold (λ app row. with_name app row.0) lab_alone lab_subcommands) (codes "cells")) (codes "fit")
+lab_app =
+    with_name (with_name (with_name (fold (λ app row. with_name app row.0) lab_alone lab_subcommands) (codes "cells")) (codes "fit"))
+    (codes "police")
 
 -- The command line as clap reads it: the program's name, then the words.
 abbrev pub lab_line : List Text → List Text
@@ -65,15 +68,24 @@ begins_cells = begins_with (codes "cells")
 abbrev pub begins_fit : List Text → Bool
 begins_fit = begins_with (codes "fit")
 
--- The words ask for this: after `cells` and `fit` there are their options, and other words name a subcommand without options.
+-- The first word is `police`.
+abbrev pub begins_police : List Text → Bool
+begins_police = begins_with (codes "police")
+
+-- The words ask for this: after `cells`, `fit` and `police` there are their options, and other words name a subcommand without options.
 abbrev pub AsksLab : List Text → Asked → Type 0
-AsksLab words (Plain subcommand) = (begins_cells words ≡ false) × (begins_fit words ≡ false) × NamesLab words subcommand
+AsksLab words (Plain subcommand) =
+    (begins_cells words ≡ false) × (begins_fit words ≡ false) × (begins_police words ≡ false) × NamesLab words subcommand
 AsksLab words (Cells options) =
     (begins_cells words ≡ true) × AsksCells (drop 1 words) options.tick.nanoseconds options.interface
 AsksLab words (Fit options) =
     (begins_cells words ≡ false) × (begins_fit words ≡ true) × AsksFit (drop 1 words) (asked_by options)
+AsksLab words (Police options) =
+    (begins_cells words ≡ false) × (begins_fit words ≡ false) × (begins_police words ≡ true)
+    × AsksPolice (drop 1 words) (police_asked_by options)
 
 -- The Stops that words may give. NoMemory is always allowed.
 abbrev pub IsLabStop : List Text → Stop → Type 0
 IsLabStop words stop = MatchBool (begins_cells words) (IsCellsStop (drop 1 words) stop)
-    (MatchBool (begins_fit words) (IsFitStop (drop 1 words) stop) (StopsAt (lab_faults_in words) stop))
+    (MatchBool (begins_fit words) (IsFitStop (drop 1 words) stop)
+    (MatchBool (begins_police words) (IsPoliceStop (drop 1 words) stop) (StopsAt (lab_faults_in words) stop)))

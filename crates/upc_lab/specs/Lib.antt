@@ -3,4 +3,5 @@ pub mod LabWords
 pub mod LabText
 pub mod LabMessages
 pub mod FailureLines
+pub mod SetupFile
 pub mod inner

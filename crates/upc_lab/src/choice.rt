@@ -7,14 +7,16 @@ ghost use Rattle.clap.specs.Simple.{app_of};
 ghost use Rattle.clap.specs.Kinds.{FailsBy};
 ghost use Rattle.upc_choice.specs.Choice.{with_name};
 ghost use Rattle.upc_choice.specs.Stopping.{IsStopFor, StopsAt};
-ghost use Rattle.upc_lab.specs.LabWords.{AsksLab, IsLabStop, NamesLab, begins_cells, begins_fit, begins_with, lab_alone, lab_app, lab_faults_in, lab_line, lab_named};
+ghost use Rattle.upc_lab.specs.LabWords.{AsksLab, IsLabStop, NamesLab, begins_cells, begins_fit, begins_police, begins_with, lab_alone, lab_app, lab_faults_in, lab_line, lab_named};
 ghost use Rattle.upc_lab.specs.declared.choice.Asked.{Asked as TheAsked};
 ghost use Rattle.upc_lab.specs.inner.FoundName.{lab_name_in};
 ghost use Rattle.upc_lab.specs.inner.RowNamed.{row_named};
 ghost use Rattle.upc_lab.specs.inner.RulesAlone.{rules_app};
 
 use clap::{Command, Error};
-use lab_options::{CellsOptions, FitOptions, cells_options, fit_options};
+use lab_options::{
+    CellsOptions, FitOptions, PoliceOptions, cells_options, fit_options, police_options,
+};
 use std::alloc::{AllocError, Global};
 use upc_choice::{Stop, stop_for};
 
@@ -38,7 +40,7 @@ pub enum Subcommand {
 }
 
 /// What the program should do.
-#[derive(Clone, Copy, Debug, PartialEq, Eq)]
+#[derive(Debug, PartialEq, Eq, Drop)]
 pub enum Asked {
     /// Run a subcommand without options.
     Plain(Subcommand),
@@ -46,19 +48,21 @@ pub enum Asked {
     Cells(CellsOptions),
     /// Print the least limit of each connection of a capture.
     Fit(FitOptions),
+    /// Print the verdicts on the cells of a capture.
+    Police(PoliceOptions),
 }
 
-/// Reads the words after the program's name: `cells` or `fit` and its options, or the name of another subcommand. The forms of help that
-/// `clap` has request help. Any other word, any further word and no word is an error. As everywhere in `clap`, `--` ends the
+/// Reads the words after the program's name: `cells`, `fit` or `police` and its options, or the name of another subcommand. The forms of
+/// help that `clap` has request help. Any other word, any further word and no word is an error. As everywhere in `clap`, `--` ends the
 /// options and isn't a word itself, so it may be last.
 pub fn choose(alloc: Global, words: Vec<String>) -> Result<Asked, Stop>
     ensures asked { IfOk result (AsksLab (map string_bytes words.items)) }
-    // Words that begin with another word than `cells` and `fit` are read without an error if and only if clap finds none in them.
+    // Words that begin with another word than `cells`, `fit` and `police` are read without an error if and only if clap finds none in them.
     ensures faultless { begins_cells (map string_bytes words.items) ≡ false → begins_fit (map string_bytes words.items) ≡ false
-        → IfOk result (λ _. lab_faults_in (map string_bytes words.items) ≡ []) }
+        → begins_police (map string_bytes words.items) ≡ false → IfOk result (λ _. lab_faults_in (map string_bytes words.items) ≡ []) }
     ensures stopped { IfErr result (IsLabStop (map string_bytes words.items)) }
     ensures taken { begins_cells (map string_bytes words.items) ≡ false → begins_fit (map string_bytes words.items) ≡ false
-        → lab_faults_in (map string_bytes words.items) ≡ [] → IfErr result (λ stop. stop ≡ Stop.NoMemory) }
+        → begins_police (map string_bytes words.items) ≡ false → lab_faults_in (map string_bytes words.items) ≡ [] → IfErr result (λ stop. stop ≡ Stop.NoMemory) }
     ensures granted { (asked : TheAsked) → AsksLab (map string_bytes words.items) asked
         → IfErr result (λ stop. stop ≡ Stop.NoMemory) }
 {
@@ -70,6 +74,11 @@ pub fn choose(alloc: Global, words: Vec<String>) -> Result<Asked, Stop>
     } else if begins_with(words.as_slice(), b"fit") {
         match fit_options(alloc, without_first(words)) {
             Ok(options) => Ok(Asked::Fit(options)),
+            Err(stop) => Err(stop),
+        }
+    } else if begins_with(words.as_slice(), b"police") {
+        match police_options(alloc, without_first(words)) {
+            Ok(options) => Ok(Asked::Police(options)),
             Err(stop) => Err(stop),
         }
     } else {
@@ -100,10 +109,11 @@ fn without_first(mut words: Vec<String>) -> Vec<String>
     words
 }
 
-/// Reads words that begin with neither `cells` nor `fit`: the name of a subcommand without options.
+/// Reads words that begin with none of `cells`, `fit` and `police`: the name of a subcommand without options.
 fn choose_plain(alloc: Global, words: Vec<String>) -> Result<Subcommand, Stop>
     requires cells { begins_cells (map string_bytes words.items) ≡ false }
     requires fit { begins_fit (map string_bytes words.items) ≡ false }
+    requires police { begins_police (map string_bytes words.items) ≡ false }
     ensures asked { IfOk result (NamesLab (map string_bytes words.items)) }
     ensures faultless { IfOk result (λ _. lab_faults_in (map string_bytes words.items) ≡ []) }
     ensures stopped { IfErr result (StopsAt (lab_faults_in (map string_bytes words.items))) }
@@ -203,12 +213,19 @@ fn with_program_subcommands<'a>(
         "Print the ATM cells of a capture of a link as lines of a script",
         "It has options: `upc-lab cells --help` lists them",
     )?;
-    with_subcommand(
+    let command = with_subcommand(
         alloc,
         command,
         "fit",
         "Print the least limit under which all cells of each connection of a capture conform",
         "It has options: `upc-lab fit --help` lists them",
+    )?;
+    with_subcommand(
+        alloc,
+        command,
+        "police",
+        "Police the ATM cells of a capture by the contracts of a setup script",
+        "It has options: `upc-lab police --help` lists them",
     )
 }
 

@@ -7,12 +7,15 @@ ghost use Rattle.upc_exit.specs.Invocation.{CarriesOut, IsStatusFor};
 ghost use Rattle.upc_exit.specs.Messages.{Reports};
 ghost use Rattle.upc_lab.specs.LabMessages.{lab_failure_line, shell_status_of};
 ghost use Rattle.upc_lab.specs.LabText.{IsAskedText, IsLabText};
+ghost use Rattle.upc_lab.specs.SetupFile.{CarriesAllOut, IsStatusIn};
 
 use crate::choice::{Asked, Subcommand};
 use crate::reason::Reasoned;
+use crate::setup_file::Unreadable;
 use lab_captures::cells_of_capture;
 use lab_faults::{Ahead, explain_faults};
 use lab_fit::fit_capture;
+use lab_police::police_capture;
 use lab_programs::{list_program, trace_cells};
 use lab_rules::{assemble_rules, compile_rules, decide_cells};
 use lab_sizes::size_contracts;
@@ -86,17 +89,18 @@ fn run_plain<I: Ahead, O: Output>(
     }
 }
 
-/// Runs what was asked for over the whole input.
+/// Runs what was asked for over the whole input, with the octets of the file that the words name.
 fn run<I: Ahead, O: Output>(
     alloc: Global,
-    asked: Asked,
+    asked: &Asked,
+    setup: &[u8],
     input: &mut I,
     output: &mut O,
 ) -> Result<Done, RunFault>
-    ensures { IsServed (IsAskedText asked) I.Input input.old input.new O.Output output.old output.new result }
+    ensures { IsServed (IsAskedText setup.now asked.now) I.Input input.old input.new O.Output output.old output.new result }
 {
     match asked {
-        Asked::Plain(subcommand) => run_plain(alloc, subcommand, input, output),
+        Asked::Plain(subcommand) => run_plain(alloc, *subcommand, input, output),
         Asked::Cells(options) => cells_of_capture(
             alloc,
             options.tick,
@@ -113,26 +117,36 @@ fn run<I: Ahead, O: Output>(
             input,
             output,
         ),
+        Asked::Police(options) => police_capture(
+            alloc,
+            setup,
+            options.lines,
+            options.tick,
+            options.interface,
+            input,
+            output,
+        ),
     }
 }
 
-/// Does what the words ask for, and returns the exit status: it runs the subcommand, writes the help, or writes a message
-/// about the words. A failure also gets a message.
-pub fn carry_out<I: Ahead + Reasoned, O: Output + Reasoned, E: Output>(
+/// Does what the words ask for, with the octets of the file that they name, and returns the exit status: it runs the
+/// subcommand, writes the help, or writes a message about the words. A failure also gets a message.
+fn carry_out_with<I: Ahead + Reasoned, O: Output + Reasoned, E: Output>(
     alloc: Global,
-    chosen: Result<Asked, Stop>,
+    chosen: &Result<Asked, Stop>,
+    setup: &[u8],
     input: &mut I,
     output: &mut O,
     errors: &mut E,
 ) -> u8
     ensures carried { I.is_known → O.is_known → E.is_known → CarriesOut
         (lab_failure_line (I.message input.new) (O.message output.new) (O.is_closed output.new))
-        IsAskedText chosen I.Input input.old input.new O.Output output.old output.new E.Output errors.old errors.new result }
-    ensures status { IsStatusFor chosen result }
+        (IsAskedText setup.now) chosen.now I.Input input.old input.new O.Output output.old output.new E.Output errors.old errors.new result }
+    ensures status { IsStatusFor chosen.now result }
 {
     match chosen {
         Ok(asked) => {
-            let ended = run(alloc, asked, input, output);
+            let ended = run(alloc, asked, setup, input, output);
             report(ended, input, output, errors)
         }
         Err(Stop::Help(text)) => match give_all(output, text.as_bytes()) {
@@ -144,5 +158,29 @@ pub fn carry_out<I: Ahead + Reasoned, O: Output + Reasoned, E: Output>(
             2
         }
         Err(Stop::NoMemory) => report(Err(RunFault::NoMemory), input, output, errors),
+    }
+}
+
+/// Does what the words ask for, and returns the exit status. If the file that they name could not be read, it only writes a message
+/// that says so, and the status is 3.
+pub fn carry_out<I: Ahead + Reasoned, O: Output + Reasoned, E: Output>(
+    alloc: Global,
+    chosen: &Result<Asked, Stop>,
+    setup: &Result<Vec<u8>, Unreadable>,
+    input: &mut I,
+    output: &mut O,
+    errors: &mut E,
+) -> u8
+    ensures carried { I.is_known → O.is_known → E.is_known → CarriesAllOut
+        (lab_failure_line (I.message input.new) (O.message output.new) (O.is_closed output.new))
+        chosen.now setup.now I.Input input.old input.new O.Output output.old output.new E.Output errors.old errors.new result }
+    ensures status { IsStatusIn chosen.now setup.now result }
+{
+    match setup {
+        Ok(octets) => carry_out_with(alloc, chosen, octets.as_slice(), input, output, errors),
+        Err(unreadable) => {
+            tell(errors, unreadable.message());
+            3
+        }
     }
 }

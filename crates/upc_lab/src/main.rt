@@ -6,6 +6,7 @@ mod invocation;
 mod laws;
 mod notice;
 mod reason;
+mod setup_file;
 #[cfg(test)]
 mod tests;
 
@@ -14,12 +15,16 @@ pub use invocation::{carry_out, shell_status};
 pub use lab_captures::cells_of_capture;
 pub use lab_faults::{LookedAt, explain_faults};
 pub use lab_fit::fit_capture;
-pub use lab_options::{CellsOptions, FitOptions, cells_options, fit_options};
+pub use lab_options::{
+    CellsOptions, FitOptions, PoliceOptions, cells_options, fit_options, police_options,
+};
+pub use lab_police::police_capture;
 pub use lab_programs::{list_program, trace_cells};
 pub use lab_rules::{assemble_rules, compile_rules, decide_cells};
 pub use lab_sizes::size_contracts;
 pub use notice::awaited;
 pub use reason::{Knowing, Reasoned, Work};
+pub use setup_file::{Unreadable, read_setup};
 use std::io::IsTerminal;
 use std::process::ExitCode;
 use text_io::Giving;
@@ -30,7 +35,9 @@ fn main(rt: HostRuntime) -> ExitCode {
         Ok(words) => choose(rt.alloc(), words),
         Err(_) => Err(Stop::NoMemory),
     };
-    if let Ok(asked) = chosen
+    let setup = read_setup(&rt, &chosen);
+    if let Ok(asked) = &chosen
+        && setup.is_ok()
         && rt.stdin().is_terminal()
     {
         let _ = eprintln!(rt; "{}", awaited(asked));
@@ -39,6 +46,13 @@ fn main(rt: HostRuntime) -> ExitCode {
     let mut input = LookedAt::new(rt.alloc(), stdin);
     let mut output = Knowing::new(rt.alloc(), Work::Writing, rt.stdout());
     let mut errors = Giving::new(rt.stderr());
-    let status = carry_out(rt.alloc(), chosen, &mut input, &mut output, &mut errors);
+    let status = carry_out(
+        rt.alloc(),
+        &chosen,
+        &setup,
+        &mut input,
+        &mut output,
+        &mut errors,
+    );
     ExitCode::from(shell_status(status, output.is_closed()))
 }

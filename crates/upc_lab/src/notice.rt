@@ -7,13 +7,14 @@ ghost use Rattle.upc_lab.specs.LabWords.{lab_named};
 use crate::choice::{Asked, Subcommand};
 
 /// Returns the notice for what was asked, which begins with the name of the subcommand.
-pub fn awaited(asked: Asked) -> &'static str
-    ensures { result.now ≡ asked_notice asked }
+pub fn awaited(asked: &Asked) -> &'static str
+    ensures { result.now ≡ asked_notice asked.now }
 {
     match asked {
-        Asked::Plain(subcommand) => notice_of(subcommand),
+        Asked::Plain(subcommand) => notice_of(*subcommand),
         Asked::Cells(_) => "upc-lab cells: reading a capture from the terminal, to its end",
         Asked::Fit(_) => "upc-lab fit: reading a capture from the terminal, to its end",
+        Asked::Police(_) => "upc-lab police: reading a capture from the terminal, to its end",
     }
 }
 

@@ -82,7 +82,7 @@ fn line_for(alloc: Global, work: Work, reason: &[u8]) -> Vec<u8>
 }
 
 /// The words of the system for an error. There are none if an allocation fails.
-fn in_words(alloc: Global, error: &Error) -> Vec<u8> {
+pub(crate) fn in_words(alloc: Global, error: &Error) -> Vec<u8> {
     match format!(in alloc; "{error}") {
         Ok(words) => words.into_bytes(),
         Err(_) => Vec::new(alloc),

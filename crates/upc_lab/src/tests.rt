@@ -4,7 +4,10 @@
 
 ghost use Rattle.std.specs.Prelude.{◌++◌, [], codes, false, true};
 
-use crate::{Asked, CellsOptions, LookedAt, Reasoned, carry_out, choose, shell_status};
+use crate::{
+    Asked, CellsOptions, LookedAt, Reasoned, Unreadable, carry_out, choose, read_setup,
+    shell_status,
+};
 use captures::Tick;
 use std::alloc::{AllocError, Global};
 use std::process::Abort;
@@ -69,7 +72,8 @@ fn run_words(
     let mut input = LookedAt::new(alloc, FaultyInput::new(octets, takes));
     let mut output = FaultyOutput::new(alloc, gives);
     let mut errors = FaultyOutput::new(alloc, 10000);
-    let status = carry_out(alloc, chosen, &mut input, &mut output, &mut errors);
+    let setup = Ok(Vec::new(alloc));
+    let status = carry_out(alloc, &chosen, &setup, &mut input, &mut output, &mut errors);
     Ok(Left {
         status,
         written: output.held,
@@ -151,6 +155,11 @@ fn a_subcommand_is_chosen_by_its_name_alone(rt: HostRuntime) -> Result<(), Fail>
         ("cells --tick 1us", true),
         ("fit --increment 7", true),
         ("fit", false),
+        ("police a.setup", true),
+        ("police a.setup --lines none", true),
+        ("police", false),
+        ("police a b", false),
+        ("rules police", false),
         ("", false),
         ("--", false),
         ("rules rules", false),
@@ -222,6 +231,8 @@ fn help_is_written_and_nothing_is_read(rt: HostRuntime) -> Result<(), Fail> {
         ("rules --help", "vpi 1"),
         ("help why", "upc-lab why"),
         ("help asm", "upc-lab asm"),
+        ("--help", "\n  police "),
+        ("police --help", "--lines"),
     ] {
         let left = run_words(rt.alloc(), line, b"any -> 7\n", 0, 10000)?;
         assert!(rt; left.status == 0 && left.messages.is_empty(), "{line}");
@@ -282,7 +293,15 @@ fn no_message_is_written_if_nobody_reads(rt: HostRuntime) -> Result<(), Fail> {
     let mut input = LookedAt::new(rt.alloc(), FaultyInput::new(b"otherwise -> 7\n", 100));
     let mut output = Unread(0);
     let mut errors = FaultyOutput::new(rt.alloc(), 100);
-    let status = carry_out(rt.alloc(), chosen, &mut input, &mut output, &mut errors);
+    let setup = Ok(Vec::new(rt.alloc()));
+    let status = carry_out(
+        rt.alloc(),
+        &chosen,
+        &setup,
+        &mut input,
+        &mut output,
+        &mut errors,
+    );
     assert_eq!(rt; (status, errors.held.as_slice()), (3, b"".as_slice()));
     assert_eq!(rt;
         (
@@ -291,6 +310,50 @@ fn no_message_is_written_if_nobody_reads(rt: HostRuntime) -> Result<(), Fail> {
             shell_status(1, true)
         ),
         (141, 3, 1)
+    );
+    Ok(())
+}
+
+#[test]
+fn a_setup_file_that_cannot_be_read_ends_with_status_3(rt: HostRuntime) -> Result<(), Fail> {
+    let chosen = chosen_by(rt.alloc(), "police /nowhere/a.setup")?;
+    let setup = read_setup(&rt, &chosen);
+    let mut input = LookedAt::new(rt.alloc(), FaultyInput::new(b"ERF", 0));
+    let mut output = FaultyOutput::new(rt.alloc(), 0);
+    let mut errors = FaultyOutput::new(rt.alloc(), 1000);
+    let status = carry_out(
+        rt.alloc(),
+        &chosen,
+        &setup,
+        &mut input,
+        &mut output,
+        &mut errors,
+    );
+    let line =
+        b"upc-lab: cannot read /nowhere/a.setup: No such file or directory (os error 2)\n".as_slice();
+    assert_eq!(rt; (status, errors.held.as_slice()), (3, line));
+    Ok(())
+}
+
+#[test]
+fn words_without_a_file_have_no_octets_of_one(rt: HostRuntime) -> Result<(), Fail> {
+    for line in ["rules", "cells", "fit --increment 1", "police", "--help"] {
+        let chosen = chosen_by(rt.alloc(), line)?;
+        let setup = read_setup(&rt, &chosen);
+        assert!(rt; matches!(&setup, Ok(octets) if octets.is_empty()), "{line}");
+    }
+    Ok(())
+}
+
+#[test]
+fn a_message_without_a_reason_names_no_file(rt: HostRuntime) -> Result<(), Fail> {
+    let unreadable = Unreadable {
+        reason: Vec::new(rt.alloc()),
+        line: Vec::new(rt.alloc()),
+    };
+    assert_eq!(rt;
+        unreadable.message(),
+        b"upc-lab: cannot read the setup script\n".as_slice()
     );
     Ok(())
 }

@@ -7,7 +7,7 @@ use Rattle.upc_lab.proofs.choice.choose_plain.Goals as goal
 pub answer_to-requires : goal.answer_to-requires
 answer_to-requires c =
     let found = c.found_in-found in
-    named_in (map string_bytes c.args.words.items) found.result c.requires.cells c.requires.fit (found.ensures.kinds _ (search rules)) (found.ensures.name _ (search rules))
+    named_in (map string_bytes c.args.words.items) found.result c.requires.cells c.requires.fit c.requires.police (found.ensures.kinds _ (search rules)) (found.ensures.name _ (search rules))
 
 pub returns : goal.returns
 returns c =

@@ -1,0 +1,72 @@
+-- The argument and the options of `upc-lab police`.
+use Rattle.std.specs.Prelude.{◌≡◌, ◌⊎◌, ⊤, ℕ, List, [], ◌∷◌, Option, Some, None, codes, option_and_then, option_map, true}
+use Rattle.std.specs.String.{string_bytes}
+use Rattle.clap.specs.Simple.{App, new_app, new_rule, with_rule}
+use Rattle.clap.specs.Walk.{Rule, Text}
+use Rattle.lab_captures.specs.declared.cell_lines.CellLines.{CellLines}
+use Rattle.lab_options.specs.CellsOptions.{interface_rule, tick_rule}
+use Rattle.lab_options.specs.OptionLines.{kinds_in, option_value}
+use Rattle.lab_options.specs.OptionValues.{cell_lines_of, interface_of, setup_name_of, tick_of}
+use Rattle.lab_options.specs.declared.police.PoliceOptions.{PoliceOptions}
+use Rattle.upc_choice.specs.Stopping.{AsksHelp, IsFaulty}
+use Rattle.upc_choice.specs.declared.choice.Stop.{Stop}
+use Rattle.upc_choice.specs.declared.choice.Stop.TheVariants.{Help, Words, NoMemory}
+
+-- The argument SETUP, which must be given.
+abbrev pub setup_rule : Rule
+setup_rule = record (new_rule (codes "SETUP")) { required = true }
+
+-- The option `--lines LINES`, whose value is all if it isn't given.
+abbrev pub lines_rule : Rule
+lines_rule = record (new_rule (codes "lines")) {
+  long = Some (codes "lines");
+  value_names = 1;
+  defaults = codes "all" ∷ [];
+}
+
+-- The command `upc-lab police`: this argument and this option, the options of `cells`, and that for help, which every command has.
+unfoldable pub police_app : App
+police_app = with_rule (with_rule (with_rule (with_rule (new_app (codes "upc-lab police")) setup_rule) tick_rule) interface_rule) lines_rule
+
+-- What is asked for: the name of the file with the setup script, the nanoseconds of a tick, the interface, if any, and which cells
+-- have lines.
+pub record PoliceAsked : Type 0 where
+  pub setup : Text
+  pub nanoseconds : ℕ
+  pub interface : Option ℕ
+  pub lines : CellLines
+
+-- What options of `police` ask for.
+abbrev pub police_asked_by : PoliceOptions → PoliceAsked
+police_asked_by options = record {
+  setup = string_bytes options.setup;
+  nanoseconds = options.tick.nanoseconds;
+  interface = options.interface;
+  lines = options.lines;
+}
+
+-- What these values spell, if each spells something.
+abbrev pub police_values : Option Text → Option Text → Option Text → Option Text → Option PoliceAsked
+police_values setup tick interface lines =
+    option_and_then (λ name. option_and_then (λ nanoseconds. option_and_then (λ asked. option_map (λ which. record {
+      setup = name;
+      nanoseconds = nanoseconds;
+      interface = asked;
+      lines = which;
+    }) (cell_lines_of lines)) (interface_of interface)) (tick_of tick)) (setup_name_of setup)
+
+-- What the values of the argument and the options in the words spell.
+abbrev pub police_asked : List Text → Option PoliceAsked
+police_asked words = police_values (option_value police_app words (codes "SETUP")) (option_value police_app words (codes "tick"))
+    (option_value police_app words (codes "interface")) (option_value police_app words (codes "lines"))
+
+-- The words have no error for clap, and ask for this.
+pub record AsksPolice (words : List Text) (asked : PoliceAsked) : Type 0 where
+  pub faultless : kinds_in police_app words ≡ []
+  pub values : police_asked words ≡ Some asked
+
+-- The Stops that words may give. NoMemory is always allowed.
+abbrev pub IsPoliceStop : List Text → Stop → Type 0
+IsPoliceStop words (Help text) = AsksHelp (kinds_in police_app words)
+IsPoliceStop words (Words text) = IsFaulty (kinds_in police_app words) ⊎ (police_asked words ≡ None)
+IsPoliceStop words NoMemory = ⊤

@@ -1,0 +1,47 @@
+-- What the program does with the file that the words name.
+use Rattle.std.specs.Prelude.{◌≡◌, ◌⊎◌, ◌==◌, if◌then◌else◌, ℕ, List, [], ◌++◌, Option, Some, None, Result, Ok, Err, Vec, codes, length}
+use Rattle.std.specs.String.{string_bytes}
+use Rattle.text_io.specs.declared.device.Input.{Ghosts as InputView}
+use Rattle.text_io.specs.declared.device.Output.{Ghosts as OutputView}
+use Rattle.text_io.specs.declared.ending.RunFault.{RunFault}
+use Rattle.upc_choice.specs.declared.choice.Stop.{Stop}
+use Rattle.upc_exit.specs.Invocation.{CarriesOut, IsStatusFor}
+use Rattle.upc_exit.specs.Messages.{IsIdle, WritesMessage}
+use Rattle.upc_lab.specs.LabText.{IsAskedText}
+use Rattle.upc_lab.specs.declared.choice.Asked.{Asked}
+use Rattle.upc_lab.specs.declared.choice.Asked.TheVariants.{Police}
+use Rattle.upc_lab.specs.declared.setup_file.Unreadable.{Unreadable}
+
+-- The name of the file with the setup script, if the words name one.
+abbrev pub setup_name : Result Asked Stop → Option (List ℕ)
+setup_name (Ok (Police options)) = Some (string_bytes options.setup)
+setup_name _ = None
+
+-- The message that the file with this name can't be read, with the reason in the words of the system.
+abbrev pub unreadable_line : List ℕ → List ℕ → List ℕ
+unreadable_line name reason = codes "upc-lab: cannot read " ++ (name ++ (codes ": " ++ (reason ++ codes "\n")))
+
+-- The message without the name and a reason, for which no allocation was left.
+abbrev pub plain_unreadable_line : List ℕ
+plain_unreadable_line = codes "upc-lab: cannot read the setup script\n"
+
+-- The line is the message about the file with this name, or is empty because no allocation was left for it.
+abbrev pub IsUnreadable : List ℕ → Unreadable → Type 0
+IsUnreadable name unreadable = (unreadable.line.items ≡ []) ⊎ (unreadable.line.items ≡ unreadable_line name unreadable.reason.items)
+
+-- What is said.
+abbrev pub unreadable_message : Unreadable → List ℕ
+unreadable_message unreadable = if length unreadable.line.items == 0 then plain_unreadable_line else unreadable.line.items
+
+-- The effect of the program for its words and for the octets of the file that they name, with these messages for failures. If the file
+-- couldn't be read, nothing is read or written but the message about it.
+abbrev pub CarriesAllOut : {Z Source Sink Errors : Type 0} → (RunFault → List ℕ) → Result Asked Stop → Result (Vec ℕ Z) Unreadable
+    → InputView Source → Source → Source → OutputView Sink → Sink → Sink → OutputView Errors → Errors → Errors → ℕ → Type 0
+CarriesAllOut message chosen (Ok setup) = CarriesOut message (IsAskedText setup.items) chosen
+CarriesAllOut message chosen (Err unreadable) = λ I input input' O output output' E errors errors' status.
+    (status ≡ 3) × IsIdle I input input' O output output' × WritesMessage E errors errors' (unreadable_message unreadable)
+
+-- The exit status. No more is promised for devices whose octets no contract knows.
+abbrev pub IsStatusIn : {Z : Type 0} → Result Asked Stop → Result (Vec ℕ Z) Unreadable → ℕ → Type 0
+IsStatusIn chosen (Ok setup) status = IsStatusFor chosen status
+IsStatusIn chosen (Err unreadable) status = status ≡ 3
