@@ -5,6 +5,7 @@
 Where a line of the script has a fault, the output is that of `upc-lab explain`. The last line is 'N passed, M failed'.
 """
 import os
+import shlex
 import subprocess
 import sys
 import tempfile
@@ -14,7 +15,7 @@ from captures.policing import policed
 
 # A script and a capture, and words that are refused.
 ONE = Case(b"card 1 1 1 1\n", b"", 100, None, "all")
-WRONG_WORDS = ["", "{} {}", "{} --lines", "{} --lines some", "{} --lines=", "{} --tick 0us", "{} --tick 10", "{} --interface 4", "{} --side nni"]
+WRONG_WORDS = ["", "''", "{} {}", "{} --lines", "{} --lines some", "{} --lines=", "{} --tick 0us", "{} --tick 10", "{} --interface 4", "{} --side nni"]
 UNREADABLE = ["{}.missing", "/"]
 
 
@@ -44,7 +45,7 @@ class Program:
         """Returns what it answers to these words, of which {} is the file."""
         with open(self.setup, "wb") as it:
             it.write(ONE.script)
-        return self.ran(["police", *(word.format(self.setup) for word in words.split())], ONE.octets)
+        return self.ran(["police", *shlex.split(words.format(*[shlex.quote(self.setup)] * 2))], ONE.octets)
 
 
 def wanted(program, case):
