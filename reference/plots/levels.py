@@ -28,8 +28,9 @@ class Corners:
     """The level of a bucket at each moment at which it changes its course."""
 
     def __init__(self, plan, bucket):
-        self.moments, self.levels = [plan.begin], [bucket.level_at(plan.begin)] if bucket.last <= plan.begin else [0]
-        self.end = plan.end
+        self.moments, self.levels, self.end = [plan.begin], [0], plan.end
+        # The script may have had cells.
+        self.add(bucket.last, bucket.level)
 
     def drain(self, bucket, moment):
         """Adds the level before a cell, and the moment at which the bucket became empty."""
@@ -43,6 +44,10 @@ class Corners:
         if moment <= self.moments[0]:
             self.levels[0] = max(0, level - (self.moments[0] - moment))
         elif moment <= self.end:
+            if self.moments[-1] < moment and self.levels[-1] == 0 < level:
+                # A bucket rises at once.
+                self.moments.append(moment)
+                self.levels.append(0)
             self.moments.append(moment)
             self.levels.append(level)
         elif self.moments[-1] < self.end:
@@ -66,6 +71,7 @@ class Greatest:
         self.plan = plan
         self.moments = [plan.begin + number * plan.span for number in range(plan.spans)]
         self.levels = [0] * plan.spans
+        self.see(bucket.last, bucket.level)
 
     def see(self, moment, level):
         """Notes a level at a moment."""
