@@ -6,7 +6,8 @@ use Rattle.card_core.specs.ConnectionState.{IsLastVc, IsNextVc, is_after, is_bef
 use Rattle.card_core.specs.World.{Connection, World, connection_in}
 use Rattle.upc_cell.proofs.Public.{vc_is}
 use Rattle.upc_cell.specs.declared.vc.Vc.{Vc}
-use Rattle.lab_police.specs.ConnectionCounts.{counts_below, counts_if_any, counts_of, order_number, vc_numbered}
+use Rattle.lab_police.specs.ConnectionCounts.{counts_below, counts_if_any, connection_counts, vc_numbered}
+use Rattle.lab_police.specs.inner.OrderNumber.{order_number}
 
 -- The smallest number that comes after a connection.
 abbrev pub number_after : Option Vc → ℕ
@@ -73,21 +74,21 @@ no_numbers world = refl
 -- The line of the next connection comes next.
 pub next_line : (world : World) (earlier : Option Vc) (next : Vc) → IsNextVc world earlier next → IsSmall earlier → next.vci < 65536 → order_number next < 2 ^ 28
     → number_after earlier ≤ order_number next
-    → counts_below world (suc (order_number next)) ≡ counts_below world (number_after earlier) ++ counts_of world next
+    → counts_below world (suc (order_number next)) ≡ counts_below world (number_after earlier) ++ connection_counts world next
 unfolding counts_below
 next_line world earlier next is small channel bound more =
     let from = number_after earlier in
     let count : ℕ = order_number next - from in
     let all : from + count ≡ order_number next = omega (arith, more) in
     let none = no_lines world from count (λ number least less.
-        none_of (connection_in world.connections (vc_numbered number)) (λ some.
-        let less' : number < order_number next = omega (arith, less, all) in
-        let low : number < 2 ^ 28 = omega (arith, less', bound) in
-        let before : is_before (vc_numbered number) next ≡ true = numbered_before number next low channel less' in
-        let not : is_before (vc_numbered number) next ≡ false = is.least (vc_numbered number) some (is_after_numbered earlier number small low least) in
-        let no : true ≡ false = sym before ∙ not in cc)) in
-    ap (λ xs. xs ++ counts_of world (vc_numbered (order_number next))) (ap (counts_below world) (sym all) ∙ none)
-    ∙ ap (λ (vc : Vc). counts_below world from ++ counts_of world vc) (numbered_is next channel)
+    none_of (connection_in world.connections (vc_numbered number)) (λ some.
+    let less' : number < order_number next = omega (arith, less, all) in
+    let low : number < 2 ^ 28 = omega (arith, less', bound) in
+    let before : is_before (vc_numbered number) next ≡ true = numbered_before number next low channel less' in
+    let not : is_before (vc_numbered number) next ≡ false = is.least (vc_numbered number) some (is_after_numbered earlier number small low least) in
+    let no : true ≡ false = sym before ∙ not in cc)) in
+    ap (λ xs. xs ++ connection_counts world (vc_numbered (order_number next))) (ap (counts_below world) (sym all) ∙ none)
+    ∙ ap (λ (vc : Vc). counts_below world from ++ connection_counts world vc) (numbered_is next channel)
 
 -- It comes after the earlier one.
 pub next_is_after : (world : World) (earlier : Option Vc) (next : Vc) → IsNextVc world earlier next → IsSmall earlier → next.vci < 65536

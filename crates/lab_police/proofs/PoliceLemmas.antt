@@ -32,7 +32,7 @@ use Rattle.upc_cell.specs.declared.vc.Vc.{Vc}
 use Rattle.lab_police.specs.ConnectionCounts.{counts_heading, counts_lines}
 use Rattle.lab_police.specs.NotJudgedCells.{not_judged_after, not_judged_lines}
 use Rattle.lab_police.specs.PoliceLines.{excess_of_answer, has_line, police_line, verdict_heading}
-use Rattle.lab_police.specs.PoliceText.{PolicesFiltered, PoliceWorld, after_cell, cell_text, connection_of_cell, police_closes, police_gap, police_rules}
+use Rattle.lab_police.specs.PoliceText.{PolicesFiltered, PoliceWorld, after_cell, policed_text, connection_of_cell, police_closes, police_gap, police_rules}
 use Rattle.lab_police.specs.declared.not_judged.NotJudged.{NotJudged}
 use Rattle.lab_police.specs.declared.police.PoliceRun.{PoliceRun}
 use Rattle.lab_police.specs.inner.CardArrival.{ArrivesWithRoom}
@@ -62,7 +62,7 @@ polices_by before core given state vc number moment cell begun not_judged old ne
       let here : vc ≡ connection_of_cell world.card cell = named ∙ ap (λ (shape : Shape). vc_of shape.side cell) shown.agrees.shape in
       let Text : CellLines → Bool → Vc → Answer → List ℕ = λ lines begun vc given.
       lined lines begun number moment vc clp given (excess_of_answer world.card.world vc clp given) in
-      let text : lined before.lines before.begun number moment vc clp given adds.excess ≡ cell_text world number moment cell on.0 =
+      let text : lined before.lines before.begun number moment vc clp given adds.excess ≡ policed_text world number moment cell on.0 =
       lined_same (has_line before.lines given) (if before.begun then [] else verdict_heading) (λ excess. police_line number moment vc clp given excess)
       adds.excess (excess_of_answer world.card.world vc clp given) (λ wanted. adds.right wanted world.card.world (tells world.card.world shown.agrees))
       ∙ ap (λ (lines : CellLines). Text lines before.begun vc given) shown.lines ∙ ap (λ b. Text world.lines b vc given) shown.begun

@@ -1,5 +1,5 @@
 -- The table of the counts of each connection, in order of path and channel.
-use Rattle.std.specs.Prelude.{ℕ, zero, suc, ◌+◌, ◌*◌, ◌/◌, ◌%◌, ◌^◌, List, [], ◌++◌, codes, decimal, Option, Some, None}
+use Rattle.std.specs.Prelude.{ℕ, zero, suc, ◌/◌, ◌%◌, ◌^◌, List, [], ◌++◌, codes, decimal, Option, Some, None}
 use Rattle.std.proofs.Math.Nat.{mod-lt, zero-lt-suc, le_of_suc-le-suc}
 use Rattle.card_core.specs.World.{Connection, World, connection_in}
 use Rattle.line_record.specs.Tally.{tally_of}
@@ -7,11 +7,7 @@ use Rattle.line_record.specs.declared.tally.Tally.{Tally}
 use Rattle.upc_cell.specs.declared.vc.Vc.{Vc}
 use Rattle.lab_police.specs.PoliceLines.{in_column}
 
--- The number of a connection in the order of path and channel, from 0.
-abbrev pub order_number : Vc → ℕ
-order_number vc = 65536 * vc.vpi + vc.vci
-
--- The connection with this number, which is below 2^28.
+-- The connection with this number, below 2^28, in the order of path and channel.
 abbrev pub vc_numbered : ℕ → Vc
 vc_numbered number = record {
   vpi = number / 65536 % 4096;
@@ -31,13 +27,13 @@ counts_if_any world vc None = []
 counts_if_any world vc (Some connection) = counts_line vc (tally_of (world.judged connection.line))
 
 -- The line of this connection, if it is set up.
-abbrev pub counts_of : World → Vc → List ℕ
-counts_of world vc = counts_if_any world vc (connection_in world.connections vc)
+abbrev pub connection_counts : World → Vc → List ℕ
+connection_counts world vc = counts_if_any world vc (connection_in world.connections vc)
 
 -- The lines of the connections with smaller numbers, in order.
 unfoldable pub counts_below : World → ℕ → List ℕ
 counts_below world zero = []
-counts_below world (suc number) = counts_below world number ++ counts_of world (vc_numbered number)
+counts_below world (suc number) = counts_below world number ++ connection_counts world (vc_numbered number)
 
 -- The lines of all connections.
 abbrev pub counts_lines : World → List ℕ

@@ -71,12 +71,12 @@ police_line number moment vc clp given excess =
     ++ (in_column (decimal (priority_digit clp)) ++ answer_columns given excess))))
 
 -- Whether the cell passes.
-abbrev pub is_passed : Answer → Bool
-is_passed (answer.Judged line number moment value program verdict.Pass leaving) = true
-is_passed _ = false
+abbrev pub is_pass_answer : Answer → Bool
+is_pass_answer (answer.Judged line number moment value program verdict.Pass leaving) = true
+is_pass_answer _ = false
 
 -- Whether a cell with this answer has a line.
 abbrev pub has_line : CellLines → Answer → Bool
 has_line lines.All given = true
-has_line lines.Refused given = if is_passed given then false else true
+has_line lines.Refused given = if is_pass_answer given then false else true
 has_line lines.Nothing given = false

@@ -65,12 +65,12 @@ TakesCellWithRoom before cell moment given after =
     ((given ≢ JournalFull) × TakesCell before cell moment given after) ⊎ TakesCellAfterCut before cell moment given after
 
 -- The text for a cell with this answer: its line, and before the first line the heading.
-abbrev pub cell_text : PoliceWorld → ℕ → ℕ → List ℕ → Answer → List ℕ
-cell_text before number moment cell given =
+abbrev pub policed_text : PoliceWorld → ℕ → ℕ → List ℕ → Answer → List ℕ
+policed_text before number moment cell given =
     if has_line before.lines given
     then (if before.begun then [] else verdict_heading)
-        ++ police_line number moment (connection_of_cell before.card cell) (has_low_priority cell) given
-        (excess_of_answer before.card.world (connection_of_cell before.card cell) (has_low_priority cell) given)
+    ++ police_line number moment (connection_of_cell before.card cell) (has_low_priority cell) given
+    (excess_of_answer before.card.world (connection_of_cell before.card cell) (has_low_priority cell) given)
     else []
 
 -- The state after a cell with this answer.
@@ -87,7 +87,7 @@ pub record PolicesCounted (before : PoliceWorld) (filter : FilterState) (number 
   pub given : Answer
   pub card : Card
   pub taken : TakesCellWithRoom before.card cell moment given card
-  pub told : text ≡ cell_text before number moment cell given
+  pub told : text ≡ policed_text before number moment cell given
   pub after : next ≡ Some (after_cell before filter number given card)
 
 -- The answer to a record with this number that is this, after which this is the state of the filter.

@@ -1,4 +1,5 @@
 -- Definitions that only private functions and proofs use.
+pub mod OrderNumber
 pub mod SetUpCard
 pub mod CardArrival
 pub mod PoliceShown

@@ -2,7 +2,7 @@
 
 ghost use Rattle.std.specs.Prelude.{◌≡◌, ◌++◌, ℕ, List, [], None, OnOk, decimal, if◌then◌else◌};
 ghost use Rattle.card_core.specs.Sections.{answer_to, unjudged_answer};
-ghost use Rattle.lab_police.specs.PoliceLines.{answer_columns, excess_columns, has_line, in_column, is_passed, police_line, priority_digit, verdict_heading, verdict_word};
+ghost use Rattle.lab_police.specs.PoliceLines.{answer_columns, excess_columns, has_line, in_column, is_pass_answer, police_line, priority_digit, verdict_heading, verdict_word};
 
 use card_core::{Judgement, Unjudged};
 use lab_captures::CellLines;
@@ -174,13 +174,13 @@ pub(crate) fn has_line(lines: CellLines, told: &Result<Judgement, Unjudged>) -> 
     match lines {
         CellLines::All => true,
         CellLines::Nothing => false,
-        CellLines::Refused => !is_passed(told),
+        CellLines::Refused => !is_pass_answer(told),
     }
 }
 
 /// Returns whether the cell passes.
-fn is_passed(told: &Result<Judgement, Unjudged>) -> bool
-    ensures { (cell : List ℕ) → result ≡ is_passed (answer_to cell told.now) }
+fn is_pass_answer(told: &Result<Judgement, Unjudged>) -> bool
+    ensures { (cell : List ℕ) → result ≡ is_pass_answer (answer_to cell told.now) }
 {
     match told {
         Ok(judged) => judged.verdict == Verdict::Pass,

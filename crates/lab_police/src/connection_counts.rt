@@ -4,7 +4,8 @@ ghost use Rattle.std.specs.Prelude.{◌≡◌, ◌<◌, ◌^◌, ◌++◌, List,
 ghost use Rattle.card_core.specs.Agreement.{CoreAgrees};
 ghost use Rattle.card_core.specs.World.{World};
 ghost use Rattle.lab_police.specs.PoliceLines.{in_column};
-ghost use Rattle.lab_police.specs.ConnectionCounts.{counts_heading, counts_line, counts_lines, counts_of, order_number};
+ghost use Rattle.lab_police.specs.ConnectionCounts.{connection_counts, counts_heading, counts_line, counts_lines};
+ghost use Rattle.lab_police.specs.inner.OrderNumber.{order_number};
 
 use crate::cell_lines::add_number_column;
 use card_core::Core;
@@ -53,7 +54,7 @@ fn add_counts_line(answers: &mut Vec<u8>, vc: Vc, counts: Tally) -> Result<(), A
 
 /// Appends the line of this connection, if the card has it.
 fn add_counts_of(answers: &mut Vec<u8>, core: &Core, vc: Vc) -> Result<(), AllocError>
-    ensures { (world : World) → CoreAgrees core.now world → OnOk result (answers.new.items ≡ answers.old.items ++ counts_of world vc) }
+    ensures { (world : World) → CoreAgrees core.now world → OnOk result (answers.new.items ≡ answers.old.items ++ connection_counts world vc) }
 {
     let Some(state) = core.line_state(vc) else {
         return Ok(());

@@ -2,7 +2,7 @@
 
 ghost use Rattle.std.specs.Prelude.{IfOk, IfSome, IfNone};
 ghost use Rattle.lab_scripts.specs.ScriptText.{IsScriptExplained};
-ghost use Rattle.lab_police.specs.inner.SetUpCard.{IsSetUp, IsSetUpAs, RunsWhole};
+ghost use Rattle.lab_police.specs.inner.SetUpCard.{LeadsScriptTo, IsSetUpAs, RunsWhole};
 
 use card_core::Core;
 use lab_scripts::explain_script;
@@ -53,7 +53,7 @@ fn card_of(alloc: Global, script: &[u8]) -> Result<Core, AllocError>
 
 /// Carries out a setup script.
 pub(crate) fn set_up(alloc: Global, script: &[u8]) -> Result<SetUp, AllocError>
-    ensures { IfOk result (IsSetUp script.now) }
+    ensures { IfOk result (LeadsScriptTo script.now) }
 {
     if let Some(text) = faults_of(alloc, script)? {
         return Ok(SetUp::Faulty(text));

@@ -9,7 +9,7 @@ use Rattle.lab_captures.specs.declared.filter.Filtered.{Filtered}
 use Rattle.lab_captures.specs.declared.filter.Filtered.TheVariants.{Counts, Passed, Several}
 use Rattle.upc_run.specs.RunText.{Card, IsLed}
 use Rattle.upc_run.specs.inner.RunLaws.{arrived-led, cell-some, cut-led, cut-some}
-use Rattle.lab_police.specs.PoliceText.{PolicesFiltered, PoliceWorld, TakesCell, TakesCellWithRoom, after_cell, cell_text, connection_of_cell, police_rules}
+use Rattle.lab_police.specs.PoliceText.{PolicesFiltered, PoliceWorld, TakesCell, TakesCellWithRoom, after_cell, policed_text, connection_of_cell, police_rules}
 
 -- The answer of a full journal, or another one.
 full_or : (given : Answer) → (given ≡ answer.JournalFull) ⊎ (given ≢ answer.JournalFull)
@@ -70,7 +70,7 @@ filtered_some : (before : PoliceWorld) (found : Filtered) (filter : FilterState)
     → (text : List ℕ) × (next : Option PoliceWorld) × PolicesFiltered before found filter number text next
 filtered_some before (Counts moment cell) filter number led =
     let room = room_some before.card cell moment led in (
-      cell_text before number moment cell room.0,
+      policed_text before number moment cell room.0,
       Some (after_cell before filter number room.0 room.1),
       record { given = room.0; card = room.1; taken = room.2; told = refl; after = refl },
     )

@@ -20,6 +20,6 @@ pub record IsSetUpAs (script : List ℕ) (core : CoreView) : Type 0 where
   pub agrees : CoreAgrees core card.world
 
 -- What a setup script leads to.
-abbrev pub IsSetUp : List ℕ → SetUp → Type 0
-IsSetUp script (Faulty text) = IsScriptExplained script text.items Ended
-IsSetUp script (Ready core) = IsSetUpAs script core
+abbrev pub LeadsScriptTo : List ℕ → SetUp → Type 0
+LeadsScriptTo script (Faulty text) = IsScriptExplained script text.items Ended
+LeadsScriptTo script (Ready core) = IsSetUpAs script core

@@ -3,7 +3,8 @@ use Rattle.std.proofs.Common.{◌≡◌, ◌∙◌, ◌++◌, ◌+◌, Option, s
 use Rattle.std.specs.Option.{MatchOption}
 use Rattle.card_core.specs.ConnectionState.{IsLastVc, IsNextVc}
 use Rattle.upc_cell.specs.declared.vc.Vc.{Vc}
-use Rattle.lab_police.specs.ConnectionCounts.{counts_below, counts_of, order_number}
+use Rattle.lab_police.specs.ConnectionCounts.{counts_below, connection_counts}
+use Rattle.lab_police.specs.inner.OrderNumber.{order_number}
 use Rattle.lab_police.proofs.CountsLemmas.{last_line, next_is_after, next_line, no_numbers, number_after}
 use Rattle.lab_police.proofs.connection_counts.add_all_counts.Goals as goal
 
@@ -31,8 +32,8 @@ loop-vc-preserved c =
           subst (λ (o : Option Vc). MatchOption o (IsLastVc world earlier) (IsNextVc world earlier)) c.in-Some.is (c.next_vc.ensures world agrees) in
           let low = next_is_after world earlier vc next c.loop-vc.invariant.small number.channel in
           c.in_ok-add_counts_of.ensures world agrees
-          ∙ ap (λ xs. xs ++ counts_of world vc) (c.loop-vc.invariant.lines world agrees ∙ ap (λ n. old ++ counts_below world n) c.loop-vc.invariant.number)
-          ∙ append_assoc old (counts_below world (number_after earlier)) (counts_of world vc)
+          ∙ ap (λ xs. xs ++ connection_counts world vc) (c.loop-vc.invariant.lines world agrees ∙ ap (λ n. old ++ counts_below world n) c.loop-vc.invariant.number)
+          ∙ append_assoc old (counts_below world (number_after earlier)) (connection_counts world vc)
           ∙ ap (λ xs. old ++ xs) (sym (next_line world earlier vc next c.loop-vc.invariant.small number.channel (omega (arith, number.number, number.bounded)) low))
           ∙ ap (λ n. old ++ counts_below world n) (sym following);
     }

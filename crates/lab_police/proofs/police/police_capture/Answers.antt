@@ -8,7 +8,7 @@ use Rattle.text_io.specs.declared.ending.Done.TheVariants.{Ended, Whole}
 use Rattle.lab_captures.specs.CaptureText.{IsCaptureText}
 use Rattle.lab_police.specs.PoliceText.{IsPoliceText, police_rules, police_start}
 use Rattle.lab_police.specs.declared.setting_up.SetUp.{SetUp}
-use Rattle.lab_police.specs.inner.SetUpCard.{IsSetUp, IsSetUpAs}
+use Rattle.lab_police.specs.inner.SetUpCard.{LeadsScriptTo, IsSetUpAs}
 use Rattle.lab_police.proofs.PoliceLemmas.{served_as}
 use Rattle.lab_police.proofs.Public.{some_police_text}
 use Rattle.lab_police.proofs.police.police_capture.Goals as goal
@@ -32,7 +32,7 @@ returns-in-Ok-Faulty g c =
     let line = c.in-Ok-Faulty.text.items in
     let IsText = IsPoliceText c.args.lines c.args.tick.nanoseconds c.args.interface c.args.setup.now in
     let told : (octets : List ℕ) → IsText octets line Ended = λ octets.
-    inl (subst (λ (s : SetUp). IsSetUp c.args.setup.now s) c.in-Ok-Faulty.field-0-is c.in-Ok-Faulty.ensures, refl) in
+    inl (subst (λ (s : SetUp). LeadsScriptTo c.args.setup.now s) c.in-Ok-Faulty.field-0-is c.in-Ok-Faulty.ensures, refl) in
     record {
       text = λ ki ko.
           if_given c.write_faults.result Ended _ _ c.write_faults.ensures.done (c.write_faults.ensures.given ko) (λ gives. (line, gives, told all));
@@ -48,7 +48,7 @@ returns-in-Ok-Faulty g c =
 pub returns-in-Ok-Ready : goal.returns-in-Ok-Ready
 returns-in-Ok-Ready g c =
     let set : IsSetUpAs c.args.setup.now c.in-Ok-Ready.core =
-    subst (λ (s : SetUp). IsSetUp c.args.setup.now s) c.in-Ok-Ready.field-0-is c.in-Ok-Ready.ensures in
+    subst (λ (s : SetUp). LeadsScriptTo c.args.setup.now s) c.in-Ok-Ready.field-0-is c.in-Ok-Ready.ensures in
     let world = police_start c.args.lines c.args.tick.nanoseconds c.args.interface set.card in
     served_as g.I.Input g.O.Output c.args.input.now c.follow_capture.new.input c.args.output.now c.follow_capture.new.output c.follow_capture.result
     (IsCaptureText police_rules world) (IsPoliceText c.args.lines c.args.tick.nanoseconds c.args.interface c.args.setup.now)
