@@ -18,7 +18,8 @@ fn record_of(seconds: u8, channel: u8) -> [u8; 68] {
     octets[11] = 68;
     octets[15] = 52;
     octets[17] = 0x10;
-    octets[19] = channel * 0x10;
+    octets[18] = channel / 0x10;
+    octets[19] = channel % 0x10 * 0x10;
     octets
 }
 
@@ -78,9 +79,7 @@ fn a_faulty_setup_polices_nothing(rt: HostRuntime) -> Result<(), Fail> {
         return Err(Fail::new("no text"));
     };
     assert_eq!(rt; done, Done::Ended);
-    assert_eq!(rt;
-        &text.as_slice()[..30],
-        b"fault script 1 BadLine\nline 2 ".as_slice()
-    );
+    let explained = b"fault script 1 BadLine\nline 2 ".as_slice();
+    assert_eq!(rt; text.as_slice().starts_with(explained), true);
     Ok(())
 }
