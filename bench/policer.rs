@@ -45,6 +45,11 @@ impl Bucket {
     fn charge(&mut self, moment: u64) {
         self.due = self.due.max(moment) + self.increment;
     }
+
+    /// By how many ticks a cell is over the limit.
+    fn excess(&self, moment: u64) -> u64 {
+        self.due.saturating_sub(moment + self.limit)
+    }
 }
 
 #[derive(Clone, Copy, PartialEq)]
@@ -92,6 +97,16 @@ impl Contract {
         }
         self.peak.charge(moment);
         Verdict::Pass
+    }
+
+    /// Which bucket a cell is over, before it is judged, and by how many ticks.
+    fn excess(&self, moment: u64, low: bool) -> Option<(u32, u64)> {
+        let meets_sustained = self.kind == 1 || (self.kind > 1 && !low);
+        match (self.peak.excess(moment), self.sustained.excess(moment)) {
+            (0, 0) => None,
+            (0, ticks) => meets_sustained.then_some((2, ticks)),
+            (ticks, _) => Some((1, ticks)),
+        }
     }
 }
 
@@ -166,7 +181,7 @@ pub fn arrival(line: &[u8]) -> Option<(u64, [u8; 52])> {
     is_cell.then_some((moment, cell))
 }
 
-fn header_of(cell: &[u8; 52]) -> u32 {
+pub fn header_of(cell: &[u8; 52]) -> u32 {
     u32::from_be_bytes([cell[0], cell[1], cell[2], cell[3]])
 }
 
@@ -181,13 +196,27 @@ impl Connection {
             exit(1);
         }
         let low = header_of(cell) & 1 == 1;
-        let verdict = match self.contracts.get_mut((value as usize).wrapping_sub(1)) {
-            Some(contract) => contract.judge(moment, low),
-            None => Verdict::Refuse,
-        };
-        self.last = moment;
+        let verdict = self.verdict(moment, value, low);
         self.journal.push(Entry { moment, program: self.program, value, low, verdict });
         verdict
+    }
+
+    /// The verdict alone, for a moment that isn't before the last one.
+    pub fn verdict(&mut self, moment: u64, value: u32, low: bool) -> Verdict {
+        self.last = moment;
+        match self.contracts.get_mut((value as usize).wrapping_sub(1)) {
+            Some(contract) => contract.judge(moment, low),
+            None => Verdict::Refuse,
+        }
+    }
+
+    /// Which bucket a cell is over, before it is judged, and by how many ticks.
+    pub fn excess(&self, moment: u64, value: u32, low: bool) -> Option<(u32, u64)> {
+        self.contracts.get((value as usize).wrapping_sub(1))?.excess(moment, low)
+    }
+
+    pub fn is_late(&self, moment: u64) -> bool {
+        moment < self.last
     }
 }
 

@@ -24,6 +24,19 @@ check() {
   fi
 }
 
+# add COMMAND..: adds what a command counted, whose last line is 'N passed, M failed'; one without it has failed.
+add() {
+  local said
+  said=$("$@")
+  if [[ ${said##*$'\n'} =~ ^([0-9]+)\ passed,\ ([0-9]+)\ failed$ ]]; then
+    passed=$((passed + BASH_REMATCH[1]))
+    failed=$((failed + BASH_REMATCH[2]))
+    printf '%s\n' "$said" | head -n -1
+  else
+    fail "$*"
+  fi
+}
+
 # Prints the counts. The status is 0 if nothing failed.
 finish() {
   echo "$passed passed, $failed failed"

@@ -2,14 +2,13 @@
 from collections import namedtuple
 
 from captures.formats import Broken, Refused
-from captures.reading import records_of
+from captures.reading import OtherType, records_of
 
 # A cell that counts: the number of its record, its moment in ticks, and its octets.
 Counted = namedtuple("Counted", "number moment cell")
 
-# Why records are passed over, in the order of the comments.
+# Why records are passed over that are of a type with cells, in the order of the comments.
 REASONS = {
-    "other type": "another type than ATM",
     "errored": "received with an error",
     "cut short": "fewer than 52 octets of a cell",
     "back": "a time before that of an earlier cell",
@@ -23,6 +22,8 @@ class Capture:
     def __init__(self, octets, tick, interface):
         self.tick = tick
         self.asked = interface
+        # The numbers of the records that were passed over, by the type that holds no cell, and by reason.
+        self.other_types = {}
         self.passed = {reason: [] for reason in REASONS}
         self.fault = None
         # The line about a file that isn't read.
@@ -43,6 +44,9 @@ class Capture:
         for record in records:
             begun = record.time if begun is None else begun
             latest = max(latest, begun)
+            if isinstance(record.reason, OtherType):
+                self.other_types.setdefault(record.reason.kind, []).append(record.number)
+                continue
             if record.reason:
                 self.passed[record.reason].append(record.number)
                 continue
@@ -62,9 +66,9 @@ class Capture:
 
     def closing(self):
         """Returns the comments, and the fault if there is one."""
+        why_passed = [(f"type {kind}, not ATM", numbers) for kind, numbers in sorted(self.other_types.items())]
+        why_passed += [(why, self.passed[reason]) for reason, why in REASONS.items()]
         lines = [
-            f"# {len(self.passed[reason])} passed over: {why}; first record {self.passed[reason][0]}\n"
-            for reason, why in REASONS.items()
-            if self.passed[reason]
+            f"# {len(numbers)} passed over: {why}; first record {numbers[0]}\n" for why, numbers in why_passed if numbers
         ]
         return "".join(lines) + (self.fault or "")

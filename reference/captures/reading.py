@@ -17,13 +17,15 @@ ERRORS = 0x30
 
 # A record: its number from 1, its interface, its time in units of 2^-32 seconds, its cell or None, and why it holds none or None.
 Record = namedtuple("Record", "number interface time cell reason")
+# The reason that a record is of a type that holds no cell.
+OtherType = namedtuple("OtherType", "kind")
 
 
 def content_of(octets):
     """Returns the cell of a record, and why it holds none."""
     kind = octets[8] & ~MORE
     if kind not in CHANNEL:
-        return None, "other type"
+        return None, OtherType(kind)
     if octets[9] & ERRORS:
         return None, "errored"
     place, has_more = HEADER, octets[8] & MORE

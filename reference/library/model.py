@@ -3,7 +3,7 @@
 from policer import cell as cells
 from policer.card import LAST_MOMENT, Card, check_rate
 from policer.checking import check
-from policer.contract import MEET_SECOND, Contract
+from policer.contract import Contract
 from policer.decoding import decoded
 from policer.faults import NUMBERS, Fault
 
@@ -75,11 +75,7 @@ class Meter:
 
     def excess(self, moment, priority):
         """Returns the number of the first bucket that a cell meets and that is over its limit, and by how much; or zeros."""
-        for number, bucket in enumerate(self.contract.buckets, 1):
-            over = bucket.level_at(moment) - bucket.limit
-            if over > 0 and (number == 1 or priority in MEET_SECOND[self.contract.kind]):
-                return number, over
-        return 0, 0
+        return self.contract.excess(moment, priority) or (0, 0)
 
 
 def meter_numbers(contract):

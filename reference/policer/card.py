@@ -1,6 +1,7 @@
 """A card: its programs by number, its connections, and what each command and each cell does to them."""
 
-from collections import Counter
+from collections import Counter, defaultdict
+from heapq import heappop, heappush
 
 from . import cell as cells
 from .contract import Contract
@@ -16,9 +17,10 @@ SHAPE = (("Programs", 1024), ("Lines", 4096), ("Ports", 16), ("Journal", 65536))
 
 
 class Connection:
-    """A connection since it was set up."""
+    """A connection since it was set up, on a line of the card."""
 
-    def __init__(self, program, contracts):
+    def __init__(self, line, program, contracts):
+        self.line = line
         self.program = program
         self.contracts = contracts
         self.last_moment = 0
@@ -45,6 +47,8 @@ class Card:
         self.loaded = 0
         self.connections = {}
         self.set_up = 0
+        self.free_lines = list(range(lines))  # a heap: the lowest is given first
+        self.judged = defaultdict(Counter)  # the verdicts of each line, whatever connection it served
 
     def load(self, program):
         """Puts an accepted program in; it is named by how many were put in until then."""
@@ -74,7 +78,8 @@ class Card:
         if self.set_up == LAST_INCARNATION:
             raise Fault("desk", "Exhausted")
         self.set_up += 1
-        self.connections[vc] = Connection(number, [Contract(kind, rates) for kind, rates in wanted])
+        contracts = [Contract(kind, rates) for kind, rates in wanted]
+        self.connections[vc] = Connection(heappop(self.free_lines), number, contracts)
 
     def reload(self, vc, number):
         """Gives a connection another program; its buckets and its journal stay."""
@@ -89,8 +94,10 @@ class Card:
         return tally
 
     def release(self, vc):
-        """Ends a connection, and hands its journal out."""
-        tally = self.find_connection(vc).tally()
+        """Ends a connection, frees its line, and hands its journal out."""
+        connection = self.find_connection(vc)
+        tally = connection.tally()
+        heappush(self.free_lines, connection.line)
         del self.connections[vc]
         return tally
 
@@ -112,6 +119,7 @@ class Card:
             verdict = connection.contracts[value - 1].judge(moment, cells.priority_of(cell))
         connection.last_moment = moment
         connection.journal[verdict] += 1
+        self.judged[connection.line][verdict] += 1
         leaving = cells.tagged(cell) if verdict == "tag" else cell
         return vc, connection.program, value, verdict, leaving
 

@@ -30,3 +30,11 @@ class Contract:
             sustained.fill(moment)
         peak.fill(moment)
         return "pass"
+
+    def excess(self, moment, priority):
+        """The number, from 1, of the first bucket that a cell meets and doesn't conform to, and the ticks over its limit."""
+        for number, bucket in enumerate(self.buckets, 1):
+            over = bucket.level_at(moment) - bucket.limit
+            if over > 0 and (number == 1 or priority in MEET_SECOND[self.kind]):
+                return number, over
+        return None

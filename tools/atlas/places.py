@@ -20,7 +20,7 @@ def scripts():
     found = []
     for folder in (".ci", "bench", "bin", "reference", "tests", "tools"):
         for at, folders, names in os.walk(f"{ROOT}/{folder}"):
-            folders[:] = sorted(it for it in folders if f"{at}/{it}" != f"{ROOT}/tools/atlas/tests" and it not in ("__pycache__", "worked"))
+            folders[:] = sorted(it for it in folders if f"{at}/{it}" != f"{ROOT}/tools/atlas/tests" and it not in ("__pycache__", "out", "worked"))
             for name in sorted(names):
                 path = os.path.relpath(f"{at}/{name}", ROOT)
                 if os.access(f"{ROOT}/{path}", os.X_OK) or name.endswith((".py", ".sh")):

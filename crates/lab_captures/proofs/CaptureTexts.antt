@@ -1,18 +1,23 @@
 -- The text of a whole capture, from what its first octets say.
-use Rattle.std.proofs.Common.{◌≡◌, ◌≢◌, ◌≤◌, ℕ, List, [], ◌++◌, Result, Ok, Err, length, drop, refl, ◌∙◌, sym, ap, ap₂, subst, arith, append_assoc, append-nil}
+use Rattle.std.proofs.Common.{◌≡◌, ◌≢◌, ◌≤◌, ℕ, List, [], ◌++◌, Option, Result, Ok, Err, length, drop, refl, ◌∙◌, sym, ap, ap₂, subst, arith, append_assoc, append-nil}
 use Rattle.std.proofs.lemmas.List.{drop-append-le}
 use Rattle.captures.proofs.Public.{header_within, one_reading, openings_stay, some_reading}
 use Rattle.captures.specs.Frames.{format_start}
 use Rattle.captures.specs.Opening.{opening_of}
+use Rattle.captures.specs.declared.fault.Fault.{Fault}
 use Rattle.captures.specs.declared.format.Format.{Format}
 use Rattle.captures.specs.declared.opening.FileFault.{FileFault}
 use Rattle.captures.specs.declared.opening.Opening.{Opening}
 use Rattle.captures.specs.declared.opening.Opening.TheVariants.{Opened, Undecided, Refused}
 use Rattle.captures.specs.declared.reader.Reader.{Reader}
+use Rattle.captures.specs.declared.reader.Record.{Record}
 use Rattle.lab_captures.specs.CaptureFaults.{file_fault_line}
-use Rattle.lab_captures.specs.CaptureText.{CaptureRules, IsCaptureText, IsOpenedText, IsRecordsText, done_at, records_text, short_ending}
+use Rattle.lab_captures.specs.CaptureText.{AnswersEachRecord, CaptureRules, IsCaptureText, IsOpenedText, IsRecordsText, done_at, fixed_rules, short_ending}
+use Rattle.lab_captures.specs.inner.FixedRules.{fixed_text}
 use Rattle.lab_captures.specs.inner.Progress.{HasRead, Texts}
 use Rattle.lab_captures.specs.inner.Steps.{IsTextFrom}
+use Rattle.lab_captures.proofs.FixedTexts.{fixed_is}
+use Rattle.lab_captures.proofs.Texts.{records_some}
 use Rattle.text_io.specs.Devices.{Adds, IsPart, TakesEnough}
 use Rattle.text_io.specs.Failures.{read_failures}
 use Rattle.text_io.specs.Limits.{most_ahead}
@@ -27,24 +32,27 @@ by_opening : {World : Type 0} (rules : CaptureRules World) (world : World) (octe
     → opening_of octets ≡ opening → IsOpenedText rules world octets opening text done → IsCaptureText rules world octets text done
 by_opening rules world octets text opening done is told = subst (λ (o : Opening). IsOpenedText rules world octets o text done) (sym is) told
 
--- Any file has a text.
-opened_some : {World : Type 0} (rules : CaptureRules World) (world : World) (octets : List ℕ) (opening : Opening)
+-- Any file has a text, from each sound world.
+opened_some : {World : Type 0} (rules : CaptureRules World) → AnswersEachRecord rules
+    → (world : World) (octets : List ℕ) (opening : Opening) → rules.is_sound world
     → (text : List ℕ) × (done : Done) × IsOpenedText rules world octets opening text done
-opened_some rules world octets (Opened format) =
+opened_some rules total world octets (Opened format) sound =
     let reading = some_reading format 0 (format_start format) (drop (format_start format) octets) in
-    let told = records_text rules world reading.0 reading.1 in
-    (told.0, told.1, (reading.0, reading.1, reading.2, refl))
-opened_some rules world octets Undecided = (rules.closes world (short_ending octets), done_at (short_ending octets), (refl, refl))
-opened_some rules world octets (Refused fault) = (file_fault_line fault, Ended, (refl, refl))
+    let told = records_some rules total reading.0 reading.1 world sound in
+    (told.0, told.1, (reading.0, reading.1, reading.2, told.2))
+opened_some rules total world octets Undecided sound = (rules.closes world (short_ending octets), done_at (short_ending octets), (refl, refl))
+opened_some rules total world octets (Refused fault) sound = (file_fault_line fault, Ended, (refl, refl))
 
-pub some_capture_text : {World : Type 0} (rules : CaptureRules World) (world : World) (octets : List ℕ)
+pub some_capture_text : {World : Type 0} (rules : CaptureRules World) → AnswersEachRecord rules
+    → (world : World) (octets : List ℕ) → rules.is_sound world
     → (text : List ℕ) × (done : Done) × IsCaptureText rules world octets text done
-some_capture_text rules world octets = opened_some rules world octets (opening_of octets)
+some_capture_text rules total world octets sound = opened_some rules total world octets (opening_of octets) sound
 
 -- Where nothing was written, the output grew by a front of a text.
-pub no_front : {World : Type 0} (rules : CaptureRules World) (world : World) (octets held : List ℕ)
+pub no_front : {World : Type 0} (rules : CaptureRules World) → AnswersEachRecord rules
+    → (world : World) (octets held : List ℕ) → rules.is_sound world
     → Adds (IsFront (IsCaptureText rules world octets)) held held
-no_front rules world octets held = ([], sym (append-nil held), some_capture_text rules world octets)
+no_front rules total world octets held sound = ([], sym (append-nil held), some_capture_text rules total world octets sound)
 
 -- A front of a text.
 pub a_front : (IsText : List ℕ → Done → Type 0) (before after text : List ℕ) (done : Done) → IsText text done → IsPart before after text
@@ -109,17 +117,24 @@ not_read (Err ReadFailed) before after none same = absurd (none refl)
 not_read (Err WriteFailed) before after none same = same
 not_read (Err NoMemory) before after none same = same
 
--- A file has one text.
-opened_one : {World : Type 0} (rules : CaptureRules World) (world : World) (octets : List ℕ) (opening : Opening) (one other : List ℕ) (ends other_ends : Done)
-    → IsOpenedText rules world octets opening one ends → IsOpenedText rules world octets opening other other_ends → (one ≡ other) × (ends ≡ other_ends)
-opened_one rules world octets (Opened format) one other ends other_ends first second =
+-- By fixed rules, a file has one text.
+opened_one : {World : Type 0} (steps : World → Record → List ℕ × Option World) (closes : World → Option Fault → List ℕ)
+    (world : World) (octets : List ℕ) (opening : Opening) (one other : List ℕ) (ends other_ends : Done)
+    → IsOpenedText (fixed_rules steps closes) world octets opening one ends
+    → IsOpenedText (fixed_rules steps closes) world octets opening other other_ends → (one ≡ other) × (ends ≡ other_ends)
+opened_one steps closes world octets (Opened format) one other ends other_ends first second =
     let same = one_reading format 0 (format_start format) (drop (format_start format) octets) first.0 second.0 first.1 second.1 first.2 second.2 in
-    let told : (one, ends) ≡ (other, other_ends) = sym first.3 ∙ ap₂ (records_text rules world) same.0 same.1 ∙ second.3 in
+    let told : (one, ends) ≡ (other, other_ends) =
+    sym (fixed_is steps closes first.0 first.1 world one ends first.3) ∙ ap₂ (fixed_text steps closes world) same.0 same.1
+    ∙ fixed_is steps closes second.0 second.1 world other other_ends second.3
+    in
     (ap (λ (p : List ℕ × Done). p.0) told, ap (λ (p : List ℕ × Done). p.1) told)
-opened_one rules world octets Undecided one other ends other_ends first second = (first.0 ∙ sym second.0, first.1 ∙ sym second.1)
-opened_one rules world octets (Refused fault) one other ends other_ends first second = (first.0 ∙ sym second.0, first.1 ∙ sym second.1)
+opened_one steps closes world octets Undecided one other ends other_ends first second = (first.0 ∙ sym second.0, first.1 ∙ sym second.1)
+opened_one steps closes world octets (Refused fault) one other ends other_ends first second = (first.0 ∙ sym second.0, first.1 ∙ sym second.1)
 
-pub one_capture_text : {World : Type 0} (rules : CaptureRules World) (world : World) (octets one other : List ℕ) (ends other_ends : Done)
-    → IsCaptureText rules world octets one ends → IsCaptureText rules world octets other other_ends → (one ≡ other) × (ends ≡ other_ends)
-one_capture_text rules world octets one other ends other_ends first second =
-    opened_one rules world octets (opening_of octets) one other ends other_ends first second
+pub one_fixed_text : {World : Type 0} (steps : World → Record → List ℕ × Option World) (closes : World → Option Fault → List ℕ)
+    (world : World) (octets one other : List ℕ) (ends other_ends : Done)
+    → IsCaptureText (fixed_rules steps closes) world octets one ends → IsCaptureText (fixed_rules steps closes) world octets other other_ends
+    → (one ≡ other) × (ends ≡ other_ends)
+one_fixed_text steps closes world octets one other ends other_ends first second =
+    opened_one steps closes world octets (opening_of octets) one other ends other_ends first second

@@ -3,10 +3,12 @@ use Rattle.std.proofs.Common.{◌≡◌, ℕ, List, [], ◌∷◌, ◌++◌, Opt
 use Rattle.std.proofs.lemmas.Option.{same_Some}
 use Rattle.captures.specs.declared.fault.Fault.{Fault}
 use Rattle.captures.specs.declared.reader.Record.{Record}
-use Rattle.lab_captures.specs.CaptureText.{RunsThrough, done_at, records_text, text_then}
+use Rattle.lab_captures.specs.CaptureText.{RunsThrough, done_at}
 use Rattle.lab_captures.specs.CellFilter.{CountedCell, FilterState, counted_cells, counted_then, filter_record, filter_start}
-use Rattle.lab_captures.specs.CellsText.{CellsAreWritten, cells_answer, cells_rules, counted_lines}
+use Rattle.lab_captures.specs.CellsText.{CellsAreWritten, cells_answer, cells_closes, cells_rules, cells_steps, counted_lines}
+use Rattle.lab_captures.specs.inner.FixedRules.{fixed_text, text_then}
 use Rattle.lab_captures.specs.RunLines.{closing_lines}
+use Rattle.lab_captures.proofs.FixedTexts.{fixed_only}
 use Rattle.lab_captures.specs.declared.filter.Filtered.{Filtered}
 use Rattle.lab_captures.specs.declared.filter.Filtered.TheVariants.{Counts, Passed, Several}
 use Rattle.text_io.specs.declared.ending.Done.{Done}
@@ -22,22 +24,26 @@ written Passed after next number goes = record { state = same_Some after next go
 written (Several one other) after next number goes = absurd (let no : None ≡ Some next = goes in cc)
 
 run-cells : (state last : FilterState) (records : List Record) → RunsThrough cells_rules state records last → (ending : Option Fault)
-    → records_text cells_rules state records ending ≡ (counted_lines (counted_cells state records) ++ closing_lines last.passed ending, done_at ending)
+    → fixed_text cells_steps cells_closes state records ending
+    ≡ (counted_lines (counted_cells state records) ++ closing_lines last.passed ending, done_at ending)
 run-cells state last [] leads ending = ap (λ (s : FilterState). (closing_lines s.passed ending, done_at ending)) (sym leads)
-run-cells state last (said ∷ records) leads ending =
-    let next = leads.0 in
+run-cells state last (said ∷ records) (shown, next, step, leads) ending =
     let read = filter_record state said in
     let here = (cells_answer read.0 read.1).0 in
-    let goes : FilterState → List ℕ × Done = λ s. records_text cells_rules s records ending in
-    let is = written read.0 read.1 next said.number leads.1 in
+    let goes : FilterState → List ℕ × Done = λ s. fixed_text cells_steps cells_closes s records ending in
+    let on : (cells_answer read.0 read.1).1 ≡ Some next = ap (λ (s : List ℕ × Option FilterState). s.1) step in
+    let is = written read.0 read.1 next said.number on in
     let Rest : FilterState → Type 0 = λ s. goes next ≡ (counted_lines (counted_cells s records) ++ closing_lines last.passed ending, done_at ending) in
-    let rest : Rest read.1 = subst Rest (sym is.state) (run-cells next last records leads.2 ending) in
+    let rest : Rest read.1 = subst Rest (sym is.state) (run-cells next last records leads ending) in
     let lines = counted_lines (counted_cells read.1 records) in
     let closing = closing_lines last.passed ending in
-    ap (λ (after : Option FilterState). text_then here after goes) leads.1
+    ap (λ (after : Option FilterState). text_then here after goes) on
     ∙ ap (λ (r : List ℕ × Done). (here ++ r.0, r.1)) rest
     ∙ ap (λ (text : List ℕ). (text, done_at ending)) (sym (append_assoc here lines closing)
     ∙ ap (λ (text : List ℕ). text ++ closing) (is.lines (counted_cells read.1 records)))
 
 pub cells-are-written : CellsAreWritten
-cells-are-written tick interface records last leads ending = run-cells (filter_start tick interface) last records leads ending
+cells-are-written tick interface records last leads ending text done =
+    let start = filter_start tick interface in
+    fixed_only cells_steps cells_closes records ending start (counted_lines (counted_cells start records) ++ closing_lines last.passed ending) text
+    (done_at ending) done (run-cells start last records leads ending)

@@ -1,5 +1,6 @@
 -- One step through a capture leads from a text to a longer one.
-use Rattle.std.proofs.Common.{◌≡◌, ℕ, List, [], ◌∷◌, ◌++◌, drop, Option, Some, None, refl, ◌∙◌, ap, subst}
+use Rattle.std.proofs.Common.{◌≡◌, ℕ, List, [], ◌∷◌, ◌++◌, drop, Option, Some, None, refl, ap, sym, subst, append-nil}
+use Rattle.std.specs.Option.{MatchOption}
 use Rattle.captures.proofs.Public.{faults_end, frames_in_order, some_reading}
 use Rattle.captures.specs.Reading.{ComesNext, EndsReading, TakesFrame}
 use Rattle.captures.specs.declared.fault.Fault.{Fault}
@@ -7,10 +8,12 @@ use Rattle.captures.specs.declared.format.Format.{Format}
 use Rattle.captures.specs.declared.reader.Next.TheVariants.{Broken}
 use Rattle.captures.specs.declared.reader.Reader.{Reader}
 use Rattle.captures.specs.declared.reader.Record.{Record}
-use Rattle.lab_captures.specs.CaptureText.{CaptureRules, IsRecordsText, done_at, records_text, text_then}
-use Rattle.lab_captures.specs.inner.Steps.{IsTextFrom}
+use Rattle.lab_captures.specs.CaptureText.{AnswersEachRecord, CaptureRules, IsRecordsText, IsTextOfRecords, done_at}
+use Rattle.lab_captures.specs.Following.{ClosesCapture, FollowsRecord, OfEachShown}
+use Rattle.lab_captures.specs.inner.Steps.{AnswersFrame, AnswersLastFrame, IsTextFrom}
 use Rattle.text_io.specs.declared.ending.Done.{Done}
 use Rattle.text_io.specs.declared.ending.Done.TheVariants.{Ended}
+use Rattle.text_io.specs.declared.machine.Turn.TheVariants.{GoesOn, Ends}
 
 -- A frame without a record has no text.
 pub passed_text : {World : Type 0} (rules : CaptureRules World) (before after : Reader) (world : World) (octets more text : List ℕ) (own : ℕ) (done : Done)
@@ -29,12 +32,11 @@ passed_text rules before after world octets more text own done takes rest =
     )
 
 -- A record has its own text.
-pub taken_text : {World : Type 0} (rules : CaptureRules World) (before after : Reader) (world next : World) (said : Record) (octets more here text : List ℕ) (own : ℕ) (done : Done)
-    → TakesFrame before octets (Some said) own after → rules.steps world said ≡ (here, Some next)
+taken_text : {World : Type 0} (rules : CaptureRules World) (before after : Reader) (world next : World) (said : Record) (octets more here text : List ℕ) (own : ℕ) (done : Done)
+    → TakesFrame before octets (Some said) own after → rules.steps world said here (Some next)
     → IsTextFrom rules after next (drop own octets ++ more) text done → IsTextFrom rules before world (octets ++ more) (here ++ text) done
-taken_text {World = World} rules before after world next said octets more here text own done takes steps rest =
-    let reading = rest.2 in
-    let goes : World → List ℕ × Done = λ w. records_text rules w rest.0 rest.1 in (
+taken_text rules before after world next said octets more here text own done takes step rest =
+    let reading = rest.2 in (
       said ∷ rest.0,
       rest.1,
       (
@@ -42,17 +44,16 @@ taken_text {World = World} rules before after world next said octets more here t
         frames_in_order before after octets more (Some said) own reading.0 rest.1 takes reading.1,
         ap (λ records. said ∷ records) reading.2,
       ),
-      ap (λ (s : List ℕ × Option World). text_then s.0 s.1 goes) steps ∙ ap (λ (r : List ℕ × Done). (here ++ r.0, r.1)) rest.3,
+      (here, text, Some next, refl, step, rest.3),
     )
 
 -- It may end the run, whatever follows.
-pub ended_text : {World : Type 0} (rules : CaptureRules World) (before after : Reader) (world : World) (said : Record) (octets more here : List ℕ) (own : ℕ)
-    → TakesFrame before octets (Some said) own after → rules.steps world said ≡ (here, None)
+ended_text : {World : Type 0} (rules : CaptureRules World) (before after : Reader) (world : World) (said : Record) (octets more here : List ℕ) (own : ℕ)
+    → TakesFrame before octets (Some said) own after → rules.steps world said here None
     → IsTextFrom rules before world (octets ++ more) here Ended
-ended_text {World = World} rules before after world said octets more here own takes steps =
+ended_text rules before after world said octets more here own takes step =
     let rest = some_reading after.format after.count after.at (drop own octets ++ more) in
-    let reading = rest.2 in
-    let goes : World → List ℕ × Done = λ w. records_text rules w rest.0 rest.1 in (
+    let reading = rest.2 in (
       said ∷ rest.0,
       rest.1,
       (
@@ -60,36 +61,104 @@ ended_text {World = World} rules before after world said octets more here own ta
         frames_in_order before after octets more (Some said) own reading.0 rest.1 takes reading.1,
         ap (λ records. said ∷ records) reading.2,
       ),
-      ap (λ (s : List ℕ × Option World). text_then s.0 s.1 goes) steps,
+      (here, [], None, sym (append-nil here), step, (refl, refl)),
     )
 
 -- So does a fault.
-pub broken_text : {World : Type 0} (rules : CaptureRules World) (before after : Reader) (world : World) (fault : Fault) (octets more : List ℕ)
+broken_text : {World : Type 0} (rules : CaptureRules World) (before after : Reader) (world : World) (fault : Fault) (octets more : List ℕ)
     → ComesNext before octets (Broken fault) after
     → IsTextFrom rules before world (octets ++ more) (rules.closes world (Some fault)) Ended
 broken_text rules before after world fault octets more next =
-    ([], Some fault, ([], faults_end before after octets more fault next, refl), refl)
+    ([], Some fault, ([], faults_end before after octets more fault next, refl), (refl, refl))
 
 -- And the end of the octets.
 pub last_text : {World : Type 0} (rules : CaptureRules World) (reader : Reader) (world : World) (octets : List ℕ) (ending : Option Fault)
     → EndsReading reader.format reader.at octets ending
     → IsTextFrom rules reader world octets (rules.closes world ending) (done_at ending)
-last_text rules reader world octets ending ends = ([], ending, ([], ends, refl), refl)
+last_text rules reader world octets ending ends = ([], ending, ([], ends, refl), (refl, refl))
 
--- Any octets have a text.
-pub some_text : {World : Type 0} (rules : CaptureRules World) (reader : Reader) (world : World) (octets : List ℕ)
+-- Any records have a text, from each sound world.
+pub records_some : {World : Type 0} (rules : CaptureRules World) → AnswersEachRecord rules
+    → (records : List Record) (ending : Option Fault) (world : World) → rules.is_sound world
+    → (text : List ℕ) × (done : Done) × IsTextOfRecords rules world records ending text done
+records_some rules total [] ending world sound = (rules.closes world ending, done_at ending, (refl, refl))
+records_some {World = World} rules total (said ∷ records) ending world sound =
+    let now = total.step world said sound in
+    let then = after (λ v is. records_some rules total records ending v is) now.0 now.1 now.2 in
+    (now.0 ++ then.0, then.1, (now.0, then.0, now.1, refl, now.2, then.2))
+  where
+    Behind : Type 0
+    Behind = (v : World) → rules.is_sound v → (more : List ℕ) × (done : Done) × IsTextOfRecords rules v records ending more done
+
+    after : Behind → (here : List ℕ) (next : Option World) → rules.steps world said here next
+        → (more : List ℕ) × (done : Done) × MatchOption next ((more ≡ []) × (done ≡ Ended)) (λ v. IsTextOfRecords rules v records ending more done)
+    after behind here None step = ([], Ended, (refl, refl))
+    after behind here (Some v) step = behind v (total.keeps world said here v sound step)
+
+-- So have any octets.
+pub some_text : {World : Type 0} (rules : CaptureRules World) → AnswersEachRecord rules
+    → (reader : Reader) (world : World) (octets : List ℕ) → rules.is_sound world
     → (text : List ℕ) × (done : Done) × IsTextFrom rules reader world octets text done
-some_text rules reader world octets =
+some_text rules total reader world octets sound =
     let reading = some_reading reader.format reader.count reader.at octets in
-    let told = records_text rules world reading.0 reading.1 in
-    (told.0, told.1, (reading.0, reading.1, reading.2, refl))
+    let told = records_some rules total reading.0 reading.1 world sound in
+    (told.0, told.1, (reading.0, reading.1, reading.2, told.2))
 
 -- A reader at the same place has the same texts.
-pub same_text : {World : Type 0} (rules : CaptureRules World) (reader reader' : Reader) (world world' : World)
-    → reader'.format ≡ reader.format → reader'.count ≡ reader.count → reader'.at ≡ reader.at → world' ≡ world
-    → (octets text : List ℕ) (done : Done) → IsTextFrom rules reader' world' octets text done → IsTextFrom rules reader world octets text done
-same_text {World = World} rules reader reader' world world' formats counts places worlds octets text done is =
-    subst (λ (w : World). IsRecordsText rules reader.format reader.count reader.at w octets text done) worlds
-    (subst (λ (n : ℕ). IsRecordsText rules reader.format reader.count n world' octets text done) places
-    (subst (λ (n : ℕ). IsRecordsText rules reader.format n reader'.at world' octets text done) counts
-    (subst (λ (f : Format). IsRecordsText rules f reader'.count reader'.at world' octets text done) formats is)))
+pub same_text : {World : Type 0} (rules : CaptureRules World) (reader reader' : Reader) (world : World)
+    → reader'.format ≡ reader.format → reader'.count ≡ reader.count → reader'.at ≡ reader.at
+    → (octets text : List ℕ) (done : Done) → IsTextFrom rules reader' world octets text done → IsTextFrom rules reader world octets text done
+same_text rules reader reader' world formats counts places octets text done is =
+    subst (λ (n : ℕ). IsRecordsText rules reader.format reader.count n world octets text done) places
+    (subst (λ (n : ℕ). IsRecordsText rules reader.format n reader'.at world octets text done) counts
+    (subst (λ (f : Format). IsRecordsText rules f reader'.count reader'.at world octets text done) formats is))
+
+-- A frame without a record is answered by no octets.
+pub passed_frame : {World : Type 0} (rules : CaptureRules World) (before after : Reader) (shown : World → Type 0) (octets old : List ℕ) (own : ℕ)
+    → TakesFrame before octets None own after
+    → OfEachShown rules shown (λ world. AnswersFrame rules before world octets own after shown old old)
+passed_frame rules before after shown octets old own takes = λ world sound is_shown.
+    record {
+      here = [];
+      next = world;
+      grew = sym (append-nil old);
+      sound = sound;
+      is_shown = is_shown;
+      completes = λ more text done rest. passed_text rules before after world octets more text own done takes rest;
+    }
+
+-- A record is answered as the follower answers it.
+pub taken_frame : {World : Type 0} (rules : CaptureRules World) → AnswersEachRecord rules
+    → (before after : Reader) (shown shown' : World → Type 0) (said : Record) (octets old new : List ℕ) (own : ℕ)
+    → TakesFrame before octets (Some said) own after → FollowsRecord rules shown said GoesOn shown' old new
+    → OfEachShown rules shown (λ world. AnswersFrame rules before world octets own after shown' old new)
+taken_frame rules total before after shown shown' said octets old new own takes follows = λ world sound is_shown.
+    let turns = follows.2 world sound is_shown in
+    record {
+      here = follows.0;
+      next = turns.0;
+      grew = follows.1;
+      sound = total.keeps world said follows.0 turns.0 sound turns.2;
+      is_shown = turns.1;
+      completes = λ more text done rest. taken_text rules before after world turns.0 said octets more follows.0 text own done takes turns.2 rest;
+    }
+
+pub ended_frame : {World : Type 0} (rules : CaptureRules World) (before after : Reader) (shown shown' : World → Type 0) (said : Record) (octets old new : List ℕ) (own : ℕ)
+    → TakesFrame before octets (Some said) own after → FollowsRecord rules shown said Ends shown' old new
+    → OfEachShown rules shown (λ world. AnswersLastFrame rules before world octets old new)
+ended_frame rules before after shown shown' said octets old new own takes follows = λ world sound is_shown.
+    record {
+      here = follows.0;
+      grew = follows.1;
+      ends = λ more. ended_text rules before after world said octets more follows.0 own takes (follows.2 world sound is_shown);
+    }
+
+pub broken_frame : {World : Type 0} (rules : CaptureRules World) (before after : Reader) (shown : World → Type 0) (fault : Fault) (octets old new : List ℕ)
+    → ComesNext before octets (Broken fault) after → ClosesCapture rules shown (Some fault) old new
+    → OfEachShown rules shown (λ world. AnswersLastFrame rules before world octets old new)
+broken_frame rules before after shown fault octets old new next closes = λ world sound is_shown.
+    record {
+      here = rules.closes world (Some fault);
+      grew = closes world sound is_shown;
+      ends = λ more. broken_text rules before after world fault octets more next;
+    }

@@ -1,9 +1,9 @@
 -- The text of the cells of a capture: a line of a script for each cell of a capture, and comments about the records that were passed over.
-use Rattle.std.specs.Prelude.{◌≡◌, ℕ, List, [], ◌++◌, codes, decimal, flat_map, Option, Some, None}
+use Rattle.std.specs.Prelude.{◌≡◌, ◌↔◌, ℕ, List, [], ◌++◌, codes, decimal, flat_map, Option, Some, None}
 use Rattle.hex.specs.Hex.{encode_lower}
 use Rattle.captures.specs.declared.fault.Fault.{Fault}
 use Rattle.captures.specs.declared.reader.Record.{Record}
-use Rattle.lab_captures.specs.CaptureText.{CaptureRules, IsCaptureText, RunsThrough, done_at, records_text}
+use Rattle.lab_captures.specs.CaptureText.{CaptureRules, IsCaptureText, IsTextOfRecords, RunsThrough, done_at, fixed_rules}
 use Rattle.lab_captures.specs.CellFilter.{CountedCell, FilterState, counted_cells, filter_record, filter_start}
 use Rattle.lab_captures.specs.RunLines.{closing_lines, several_line}
 use Rattle.lab_captures.specs.declared.filter.Filtered.{Filtered}
@@ -30,7 +30,7 @@ cells_closes state ending = closing_lines state.passed ending
 
 -- The rules of `cells`.
 abbrev pub cells_rules : CaptureRules FilterState
-cells_rules = record { steps = cells_steps; closes = cells_closes }
+cells_rules = fixed_rules cells_steps cells_closes
 
 -- The output for a whole file, and how the run ends, with a tick of this many nanoseconds and the interface that was asked for.
 abbrev pub IsCellsText : ℕ → Option ℕ → List ℕ → List ℕ → Done → Type 0
@@ -40,13 +40,14 @@ IsCellsText tick interface = IsCaptureText cells_rules (filter_start tick interf
 abbrev pub counted_lines : List CountedCell → List ℕ
 counted_lines cells = flat_map (λ counted. cell_line counted.moment counted.cell) cells
 
--- The text of a run that goes on to the end has the lines of the cells that count among the records, in order, and then the comments.
+-- The text of a run that goes on to the end has the lines of the cells that count among the records, in order, and then the comments, and the
+-- run has no other text.
 abbrev pub CellsAreWritten : Type 0
 CellsAreWritten = (tick : ℕ) (interface : Option ℕ) (records : List Record) (last : FilterState)
     → RunsThrough cells_rules (filter_start tick interface) records last
-    → (ending : Option Fault)
-    → records_text cells_rules (filter_start tick interface) records ending
-    ≡ (counted_lines (counted_cells (filter_start tick interface) records) ++ closing_lines last.passed ending, done_at ending)
+    → (ending : Option Fault) (text : List ℕ) (done : Done)
+    → IsTextOfRecords cells_rules (filter_start tick interface) records ending text done
+    ↔ ((text ≡ counted_lines (counted_cells (filter_start tick interface) records) ++ closing_lines last.passed ending) × (done ≡ done_at ending))
 
 -- A file has exactly one output.
 abbrev pub CapturesHaveOneCellsText : Type 0

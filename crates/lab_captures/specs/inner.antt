@@ -2,3 +2,4 @@
 pub mod Waiting
 pub mod Steps
 pub mod Progress
+pub mod FixedRules

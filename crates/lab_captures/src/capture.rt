@@ -4,6 +4,7 @@ ghost use Rattle.std.specs.Prelude.{◌≡◌, ◌≢◌, ◌≤◌, ◌++◌, L
 ghost use Rattle.captures.specs.Opening.{opening_of};
 ghost use Rattle.lab_captures.specs.CaptureFaults.{file_fault_line};
 ghost use Rattle.lab_captures.specs.CaptureText.{IsCaptureText, done_at as ends_at, short_ending as ends_short};
+ghost use Rattle.lab_captures.specs.Following.{OfEachShown};
 ghost use Rattle.text_io.specs.Devices.{IsPart, one_more};
 ghost use Rattle.text_io.specs.Failures.{write_failures};
 ghost use Rattle.text_io.specs.Serving.{IsServed};
@@ -74,10 +75,10 @@ fn close_short<O: Output, F: Follower>(
     octets: &[u8],
 ) -> Result<Done, RunFault>
     ensures done { IfOk result (λ done. done ≡ ends_at (ends_short octets.now)) }
-    ensures given { O.is_known → OnOk result (O.held output.new
-        ≡ O.held output.old ++ F.rules.closes (F.world follower.now) (ends_short octets.now)) }
-    ensures front { O.is_known → OnErr result (IsPart (O.held output.old) (O.held output.new)
-        (F.rules.closes (F.world follower.now) (ends_short octets.now))) }
+    ensures given { O.is_known → OnOk result (OfEachShown F.rules (F.shows follower.now) (λ world.
+        O.held output.new ≡ O.held output.old ++ F.rules.closes world (ends_short octets.now))) }
+    ensures front { O.is_known → OnErr result (OfEachShown F.rules (F.shows follower.now) (λ world.
+        IsPart (O.held output.old) (O.held output.new) (F.rules.closes world (ends_short octets.now)))) }
     ensures fault { result ≢ Err RunFault.ReadFailed }
     ensures writing { O.failures output.new ≡ write_failures result (O.failures output.old) }
 {
@@ -101,7 +102,8 @@ pub fn follow_capture<I: Input, O: Output, F: Follower>(
     output: &mut O,
     follower: &mut F,
 ) -> Result<Done, RunFault>
-    ensures { IsServed (IsCaptureText F.rules (F.world follower.old)) I.Input input.old input.new O.Output output.old output.new result }
+    ensures { OfEachShown F.rules (F.shows follower.old) (λ world.
+        IsServed (IsCaptureText F.rules world) I.Input input.old input.new O.Output output.old output.new result) }
 {
     let Ok(mut window) = Window::new(alloc) else {
         return Err(RunFault::NoMemory);

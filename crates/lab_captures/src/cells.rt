@@ -46,12 +46,14 @@ fn add_cell(answers: &mut Vec<u8>, moment: u64, cell: &Cell) -> Result<(), Alloc
 }
 
 impl Follower for Cells {
+    ghost use Rattle.std.specs.Prelude.{◌≡◌};
     ghost use Rattle.lab_captures.specs.CellFilter.{FilterState, filter_state};
-    ghost use Rattle.lab_captures.specs.CellsText.{cells_rules};
+    ghost use Rattle.lab_captures.specs.CellsText.{cells_closes, cells_rules, cells_steps};
+    ghost use Rattle.lab_captures.specs.inner.FixedRules.{fixed_total};
 
     ghost World = { FilterState };
 
-    ghost world = { λ cells. filter_state cells.filter };
+    ghost shows = { λ cells world. world ≡ filter_state cells.filter };
 
     ghost rules = { cells_rules };
 
@@ -73,6 +75,8 @@ impl Follower for Cells {
         let passed = self.filter.passed();
         add_closing(answers, &passed, ending)
     }
+
+    ghost is_total = { fixed_total cells_steps cells_closes };
 }
 
 /// Answers a capture by its cells, each as a line of a script for `upc run` or `upc ports`. Moments are whole ticks since the first record.

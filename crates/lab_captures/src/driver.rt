@@ -3,6 +3,7 @@
 ghost use Rattle.std.specs.Prelude.{◌≡◌, ◌≢◌, ◌+◌, ◌≤◌, ◌<◌, ◌++◌, List, ℕ, [], Ok, Err, length, take, IfOk, OnOk, OnErr};
 ghost use Rattle.captures.specs.Frames.{first_frame};
 ghost use Rattle.lab_captures.specs.CaptureText.{done_at as ends_at};
+ghost use Rattle.lab_captures.specs.Following.{OfEachShown};
 ghost use Rattle.lab_captures.specs.inner.Steps.{IsTextFrom};
 ghost use Rattle.lab_captures.specs.inner.Progress.{GivesFront, HasRead};
 ghost use Rattle.text_io.specs.Devices.{Adds, IsPart, one_more};
@@ -97,13 +98,14 @@ fn finish<O: Output, F: Follower>(
     answers: &mut Vec<u8>,
 ) -> Result<Done, RunFault>
     requires { first_frame reader.now.format reader.now.at octets.now ≡ None }
-    ensures given { O.is_known → IfOk result (λ done. (here : List ℕ)
+    ensures given { O.is_known → IfOk result (λ done. OfEachShown F.rules (F.shows follower.now) (λ world. (here : List ℕ)
         × (O.held output.new ≡ O.held output.old ++ (answers.old.items ++ here))
-        × IsTextFrom F.rules reader.now (F.world follower.now) octets.now here done) }
-    ensures front { O.is_known → OnErr result ((here : List ℕ) × (done : TheDone)
+        × IsTextFrom F.rules reader.now world octets.now here done)) }
+    ensures front { O.is_known → OnErr result (OfEachShown F.rules (F.shows follower.now) (λ world. (here : List ℕ) × (done : TheDone)
         × IsPart (O.held output.old) (O.held output.new) (answers.old.items ++ here)
-        × IsTextFrom F.rules reader.now (F.world follower.now) octets.now here done) }
-    ensures text { IfOk result (λ done. (here : List ℕ) × IsTextFrom F.rules reader.now (F.world follower.now) octets.now here done) }
+        × IsTextFrom F.rules reader.now world octets.now here done)) }
+    ensures text { IfOk result (λ done. OfEachShown F.rules (F.shows follower.now) (λ world.
+        (here : List ℕ) × IsTextFrom F.rules reader.now world octets.now here done)) }
     ensures fault { result ≢ Err RunFault.ReadFailed }
     ensures writing { O.failures output.new ≡ write_failures result (O.failures output.old) }
 {
@@ -125,14 +127,14 @@ pub(crate) fn follow_records<I: Input, O: Output, F: Follower>(
     mut reader: Reader,
 ) -> Result<Done, RunFault>
     requires { length window ≤ 131072 }
-    ensures text { I.is_known → O.is_known → IfOk result (λ done.
-        Adds (λ text. IsTextFrom F.rules reader (F.world follower.old) (window ++ I.rest input.old) text done)
-        (O.held output.old) (O.held output.new)) }
-    ensures front { I.is_known → O.is_known → OnErr result
-        (Adds (IsFront (IsTextFrom F.rules reader (F.world follower.old) (window ++ I.rest input.old)))
-        (O.held output.old) (O.held output.new)) }
-    ensures left { I.is_known → IfOk result
-        (HasRead (IsTextFrom F.rules reader (F.world follower.old)) window (I.rest input.old) (I.rest input.new)) }
+    ensures text { I.is_known → O.is_known → IfOk result (λ done. OfEachShown F.rules (F.shows follower.old) (λ first.
+        Adds (λ text. IsTextFrom F.rules reader first (window ++ I.rest input.old) text done)
+        (O.held output.old) (O.held output.new))) }
+    ensures front { I.is_known → O.is_known → OnErr result (OfEachShown F.rules (F.shows follower.old) (λ first.
+        Adds (IsFront (IsTextFrom F.rules reader first (window ++ I.rest input.old)))
+        (O.held output.old) (O.held output.new))) }
+    ensures left { I.is_known → IfOk result (λ done. OfEachShown F.rules (F.shows follower.old) (λ first.
+        HasRead (IsTextFrom F.rules reader first) window (I.rest input.old) (I.rest input.new) done)) }
     ensures whole { I.is_known → result ≡ Ok Done.Whole → I.rest input.new ≡ [] }
     ensures reading { I.failures input.new ≡ read_failures result (I.failures input.old) }
     ensures writing { O.failures output.new ≡ write_failures result (O.failures output.old) }

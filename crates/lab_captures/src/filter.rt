@@ -101,7 +101,7 @@ impl CellFilter {
         match &said.content {
             Err(why) => {
                 self.clock = Some(clock);
-                self.passed = self.passed.without_cell(*why, said.number);
+                self.passed.count(*why, said.number);
                 Filtered::Passed
             }
             Ok(cell) => self.read_cell(clock, said, cell),

@@ -1,8 +1,8 @@
 //! Programs that answer the records of a capture.
 
-ghost use Rattle.std.specs.Prelude.{◌≡◌, ◌++◌, IfOk, OnOk};
-ghost use Rattle.lab_captures.specs.CaptureText.{CaptureRules};
-ghost use Rattle.lab_captures.specs.Following.{FollowsRecord};
+ghost use Rattle.std.specs.Prelude.{IfOk, OnOk};
+ghost use Rattle.lab_captures.specs.CaptureText.{AnswersEachRecord, CaptureRules};
+ghost use Rattle.lab_captures.specs.Following.{ClosesCapture, FollowsRecord};
 ghost use Rattle.lab_captures.specs.inner.Steps.{StepsBy};
 
 use captures::{Fault, Next, Reader, Record};
@@ -10,21 +10,26 @@ use std::alloc::AllocError;
 use text_io::Turn;
 
 /// A program that gets one record after another and answers each.
+///
+/// Its rules say which answers are allowed, as steps from world to world. A follower doesn't have to store its world:
+/// it shows worlds, and its answer must be allowed from each of them.
 pub trait Follower {
     ghost World: { Type 0 };
 
-    ghost world: { Self → World };
+    ghost shows: { Self → World → Type 0 };
 
     ghost rules: { CaptureRules World };
 
     /// Appends the answer to a record to the answers.
     fn follow(&mut self, said: &Record, answers: &mut Vec<u8>) -> Result<Turn, AllocError>
         ensures { IfOk result (λ turn.
-            FollowsRecord rules (world self.old) said.now turn (world self.new) answers.old.items answers.new.items) };
+            FollowsRecord rules (shows self.old) said.now turn (shows self.new) answers.old.items answers.new.items) };
 
     /// Appends the answer to the end of the capture, or to its fault, to the answers.
     fn close(&self, ending: Option<Fault>, answers: &mut Vec<u8>) -> Result<(), AllocError>
-        ensures { OnOk result (answers.new.items ≡ answers.old.items ++ rules.closes (world self.now) ending) };
+        ensures { OnOk result (ClosesCapture rules (shows self.now) ending answers.old.items answers.new.items) };
+
+    ghost is_total: { AnswersEachRecord rules };
 }
 
 /// What became of the octets that come next.
@@ -45,8 +50,8 @@ pub(crate) fn step_by<F: Follower>(
     octets: &[u8],
     answers: &mut Vec<u8>,
 ) -> Result<Step, AllocError>
-    ensures { IfOk result (λ step. StepsBy F.rules reader.old (F.world follower.old) octets.now step
-        reader.new (F.world follower.new) answers.old.items answers.new.items) }
+    ensures { IfOk result (λ step. StepsBy F.rules reader.old (F.shows follower.old) octets.now step
+        reader.new (F.shows follower.new) answers.old.items answers.new.items) }
 {
     match reader.next(octets) {
         Next::Unfinished => Ok(Step::Wants),

@@ -1,11 +1,14 @@
 //! Records that were passed over.
 
 ghost use Rattle.std.specs.Prelude.{◌≡◌, ◌++◌, OnOk};
-ghost use Rattle.lab_captures.specs.PassedRecords.{no_tally, none_passed, passed_lines, one_more_record, tally_line, without_cell as with_one_more};
+ghost use Rattle.lab_captures.specs.PassedRecords.{first_passed, no_tally, none_passed, one_more_record, other_type_line, other_type_lines, passed_count, passed_lines, tally_line, with_other_type, without_cell};
 
 use captures::NoCell;
 use std::alloc::AllocError;
-use upc_words::{add_number, add_text};
+use upc_words::{add_number, add_numbered, add_text};
+
+/// The number of types of records.
+const TYPES: usize = 128;
 
 /// How many records were passed over for a reason.
 #[derive(Clone, Copy, PartialEq, Eq, Debug)]
@@ -38,8 +41,8 @@ impl Tally {
 /// The records that were passed over, by reason.
 #[derive(Clone, Copy, PartialEq, Eq, Debug)]
 pub struct PassedOver {
-    /// They are of a type that holds no cell.
-    pub other_type: Tally,
+    /// They are of a type that holds no cell: those of each type, at the place of its number.
+    pub other_types: [Tally; TYPES],
     /// They were received or stored with an error.
     pub errored: Tally,
     /// They have fewer than 52 octets of a cell.
@@ -57,7 +60,7 @@ impl PassedOver {
     {
         let none = Tally::none();
         PassedOver {
-            other_type: none,
+            other_types: [none; TYPES],
             errored: none,
             cut_short: none,
             back: none,
@@ -65,17 +68,43 @@ impl PassedOver {
         }
     }
 
-    /// Returns them with one record more, which holds no cell for this reason and has this number.
-    pub(crate) fn without_cell(mut self, why: NoCell, number: u64) -> PassedOver
-        ensures { result ≡ with_one_more self why number }
+    /// Counts one record more of this type, with this number.
+    fn count_type(&mut self, kind: u8, number: u64)
+        ensures { self.new ≡ record self.old { other_types = with_other_type self.old.other_types kind number } }
+    {
+        let place = usize::from(kind);
+        if place < TYPES {
+            self.other_types[place] = self.other_types[place].with(number);
+        }
+    }
+
+    /// Counts one record more, which holds no cell for this reason and has this number.
+    pub(crate) fn count(&mut self, why: NoCell, number: u64)
+        ensures { self.new ≡ without_cell self.old why number }
     {
         match why {
-            NoCell::OtherType(_) => self.other_type = self.other_type.with(number),
+            NoCell::OtherType(kind) => self.count_type(kind, number),
             NoCell::Errored => self.errored = self.errored.with(number),
             NoCell::CutShort(_) => self.cut_short = self.cut_short.with(number),
         }
-        self
     }
+}
+
+/// Appends how many records were passed over.
+#[tactic(auto, using(std::proofs::lemmas::List::append_assoc))]
+fn add_count(answers: &mut Vec<u8>, tally: Tally) -> Result<(), AllocError>
+    ensures { OnOk result (answers.new.items ≡ answers.old.items ++ passed_count tally) }
+{
+    add_text(answers, b"# ")?;
+    add_number(answers, tally.count)?;
+    add_text(answers, b" passed over: ")
+}
+
+/// Appends which record is the first of those that were passed over.
+fn add_first(answers: &mut Vec<u8>, tally: Tally) -> Result<(), AllocError>
+    ensures { OnOk result (answers.new.items ≡ answers.old.items ++ first_passed tally) }
+{
+    add_numbered(answers, b"; first record ", tally.first as usize)
 }
 
 /// Appends a comment about records that were passed over, if there are any.
@@ -86,13 +115,33 @@ fn add_tally(answers: &mut Vec<u8>, tally: Tally, why: &[u8]) -> Result<(), Allo
     if tally.count == 0 {
         return Ok(());
     }
-    add_text(answers, b"# ")?;
-    add_number(answers, tally.count)?;
-    add_text(answers, b" passed over: ")?;
+    add_count(answers, tally)?;
     add_text(answers, why)?;
-    add_text(answers, b"; first record ")?;
-    add_number(answers, tally.first)?;
-    answers.push(b'\n')?;
+    add_first(answers, tally)
+}
+
+/// Appends a comment about records of this type, if they were passed over.
+#[tactic(auto, using(std::proofs::lemmas::List::append_assoc))]
+fn add_other_type(answers: &mut Vec<u8>, tally: Tally, kind: usize) -> Result<(), AllocError>
+    ensures { OnOk result (answers.new.items ≡ answers.old.items ++ other_type_line kind tally) }
+{
+    if tally.count == 0 {
+        return Ok(());
+    }
+    add_count(answers, tally)?;
+    add_text(answers, b"type ")?;
+    add_number(answers, kind as u64)?;
+    add_text(answers, b", not ATM")?;
+    add_first(answers, tally)
+}
+
+/// Appends a comment for each type of records that were passed over, in order.
+fn add_other_types(answers: &mut Vec<u8>, tallies: &[Tally]) -> Result<(), AllocError>
+    ensures { OnOk result (answers.new.items ≡ answers.old.items ++ other_type_lines 0 tallies.now) }
+{
+    for (kind, tally) in tallies.iter().enumerate() {
+        add_other_type(answers, *tally, kind)?;
+    }
     Ok(())
 }
 
@@ -101,7 +150,7 @@ fn add_tally(answers: &mut Vec<u8>, tally: Tally, why: &[u8]) -> Result<(), Allo
 pub(crate) fn add_passed(answers: &mut Vec<u8>, passed: &PassedOver) -> Result<(), AllocError>
     ensures { OnOk result (answers.new.items ≡ answers.old.items ++ passed_lines passed.now) }
 {
-    add_tally(answers, passed.other_type, b"another type than ATM")?;
+    add_other_types(answers, &passed.other_types)?;
     add_tally(answers, passed.errored, b"received with an error")?;
     add_tally(answers, passed.cut_short, b"fewer than 52 octets of a cell")?;
     add_tally(

@@ -4,8 +4,10 @@ use Rattle.std.specs.Prelude.{MatchOption, length, nat_le, unwrap_or}
 use Rattle.std.proofs.lemmas.Option.{same_Some}
 use Rattle.captures.specs.declared.fault.Fault.{Fault}
 use Rattle.captures.specs.declared.reader.Record.{Record}
-use Rattle.lab_captures.specs.CaptureText.{RunsThrough, done_at, records_text, text_then}
+use Rattle.lab_captures.specs.CaptureText.{RunsThrough, done_at}
 use Rattle.lab_captures.specs.CellFilter.{CountedCell, FilterState, counted_cells, counted_then, filter_record, filter_start}
+use Rattle.lab_captures.specs.inner.FixedRules.{fixed_text, text_then}
+use Rattle.lab_captures.proofs.Public.{fixed_only}
 use Rattle.lab_captures.specs.declared.filter.Filtered.{Filtered}
 use Rattle.lab_captures.specs.declared.filter.Filtered.TheVariants.{Counts, Passed, Several}
 use Rattle.text_io.specs.declared.ending.Done.{Done}
@@ -14,7 +16,7 @@ use Rattle.upc_cell.specs.declared.side.Side.{Side}
 use Rattle.upc_cell.specs.declared.vc.Vc.{Vc}
 use Rattle.upc_cell.proofs.Public.{vc_same, vc_itself}
 use Rattle.lab_fit.specs.Fits.{fit_after, fit_in, fits_after, fits_from, is_in_64_bits, most_connections, no_cells, with_fit, with_checked_fit}
-use Rattle.lab_fit.specs.FitText.{FitWorld, fit_answer, fit_cell_answer, fit_closes, fit_rules, fit_start}
+use Rattle.lab_fit.specs.FitText.{FitWorld, fit_answer, fit_cell_answer, fit_closes, fit_rules, fit_start, fit_steps}
 use Rattle.lab_fit.specs.FitLaws.{FitsAreLeast, FitsAreWritten, IsFitOf, cells_of_vc}
 use Rattle.lab_fit.specs.declared.connection_fit.ConnectionFit.{ConnectionFit}
 use Rattle.lab_fit.specs.declared.fault.FitFault.{FitFault}
@@ -177,14 +179,13 @@ goes-on world (Several one other) after number next goes = absurd (let no : None
 run-fits : (world last : FitWorld) (records : List Record) → RunsThrough fit_rules world records last → (vc : Vc)
     → fit_in vc last.fits ≡ over world.increment vc (fit_in vc world.fits) (cells_of_vc world.side vc (counted_cells world.filter records))
 run-fits world last [] leads vc = ap (λ (w : FitWorld). fit_in vc w.fits) leads
-run-fits world last (said ∷ records) leads vc =
-    let next = leads.0 in
+run-fits world last (said ∷ records) (here, next, step, leads) vc =
     let read = filter_record world.filter said in
-    let goes = goes-on world read.0 read.1 said.number next leads.1 in
+    let goes = goes-on world read.0 read.1 said.number next (ap (λ (s : List ℕ × Option FitWorld). s.1) step) in
     let later = counted_cells read.1 records in
     let Rest : ℕ → Side → FilterState → Type 0 = λ increment side filter.
     fit_in vc last.fits ≡ over increment vc (fit_in vc next.fits) (cells_of_vc side vc (counted_cells filter records)) in
-    let rest : Rest next.increment next.side next.filter = run-fits next last records leads.2 vc in
+    let rest : Rest next.increment next.side next.filter = run-fits next last records leads vc in
     let same : Rest world.increment world.side read.1 =
     subst (λ (f : FilterState). Rest world.increment world.side f) goes.filter
     (subst (λ (s : Side). Rest world.increment s next.filter) goes.side
@@ -209,16 +210,18 @@ fits-are-least increment tick interface side records last leads vc =
 
 -- The text of a run.
 run-text : (world last : FitWorld) (records : List Record) → RunsThrough fit_rules world records last → (ending : Option Fault)
-    → records_text fit_rules world records ending ≡ (fit_closes last ending, done_at ending)
+    → fixed_text fit_steps fit_closes world records ending ≡ (fit_closes last ending, done_at ending)
 run-text world last [] leads ending = ap (λ (w : FitWorld). (fit_closes w ending, done_at ending)) (sym leads)
-run-text world last (said ∷ records) leads ending =
-    let next = leads.0 in
+run-text world last (said ∷ records) (here, next, step, leads) ending =
     let read = filter_record world.filter said in
-    let goes = goes-on world read.0 read.1 said.number next leads.1 in
-    let rest : FitWorld → List ℕ × Done = λ w. records_text fit_rules w records ending in
-    ap (λ (here : List ℕ). text_then here (fit_answer world read.0 read.1 said.number).1 rest) goes.silent
-    ∙ ap (λ (after : Option FitWorld). text_then [] after rest) leads.1
-    ∙ run-text next last records leads.2 ending
+    let on : (fit_answer world read.0 read.1 said.number).1 ≡ Some next = ap (λ (s : List ℕ × Option FitWorld). s.1) step in
+    let goes = goes-on world read.0 read.1 said.number next on in
+    let rest : FitWorld → List ℕ × Done = λ w. fixed_text fit_steps fit_closes w records ending in
+    ap (λ (text : List ℕ). text_then text (fit_answer world read.0 read.1 said.number).1 rest) goes.silent
+    ∙ ap (λ (after : Option FitWorld). text_then [] after rest) on
+    ∙ run-text next last records leads ending
 
 pub fits-are-written : FitsAreWritten
-fits-are-written increment tick interface side records last leads ending = run-text (fit_start increment tick interface side) last records leads ending
+fits-are-written increment tick interface side records last leads ending text done =
+    let start = fit_start increment tick interface side in
+    fixed_only fit_steps fit_closes records ending start (fit_closes last ending) text (done_at ending) done (run-text start last records leads ending)

@@ -5,7 +5,7 @@ use Rattle.std.specs.Map.{lookup}
 use Rattle.std.specs.Ordering.{nat_cmp}
 use Rattle.captures.specs.declared.fault.Fault.{Fault}
 use Rattle.captures.specs.declared.reader.Record.{Record}
-use Rattle.lab_captures.specs.CaptureText.{RunsThrough, done_at, records_text}
+use Rattle.lab_captures.specs.CaptureText.{IsTextOfRecords, RunsThrough, done_at}
 use Rattle.lab_captures.specs.CellFilter.{CountedCell, counted_cells, filter_start}
 use Rattle.leaky.specs.Bucket.{opening}
 use Rattle.leaky.specs.Bursts.{AllFill}
@@ -57,12 +57,13 @@ abbrev pub MomentsGoOn : Type 0
 MomentsGoOn = (tick : ℕ) (interface : Option ℕ) (side : Side) (records : List Record) (vc : Vc) → 0 < tick
     → GoesOn 0 (moments_counted (cells_of_vc side vc (counted_cells (filter_start tick interface) records)))
 
--- The text of such a run has the table of these states, and nothing before it.
+-- The text of such a run has the table of these states, and nothing before it, and the run has no other text.
 abbrev pub FitsAreWritten : Type 0
 FitsAreWritten = (increment tick : ℕ) (interface : Option ℕ) (side : Side) (records : List Record) (last : FitWorld)
     → RunsThrough fit_rules (fit_start increment tick interface side) records last
-    → (ending : Option Fault)
-    → records_text fit_rules (fit_start increment tick interface side) records ending ≡ (fit_closes last ending, done_at ending)
+    → (ending : Option Fault) (text : List ℕ) (done : Done)
+    → IsTextOfRecords fit_rules (fit_start increment tick interface side) records ending text done
+    ↔ ((text ≡ fit_closes last ending) × (done ≡ done_at ending))
 
 -- After such a run, the table has one line for each connection with cells, that of its state, and none for another. A channel has 16 bits.
 abbrev pub LinesAreOfConnections : Type 0

@@ -6,7 +6,7 @@ use Rattle.std.specs.Map.{values_of}
 use Rattle.std.specs.Ordering.{nat_cmp}
 use Rattle.captures.specs.declared.fault.Fault.{Fault}
 use Rattle.captures.specs.declared.reader.Record.{Record}
-use Rattle.lab_captures.specs.CaptureText.{CaptureRules, IsCaptureText}
+use Rattle.lab_captures.specs.CaptureText.{CaptureRules, IsCaptureText, fixed_rules}
 use Rattle.lab_captures.specs.CellFilter.{FilterState, filter_record, filter_start}
 use Rattle.lab_captures.specs.RunLines.{closing_lines, several_line}
 use Rattle.lab_captures.specs.declared.filter.Filtered.{Filtered}
@@ -89,7 +89,7 @@ fit_closes world ending = heading ++ (fit_lines world.fits ++ closing_lines worl
 
 -- The rules of `fit`.
 abbrev pub fit_rules : CaptureRules FitWorld
-fit_rules = record { steps = fit_steps; closes = fit_closes }
+fit_rules = fixed_rules fit_steps fit_closes
 
 -- The output for a whole file, and how the run ends, with this increment in ticks, a tick of this many nanoseconds, the interface that was
 -- asked for and this side.

@@ -73,12 +73,14 @@ impl FitRun {
 }
 
 impl Follower for FitRun {
-    ghost use Rattle.lab_fit.specs.FitText.{FitWorld, fit_rules};
+    ghost use Rattle.std.specs.Prelude.{◌≡◌};
+    ghost use Rattle.lab_captures.specs.inner.FixedRules.{fixed_total};
+    ghost use Rattle.lab_fit.specs.FitText.{FitWorld, fit_closes, fit_rules, fit_steps};
     ghost use Rattle.lab_fit.specs.inner.FitShown.{fit_world};
 
     ghost World = { FitWorld };
 
-    ghost world = { fit_world };
+    ghost shows = { λ run world. world ≡ fit_world run };
 
     ghost rules = { fit_rules };
 
@@ -99,6 +101,8 @@ impl Follower for FitRun {
         let passed = self.filter.passed();
         add_closing(answers, &passed, ending)
     }
+
+    ghost is_total = { fixed_total fit_steps fit_closes };
 }
 
 /// Answers a capture by the least limit of each of its connections, in ticks, under which all its cells conform to one bucket of this increment, in

@@ -1,9 +1,9 @@
 -- Each subcommand has an answer to every input.
 use Rattle.std.proofs.Common.{ℕ, List}
 use Rattle.text_io.specs.declared.ending.Done.{Done}
-use Rattle.lab_captures.proofs.Public.{some_capture_text, some_cells_text}
+use Rattle.lab_captures.proofs.Public.{fixed_total, some_capture_text, some_cells_text}
 use Rattle.lab_faults.proofs.Public.{some-explain_text}
-use Rattle.lab_fit.specs.FitText.{fit_rules, fit_start}
+use Rattle.lab_fit.specs.FitText.{fit_closes, fit_rules, fit_start, fit_steps}
 use Rattle.lab_police.proofs.Public.{some_police_text}
 use Rattle.lab_programs.proofs.Public.{some-list_text, some-trace_text}
 use Rattle.lab_rules.proofs.Public.{some-asm_text, some-rules_text, some-why_text}
@@ -28,4 +28,5 @@ some-asked_text (Plain subcommand) setup octets = some-lab_text subcommand octet
 some-asked_text (Cells options) setup octets = some_cells_text options.tick.nanoseconds options.interface octets
 some-asked_text (Police options) setup octets = some_police_text options.lines options.tick.nanoseconds options.interface setup octets
 some-asked_text (Fit options) setup octets =
-    some_capture_text fit_rules (fit_start options.increment options.tick.nanoseconds options.interface options.side) octets
+    some_capture_text fit_rules (fixed_total fit_steps fit_closes)
+    (fit_start options.increment options.tick.nanoseconds options.interface options.side) octets tt

@@ -1,7 +1,7 @@
 -- A run of `fit` as its state.
 use Rattle.std.specs.Prelude.{◌≡◌, ℕ, List, ◌++◌, Option}
 use Rattle.lab_captures.specs.CellFilter.{filter_state}
-use Rattle.lab_captures.specs.Following.{world_after}
+use Rattle.lab_captures.specs.inner.FixedRules.{world_after}
 use Rattle.text_io.specs.declared.machine.Turn.{Turn}
 use Rattle.lab_fit.specs.FitText.{FitWorld}
 use Rattle.lab_fit.specs.declared.fit.FitRun.{FitRun}

@@ -15,11 +15,11 @@ use Rattle.lab_captures.proofs.Progresses.{if_done, if_given, on_fault}
 use Rattle.lab_captures.proofs.capture.follow_capture.Goals as goal
 
 pub returns-in_default : goal.returns-in_default
-returns-in_default g c =
+returns-in_default g c = λ world sound is_shown.
     let f = g.F.Follower in
     record {
       text = λ ki ko. tt;
-      front = λ ki ko. no_front f.rules (f.world c.args.follower.now) (g.I.Input.rest c.args.input.now) (g.O.Output.held c.args.output.now);
+      front = λ ki ko. no_front f.rules g.met.F.Follower.is_total world (g.I.Input.rest c.args.input.now) (g.O.Output.held c.args.output.now) sound;
       left = λ ki. tt;
       whole = λ ki same. cc;
       reading = refl;
@@ -33,11 +33,11 @@ skip-requires g c =
     omega (arith, within, c.start.ensures)
 
 pub returns-in-Err : goal.returns-in-Err
-returns-in-Err g c =
+returns-in-Err g c = λ world sound is_shown.
     let f = g.F.Follower in
     record {
       text = λ ki ko. tt;
-      front = λ ki ko. no_front f.rules (f.world c.args.follower.now) (g.I.Input.rest c.args.input.now) (g.O.Output.held c.args.output.now);
+      front = λ ki ko. no_front f.rules g.met.F.Follower.is_total world (g.I.Input.rest c.args.input.now) (g.O.Output.held c.args.output.now) sound;
       left = λ ki. tt;
       whole = λ ki same. cc;
       reading = c.in-Err.ensures.failed;
@@ -45,9 +45,8 @@ returns-in-Err g c =
     }
 
 pub returns-in-Ok-Refused : goal.returns-in-Ok-Refused
-returns-in-Ok-Refused g c =
+returns-in-Ok-Refused g c = λ world sound is_shown.
     let f = g.F.Follower in
-    let world = f.world c.args.follower.now in
     let all = g.I.Input.rest c.args.input.now in
     let near = c.find_opening.new.window in
     let rest = g.I.Input.rest c.find_opening.new.input in
@@ -73,9 +72,8 @@ returns-in-Ok-Refused g c =
     }
 
 pub returns-in-Ok-Undecided : goal.returns-in-Ok-Undecided
-returns-in-Ok-Undecided g c =
+returns-in-Ok-Undecided g c = λ world sound is_shown.
     let f = g.F.Follower in
-    let world = f.world c.args.follower.now in
     let all = g.I.Input.rest c.args.input.now in
     let near = c.find_opening.new.window in
     let rest = g.I.Input.rest c.find_opening.new.input in
@@ -92,10 +90,11 @@ returns-in-Ok-Undecided g c =
     let short : IsText octets here done = short_text f.rules world octets is in
     let told : g.I.Input.is_known → IsText all here done = λ ki. subst (λ (xs : List ℕ). IsText xs here done) (sym (whole ki)) short in
     record {
-      text = λ ki ko. if_given c.close_short.result done _ _ c.close_short.ensures.done (c.close_short.ensures.given ko) (λ gives. (here, gives, told ki));
+      text = λ ki ko. if_given c.close_short.result done _ _ c.close_short.ensures.done (c.close_short.ensures.given ko)
+          (λ gives. (here, gives world sound is_shown, told ki));
       front = λ ki ko.
           on_fault c.close_short.result _ _ (c.close_short.ensures.front ko)
-          (λ part. a_front (IsText all) (g.O.Output.held c.args.output.now) (g.O.Output.held c.close_short.new.output) here done (told ki) part);
+          (λ part. a_front (IsText all) (g.O.Output.held c.args.output.now) (g.O.Output.held c.close_short.new.output) here done (told ki) (part world sound is_shown));
       left = λ ki.
           if_done c.close_short.result done _ c.close_short.ensures.done
           (all_needed IsText all octets rest here done (whole ki ∙ sym (append-nil octets) ∙ ap (λ xs. octets ++ xs) (sym (at_end ki))) short);
@@ -105,9 +104,8 @@ returns-in-Ok-Undecided g c =
     }
 
 pub returns-in-Ok-Opened : goal.returns-in-Ok-Opened
-returns-in-Ok-Opened g c =
+returns-in-Ok-Opened g c = λ world sound is_shown.
     let f = g.F.Follower in
-    let world = f.world c.args.follower.now in
     let all = g.I.Input.rest c.args.input.now in
     let near = c.find_opening.new.window in
     let rest = g.I.Input.rest c.find_opening.new.input in
@@ -121,7 +119,8 @@ returns-in-Ok-Opened g c =
     record {
       text = λ ki ko.
           IfOk-weaker c.follow_records.result _ _
-          (λ done adds. (
+          (λ done each.
+          let adds = each world sound is_shown in (
             adds.0,
             adds.1,
             subst (λ (xs : List ℕ). IsText xs adds.0 done) (sym (c.in-Ok-Opened.ensures.octets ki))
@@ -130,7 +129,8 @@ returns-in-Ok-Opened g c =
           (c.follow_records.ensures.text ki ko);
       front = λ ki ko.
           on_fault c.follow_records.result _ _ (c.follow_records.ensures.front ki ko)
-          (λ front. (
+          (λ each.
+          let front = each world sound is_shown in (
             front.0,
             front.1,
             (
@@ -142,8 +142,8 @@ returns-in-Ok-Opened g c =
           ));
       left = λ ki.
           IfOk-weaker c.follow_records.result _ _
-          (λ done read. opened_enough f.rules world reader format all near later rest (g.I.Input.rest c.follow_records.new.input) done
-          is made.format made.count made.at dropped (c.in-Ok-Opened.ensures.octets ki) read)
+          (λ done each. opened_enough f.rules world reader format all near later rest (g.I.Input.rest c.follow_records.new.input) done
+          is made.format made.count made.at dropped (c.in-Ok-Opened.ensures.octets ki) (each world sound is_shown))
           (c.follow_records.ensures.left ki);
       whole = c.follow_records.ensures.whole;
       reading = c.follow_records.ensures.reading ∙ ap (read_failures c.follow_records.result) c.in-Ok-Opened.ensures.calm;

@@ -1,7 +1,7 @@
--- A run that could not begin read and wrote nothing.
-use Rattle.std.proofs.Common.{refl}
-use Rattle.lab_captures.proofs.Public.{no_front}
-use Rattle.lab_fit.specs.FitText.{fit_rules, fit_start}
+-- A run shows the state at first. One that could not begin read and wrote nothing.
+use Rattle.std.proofs.Common.{refl, sym}
+use Rattle.lab_captures.proofs.Public.{fixed_total, no_front}
+use Rattle.lab_fit.specs.FitText.{fit_closes, fit_rules, fit_start, fit_steps}
 use Rattle.lab_fit.proofs.fit.fit_capture.Goals as goal
 
 pub returns-in_default : goal.returns-in_default
@@ -9,10 +9,13 @@ returns-in_default g c =
     record {
       text = λ ki ko. tt;
       front = λ ki ko.
-          no_front fit_rules (fit_start c.args.increment c.args.tick.nanoseconds c.args.interface c.args.side) (g.I.Input.rest c.args.input.now)
-          (g.O.Output.held c.args.output.now);
+          no_front fit_rules (fixed_total fit_steps fit_closes) (fit_start c.args.increment c.args.tick.nanoseconds c.args.interface c.args.side)
+          (g.I.Input.rest c.args.input.now) (g.O.Output.held c.args.output.now) tt;
       left = λ ki. tt;
       whole = λ ki same. cc;
       reading = refl;
       writing = refl;
     }
+
+pub returns : goal.returns
+returns g c = c.follow_capture.ensures (fit_start c.args.increment c.args.tick.nanoseconds c.args.interface c.args.side) tt (sym c.in-Some.ensures)

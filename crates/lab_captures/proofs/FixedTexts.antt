@@ -1,0 +1,79 @@
+-- By fixed rules, records have one text.
+use Rattle.std.proofs.Common.{◌≡◌, ℕ, List, [], ◌∷◌, ◌++◌, Option, Some, None, refl, sym, ap, ap₂, ◌∙◌, subst, append-nil}
+use Rattle.std.specs.Option.{MatchOption}
+use Rattle.std.specs.Prelude.{◌↔◌}
+use Rattle.captures.specs.declared.fault.Fault.{Fault}
+use Rattle.captures.specs.declared.reader.Record.{Record}
+use Rattle.lab_captures.specs.CaptureText.{IsTextOfRecords, fixed_rules}
+use Rattle.lab_captures.specs.Following.{ClosesCapture, FollowsRecord, TurnsAtRecord}
+use Rattle.lab_captures.specs.inner.FixedRules.{FollowsSteps, fixed_text, fixed_total, text_then, world_after}
+use Rattle.lab_captures.proofs.Texts.{records_some}
+use Rattle.text_io.specs.declared.ending.Done.{Done}
+use Rattle.text_io.specs.declared.ending.Done.TheVariants.{Ended}
+use Rattle.text_io.specs.declared.machine.Turn.{Turn}
+use Rattle.text_io.specs.declared.machine.Turn.TheVariants.{GoesOn, Ends}
+
+-- A text of records is that one.
+pub fixed_is : {World : Type 0} (steps : World → Record → List ℕ × Option World) (closes : World → Option Fault → List ℕ)
+    (records : List Record) (ending : Option Fault) (world : World) (text : List ℕ) (done : Done)
+    → IsTextOfRecords (fixed_rules steps closes) world records ending text done → fixed_text steps closes world records ending ≡ (text, done)
+fixed_is steps closes [] ending world text done told = ap₂ (λ (t : List ℕ) (d : Done). (t, d)) (sym told.0) (sym told.1)
+fixed_is {World = World} steps closes (said ∷ records) ending world text done (here, more, next, is, step, rest) =
+    ap (λ (s : List ℕ × Option World). text_then s.0 s.1 goes) step
+    ∙ then (λ v told. fixed_is steps closes records ending v more done told) next rest
+  where
+    goes : World → List ℕ × Done
+    goes = λ w. fixed_text steps closes w records ending
+
+    Later : World → Type 0
+    Later = λ v. IsTextOfRecords (fixed_rules steps closes) v records ending more done
+
+    then : ((v : World) → Later v → goes v ≡ (more, done)) → (after : Option World) → MatchOption after ((more ≡ []) × (done ≡ Ended)) Later
+        → text_then here after goes ≡ (text, done)
+    then behind None (none, ended) =
+        ap₂ (λ (t : List ℕ) (d : Done). (t, d)) (sym (is ∙ ap (λ xs. here ++ xs) none ∙ append-nil here)) (sym ended)
+    then behind (Some v) told =
+        ap (λ (r : List ℕ × Done). (here ++ r.0, r.1)) (behind v told) ∙ ap (λ (t : List ℕ). (t, done)) (sym is)
+
+-- So records have exactly one text.
+pub fixed_only : {World : Type 0} (steps : World → Record → List ℕ × Option World) (closes : World → Option Fault → List ℕ)
+    (records : List Record) (ending : Option Fault) (world : World) (whole text : List ℕ) (end done : Done)
+    → fixed_text steps closes world records ending ≡ (whole, end)
+    → IsTextOfRecords (fixed_rules steps closes) world records ending text done ↔ ((text ≡ whole) × (done ≡ end))
+fixed_only {World = World} steps closes records ending world whole text end done is = (
+  λ told.
+      let same : (text, done) ≡ (whole, end) = sym (fixed_is steps closes records ending world text done told) ∙ is in
+      (ap (λ (p : List ℕ × Done). p.0) same, ap (λ (p : List ℕ × Done). p.1) same),
+  λ alike.
+      let some = records_some (fixed_rules steps closes) (fixed_total steps closes) records ending world tt in
+      let same : (some.0, some.1) ≡ (text, done) =
+      sym (fixed_is steps closes records ending world some.0 some.1 some.2) ∙ is
+      ∙ ap₂ (λ (t : List ℕ) (d : Done). (t, d)) (sym alike.0) (sym alike.1)
+      in
+      subst (λ (p : List ℕ × Done). IsTextOfRecords (fixed_rules steps closes) world records ending p.0 p.1) same some.2,
+)
+
+turns_fixed : {World : Type 0} (steps : World → Record → List ℕ × Option World) (closes : World → Option Fault → List ℕ)
+    (before after : World) (said : Record) (turn : Turn) (here : List ℕ) → steps before said ≡ (here, world_after turn after)
+    → TurnsAtRecord (fixed_rules steps closes) before said here turn (λ w. w ≡ after)
+turns_fixed steps closes before after said GoesOn here step = (after, refl, step)
+turns_fixed steps closes before after said Ends here step = step
+
+-- A follower that shows one world answers a record by the steps.
+pub follows_fixed : {World : Type 0} (steps : World → Record → List ℕ × Option World) (closes : World → Option Fault → List ℕ)
+    (before after : World) (said : Record) (turn : Turn) (old new : List ℕ) → FollowsSteps steps before said turn after old new
+    → FollowsRecord (fixed_rules steps closes) (λ w. w ≡ before) said turn (λ w. w ≡ after) old new
+follows_fixed {World = World} steps closes before after said turn old new follows = (
+  follows.0,
+  follows.1,
+  λ world sound is.
+      subst (λ (w : World). TurnsAtRecord (fixed_rules steps closes) w said follows.0 turn (λ v. v ≡ after)) (sym is)
+      (turns_fixed steps closes before after said turn follows.0 follows.2),
+)
+
+-- And the end of a capture.
+pub closes_fixed : {World : Type 0} (steps : World → Record → List ℕ × Option World) (closes : World → Option Fault → List ℕ)
+    (shown : World) (ending : Option Fault) (old new : List ℕ) → new ≡ old ++ closes shown ending
+    → ClosesCapture (fixed_rules steps closes) (λ w. w ≡ shown) ending old new
+closes_fixed {World = World} steps closes shown ending old new grew = λ world sound is.
+    grew ∙ ap (λ (w : World). old ++ closes w ending) (sym is)

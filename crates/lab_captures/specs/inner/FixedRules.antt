@@ -1,0 +1,40 @@
+-- Rules by which each record has one answer in each world. The law is in `specs/` because implementations of `Follower` cite it.
+use Rattle.std.proofs.Common.{refl}
+use Rattle.std.specs.Prelude.{◌≡◌, ℕ, List, [], ◌∷◌, ◌++◌, Option, Some, None}
+use Rattle.captures.specs.declared.fault.Fault.{Fault}
+use Rattle.captures.specs.declared.reader.Record.{Record}
+use Rattle.lab_captures.specs.CaptureText.{AnswersEachRecord, done_at, fixed_rules}
+use Rattle.text_io.specs.declared.ending.Done.{Done}
+use Rattle.text_io.specs.declared.ending.Done.TheVariants.{Ended}
+use Rattle.text_io.specs.declared.machine.Turn.{Turn}
+use Rattle.text_io.specs.declared.machine.Turn.TheVariants.{GoesOn, Ends}
+
+-- Each record has an answer.
+pub fixed_total : {World : Type 0} (steps : World → Record → List ℕ × Option World) (closes : World → Option Fault → List ℕ)
+    → AnswersEachRecord (fixed_rules steps closes)
+fixed_total steps closes = record {
+  keeps = λ before said here after sound step. tt;
+  step = λ before said sound. ((steps before said).0, (steps before said).1, refl);
+}
+
+-- The next world after a record, if the run goes on.
+abbrev pub world_after : {World : Type 0} → Turn → World → Option World
+world_after GoesOn after = Some after
+world_after Ends after = None
+
+-- The answers grew by the text that answers a record by these steps, from the one world, and the other is the next.
+abbrev pub FollowsSteps : {World : Type 0} → (World → Record → List ℕ × Option World) → World → Record → Turn → World → List ℕ → List ℕ → Type 0
+FollowsSteps steps before said turn after old new =
+    (here : List ℕ) × (new ≡ old ++ here) × (steps before said ≡ (here, world_after turn after))
+
+-- The text after this one, if there is a next world.
+abbrev pub text_then : {World : Type 0} → List ℕ → Option World → (World → List ℕ × Done) → List ℕ × Done
+text_then here None goes = (here, Ended)
+text_then here (Some next) goes = (here ++ (goes next).0, (goes next).1)
+
+-- The text that answers these records in order by these steps, and then the end, and how the run ends.
+abbrev pub fixed_text : {World : Type 0} → (World → Record → List ℕ × Option World) → (World → Option Fault → List ℕ) → World → List Record
+    → Option Fault → List ℕ × Done
+fixed_text steps closes world [] ending = (closes world ending, done_at ending)
+fixed_text steps closes world (said ∷ records) ending =
+    text_then (steps world said).0 (steps world said).1 (λ next. fixed_text steps closes next records ending)

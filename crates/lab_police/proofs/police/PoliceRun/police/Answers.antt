@@ -1,0 +1,35 @@
+use Rattle.std.proofs.Common.{◌∙◌, Option, Result, Bool, ap, option_map, subst}
+use Rattle.card_core.specs.Sections.{answer_to}
+use Rattle.card_core.specs.declared.answer.Judgement.{Judgement}
+use Rattle.card_core.specs.declared.answer.Unjudged.{Unjudged}
+use Rattle.card_core.specs.declared.shape.Shape.{Shape}
+use Rattle.upc_cell.specs.Connection.{vc_of}
+use Rattle.lab_police.specs.inner.CardArrival.{ArrivesWithRoom}
+use Rattle.lab_police.specs.inner.PoliceShown.{AddsCell}
+use Rattle.lab_police.proofs.PoliceLemmas.{polices_by, polices_never}
+use Rattle.lab_police.proofs.police.PoliceRun.police.Goals as goal
+
+pub returns-in_default-clause-policed : goal.returns-in_default-clause-policed
+returns-in_default-clause-policed c =
+    let cell = c.args.cell.now in
+    let run = c.args.self.now in
+    let core = c.arrive_with_room.new.core in
+    polices_never run (record run { core = core }) core c.args.number c.args.moment cell c.args.answers.now.items
+    (subst (λ (o : Option (Result Judgement Unjudged)). ArrivesWithRoom run.core cell c.args.moment (option_map (λ told. answer_to cell told) o) core)
+    c.in_default.is c.in_ok-told.ensures)
+
+pub returns-clause-policed : goal.returns-clause-policed
+returns-clause-policed c =
+    let cell = c.args.cell.now in
+    let run = c.args.self.now in
+    let core = c.arrive_with_room.new.core in
+    let given = answer_to cell c.in-Some.told in
+    polices_by run core given c.line_state-state.result c.vc_at-vc.result c.args.number c.args.moment cell c.in_ok-self.field-0 c.count.new.self
+    c.args.answers.now.items c.add_cell.new.answers.items
+    (subst (λ (o : Option (Result Judgement Unjudged)). ArrivesWithRoom run.core cell c.args.moment (option_map (λ told. answer_to cell told) o) core)
+    c.in-Some.is c.in_ok-told.ensures)
+    (c.vc_at-vc.ensures.connection ∙ ap (λ (shape : Shape). vc_of shape.side cell) c.shape.ensures)
+    c.line_state-state.ensures.state
+    (subst (λ (clp : Bool). AddsCell run.lines run.begun c.args.number c.args.moment c.vc_at-vc.result clp given c.line_state-state.result
+    c.args.answers.now.items c.add_cell.new.answers.items c.in_ok-self.field-0) c.clp.ensures.test (c.in_ok-self.ensures cell))
+    (c.count.ensures cell)

@@ -1,0 +1,59 @@
+-- The text of `police` is that of the script's faults, or that of the capture.
+use Rattle.std.proofs.Common.{◌≡◌, List, ℕ, [], inl, inr, refl, subst}
+use Rattle.lab_captures.proofs.CaptureTexts.{a_front, all_needed, not_read}
+use Rattle.lab_captures.proofs.Progresses.{if_done, if_given, on_fault}
+use Rattle.text_io.proofs.DriverLemmas.{at-result}
+use Rattle.text_io.proofs.Public.{nothing-begins}
+use Rattle.text_io.specs.declared.ending.Done.TheVariants.{Ended, Whole}
+use Rattle.lab_captures.specs.CaptureText.{IsCaptureText}
+use Rattle.lab_police.specs.PoliceText.{IsPoliceText, police_rules, police_start}
+use Rattle.lab_police.specs.declared.setting_up.SetUp.{SetUp}
+use Rattle.lab_police.specs.inner.SetUpCard.{LeadsScriptTo, IsSetUpAs}
+use Rattle.lab_police.proofs.PoliceLemmas.{served_as}
+use Rattle.lab_police.proofs.Public.{some_police_text}
+use Rattle.lab_police.proofs.police.police_capture.Goals as goal
+
+pub returns-in-Err : goal.returns-in-Err
+returns-in-Err g c = record {
+  text = λ ki ko. tt;
+  front = λ ki ko.
+      nothing-begins (IsPoliceText c.args.lines c.args.tick.nanoseconds c.args.interface c.args.setup.now (g.I.Input.rest c.args.input.now))
+      (g.O.Output.held c.args.output.now)
+      (some_police_text c.args.lines c.args.tick.nanoseconds c.args.interface c.args.setup.now (g.I.Input.rest c.args.input.now));
+  left = λ ki. tt;
+  whole = λ ki same. cc;
+  reading = refl;
+  writing = refl;
+}
+
+pub returns-in-Ok-Faulty : goal.returns-in-Ok-Faulty
+returns-in-Ok-Faulty g c =
+    let all = g.I.Input.rest c.args.input.now in
+    let line = c.in-Ok-Faulty.text.items in
+    let IsText = IsPoliceText c.args.lines c.args.tick.nanoseconds c.args.interface c.args.setup.now in
+    let told : (octets : List ℕ) → IsText octets line Ended = λ octets.
+    inl (subst (λ (s : SetUp). LeadsScriptTo c.args.setup.now s) c.in-Ok-Faulty.field-0-is c.in-Ok-Faulty.ensures, refl) in
+    record {
+      text = λ ki ko.
+          if_given c.write_faults.result Ended _ _ c.write_faults.ensures.done (c.write_faults.ensures.given ko) (λ gives. (line, gives, told all));
+      front = λ ki ko.
+          on_fault c.write_faults.result _ _ (c.write_faults.ensures.front ko)
+          (λ part. a_front (IsText all) (g.O.Output.held c.args.output.now) (g.O.Output.held c.write_faults.new.output) line Ended (told all) part);
+      left = λ ki. if_done c.write_faults.result Ended _ c.write_faults.ensures.done (all_needed IsText all [] all line Ended refl (told []));
+      whole = λ ki same. let bad : Whole ≡ Ended = at-result c.write_faults.result (λ done. done ≡ Ended) Whole same c.write_faults.ensures.done in cc;
+      reading = not_read c.write_faults.result _ _ c.write_faults.ensures.fault refl;
+      writing = c.write_faults.ensures.writing;
+    }
+
+pub returns-in-Ok-Ready : goal.returns-in-Ok-Ready
+returns-in-Ok-Ready g c =
+    let set : IsSetUpAs c.args.setup.now c.in-Ok-Ready.core =
+    subst (λ (s : SetUp). LeadsScriptTo c.args.setup.now s) c.in-Ok-Ready.field-0-is c.in-Ok-Ready.ensures in
+    let world = police_start c.args.lines c.args.tick.nanoseconds c.args.interface set.card in
+    served_as g.I.Input g.O.Output c.args.input.now c.follow_capture.new.input c.args.output.now c.follow_capture.new.output c.follow_capture.result
+    (IsCaptureText police_rules world) (IsPoliceText c.args.lines c.args.tick.nanoseconds c.args.interface c.args.setup.now)
+    (λ octets text done told. inr (set.card, set.reached, told))
+    (c.follow_capture.ensures world set.led (record {
+      filter = c.new.ensures;
+      rest = record { lines = refl; agrees = set.agrees; begun = refl; not_judged = c.none.ensures };
+    }))

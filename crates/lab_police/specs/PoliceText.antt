@@ -1,0 +1,130 @@
+-- The text of `police`. A script sets up a card, as `upc run` does; its faults are explained, and then nothing is policed. Otherwise the card
+-- judges the cells of a capture, at port 0 and in order.
+use Rattle.std.specs.Prelude.{◌≡◌, ◌≢◌, ◌⊎◌, ℕ, ◌||◌, Bool, false, if◌then◌else◌, List, [], ◌++◌, codes, Option, Some, None}
+use Rattle.captures.specs.declared.fault.Fault.{Fault}
+use Rattle.captures.specs.declared.reader.Record.{Record}
+use Rattle.card_core.specs.declared.answer.Answer.{Answer}
+use Rattle.card_core.specs.declared.answer.Answer.TheVariants.{JournalFull}
+use Rattle.card_core.specs.declared.step.Step.TheVariants.{Cut}
+use Rattle.lab_captures.specs.CaptureText.{CaptureRules, IsCaptureText}
+use Rattle.lab_captures.specs.CellFilter.{FilterState, filter_record, filter_start}
+use Rattle.lab_captures.specs.RunLines.{closing_lines, several_line}
+use Rattle.lab_captures.specs.declared.cell_lines.CellLines.{CellLines}
+use Rattle.lab_captures.specs.declared.filter.Filtered.{Filtered}
+use Rattle.lab_captures.specs.declared.filter.Filtered.TheVariants.{Counts, Passed, Several}
+use Rattle.lab_scripts.specs.ScriptText.{IsScriptExplained}
+use Rattle.text_io.specs.Lines.{lines_of}
+use Rattle.text_io.specs.Printing.{EndsAt}
+use Rattle.text_io.specs.declared.ending.Done.{Done}
+use Rattle.text_io.specs.declared.ending.Done.TheVariants.{Whole, Ended}
+use Rattle.upc_cell.specs.Connection.{vc_of}
+use Rattle.upc_cell.specs.Header.{has_low_priority}
+use Rattle.upc_cell.specs.declared.vc.Vc.{Vc}
+use Rattle.upc_run.specs.RunText.{Arrives, Card, IsLed, TakesCommand, run_rules}
+use Rattle.upc_script.specs.ScriptCommands.{cut}
+use Rattle.lab_police.specs.ConnectionCounts.{counts_heading, counts_lines}
+use Rattle.lab_police.specs.NotJudgedCells.{all_judged, not_judged_after, not_judged_lines}
+use Rattle.lab_police.specs.PoliceLines.{excess_of_answer, has_line, police_line, verdict_heading}
+use Rattle.lab_police.specs.declared.not_judged.NotJudged.{NotJudged}
+
+-- The state of a run: which cells have lines, the state of the filter, the card, whether the heading of the lines was written, and the cells
+-- that were not judged.
+pub record PoliceWorld : Type 0 where
+  pub lines : CellLines
+  pub filter : FilterState
+  pub card : Card
+  pub begun : Bool
+  pub not_judged : NotJudged
+
+-- The state at first, with a tick of this many nanoseconds and the interface that was asked for.
+abbrev pub police_start : CellLines → ℕ → Option ℕ → Card → PoliceWorld
+police_start lines tick interface card =
+    record { lines = lines; filter = filter_start tick interface; card = card; begun = false; not_judged = all_judged }
+
+-- The connection that the cell's header names, read at the card's side.
+abbrev pub connection_of_cell : Card → List ℕ → Vc
+connection_of_cell card cell = vc_of card.world.shape.side cell
+
+-- The cell arrives at the card, with this answer.
+pub record TakesCell (before : Card) (cell : List ℕ) (moment : ℕ) (given : Answer) (after : Card) : Type 0 where
+  pub arrived : Arrives before.world cell moment given after.world
+  pub same : after.names ≡ before.names
+
+-- The journal of the cell's connection was full, so the connection was cut, and then the cell arrived once more.
+pub record TakesCellAfterCut (before : Card) (cell : List ℕ) (moment : ℕ) (given : Answer) (after : Card) : Type 0 where
+  pub full : Card
+  pub refused : TakesCell before cell moment JournalFull full
+  pub line : List ℕ
+  pub emptied : Card
+  pub cuts : TakesCommand full (cut (connection_of_cell before cell)) (Cut (connection_of_cell before cell)) line emptied
+  pub taken : TakesCell emptied cell moment given after
+
+-- The cell arrives, and once more after a cut if its connection's journal is full.
+abbrev pub TakesCellWithRoom : Card → List ℕ → ℕ → Answer → Card → Type 0
+TakesCellWithRoom before cell moment given after =
+    ((given ≢ JournalFull) × TakesCell before cell moment given after) ⊎ TakesCellAfterCut before cell moment given after
+
+-- The text for a cell with this answer: its line, and before the first line the heading.
+abbrev pub policed_text : PoliceWorld → ℕ → ℕ → List ℕ → Answer → List ℕ
+policed_text before number moment cell given =
+    if has_line before.lines given
+    then (if before.begun then [] else verdict_heading)
+    ++ police_line number moment (connection_of_cell before.card cell) (has_low_priority cell) given
+    (excess_of_answer before.card.world (connection_of_cell before.card cell) (has_low_priority cell) given)
+    else []
+
+-- The state after a cell with this answer.
+abbrev pub after_cell : PoliceWorld → FilterState → ℕ → Answer → Card → PoliceWorld
+after_cell before filter number given card = record before {
+  filter = filter;
+  card = card;
+  begun = before.begun || has_line before.lines given;
+  not_judged = not_judged_after before.not_judged number given;
+}
+
+-- A cell that counts is policed.
+pub record PolicesCounted (before : PoliceWorld) (filter : FilterState) (number moment : ℕ) (cell text : List ℕ) (next : Option PoliceWorld) : Type 0 where
+  pub given : Answer
+  pub card : Card
+  pub taken : TakesCellWithRoom before.card cell moment given card
+  pub told : text ≡ policed_text before number moment cell given
+  pub after : next ≡ Some (after_cell before filter number given card)
+
+-- The answer to a record with this number that is this, after which this is the state of the filter.
+abbrev pub PolicesFiltered : PoliceWorld → Filtered → FilterState → ℕ → List ℕ → Option PoliceWorld → Type 0
+PolicesFiltered before (Counts moment cell) filter number text next = PolicesCounted before filter number moment cell text next
+PolicesFiltered before Passed filter number text next = (text ≡ []) × (next ≡ Some (record before { filter = filter }))
+PolicesFiltered before (Several one other) filter number text next = (text ≡ several_line one other) × (next ≡ None)
+
+-- The answer to a record.
+abbrev pub PolicesRecord : PoliceWorld → Record → List ℕ → Option PoliceWorld → Type 0
+PolicesRecord before said text next =
+    PolicesFiltered before (filter_record before.filter said).0 (filter_record before.filter said).1 said.number text next
+
+-- An empty line, if there are lines before it.
+abbrev pub police_gap : Bool → List ℕ
+police_gap begun = if begun then codes "\n" else []
+
+-- The text at the end: an empty line after the lines about cells, if there are any; the table of the connections; the comments; and the
+-- fault at which the reading ended.
+abbrev pub police_closes : PoliceWorld → Option Fault → List ℕ
+police_closes world ending =
+    police_gap world.begun ++ (counts_heading ++ (counts_lines world.card.world
+    ++ (not_judged_lines world.not_judged ++ closing_lines world.filter.passed ending)))
+
+-- The rules of `police`.
+abbrev pub police_rules : CaptureRules PoliceWorld
+police_rules = record { steps = PolicesRecord; closes = police_closes; is_sound = λ world. IsLed world.card }
+
+-- A script without a fault, which leads to this card.
+pub record IsSetUpBy (script : List ℕ) (card : Card) : Type 0 where
+  pub explanation : List ℕ
+  pub faultless : IsScriptExplained script explanation Whole
+  pub answers : List ℕ
+  pub reached : EndsAt run_rules 0 None (lines_of script) answers (Some card)
+
+-- The text for a setup script and a whole capture, and how the run ends.
+abbrev pub IsPoliceText : CellLines → ℕ → Option ℕ → List ℕ → List ℕ → List ℕ → Done → Type 0
+IsPoliceText lines tick interface script octets text done =
+    (IsScriptExplained script text Ended × (done ≡ Ended))
+    ⊎ ((card : Card) × IsSetUpBy script card × IsCaptureText police_rules (police_start lines tick interface card) octets text done)

@@ -1,0 +1,6 @@
+-- Definitions that only private functions and proofs use.
+pub mod OrderNumber
+pub mod SetUpCard
+pub mod CardArrival
+pub mod PoliceShown
+pub mod PoliceTotal

@@ -1,0 +1,42 @@
+-- How a cell changes the stored card.
+use Rattle.std.specs.Prelude.{◌≡◌, List, ℕ, Bool, true, false, Option, Some}
+use Rattle.card_core.specs.Agreement.{CoreAgrees, CoreView}
+use Rattle.card_core.specs.declared.answer.Answer.{Answer}
+use Rattle.card_core.specs.declared.answer.Answer.TheVariants.{JournalFull}
+use Rattle.card_core.specs.declared.connection_state.ConnectionState.{ConnectionState}
+use Rattle.card_core.specs.declared.step.Step.TheVariants.{Cut}
+use Rattle.card_core.specs.World.{Connection}
+use Rattle.line_record.specs.StateAfter.{IsStateAfter}
+use Rattle.upc_cell.specs.declared.vc.Vc.{Vc}
+use Rattle.upc_run.specs.RunText.{Card, IsLed, TakesCommand}
+use Rattle.upc_script.specs.ScriptCommands.{cut}
+use Rattle.lab_police.specs.PoliceText.{TakesCell, TakesCellWithRoom}
+
+-- For each card that a log leads to and that the core agrees with: the cell has this answer, and the core then agrees with the card after it.
+-- There is no answer only if there is no such card.
+abbrev pub ArrivesBy : (Card → Answer → Card → Type 0) → CoreView → Option Answer → CoreView → Type 0
+ArrivesBy Takes old given new = (before : Card) → IsLed before → CoreAgrees old before.world
+    → (answer : Answer) × (given ≡ Some answer) × (after : Card) × Takes before answer after × CoreAgrees new after.world
+
+-- The cell arrives once.
+abbrev pub ArrivesOnce : CoreView → List ℕ → ℕ → Option Answer → CoreView → Type 0
+ArrivesOnce old cell moment given new = ArrivesBy (λ before answer after. TakesCell before cell moment answer after) old given new
+
+-- The cell arrives, and once more after a cut if its connection's journal is full.
+abbrev pub ArrivesWithRoom : CoreView → List ℕ → ℕ → Option Answer → CoreView → Type 0
+ArrivesWithRoom old cell moment given new = ArrivesBy (λ before answer after. TakesCellWithRoom before cell moment answer after) old given new
+
+-- Whether the answer is that of a full journal.
+abbrev pub is_full : Option Answer → Bool
+is_full (Some JournalFull) = true
+is_full _ = false
+
+-- For each such card: it takes a cut of this connection, and the core then agrees with the card after it.
+abbrev pub CutsOff : CoreView → Vc → CoreView → Type 0
+CutsOff old vc new = (before : Card) → IsLed before → CoreAgrees old before.world
+    → (line : List ℕ) × (after : Card) × TakesCommand before (cut vc) (Cut vc) line after × CoreAgrees new after.world
+
+-- The contracts and the state are those of a connection.
+pub record IsStateOfConnection (connection : Connection) (state : ConnectionState) : Type 0 where
+  pub contracts : state.contracts.items ≡ connection.contracts
+  pub levels : IsStateAfter connection.contracts connection.history state.state

@@ -1,0 +1,289 @@
+//! The cells of a capture, policed.
+
+ghost use Rattle.std.specs.Prelude.{◌≡◌, ◌≢◌, ◌++◌, List, ℕ, None, Err, IfOk, OnErr, OnOk, MatchOption, option_map};
+ghost use Rattle.card_core.specs.Sections.{answer_to};
+ghost use Rattle.card_core.specs.ConnectionState.{IsStateIn};
+ghost use Rattle.card_core.specs.World.{Connection, World, connection_in};
+ghost use Rattle.lab_captures.specs.CellFilter.{filter_state};
+ghost use Rattle.line_record.specs.History.{numbered};
+ghost use Rattle.text_io.specs.Devices.{IsPart};
+ghost use Rattle.text_io.specs.Failures.{write_failures};
+ghost use Rattle.text_io.specs.Serving.{IsServed};
+ghost use Rattle.upc_cell.specs.declared.vc.Vc.{Vc as TheVc};
+ghost use Rattle.lab_police.specs.PoliceLines.{excess_of_answer, next_excess};
+ghost use Rattle.lab_police.specs.PoliceText.{IsPoliceText, police_gap};
+ghost use Rattle.lab_police.specs.inner.CardArrival.{ArrivesOnce, ArrivesWithRoom, CutsOff, IsStateOfConnection, is_full};
+ghost use Rattle.lab_police.specs.inner.PoliceShown.{AddsCell, PolicesBy};
+
+use crate::cell_lines::{add_line, has_line};
+use crate::connection_counts::add_counts;
+use crate::not_judged::{NotJudged, add_not_judged};
+use crate::setting_up::{SetUp, set_up};
+use captures::{Fault, Record, Tick};
+use card_core::{ConnectionState, Core, DeskFault, Judgement, Unjudged};
+use lab_captures::{
+    CellFilter, CellLines, Filtered, Follower, add_closing, add_several, follow_capture,
+};
+use leaky::{Excess, excess_at};
+use line_record::LineFault;
+use std::alloc::{AllocError, Global};
+use text_io::{Done, Input, Output, RunFault, Turn, give_last};
+use upc_cell::{Cell, Vc};
+
+/// The port that every cell of a capture enters.
+const PORT: u8 = 0;
+
+/// Takes all steps of a cell at the port and returns its answer. None if the port has a cell; between cells it never has.
+fn arrive(core: &mut Core, cell: &Cell, moment: u64) -> Option<Result<Judgement, Unjudged>>
+    ensures { ArrivesOnce core.old cell.now moment (option_map (λ told. answer_to cell.now told) result) core.new }
+{
+    core.arrive(PORT, cell, moment)
+}
+
+/// Returns an error if the fault is that of an allocation.
+fn unless_memory(fault: DeskFault) -> Result<(), AllocError>
+    ensures { OnOk result (fault ≢ DeskFault.NoMemory) }
+{
+    match fault {
+        DeskFault::NoMemory => Err(AllocError),
+        _ => Ok(()),
+    }
+}
+
+/// Returns a connection's journal and begins a new one.
+fn cut_connection(core: &mut Core, vc: Vc) -> Result<(), AllocError>
+    ensures { OnOk result (CutsOff core.old vc core.new) }
+{
+    match core.cut(vc) {
+        Ok(_) => Ok(()),
+        Err(fault) => unless_memory(fault),
+    }
+}
+
+/// Returns whether the journal of the cell's connection is full.
+fn is_full(told: &Option<Result<Judgement, Unjudged>>) -> bool
+    ensures { (cell : List ℕ) → result ≡ is_full (option_map (λ told. answer_to cell told) told.now) }
+{
+    match told {
+        Some(Err(Unjudged::Refused(LineFault::Full))) => true,
+        _ => false,
+    }
+}
+
+/// Takes all steps of a cell at the port and returns its answer. If its connection's journal is full, the connection is cut first.
+fn arrive_with_room(
+    core: &mut Core,
+    cell: &Cell,
+    moment: u64,
+) -> Result<Option<Result<Judgement, Unjudged>>, AllocError>
+    ensures { IfOk result (λ told. ArrivesWithRoom core.old cell.now moment (option_map (λ told. answer_to cell.now told) told) core.new) }
+{
+    let vc = cell.vc_at(core.shape().side);
+    let told = arrive(core, cell, moment);
+    if !is_full(&told) {
+        return Ok(told);
+    }
+    cut_connection(core, vc)?;
+    Ok(arrive(core, cell, moment))
+}
+
+/// Returns the item with this number, counted from 1, if there is one.
+fn numbered<T: Copy>(items: &[T], number: u32) -> Option<T>
+    ensures { result ≡ numbered items.now number }
+{
+    if number == 0 {
+        return None;
+    }
+    items.get(number as usize - 1).copied()
+}
+
+/// Returns by how much the next cell of a connection comes too early, if the program gives this value for it.
+fn next_excess(state: &ConnectionState, value: u32, clp: bool, moment: u64) -> Option<Excess>
+    ensures { (connection : Connection) → IsStateOfConnection connection state.now → result ≡ next_excess connection value clp moment }
+{
+    if moment < state.state.last {
+        return None;
+    }
+    let contract = numbered(state.contracts.as_slice(), value)?;
+    let levels = numbered(state.state.levels.as_slice(), value)?;
+    excess_at(&contract, &levels, clp, moment)
+}
+
+/// Returns by how much a cell comes too early that arrived with this answer. The state is that of its connection before it.
+fn excess_of(
+    state: &Option<ConnectionState>,
+    clp: bool,
+    told: &Result<Judgement, Unjudged>,
+) -> Option<Excess>
+    ensures { (world : World) (vc : TheVc) (cell : List ℕ) → MatchOption state.now (connection_in world.connections vc ≡ None) (IsStateIn world vc)
+        → result ≡ excess_of_answer world vc clp (answer_to cell told.now) }
+{
+    match (state, told) {
+        (Some(state), Ok(judged)) => next_excess(state, judged.value, clp, judged.moment),
+        _ => None,
+    }
+}
+
+/// Appends the text for a cell that arrived with this answer. Returns whether the heading is written then. The state is that of the cell's
+/// connection before it.
+fn add_cell(
+    answers: &mut Vec<u8>,
+    lines: CellLines,
+    begun: bool,
+    number: u64,
+    moment: u64,
+    vc: Vc,
+    clp: bool,
+    told: &Result<Judgement, Unjudged>,
+    state: &Option<ConnectionState>,
+) -> Result<bool, AllocError>
+    ensures { (cell : List ℕ) → IfOk result (AddsCell lines begun number moment vc clp (answer_to cell told.now) state.now
+        answers.old.items answers.new.items) }
+{
+    if !has_line(lines, told) {
+        return Ok(begun);
+    }
+    let excess = excess_of(state, clp, told);
+    add_line(answers, begun, number, moment, vc, clp, told, excess)?;
+    Ok(true)
+}
+
+/// Appends an empty line if there are lines before it.
+fn add_gap(answers: &mut Vec<u8>, begun: bool) -> Result<(), AllocError>
+    ensures { OnOk result (answers.new.items ≡ answers.old.items ++ police_gap begun) }
+{
+    if !begun {
+        return Ok(());
+    }
+    answers.push(b'\n')?;
+    Ok(())
+}
+
+/// A run of `police`.
+#[derive(Drop)]
+pub(crate) struct PoliceRun {
+    /// Which cells have lines.
+    lines: CellLines,
+    filter: CellFilter,
+    core: Core,
+    /// Whether the heading was written.
+    begun: bool,
+    not_judged: NotJudged,
+}
+
+impl PoliceRun {
+    /// Polices a cell that counts, whose record has this number.
+    fn police(
+        &mut self,
+        number: u64,
+        moment: u64,
+        cell: &Cell,
+        answers: &mut Vec<u8>,
+    ) -> Result<(), AllocError>
+        ensures policed { OnOk result (PolicesBy self.old number moment cell.now self.new answers.old.items answers.new.items) }
+        ensures filter { self.new.filter ≡ self.old.filter }
+    {
+        let vc = cell.vc_at(self.core.shape().side);
+        let state = self.core.line_state(vc);
+        let Some(told) = arrive_with_room(&mut self.core, cell, moment)? else {
+            return Ok(());
+        };
+        self.begun = add_cell(
+            answers,
+            self.lines,
+            self.begun,
+            number,
+            moment,
+            vc,
+            cell.clp(),
+            &told,
+            &state,
+        )?;
+        self.not_judged.count(number, &told);
+        Ok(())
+    }
+}
+
+impl Follower for PoliceRun {
+    ghost use Rattle.lab_police.specs.PoliceText.{PoliceWorld, police_rules};
+    ghost use Rattle.lab_police.specs.inner.PoliceShown.{ShowsPolice};
+    ghost use Rattle.lab_police.specs.inner.PoliceTotal.{police-total};
+
+    ghost World = { PoliceWorld };
+
+    ghost shows = { ShowsPolice };
+
+    ghost rules = { police_rules };
+
+    fn follow(&mut self, said: &Record, answers: &mut Vec<u8>) -> Result<Turn, AllocError> {
+        match self.filter.read(said) {
+            Filtered::Counts(moment, cell) => {
+                self.police(said.number, moment, &cell, answers)?;
+                Ok(Turn::GoesOn)
+            }
+            Filtered::Passed => Ok(Turn::GoesOn),
+            Filtered::Several(one, other) => {
+                add_several(answers, one, other)?;
+                Ok(Turn::Ends)
+            }
+        }
+    }
+
+    fn close(&self, ending: Option<Fault>, answers: &mut Vec<u8>) -> Result<(), AllocError> {
+        add_gap(answers, self.begun)?;
+        add_counts(answers, &self.core)?;
+        add_not_judged(answers, &self.not_judged)?;
+        let passed = self.filter.passed();
+        add_closing(answers, &passed, ending)
+    }
+
+    ghost is_total = { police-total };
+}
+
+/// Writes the explanation of a script's faults.
+fn write_faults<O: Output>(output: &mut O, mut text: Vec<u8>) -> Result<Done, RunFault>
+    ensures done { IfOk result (λ done. done ≡ Done.Ended) }
+    ensures given { O.is_known → OnOk result (O.held output.new ≡ O.held output.old ++ text.items) }
+    ensures front { O.is_known → OnErr result (IsPart (O.held output.old) (O.held output.new) text.items) }
+    ensures fault { result ≢ Err RunFault.ReadFailed }
+    ensures writing { O.failures output.new ≡ write_failures result (O.failures output.old) }
+{
+    give_last(output, &mut text, Done::Ended)
+}
+
+/// Polices the cells of a capture by a card that a setup script opens. A script with a fault is explained, and nothing is policed. Cells
+/// count, and have their moments, as in `upc-lab cells`. A connection whose journal is full is cut, so that any number of cells is judged.
+/// Which cells have lines is said by `lines`; a table has the counts of each connection. docs/LAB.md has the format.
+///
+/// Memory is bounded: that of the card, two buffers of 131,072 octets, and the answers that are not written yet.
+///
+/// # Errors
+///
+/// `ReadFailed` or `WriteFailed` if that device failed; the run ends at the first failure. `NoMemory` if an
+/// allocation fails. The output is then a prefix of the text.
+pub fn police_capture<I: Input, O: Output>(
+    alloc: Global,
+    setup: &[u8],
+    lines: CellLines,
+    tick: Tick,
+    interface: Option<u8>,
+    input: &mut I,
+    output: &mut O,
+) -> Result<Done, RunFault>
+    ensures { IsServed (IsPoliceText lines tick.nanoseconds interface setup.now) I.Input input.old input.new O.Output output.old output.new result }
+{
+    match set_up(alloc, setup) {
+        Err(_) => Err(RunFault::NoMemory),
+        Ok(SetUp::Faulty(text)) => write_faults(output, text),
+        Ok(SetUp::Ready(core)) => {
+            let mut run = PoliceRun {
+                lines,
+                filter: CellFilter::new(tick, interface),
+                core,
+                begun: false,
+                not_judged: NotJudged::none(),
+            };
+            follow_capture(alloc, input, output, &mut run)
+        }
+    }
+}

@@ -1,0 +1,200 @@
+"""Random scripts and captures for `upc-lab police`, and some at the bounds.
+
+A capture is made beside a card of the reference that has taken the script, so that cells come just when a bucket begins to conform.
+"""
+import gzip
+import random
+import struct
+from collections import namedtuple
+
+from captures.fit_cases import LONGEST, SECOND, as_pcap, record
+from captures.making import in_pcapng
+from captures.policing import card_of, judged
+from policer.card import LAST_MOMENT
+from policer.faults import Fault
+from policer.run_dialogue import RunDialogue
+from policer.text_lines import asks_nothing, words_of
+from trials import cells
+from trials.numbers_at_limits import near
+from trials.scripts import Script
+
+# What `police` is asked: the script, the capture, the tick in nanoseconds, the interface or None, and which lines.
+Case = namedtuple("Case", "script octets tick interface lines")
+
+TICKS = [1, 100, 100, 333, 1000, 10**6]
+LINES = ["all", "all", "refused", "none"]
+LAST_TIME = 2**64 - 1
+PASS_ALL = "load 0006000000000001\n"
+
+
+def without_faults(lines):
+    """Returns the lines of a script that have no fault, and at least that of the card."""
+    dialogue, good = RunDialogue(), []
+    for line in lines:
+        words = words_of(line)
+        try:
+            if not asks_nothing(words):
+                dialogue.answer(words)
+            good.append(line)
+        except Fault:
+            pass
+    return good
+
+
+def usual_lines(random_):
+    """Returns a script of a few connections, whose program returns the first octet of the payload, or 1."""
+    side, most = random_.choice([("uni", 255), ("nni", 4095)])
+    lines = [f"card 2 5 1 {random_.choice([1, 2, 7, 1000])} {side}", "load 00300000000000040016000000000000", "load 0006000000000001"]
+    for number in range(random_.randint(1, 5)):
+        contracts = " ".join(contract_of(random_) for _ in range(random_.randint(1, 4)))
+        lines.append(f"setup {random_.choice([0, 1, most])} {random_.choice([number, 65535 - number])} p{random_.choice([1, 1, 2])} {contracts}")
+    return [line.encode() for line in lines]
+
+
+def contract_of(random_):
+    """Returns a contract, half of them of the kind that tags."""
+    kind = random_.choice(["cbr1", "vbr1", "vbr2", "vbr3", "vbr3", "vbr3"])
+    rates = [f"{random_.choice([1, 2, 3, 5])}/{random_.choice([0, 1, 2, 5])}", f"{random_.choice([4, 9, 12])}/{random_.choice([0, 3, 8, 40])}"]
+    return ":".join([kind] + rates[: 1 if kind == "cbr1" else 2])
+
+
+def script_of(random_):
+    """Returns a script. One in twenty may have faults; in the others cells mostly come only with the capture."""
+    lines = usual_lines(random_) if random_.random() < 0.6 else Script(random_).lines
+    if random_.random() < 0.9:
+        lines = without_faults(lines)
+        if random_.random() < 0.7:
+            lines = without_faults(it for it in lines if not it.startswith(b"cell"))
+    return b"".join(line + random_.choice([b"\n"] * 9 + [b"\r\n", b"\n# a remark\n", b"\n\n"]) for line in lines)
+
+
+class Traffic:
+    """Cells for a card: their moments in ticks, and the records that hold them."""
+
+    def __init__(self, random_, card, tick):
+        self.random = random_
+        self.card = card
+        self.tick = tick
+        self.begun = random_.choice([0, 0, 1_700_000_000 * SECOND + 12345])
+        self.last = (LAST_TIME - self.begun) * 10**9 // (SECOND * tick)
+        self.moment = 0
+        self.interfaces = random_.choice([[0]] * 6 + [[2], [0] * 9 + [1]])
+
+    def time(self):
+        """Returns the first time whose moment is the present one."""
+        return min(LAST_TIME, self.begun - -self.moment * self.tick * SECOND // 10**9)
+
+    def vc(self):
+        """Returns a connection, mostly one that is set up."""
+        if self.card.connections and self.random.random() < 0.95:
+            return self.random.choice(sorted(self.card.connections))
+        return self.random.randrange(256), self.random.randrange(65536)
+
+    def go_on(self, vc):
+        """Goes on to the next moment: soon, or when a bucket of the connection begins to conform."""
+        random_ = self.random
+        connection = self.card.connections.get(vc)
+        if connection and random_.random() < 0.5:
+            bucket = random_.choice(random_.choice(connection.contracts).buckets)
+            begins = near(random_, bucket.last + bucket.level - bucket.limit, LAST_MOMENT)
+            # A wait of years comes once or twice in a capture.
+            if begins < self.moment + 1000 or random_.random() < 0.05:
+                self.moment = max(self.moment, begins)
+        else:
+            self.moment += random_.choice([0, 0, 1, 1, 2, 3, 5, 11])
+        self.moment = min(self.moment, self.last)
+
+    def record(self):
+        """Returns the next record, mostly of a cell that the card has taken."""
+        random_, vc = self.random, self.vc()
+        self.go_on(vc)
+        header = cells.header(random_, *vc, random_.choice([0, 0, 1]), self.card.side)
+        cell = cells.cell(random_, header, random_.choice([0, 1, 1, 1, 1, 2, 2, 3, 4, 5]))
+        judged(self.card, vc, self.moment, cell)
+        odd, time = random_.random(), self.time()
+        return record(
+            time if odd > 0.02 else max(0, time - random_.randrange(1 + SECOND)),
+            cell,
+            kind=random_.choice([2, 48, 7]) if 0.02 < odd < 0.05 else 3,
+            flags=random_.choice(self.interfaces) | (0x10 if 0.05 < odd < 0.07 else 0),
+            octets=random_.randrange(52) if 0.07 < odd < 0.09 else 52,
+            extensions=random_.randint(1, 3) if 0.09 < odd < 0.12 else 0,
+        )
+
+
+def broken(random_, octets):
+    """Returns a capture that is cut off, has an octet changed, or is of another kind."""
+    at = random_.randrange(len(octets) + 1)
+    return random_.choice([
+        octets[:at],
+        octets[:at],
+        octets[:at] + random_.randbytes(1) + octets[at + 1 :],
+        random_.choice([gzip.compress(octets), b"a text that is no capture\n", octets[:random_.randrange(17)]]),
+    ])
+
+
+def capture_of(random_, script, tick):
+    """Returns a capture for a script, or for one without a fault in it."""
+    card = card_of(script) or card_of(b"card 1 1 1 1\nload 0006000000000001\nsetup 1 5 p1 cbr1:5/5\n")
+    traffic = Traffic(random_, card, tick)
+    made = [traffic.record() for _ in range(random_.choice([0, 1, 10, 30, 60, 100, 200, 300]))]
+    octets = random_.choice([b"".join, b"".join, lambda it: as_pcap(it, random_), lambda it: in_pcapng(random_, it)])(made)
+    return broken(random_, octets) if random_.random() < 0.15 else octets
+
+
+def case_of(seed, number):
+    """Returns the case of this number. Seed and number determine it."""
+    random_ = random.Random(f"{seed} police {number}")
+    script, tick = script_of(random_), random_.choice(TICKS)
+    interface = random_.choice([None] * 10 + [0] * 6 + [1, 2, 3])
+    return Case(script, capture_of(random_, script, tick), tick, interface, random_.choice(LINES))
+
+
+def cell_at(ticks, header=0x00100640, flags=0, kind=3):
+    """Returns a record of a cell at a moment in ticks of a microsecond. Its payload is zeros."""
+    return record(-(-ticks * SECOND // 10**6) if ticks else 0, struct.pack(">I", header), kind=kind, flags=flags)
+
+
+def full_card():
+    """Returns a script with as many connections as a card has lines."""
+    setups = "".join(f"setup {number >> 6} {number & 63} p1 cbr1:10/0\n" for number in reversed(range(4096)))
+    return f"card 1 4096 1 1\n{PASS_ALL}{setups}".encode()
+
+
+def edges():
+    """Returns cases at the bounds."""
+    opened = f"card 2 2 1 2\n{PASS_ALL}"
+    one = f"{opened}setup 1 100 p1 cbr1:10/5\n".encode()
+    ones = cell_at(0) + cell_at(4) + cell_at(5)
+    nodes = f"card 1 1 1 1 nni\n{PASS_ALL}setup 2049 100 p1 cbr1:10/5\n".encode()
+    second = b"load 0006000000000002\nsetup 1 100 p2 cbr1:10/5 vbr3:10/5:20/0 vbr1:1/1:1/1\n"
+    pcap = struct.pack("<IHHIIII", 0xA1B2C3D4, 2, 4, 0, 0, LONGEST, 1)
+    given = [
+        # Nothing to police.
+        (one, b""), (opened.encode(), b""), (opened.encode(), ones),
+        # No capture.
+        (one, gzip.compress(ones)), (one, b"cell 0 00100640\n"), (one, pcap), (one, ones[:1]), (one, ones[:15]),
+        # A capture that is cut off in its first record, and in a later one.
+        (one, ones[:67]), (one, ones[:-1]), (one, ones + ones[:16]),
+        # A faulty script, whose capture isn't read.
+        (b"", ones), (b"# no card\n", ones), (b"card 1 1 1\n", ones), (b"card 1 1 1 0\n", ones), (one + b"setpu 1 2 p1\n", b"a text that is none\n"),
+        (one + b"cell 1 00200640\n", ones), (one + b"cell 1 00100640\n" * 3, ones), (one + b"cut 2 2", b""), (one + b"load 00\n" + one, ones),
+        (one + b"#" + bytes(70000), ones),
+        # A program whose contract there is and isn't, and four contracts.
+        (one + b"load 0006000000000002\nreload 1 100 p2\n", ones), (opened.encode() + second, ones), (opened.encode() + second, ones + cell_at(6, 0x00100641)),
+        # Journals of one and two cells, cut several times; and cells before the capture, which count.
+        (f"card 1 1 1 1\n{PASS_ALL}setup 1 100 p1 cbr1:10/5\n".encode(), ones * 2), (one, cell_at(0) * 9), (one + b"cell 0 00100640\n" * 2, ones),
+        (one + b"cell 0 00100640\ncut 1 100\n", ones), (one + b"cell 0 00100640\nrelease 1 100\n", ones),
+        (one + b"cell 4 00100640\n", ones), (one + b"cell 5 00100640\n", ones), (one + b"cell 4611686018427387904 00100640\n", ones),
+        # A line that served another connection before.
+        (one + b"cell 0 00100640\nrelease 1 100\nsetup 1 101 p1 cbr1:1/1\nsetup 1 100 p1 cbr1:7/0\n", ones),
+        # Paths of twelve bits, and flow control beside paths of eight.
+        (nodes, cell_at(0, 0x80100640) + cell_at(1, 0x00100640)), (one, cell_at(0, 0x80100640) + cell_at(1, 0xF0100641) + cell_at(2, 0x01100640)),
+        # Two interfaces, at once and later; and records of each reason, in the wrong order.
+        (one, cell_at(0, flags=1) + cell_at(1)), (one, ones + cell_at(6, flags=3) + b"no record"), (one, cell_at(9, flags=0x10) + cell_at(8, kind=2) + ones),
+    ]
+    cases = [Case(script, octets, 1000, None, lines) for script, octets in given for lines in ("all", "refused", "none")]
+    cases += [Case(full_card(), cell_at(0, 0x03F003F0) + cell_at(1, 0), 1000, None, "all"), Case(one + b"\n" * 10**6, ones, 1000, None, "none")]
+    both = cell_at(0) + cell_at(1, flags=1) + cell_at(2, flags=2) + cell_at(3)
+    cases += [Case(one, both, 1000, interface, "all") for interface in range(4)]
+    return cases + [Case(one, cell_at(0) + record(LAST_TIME, bytes.fromhex("00100641")), tick, None, "all") for tick in (1, 100, 10**9)]

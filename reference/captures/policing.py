@@ -1,0 +1,137 @@
+"""What `upc-lab police` prints of a script and a capture, and its exit status.
+
+    python3 -m captures.policing SETUP [--tick NANOSECONDS] [--interface N] [--lines all|refused|none] < CAPTURE
+"""
+import argparse
+import sys
+
+from captures.counting import Capture
+from policer.cell import connection_of, priority_of
+from policer.faults import Fault
+from policer.run_dialogue import RunDialogue
+from policer.text_lines import asks_nothing, limited_lines, words_of
+
+HEADING = ("record", "moment", "vpi", "vci", "clp", "value", "verdict", "bucket", "excess")
+TABLE = ("vpi", "vci", "passed", "tagged", "discarded", "refused")
+VERDICTS = ("pass", "tag", "discard", "refuse")
+
+# Why cells aren't judged, in the order of the comments.
+REASONS = {
+    "NoConnection": "no connection",
+    "MomentBack": "a moment before the last one of its connection",
+    "MomentTooLate": "a moment above 2^62",
+    "JournalFull": "a full journal",
+}
+
+
+def card_of(script):
+    """Returns the card after a script, or None if a line of it has a fault."""
+    dialogue = RunDialogue()
+    try:
+        for line in limited_lines(script):
+            words = words_of(line)
+            if not asks_nothing(words):
+                dialogue.answer(words)
+    except Fault:
+        return None
+    return dialogue.card
+
+
+def arrived(card, vc, moment, cell):
+    """Returns the value and the verdict of a cell. A full journal is cut first."""
+    try:
+        _, _, value, verdict, _ = card.arrive(moment, cell)
+    except Fault as fault:
+        if fault.name != "JournalFull":
+            raise
+        card.cut(vc)
+        _, _, value, verdict, _ = card.arrive(moment, cell)
+    return value, verdict
+
+
+def judged(card, vc, moment, cell):
+    """Returns the value, the verdict, the bucket and the excess of a cell, as its line has them."""
+    contracts = card.connections[vc].contracts if vc in card.connections else []
+    # The levels are those before the cell.
+    excesses = [contract.excess(moment, priority_of(cell)) for contract in contracts]
+    try:
+        value, verdict = arrived(card, vc, moment, cell)
+    except Fault as fault:
+        return "-", fault.name, "-", "-"
+    excess = excesses[value - 1] if 1 <= value <= len(excesses) else None
+    return value, verdict, *(excess or ("-", "-"))
+
+
+def row(fields):
+    """Returns a line with these fields."""
+    return "\t".join(str(field) for field in fields) + "\n"
+
+
+class Policed:
+    """The cells of a capture on a card: the lines of those that have one, and the records of those that aren't judged."""
+
+    def __init__(self, card, lines):
+        self.card = card
+        self.lines = lines
+        self.rows = []
+        self.unjudged = {reason: [] for reason in REASONS}
+
+    def take(self, counted):
+        """Brings a cell to the card."""
+        vc = connection_of(counted.cell, self.card.side)
+        value, verdict, bucket, excess = judged(self.card, vc, counted.moment, counted.cell)
+        if verdict in REASONS:
+            self.unjudged[verdict].append(counted.number)
+        if self.lines == "all" or self.lines == "refused" and verdict != "pass":
+            self.rows.append((counted.number, counted.moment, *vc, priority_of(counted.cell), value, verdict, bucket, excess))
+
+    def cells(self):
+        """Returns the lines of cells, below their heading."""
+        return "".join(row(it) for it in [HEADING] * bool(self.rows) + self.rows)
+
+    def table(self):
+        """Returns the counts of each connection, and the comments about cells that weren't judged."""
+        connections = sorted(self.card.connections.items())
+        counts = [(*vc, *(self.card.judged[it.line][verdict] for verdict in VERDICTS)) for vc, it in connections]
+        comments = [
+            f"# {len(self.unjudged[reason])} not judged: {why}; first record {self.unjudged[reason][0]}\n"
+            for reason, why in REASONS.items()
+            if self.unjudged[reason]
+        ]
+        return "\n" * bool(self.rows) + "".join(row(it) for it in [TABLE] + counts) + "".join(comments)
+
+
+def policed(script, octets, tick, interface, lines):
+    """Returns the output and the exit status, or None if `upc-lab explain` has a fault line for the script."""
+    card = card_of(script)
+    if card is None:
+        return None
+    capture = Capture(octets, tick, interface)
+    if capture.refused:
+        return capture.refused.encode(), 1
+    cells = Policed(card, lines)
+    for counted in capture.cells:
+        cells.take(counted)
+    # A cell of a second interface ends the run at once.
+    ended = capture.several or cells.table() + capture.closing()
+    return (cells.cells() + ended).encode(), 1 if capture.several or capture.fault else 0
+
+
+def main():
+    """Prints, and returns the exit status."""
+    reader = argparse.ArgumentParser(description=__doc__.split("\n", 1)[0])
+    reader.add_argument("setup", type=argparse.FileType("rb"))
+    reader.add_argument("--tick", type=int, default=100)
+    reader.add_argument("--interface", type=int)
+    reader.add_argument("--lines", choices=("all", "refused", "none"), default="all")
+    asked = reader.parse_args()
+    given = policed(asked.setup.read(), sys.stdin.buffer.read(), asked.tick, asked.interface, asked.lines)
+    if given is None:
+        print("a line of the script has a fault: upc-lab explain says where", file=sys.stderr)
+        return 1
+    sys.stdout.buffer.write(given[0])
+    return given[1]
+
+
+if __name__ == "__main__":
+    sys.exit(main())

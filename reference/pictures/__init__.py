@@ -1,1 +1,0 @@
-"""Pictures of what each kind of contract does to the cells of a script."""

@@ -1,0 +1,1 @@
+"""Pictures of what `upc-lab police` prints: `bin/plot`."""

@@ -1,0 +1,67 @@
+"""The lines of cells that `upc-lab police --lines all` prints, by connection."""
+from array import array
+
+from captures.policing import HEADING, TABLE
+
+# The verdicts in the order in which they are drawn; the last one is that of cells that weren't judged.
+VERDICTS = ("pass", "tag", "discard", "refuse", "other")
+PASS = VERDICTS.index("pass")
+OTHER = VERDICTS.index("other")
+NUMBERS = {verdict: number for number, verdict in enumerate(VERDICTS)}
+
+
+class NoVerdicts(Exception):
+    """The input isn't what police prints with a line for each cell."""
+
+
+class Cells:
+    """The cells of a connection, in order: four numbers of each."""
+
+    def __init__(self):
+        self.moments = array("Q")
+        self.priorities = array("B")
+        self.values = array("Q")
+        self.verdicts = array("B")
+
+    def __len__(self):
+        return len(self.moments)
+
+    def add(self, moment, priority, value, verdict):
+        """Adds a cell by the words of its line."""
+        self.moments.append(int(moment))
+        self.priorities.append(int(priority))
+        self.values.append(0 if value == "-" else int(value))
+        self.verdicts.append(NUMBERS.get(verdict, OTHER))
+
+    def each(self):
+        """Yields the numbers of each cell."""
+        return zip(self.moments, self.priorities, self.values, self.verdicts)
+
+
+def read_verdicts(lines, wanted):
+    """Returns the cells of each connection that has some, or of those that are wanted."""
+    heading, cells, wanted = next(lines, ""), {}, wanted and set(wanted)
+    if heading.split("\t")[: len(TABLE)] == list(TABLE) or heading.rstrip("\n") == "\t".join(TABLE):
+        raise NoVerdicts("no cell has a line: police the capture with --lines all")
+    if heading.rstrip("\n") != "\t".join(HEADING):
+        raise NoVerdicts("the first line isn't the heading that upc-lab police prints")
+    for line in lines:
+        fields = line.rstrip("\n").split("\t")
+        if len(fields) != len(HEADING):
+            break
+        vc = int(fields[2]), int(fields[3])
+        if not wanted or vc in wanted:
+            if vc not in cells:
+                cells[vc] = Cells()
+            cells[vc].add(fields[1], *fields[4:7])
+    check_counts(lines, cells)
+    return cells
+
+
+def check_counts(lines, cells):
+    """Refuses lines of refused cells alone: a connection then has passed cells in the table, and no line of one."""
+    for line in lines:
+        fields = line.split("\t")
+        vc = fields[0].isdigit() and len(fields) == len(TABLE) and (int(fields[0]), int(fields[1]))
+        if vc in cells and int(fields[2]) and PASS not in cells[vc].verdicts:
+            raise NoVerdicts("the cells of %d/%d that passed have no lines: police the capture with --lines all" % vc)
