@@ -1,5 +1,5 @@
 -- How a run of `police` goes on.
-use Rattle.std.proofs.Common.{◌≡◌, ◌||◌, ℕ, Bool, true, false, if◌then◌else◌, List, [], ◌++◌, Option, Some, None, Result, refl, sym, ap, ◌∙◌, subst, append-nil, append_assoc}
+use Rattle.std.proofs.Common.{◌≡◌, ◌≢◌, ◌||◌, ℕ, Bool, true, false, if◌then◌else◌, List, [], ◌++◌, Option, Some, None, Result, refl, sym, ap, ◌∙◌, subst, append-nil, append_assoc}
 use Rattle.std.specs.Option.{MatchOption}
 use Rattle.std.proofs.lemmas.Result.{IfOk-weaker}
 use Rattle.captures.specs.declared.fault.Fault.{Fault}
@@ -15,6 +15,7 @@ use Rattle.lab_captures.proofs.Progresses.{on_fault}
 use Rattle.lab_captures.specs.Following.{FollowsRecord}
 use Rattle.lab_captures.specs.RunLines.{closing_lines}
 use Rattle.lab_captures.specs.declared.cell_lines.CellLines.{CellLines}
+use Rattle.lab_captures.specs.declared.cell_lines.CellLines.TheVariants.{All, Refused, Nothing}
 use Rattle.lab_captures.specs.declared.filter.CellFilter.{CellFilter}
 use Rattle.lab_captures.specs.declared.filter.Filtered.{Filtered}
 use Rattle.lab_captures.specs.declared.filter.Filtered.TheVariants.{Counts, Passed}
@@ -44,11 +45,18 @@ lined_same : (wanted : Bool) (front : List ℕ) (line : Option Excess → List �
 lined_same true front line one other same = ap (λ e. front ++ line e) (same refl)
 lined_same false front line one other same = refl
 
+-- Lines are wanted if a cell has one.
+wanted_some : (lines : CellLines) (given : Answer) → has_line lines given ≡ true → lines ≢ Nothing
+wanted_some All given wanted = λ none. cc
+wanted_some Refused given wanted = λ none. cc
+wanted_some Nothing given wanted = let no : false ≡ true = wanted in cc
+
 -- A cell that arrived, with the text for it.
 pub polices_by : (before : PoliceRun) (core : CoreView) (given : Answer) (state : Option ConnectionState) (vc : Vc) (number moment : ℕ) (cell : List ℕ)
     (begun : Bool) (not_judged : NotJudged) (old new : List ℕ)
     → ArrivesWithRoom before.core cell moment (Some given) core → vc ≡ vc_of before.core.shape.side cell
-    → ((world : World) → CoreAgrees before.core world → MatchOption state (connection_in world.connections vc ≡ None) (IsStateIn world vc))
+    → (before.lines ≢ Nothing → (world : World) → CoreAgrees before.core world
+    → MatchOption state (connection_in world.connections vc ≡ None) (IsStateIn world vc))
     → AddsCell before.lines before.begun number moment vc (has_low_priority cell) given state old new begun
     → not_judged ≡ not_judged_after before.not_judged number given
     → PolicesBy before number moment cell (record before { core = core; begun = begun; not_judged = not_judged }) old new
@@ -64,7 +72,7 @@ polices_by before core given state vc number moment cell begun not_judged old ne
       lined lines begun number moment vc clp given (excess_of_answer world.card.world vc clp given) in
       let text : lined before.lines before.begun number moment vc clp given adds.excess ≡ policed_text world number moment cell on.0 =
       lined_same (has_line before.lines given) (if before.begun then [] else verdict_heading) (λ excess. police_line number moment vc clp given excess)
-      adds.excess (excess_of_answer world.card.world vc clp given) (λ wanted. adds.right wanted world.card.world (tells world.card.world shown.agrees))
+      adds.excess (excess_of_answer world.card.world vc clp given) (λ wanted. adds.right wanted world.card.world (tells (wanted_some before.lines given wanted) world.card.world shown.agrees))
       ∙ ap (λ (lines : CellLines). Text lines before.begun vc given) shown.lines ∙ ap (λ b. Text world.lines b vc given) shown.begun
       ∙ ap (λ (v : Vc). Text world.lines world.begun v given) here ∙ ap (λ (a : Answer). Text world.lines world.begun (connection_of_cell world.card cell) a) same
       in (

@@ -2,6 +2,7 @@
 
 ghost use Rattle.std.specs.Prelude.{◌≡◌, ◌≢◌, ◌++◌, List, ℕ, None, Err, IfOk, OnErr, OnOk, MatchOption, option_map};
 ghost use Rattle.card_core.specs.Sections.{answer_to};
+ghost use Rattle.card_core.specs.Agreement.{CoreAgrees};
 ghost use Rattle.card_core.specs.ConnectionState.{IsStateIn};
 ghost use Rattle.card_core.specs.World.{Connection, World, connection_in};
 ghost use Rattle.lab_captures.specs.CellFilter.{filter_state};
@@ -124,6 +125,17 @@ fn excess_of(
     }
 }
 
+/// Returns the state of a connection, if there is one, for the lines of its cells. Without lines it isn't read.
+fn state_if_wanted(core: &Core, lines: CellLines, vc: Vc) -> Option<ConnectionState>
+    ensures { lines ≢ CellLines.Nothing → (world : World) → CoreAgrees core.now world
+        → MatchOption result (connection_in world.connections vc ≡ None) (IsStateIn world vc) }
+{
+    match lines {
+        CellLines::All | CellLines::Refused => core.line_state(vc),
+        CellLines::Nothing => None,
+    }
+}
+
 /// Appends the text for a cell that arrived with this answer. Returns whether the heading is written then. The state is that of the cell's
 /// connection before it.
 fn add_cell(
@@ -184,7 +196,7 @@ impl PoliceRun {
         ensures filter { self.new.filter ≡ self.old.filter }
     {
         let vc = cell.vc_at(self.core.shape().side);
-        let state = self.core.line_state(vc);
+        let state = state_if_wanted(&self.core, self.lines, vc);
         let Some(told) = arrive_with_room(&mut self.core, cell, moment)? else {
             return Ok(());
         };
