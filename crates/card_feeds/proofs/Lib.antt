@@ -1,0 +1,2 @@
+pub mod FedLemmas
+pub mod MixLemmas
