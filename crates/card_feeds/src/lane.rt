@@ -1,5 +1,6 @@
 //! A card with its feeder.
 
+ghost use Rattle.std.specs.Prelude.{◌≡◌};
 ghost use Rattle.card_feeds.specs.Feeding.{IsFed};
 
 use crate::feeder::Feeder;
@@ -10,6 +11,22 @@ use card_core::Core;
 pub struct Lane<F> {
     pub core: Core,
     pub feeder: F,
+    /// Keeps what one thread writes two lines of a cache away from what the next one reads.
+    apart: [u64; 16],
+}
+
+impl<F> Lane<F> {
+    /// A card with its feeder.
+    pub fn new(core: Core, feeder: F) -> Lane<F>
+        ensures core { result.core ≡ core }
+        ensures feeder { result.feeder ≡ feeder }
+    {
+        Lane {
+            core,
+            feeder,
+            apart: [0; 16],
+        }
+    }
 }
 
 impl<F: Feeder> Lane<F> {

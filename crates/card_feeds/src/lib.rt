@@ -13,5 +13,5 @@ pub use feeding::each_card;
 pub use lane::Lane;
 pub use queue::Queue;
 
-//TESTS
-//MODTESTS
+#[cfg(test)]
+mod tests;
