@@ -1,0 +1,3 @@
+pub mod FedLemmas
+pub mod MixLemmas
+pub mod LaneLemmas

@@ -1,0 +1,3 @@
+-- Definitions for private functions and proofs alone.
+pub mod SoFar
+pub mod Queues
