@@ -28,9 +28,10 @@ fn shape() -> Shape {
 /// A cell of path 1 and this channel, with a payload of zeros.
 fn cell_of(channel: u16) -> Cell {
     let mut octets = [0u8; 52];
+    let [high, low] = (channel % 4096 * 16).to_be_bytes();
     octets[1] = 0x10;
-    octets[2] = (channel >> 4) as u8;
-    octets[3] = ((channel & 0xf) as u8) << 4;
+    octets[2] = high;
+    octets[3] = low;
     Cell::from(octets)
 }
 
@@ -130,12 +131,13 @@ fn mix_is_answered(
     alloc: Global,
     core: &mut Core,
     lanes: &[Lane<Queue>],
+    cards: u16,
     all: &[Arrival],
 ) -> Result<bool, Fail> {
-    let mut places = vec![in alloc; 0usize; lanes.len()]?;
+    let mut places = vec![in alloc; 0usize; usize::from(cards)]?;
     let mut same = true;
     for arrival in all {
-        let number = usize::from(card_of(arrival.cell.vc().vci, lanes.len() as u16));
+        let number = usize::from(card_of(arrival.cell.vc().vci, cards));
         let (Some(lane), Some(place)) = (lanes.get(number), places.get_mut(number)) else {
             return Err(Fail::from("no such card"));
         };
@@ -169,7 +171,7 @@ fn the_answers_are_those_of_one_card(rt: HostRuntime) -> Result<(), Fail> {
         let mut lanes = lanes(rt.alloc(), &all, cards)?;
         each_card(&rt, &mut lanes);
         let mut one = card(rt.alloc())?;
-        let same = mix_is_answered(rt.alloc(), &mut one, &lanes, &all)?;
+        let same = mix_is_answered(rt.alloc(), &mut one, &lanes, cards, &all)?;
         let totals = one.totals();
         let some = totals.passed > 0 && totals.discarded > 0;
         assert_eq!(rt; (cards, same, some), (cards, true, true));
