@@ -24,11 +24,13 @@ impl Tick {
     }
 
     /// Returns how many whole ticks a time has, in units of 2^-32 seconds.
+    #[inline(always)]
     pub fn count(self, time: u64) -> u64
         ensures { result ≡ whole_ticks time self.nanoseconds }
     {
         let whole = u128::from(time) * 1_000_000_000;
-        (whole / (0x1_0000_0000 * u128::from(self.nanoseconds))) as u64
+        // Two divisions give the same as one by the product, and only the first is of a number of 128 bits.
+        (whole / 0x1_0000_0000) as u64 / self.nanoseconds
     }
 }
 
@@ -55,6 +57,7 @@ impl Clock {
     }
 
     /// Returns the moment of a time, in whole ticks, or nothing if the time is before one that was read earlier.
+    #[inline(always)]
     pub fn read(&mut self, time: u64, tick: Tick) -> Option<u64>
         ensures back { IsNone result ↔ (time < self.old.latest) }
         ensures moment { IfSome result (λ moment. moment ≡ whole_ticks (time - self.old.first) tick.nanoseconds) }

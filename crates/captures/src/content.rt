@@ -33,6 +33,7 @@ pub enum NoCell {
 }
 
 /// Returns how many extension headers a record has.
+#[inline(always)]
 fn extensions_in(octets: &[u8]) -> usize
     ensures counted { HasExtensions octets.now result }
     ensures bounded { 8 * result ≤ length octets.now }
@@ -47,6 +48,7 @@ fn extensions_in(octets: &[u8]) -> usize
 }
 
 /// Returns the cell that begins at this place, or how much of it there is.
+#[inline(always)]
 fn cell_from(octets: &[u8], place: usize) -> Result<Cell, NoCell>
     ensures { IsCellFrom octets.now place result }
 {
@@ -60,6 +62,7 @@ fn cell_from(octets: &[u8], place: usize) -> Result<Cell, NoCell>
 }
 
 /// Returns the cell of a record whose type holds cells, after this many octets of multi-channel header.
+#[inline(always)]
 fn received_cell(octets: &[u8], channel: usize) -> Result<Cell, NoCell>
     requires header { 16 ≤ length octets.now }
     requires small { channel ≤ 4 }
@@ -73,6 +76,7 @@ fn received_cell(octets: &[u8], channel: usize) -> Result<Cell, NoCell>
 }
 
 /// Returns the cell of a record, or why it holds none.
+#[inline(always)]
 pub(crate) fn content_of(octets: &[u8]) -> Result<Cell, NoCell>
     requires { 16 ≤ length octets.now }
     ensures { IsContent octets.now result }

@@ -83,6 +83,7 @@ impl Format {
     }
 
     /// Returns how many octets of a frame say its length.
+    #[inline(always)]
     pub(crate) fn head(self) -> usize
         ensures { result ≡ head_length self }
     {
@@ -94,6 +95,7 @@ impl Format {
 
     /// Returns the size of the frame with which octets begin.
     #[tactic(auto, unfolding(crate::specs::Frames::frame_size))]
+    #[inline(always)]
     pub(crate) fn size_of(self, octets: &[u8]) -> Result<usize, RecordFault>
         requires { head_length self ≤ length octets.now }
         ensures size { result ≡ frame_size self octets.now }
@@ -115,6 +117,7 @@ impl Format {
 
     /// Returns what a whole frame holds.
     #[tactic(auto, unfolding(crate::specs::Frames::frame_held))]
+    #[inline(always)]
     pub(crate) fn held_in(self, frame: &[u8]) -> Result<Held<'_>, RecordFault>
         requires whole { head_length self ≤ length frame.now }
         requires bounded { length frame.now ≤ 131072 }

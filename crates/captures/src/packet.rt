@@ -11,6 +11,7 @@ use byteorder::{BigEndian, ByteOrder};
 pub(crate) const HEADER_OCTETS: usize = 16;
 
 /// Returns the octets from this place on.
+#[inline(always)]
 pub(crate) fn from_place(octets: &[u8], place: usize) -> &[u8]
     requires { place ≤ length octets.now }
     ensures octets { result.now ≡ drop place octets.now }
@@ -20,6 +21,7 @@ pub(crate) fn from_place(octets: &[u8], place: usize) -> &[u8]
 }
 
 /// Returns the size of a frame that says this number.
+#[inline(always)]
 pub(crate) fn sized(before: usize, least: u32, most: u32, said: u32) -> Result<usize, RecordFault>
     requires { before ≤ 16 }
     ensures size { result ≡ size_said before least most said }
@@ -37,6 +39,7 @@ pub(crate) fn sized(before: usize, least: u32, most: u32, said: u32) -> Result<u
 
 /// Returns the length that a record says it has.
 #[tactic(auto, unfolding(crate::specs::Record::record_length))]
+#[inline(always)]
 pub(crate) fn length_of(octets: &[u8]) -> u16
     requires { 16 ≤ length octets.now }
     ensures { result ≡ record_length octets.now }

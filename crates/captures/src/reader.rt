@@ -48,6 +48,7 @@ pub struct Reader {
 }
 
 /// Returns what a record says.
+#[inline(always)]
 fn record_of(number: u64, octets: &[u8]) -> Record
     requires { 16 ≤ length octets.now }
     ensures { SaysRecord number octets.now result }
@@ -80,6 +81,9 @@ impl Reader {
 
     /// Reads the next record of a capture, of which these are octets that come next, as many as there are yet. Give it the
     /// octets after the record then.
+    ///
+    /// It and what it calls are inlined into the caller's loop. So a record that the caller passes over isn't copied.
+    #[inline(always)]
     pub fn next(&mut self, octets: &[u8]) -> Next
         ensures { ComesNext self.old octets.now result self.new }
     {
@@ -111,6 +115,7 @@ impl Reader {
     }
 
     /// Returns what comes next if the octets at this place are no record for this reason.
+    #[inline(always)]
     fn broken(&self, reason: RecordFault) -> Next
         ensures { result ≡ Next.Broken (record { at = self.now.at; reason = reason }) }
     {

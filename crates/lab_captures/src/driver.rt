@@ -34,6 +34,7 @@ fn give_answers<O: Output>(output: &mut O, answers: &mut Vec<u8>) -> Result<(), 
 }
 
 /// Writes the collected answers if there are enough of them.
+#[inline(always)]
 fn give_if_enough<O: Output>(output: &mut O, answers: &mut Vec<u8>) -> Result<(), Failed>
     ensures moved { O.is_known → OnOk result
         (GivesFront (O.held output.old) (O.held output.new) answers.old.items answers.new.items) }

@@ -55,6 +55,7 @@ impl CellFilter {
     }
 
     /// Reads a cell of the right interface.
+    #[inline(always)]
     fn read_at(&mut self, mut clock: Clock, said: &Record, cell: &Cell) -> Filtered
         ensures { filter_at_time (filter_state self.old) clock.first clock.latest said.now cell.now
             ≡ (result, filter_state self.new) }
@@ -71,6 +72,7 @@ impl CellFilter {
     }
 
     /// Reads a cell.
+    #[inline(always)]
     fn read_cell(&mut self, clock: Clock, said: &Record, cell: &Cell) -> Filtered
         ensures { filter_at_interface (filter_state self.old) clock.first clock.latest said.now cell.now self.old.interface
             ≡ (result, filter_state self.new) }
@@ -90,7 +92,8 @@ impl CellFilter {
         self.read_at(clock, said, cell)
     }
 
-    /// Reads the next record. After `Several` the filter is as before.
+    /// Reads the next record. After `Several` the filter is as before. It is inlined, as `Reader::next` is.
+    #[inline(always)]
     pub fn read(&mut self, said: &Record) -> Filtered
         ensures { filter_record (filter_state self.old) said.now ≡ (result, filter_state self.new) }
     {

@@ -44,6 +44,7 @@ pub(crate) enum Step {
 }
 
 /// Answers the frame with which octets begin.
+#[inline(always)]
 pub(crate) fn step_by<F: Follower>(
     reader: &mut Reader,
     follower: &mut F,

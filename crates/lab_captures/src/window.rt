@@ -50,6 +50,7 @@ impl Window {
     }
 
     /// Returns the waiting octets.
+    #[inline(always)]
     pub(crate) fn octets(&self) -> &[u8]
         ensures { result.now ≡ self.now }
     {
@@ -57,6 +58,7 @@ impl Window {
     }
 
     /// Drops the first `count` octets.
+    #[inline(always)]
     pub(crate) fn skip(&mut self, count: usize)
         requires { count ≤ length self.old }
         ensures octets { self.new ≡ drop count self.old }

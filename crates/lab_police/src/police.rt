@@ -35,6 +35,7 @@ use upc_cell::{Cell, Vc};
 const PORT: u8 = 0;
 
 /// Takes all steps of a cell at the port and returns its answer. None if the port has a cell; between cells it never has.
+#[inline(always)]
 fn arrive(core: &mut Core, cell: &Cell, moment: u64) -> Option<Result<Judgement, Unjudged>>
     ensures { ArrivesOnce core.old cell.now moment (option_map (λ told. answer_to cell.now told) result) core.new }
 {
@@ -62,6 +63,7 @@ fn cut_connection(core: &mut Core, vc: Vc) -> Result<(), AllocError>
 }
 
 /// Returns whether the journal of the cell's connection is full.
+#[inline(always)]
 fn is_full(told: &Option<Result<Judgement, Unjudged>>) -> bool
     ensures { (cell : List ℕ) → result ≡ is_full (option_map (λ told. answer_to cell told) told.now) }
 {
@@ -72,6 +74,7 @@ fn is_full(told: &Option<Result<Judgement, Unjudged>>) -> bool
 }
 
 /// Takes all steps of a cell at the port and returns its answer. If its connection's journal is full, the connection is cut first.
+#[inline(always)]
 fn arrive_with_room(
     core: &mut Core,
     cell: &Cell,
@@ -138,6 +141,7 @@ fn state_if_wanted(core: &Core, lines: CellLines, vc: Vc) -> Option<ConnectionSt
 
 /// Appends the text for a cell that arrived with this answer. Returns whether the heading is written then. The state is that of the cell's
 /// connection before it.
+#[inline(always)]
 fn add_cell(
     answers: &mut Vec<u8>,
     lines: CellLines,
@@ -185,6 +189,7 @@ pub(crate) struct PoliceRun {
 
 impl PoliceRun {
     /// Polices a cell that counts, whose record has this number.
+    #[inline(always)]
     fn police(
         &mut self,
         number: u64,
@@ -227,6 +232,7 @@ impl Follower for PoliceRun {
 
     ghost rules = { police_rules };
 
+    #[inline(always)]
     fn follow(&mut self, said: &Record, answers: &mut Vec<u8>) -> Result<Turn, AllocError> {
         match self.filter.read(said) {
             Filtered::Counts(moment, cell) => {
