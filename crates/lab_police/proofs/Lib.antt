@@ -2,5 +2,9 @@ pub mod SetUpLemmas
 pub mod CardLemmas
 pub mod CountsLemmas
 pub mod ExcessLemmas
+pub mod KeptExcess
+pub mod LeftLemmas
+pub mod LineTexts
+pub mod LeftExcess
 pub mod PoliceLemmas
 pub mod Public

@@ -1,21 +1,16 @@
 -- How a run of `police` goes on.
-use Rattle.std.proofs.Common.{◌≡◌, ◌≢◌, ◌||◌, ℕ, Bool, true, false, if◌then◌else◌, List, [], ◌++◌, Option, Some, None, Result, refl, sym, ap, ◌∙◌, subst, append-nil, append_assoc}
-use Rattle.std.specs.Option.{MatchOption}
+use Rattle.std.proofs.Common.{◌≡◌, ◌||◌, ℕ, Bool, true, false, if◌then◌else◌, List, [], ◌++◌, Option, Some, None, Result, refl, sym, ap, ◌∙◌, subst, append-nil, append_assoc}
 use Rattle.std.proofs.lemmas.Result.{IfOk-weaker}
 use Rattle.captures.specs.declared.fault.Fault.{Fault}
 use Rattle.captures.specs.declared.reader.Record.{Record}
-use Rattle.card_core.specs.Agreement.{CoreAgrees, CoreView}
-use Rattle.card_core.specs.ConnectionState.{IsStateIn}
-use Rattle.card_core.specs.World.{World, connection_in}
+use Rattle.card_core.specs.Agreement.{CoreView}
 use Rattle.card_core.specs.declared.answer.Answer.{Answer}
-use Rattle.card_core.specs.declared.connection_state.ConnectionState.{ConnectionState}
 use Rattle.card_core.specs.declared.shape.Shape.{Shape}
 use Rattle.lab_captures.specs.CellFilter.{FilterState, filter_record, filter_state}
 use Rattle.lab_captures.proofs.Progresses.{on_fault}
 use Rattle.lab_captures.specs.Following.{FollowsRecord}
 use Rattle.lab_captures.specs.RunLines.{closing_lines}
 use Rattle.lab_captures.specs.declared.cell_lines.CellLines.{CellLines}
-use Rattle.lab_captures.specs.declared.cell_lines.CellLines.TheVariants.{All, Refused, Nothing}
 use Rattle.lab_captures.specs.declared.filter.CellFilter.{CellFilter}
 use Rattle.lab_captures.specs.declared.filter.Filtered.{Filtered}
 use Rattle.lab_captures.specs.declared.filter.Filtered.TheVariants.{Counts, Passed}
@@ -37,6 +32,8 @@ use Rattle.lab_police.specs.PoliceText.{PolicesFiltered, PoliceWorld, after_cell
 use Rattle.lab_police.specs.declared.not_judged.NotJudged.{NotJudged}
 use Rattle.lab_police.specs.declared.police.PoliceRun.{PoliceRun}
 use Rattle.lab_police.specs.inner.CardArrival.{ArrivesWithRoom}
+use Rattle.lab_police.specs.inner.ExcessLeft.{LeavesConnection}
+use Rattle.lab_police.proofs.LeftLemmas.{room_leaves}
 use Rattle.lab_police.specs.inner.PoliceShown.{AddsCell, PolicesBy, ShowsPolice, lined}
 
 -- A text that has a line only if it is wanted depends on its excess only then.
@@ -45,22 +42,14 @@ lined_same : (wanted : Bool) (front : List ℕ) (line : Option Excess → List �
 lined_same true front line one other same = ap (λ e. front ++ line e) (same refl)
 lined_same false front line one other same = refl
 
--- Lines are wanted if a cell has one.
-wanted_some : (lines : CellLines) (given : Answer) → has_line lines given ≡ true → lines ≢ Nothing
-wanted_some All given wanted = λ none. cc
-wanted_some Refused given wanted = λ none. cc
-wanted_some Nothing given wanted = let no : false ≡ true = wanted in cc
-
 -- A cell that arrived, with the text for it.
-pub polices_by : (before : PoliceRun) (core : CoreView) (given : Answer) (state : Option ConnectionState) (vc : Vc) (number moment : ℕ) (cell : List ℕ)
+pub polices_by : (before : PoliceRun) (core : CoreView) (given : Answer) (vc : Vc) (number moment : ℕ) (cell : List ℕ)
     (begun : Bool) (not_judged : NotJudged) (old new : List ℕ)
     → ArrivesWithRoom before.core cell moment (Some given) core → vc ≡ vc_of before.core.shape.side cell
-    → (before.lines ≢ Nothing → (world : World) → CoreAgrees before.core world
-    → MatchOption state (connection_in world.connections vc ≡ None) (IsStateIn world vc))
-    → AddsCell before.lines before.begun number moment vc (has_low_priority cell) given state old new begun
+    → AddsCell before.lines before.begun number moment vc (has_low_priority cell) given core old new begun
     → not_judged ≡ not_judged_after before.not_judged number given
     → PolicesBy before number moment cell (record before { core = core; begun = begun; not_judged = not_judged }) old new
-polices_by before core given state vc number moment cell begun not_judged old new arrives named tells adds counts = (
+polices_by before core given vc number moment cell begun not_judged old new arrives named adds counts = (
   lined before.lines before.begun number moment vc (has_low_priority cell) given adds.excess,
   adds.added,
   λ world filter led shown.
@@ -68,11 +57,15 @@ polices_by before core given state vc number moment cell begun not_judged old ne
       let on = arrives world.card led shown.agrees in
       let same : given ≡ on.0 = let e : Some given ≡ Some on.0 = on.1 in cc in
       let here : vc ≡ connection_of_cell world.card cell = named ∙ ap (λ (shape : Shape). vc_of shape.side cell) shown.agrees.shape in
+      let leaves : LeavesConnection world.card.world.connections on.2.world.connections vc clp given =
+      subst (λ (v : Vc). LeavesConnection world.card.world.connections on.2.world.connections v clp given) (sym here)
+      (subst (λ (a : Answer). LeavesConnection world.card.world.connections on.2.world.connections (connection_of_cell world.card cell) clp a) (sym same)
+      (room_leaves world.card on.2 cell moment on.0 led on.3)) in
       let Text : CellLines → Bool → Vc → Answer → List ℕ = λ lines begun vc given.
       lined lines begun number moment vc clp given (excess_of_answer world.card.world vc clp given) in
       let text : lined before.lines before.begun number moment vc clp given adds.excess ≡ policed_text world number moment cell on.0 =
       lined_same (has_line before.lines given) (if before.begun then [] else verdict_heading) (λ excess. police_line number moment vc clp given excess)
-      adds.excess (excess_of_answer world.card.world vc clp given) (λ wanted. adds.right wanted world.card.world (tells (wanted_some before.lines given wanted) world.card.world shown.agrees))
+      adds.excess (excess_of_answer world.card.world vc clp given) (λ wanted. adds.right wanted world.card.world on.2.world on.4 leaves)
       ∙ ap (λ (lines : CellLines). Text lines before.begun vc given) shown.lines ∙ ap (λ b. Text world.lines b vc given) shown.begun
       ∙ ap (λ (v : Vc). Text world.lines world.begun v given) here ∙ ap (λ (a : Answer). Text world.lines world.begun (connection_of_cell world.card cell) a) same
       in (

@@ -2,5 +2,6 @@
 pub mod OrderNumber
 pub mod SetUpCard
 pub mod CardArrival
+pub mod ExcessLeft
 pub mod PoliceShown
 pub mod PoliceTotal

@@ -1,19 +1,18 @@
 //! The cells of a capture, policed.
 
-ghost use Rattle.std.specs.Prelude.{◌≡◌, ◌≢◌, ◌++◌, List, ℕ, None, Err, IfOk, OnErr, OnOk, MatchOption, option_map};
+ghost use Rattle.std.specs.Prelude.{◌≡◌, ◌≢◌, ◌≤◌, ◌++◌, List, ℕ, Err, IfOk, OnErr, OnOk, option_map};
 ghost use Rattle.card_core.specs.Sections.{answer_to};
 ghost use Rattle.card_core.specs.Agreement.{CoreAgrees};
-ghost use Rattle.card_core.specs.ConnectionState.{IsStateIn};
-ghost use Rattle.card_core.specs.World.{Connection, World, connection_in};
+ghost use Rattle.card_core.specs.World.{Connection, World};
 ghost use Rattle.lab_captures.specs.CellFilter.{filter_state};
 ghost use Rattle.line_record.specs.History.{numbered};
 ghost use Rattle.text_io.specs.Devices.{IsPart};
 ghost use Rattle.text_io.specs.Failures.{write_failures};
 ghost use Rattle.text_io.specs.Serving.{IsServed};
-ghost use Rattle.upc_cell.specs.declared.vc.Vc.{Vc as TheVc};
-ghost use Rattle.lab_police.specs.PoliceLines.{excess_of_answer, next_excess};
+ghost use Rattle.lab_police.specs.PoliceLines.{excess_of_answer};
 ghost use Rattle.lab_police.specs.PoliceText.{IsPoliceText, police_gap};
-ghost use Rattle.lab_police.specs.inner.CardArrival.{ArrivesOnce, ArrivesWithRoom, CutsOff, IsStateOfConnection, is_full};
+ghost use Rattle.lab_police.specs.inner.CardArrival.{ArrivesOnce, ArrivesWithRoom, CutsOff, is_full};
+ghost use Rattle.lab_police.specs.inner.ExcessLeft.{IsKeptOnLine, LeavesConnection, excess_left, first_met};
 ghost use Rattle.lab_police.specs.inner.PoliceShown.{AddsCell, PolicesBy};
 
 use crate::cell_lines::{add_line, has_line};
@@ -21,12 +20,12 @@ use crate::connection_counts::add_counts;
 use crate::not_judged::{NotJudged, add_not_judged};
 use crate::setting_up::{SetUp, set_up};
 use captures::{Fault, Record, Tick};
-use card_core::{ConnectionState, Core, DeskFault, Judgement, Unjudged};
+use card_core::{Core, DeskFault, Judgement, Unjudged};
 use lab_captures::{
     CellFilter, CellLines, Filtered, Follower, add_closing, add_several, follow_capture,
 };
-use leaky::{Excess, excess_at};
-use line_record::LineFault;
+use leaky::{Excess, Levels, Verdict, excess_at};
+use line_record::{Line, LineFault};
 use std::alloc::{AllocError, Global};
 use text_io::{Done, Input, Output, RunFault, Turn, give_last};
 use upc_cell::{Cell, Vc};
@@ -101,46 +100,50 @@ fn numbered<T: Copy>(items: &[T], number: u32) -> Option<T>
     items.get(number as usize - 1).copied()
 }
 
-/// Returns by how much the next cell of a connection comes too early, if the program gives this value for it.
-fn next_excess(state: &ConnectionState, value: u32, clp: bool, moment: u64) -> Option<Excess>
-    ensures { (connection : Connection) → IsStateOfConnection connection state.now → result ≡ next_excess connection value clp moment }
+/// Returns the levels of a contract after a cell with this verdict, as far as its excess depends on them: a tagged cell conformed to bucket 1,
+/// and filled it.
+fn met_after(verdict: Verdict, levels: Levels) -> Levels
+    ensures first { result.first ≡ first_met verdict levels.first }
+    ensures second { result.second ≡ levels.second }
 {
-    if moment < state.state.last {
+    match verdict {
+        Verdict::Tag => Levels {
+            first: 0,
+            second: levels.second,
+        },
+        Verdict::Pass | Verdict::Discard | Verdict::Refuse => levels,
+    }
+}
+
+/// Returns by how much a cell came too early that was judged so on this line, and didn't pass. The line is as the cell left it.
+fn excess_left(line: &Line, judged: &Judgement, clp: bool) -> Option<Excess>
+    ensures { (connection : Connection) → IsKeptOnLine connection line.now → line.now.state.last ≤ judged.now.moment
+        → result ≡ excess_left connection judged.now.value judged.now.verdict clp judged.now.moment }
+{
+    let contract = numbered(line.contracts(), judged.value)?;
+    let levels = numbered(line.state().levels.as_slice(), judged.value)?;
+    let met = met_after(judged.verdict, levels);
+    excess_at(&contract, &met, clp, judged.moment)
+}
+
+/// Returns by how much a cell came too early that arrived with this answer. Only the line of a cell that didn't pass is read, and only
+/// after the cell: what a cell doesn't conform to it doesn't change.
+fn excess_of(core: &Core, vc: Vc, clp: bool, told: &Result<Judgement, Unjudged>) -> Option<Excess>
+    ensures { (before after : World) (cell : List ℕ) → CoreAgrees core.now after
+        → LeavesConnection before.connections after.connections vc clp (answer_to cell told.now)
+        → result ≡ excess_of_answer before vc clp (answer_to cell told.now) }
+{
+    let Ok(judged) = told else {
+        return None;
+    };
+    if judged.verdict == Verdict::Pass {
         return None;
     }
-    let contract = numbered(state.contracts.as_slice(), value)?;
-    let levels = numbered(state.state.levels.as_slice(), value)?;
-    excess_at(&contract, &levels, clp, moment)
+    let line = core.line_of(vc)?;
+    excess_left(line, judged, clp)
 }
 
-/// Returns by how much a cell comes too early that arrived with this answer. The state is that of its connection before it.
-fn excess_of(
-    state: &Option<ConnectionState>,
-    clp: bool,
-    told: &Result<Judgement, Unjudged>,
-) -> Option<Excess>
-    ensures { (world : World) (vc : TheVc) (cell : List ℕ) → MatchOption state.now (connection_in world.connections vc ≡ None) (IsStateIn world vc)
-        → result ≡ excess_of_answer world vc clp (answer_to cell told.now) }
-{
-    match (state, told) {
-        (Some(state), Ok(judged)) => next_excess(state, judged.value, clp, judged.moment),
-        _ => None,
-    }
-}
-
-/// Returns the state of a connection, if there is one, for the lines of its cells. Without lines it isn't read.
-fn state_if_wanted(core: &Core, lines: CellLines, vc: Vc) -> Option<ConnectionState>
-    ensures { lines ≢ CellLines.Nothing → (world : World) → CoreAgrees core.now world
-        → MatchOption result (connection_in world.connections vc ≡ None) (IsStateIn world vc) }
-{
-    match lines {
-        CellLines::All | CellLines::Refused => core.line_state(vc),
-        CellLines::Nothing => None,
-    }
-}
-
-/// Appends the text for a cell that arrived with this answer. Returns whether the heading is written then. The state is that of the cell's
-/// connection before it.
+/// Appends the text for a cell that arrived with this answer. Returns whether the heading is written then. The core is as the cell left it.
 #[inline(always)]
 fn add_cell(
     answers: &mut Vec<u8>,
@@ -151,15 +154,15 @@ fn add_cell(
     vc: Vc,
     clp: bool,
     told: &Result<Judgement, Unjudged>,
-    state: &Option<ConnectionState>,
+    core: &Core,
 ) -> Result<bool, AllocError>
-    ensures { (cell : List ℕ) → IfOk result (AddsCell lines begun number moment vc clp (answer_to cell told.now) state.now
+    ensures { (cell : List ℕ) → IfOk result (AddsCell lines begun number moment vc clp (answer_to cell told.now) core.now
         answers.old.items answers.new.items) }
 {
     if !has_line(lines, told) {
         return Ok(begun);
     }
-    let excess = excess_of(state, clp, told);
+    let excess = excess_of(core, vc, clp, told);
     add_line(answers, begun, number, moment, vc, clp, told, excess)?;
     Ok(true)
 }
@@ -201,7 +204,6 @@ impl PoliceRun {
         ensures filter { self.new.filter ≡ self.old.filter }
     {
         let vc = cell.vc_at(self.core.shape().side);
-        let state = state_if_wanted(&self.core, self.lines, vc);
         let Some(told) = arrive_with_room(&mut self.core, cell, moment)? else {
             return Ok(());
         };
@@ -214,7 +216,7 @@ impl PoliceRun {
             vc,
             cell.clp(),
             &told,
-            &state,
+            &self.core,
         )?;
         self.not_judged.count(number, &told);
         Ok(())

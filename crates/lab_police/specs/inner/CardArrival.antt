@@ -3,10 +3,7 @@ use Rattle.std.specs.Prelude.{◌≡◌, List, ℕ, Bool, true, false, Option, S
 use Rattle.card_core.specs.Agreement.{CoreAgrees, CoreView}
 use Rattle.card_core.specs.declared.answer.Answer.{Answer}
 use Rattle.card_core.specs.declared.answer.Answer.TheVariants.{JournalFull}
-use Rattle.card_core.specs.declared.connection_state.ConnectionState.{ConnectionState}
 use Rattle.card_core.specs.declared.step.Step.TheVariants.{Cut}
-use Rattle.card_core.specs.World.{Connection}
-use Rattle.line_record.specs.StateAfter.{IsStateAfter}
 use Rattle.upc_cell.specs.declared.vc.Vc.{Vc}
 use Rattle.upc_run.specs.RunText.{Card, IsLed, TakesCommand}
 use Rattle.upc_script.specs.ScriptCommands.{cut}
@@ -35,8 +32,3 @@ is_full _ = false
 abbrev pub CutsOff : CoreView → Vc → CoreView → Type 0
 CutsOff old vc new = (before : Card) → IsLed before → CoreAgrees old before.world
     → (line : List ℕ) × (after : Card) × TakesCommand before (cut vc) (Cut vc) line after × CoreAgrees new after.world
-
--- The contracts and the state are those of a connection.
-pub record IsStateOfConnection (connection : Connection) (state : ConnectionState) : Type 0 where
-  pub contracts : state.contracts.items ≡ connection.contracts
-  pub levels : IsStateAfter connection.contracts connection.history state.state

@@ -1,10 +1,8 @@
 -- A run of `police` as the code stores it, and the states that it shows.
-use Rattle.std.specs.Prelude.{◌≡◌, ◌||◌, ◌++◌, if◌then◌else◌, List, [], ℕ, Bool, true, Option, Some, None, MatchOption}
-use Rattle.card_core.specs.Agreement.{CoreAgrees}
-use Rattle.card_core.specs.ConnectionState.{IsStateIn}
-use Rattle.card_core.specs.World.{World, connection_in}
+use Rattle.std.specs.Prelude.{◌≡◌, ◌||◌, ◌++◌, if◌then◌else◌, List, [], ℕ, Bool, true, Option, Some}
+use Rattle.card_core.specs.Agreement.{CoreAgrees, CoreView}
+use Rattle.card_core.specs.World.{World}
 use Rattle.card_core.specs.declared.answer.Answer.{Answer}
-use Rattle.card_core.specs.declared.connection_state.ConnectionState.{ConnectionState}
 use Rattle.lab_captures.specs.CellFilter.{FilterState, filter_state}
 use Rattle.lab_captures.specs.declared.cell_lines.CellLines.{CellLines}
 use Rattle.leaky.specs.declared.excess.Excess.{Excess}
@@ -13,6 +11,7 @@ use Rattle.upc_run.specs.RunText.{IsLed}
 use Rattle.lab_police.specs.PoliceLines.{excess_of_answer, has_line, police_line, verdict_heading}
 use Rattle.lab_police.specs.PoliceText.{PolicesCounted, PoliceWorld}
 use Rattle.lab_police.specs.declared.police.PoliceRun.{PoliceRun}
+use Rattle.lab_police.specs.inner.ExcessLeft.{LeavesConnection}
 
 -- The run has what the state has, but for the filter.
 pub record ShowsAllButFilter (run : PoliceRun) (world : PoliceWorld) : Type 0 where
@@ -31,13 +30,13 @@ abbrev pub lined : CellLines → Bool → ℕ → ℕ → Vc → Bool → Answer
 lined lines begun number moment vc clp given excess =
     if has_line lines given then (if begun then [] else verdict_heading) ++ police_line number moment vc clp given excess else []
 
--- The answers grew by such a text, whose excess is right if the state is that of the connection, and this is whether the heading is written.
-pub record AddsCell (lines : CellLines) (begun : Bool) (number moment : ℕ) (vc : Vc) (clp : Bool) (given : Answer) (state : Option ConnectionState)
+-- The answers grew by such a text, whose excess is right if the core is as the cell left it, and this is whether the heading is written.
+pub record AddsCell (lines : CellLines) (begun : Bool) (number moment : ℕ) (vc : Vc) (clp : Bool) (given : Answer) (core : CoreView)
     (old new : List ℕ) (now : Bool) : Type 0 where
   pub excess : Option Excess
   pub added : new ≡ old ++ lined lines begun number moment vc clp given excess
-  pub right : has_line lines given ≡ true → (world : World)
-      → MatchOption state (connection_in world.connections vc ≡ None) (IsStateIn world vc) → excess ≡ excess_of_answer world vc clp given
+  pub right : has_line lines given ≡ true → (before after : World) → CoreAgrees core after
+      → LeavesConnection before.connections after.connections vc clp given → excess ≡ excess_of_answer before vc clp given
   pub written : now ≡ (begun || has_line lines given)
 
 -- The answers grew by the text for a cell that counts, from each state that the run had.

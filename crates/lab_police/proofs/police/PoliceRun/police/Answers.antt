@@ -24,12 +24,11 @@ returns-clause-policed c =
     let run = c.args.self.now in
     let core = c.arrive_with_room.new.core in
     let given = answer_to cell c.in-Some.told in
-    polices_by run core given c.state_if_wanted-state.result c.vc_at-vc.result c.args.number c.args.moment cell c.in_ok-self.field-0 c.count.new.self
+    polices_by run core given c.vc_at-vc.result c.args.number c.args.moment cell c.in_ok-self.field-0 c.count.new.self
     c.args.answers.now.items c.add_cell.new.answers.items
     (subst (λ (o : Option (Result Judgement Unjudged)). ArrivesWithRoom run.core cell c.args.moment (option_map (λ told. answer_to cell told) o) core)
     c.in-Some.is c.in_ok-told.ensures)
     (c.vc_at-vc.ensures.connection ∙ ap (λ (shape : Shape). vc_of shape.side cell) c.shape.ensures)
-    c.state_if_wanted-state.ensures
-    (subst (λ (clp : Bool). AddsCell run.lines run.begun c.args.number c.args.moment c.vc_at-vc.result clp given c.state_if_wanted-state.result
+    (subst (λ (clp : Bool). AddsCell run.lines run.begun c.args.number c.args.moment c.vc_at-vc.result clp given core
     c.args.answers.now.items c.add_cell.new.answers.items c.in_ok-self.field-0) c.clp.ensures.test (c.in_ok-self.ensures cell))
     (c.count.ensures cell)
