@@ -1,9 +1,9 @@
 //! The cell in a record.
 
-ghost use Rattle.std.specs.Prelude.{◌≤◌, ◌*◌, length};
+ghost use Rattle.std.specs.Prelude.{◌≡◌, ◌≤◌, ◌+◌, ◌*◌, length, take, drop};
 ghost use Rattle.captures.specs.Record.{HasExtensions};
 ghost use Rattle.captures.specs.RecordContent.{IsContent};
-ghost use Rattle.captures.specs.inner.Received.{IsCellFrom, IsReceived};
+ghost use Rattle.captures.specs.inner.Received.{IsCellFrom, IsPlaced, IsReceived};
 
 use crate::packet::HEADER_OCTETS;
 use thiserror::Error;
@@ -47,43 +47,68 @@ fn extensions_in(octets: &[u8]) -> usize
     count
 }
 
-/// Returns the cell that begins at this place, or how much of it there is.
+/// Returns the place, if a cell begins there, or how much of it there is.
 #[inline(always)]
-fn cell_from(octets: &[u8], place: usize) -> Result<Cell, NoCell>
-    ensures { IsCellFrom octets.now place result }
+fn place_from(octets: &[u8], place: usize) -> Result<usize, NoCell>
+    ensures { IsPlaced (IsCellFrom octets.now place) octets.now result }
 {
     if octets.len() < place {
         return Err(NoCell::CutShort(0));
     }
-    match octets[place..].split_first_chunk::<CELL_OCTETS>() {
-        Some((cell, _)) => Ok(Cell::from(*cell)),
-        None => Err(NoCell::CutShort(octets.len() - place)),
+    let left = octets.len() - place;
+    if left < CELL_OCTETS {
+        return Err(NoCell::CutShort(left));
     }
+    Ok(place)
 }
 
-/// Returns the cell of a record whose type holds cells, after this many octets of multi-channel header.
+/// Returns the place of the cell of a record whose type holds cells, after this many octets of multi-channel header.
 #[inline(always)]
-fn received_cell(octets: &[u8], channel: usize) -> Result<Cell, NoCell>
+fn received_place(octets: &[u8], channel: usize) -> Result<usize, NoCell>
     requires header { 16 ≤ length octets.now }
     requires small { channel ≤ 4 }
-    ensures { IsReceived octets.now channel result }
+    ensures { IsPlaced (IsReceived octets.now channel) octets.now result }
 {
     if octets[9] / 0x10 % 4 != 0 {
         return Err(NoCell::Errored);
     }
     let extensions = EXTENSION_OCTETS * extensions_in(octets);
-    cell_from(octets, HEADER_OCTETS + extensions + channel)
+    place_from(octets, HEADER_OCTETS + extensions + channel)
 }
 
-/// Returns the cell of a record, or why it holds none.
+/// Returns the place of the cell of a record, or why it holds none.
+#[inline(always)]
+fn place_of(octets: &[u8]) -> Result<usize, NoCell>
+    requires { 16 ≤ length octets.now }
+    ensures { IsPlaced (IsContent octets.now) octets.now result }
+{
+    match octets[8] % 0x80 {
+        ATM => received_place(octets, 0),
+        MC_ATM => received_place(octets, CHANNEL_OCTETS),
+        kind => Err(NoCell::OtherType(kind)),
+    }
+}
+
+/// Returns the cell that begins at this place.
+#[inline(always)]
+fn cell_at(octets: &[u8], place: usize) -> Cell
+    requires { place + 52 ≤ length octets.now }
+    ensures { result ≡ take 52 (drop place octets.now) }
+{
+    let Some((cell, _)) = octets[place..].split_first_chunk::<CELL_OCTETS>() else {
+        unreachable!();
+    };
+    Cell::from(*cell)
+}
+
+/// Returns the cell of a record, or why it holds none. Its octets are copied once, after each test.
 #[inline(always)]
 pub(crate) fn content_of(octets: &[u8]) -> Result<Cell, NoCell>
     requires { 16 ≤ length octets.now }
     ensures { IsContent octets.now result }
 {
-    match octets[8] % 0x80 {
-        ATM => received_cell(octets, 0),
-        MC_ATM => received_cell(octets, CHANNEL_OCTETS),
-        kind => Err(NoCell::OtherType(kind)),
+    match place_of(octets) {
+        Ok(place) => Ok(cell_at(octets, place)),
+        Err(why) => Err(why),
     }
 }
