@@ -1,0 +1,6 @@
+pub mod ScriptLines
+pub mod Completing
+pub mod Existence
+pub mod WholeLines
+pub mod LinesKept
+pub mod Public

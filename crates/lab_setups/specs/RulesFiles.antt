@@ -1,0 +1,33 @@
+-- What the text of a file of rules leads to: a program, or a fault line.
+use Rattle.std.specs.Prelude.{◌≡◌, ℕ, List, [], ◌∷◌, Some}
+use Rattle.bpf_code.specs.declared.instr.Instr.{Instr}
+use Rattle.bpf_verify.specs.Accepted.{IsAccepted}
+use Rattle.lab_rules.specs.RulesText.{IsRulesText, MayBeRulesText, most_rules_octets}
+use Rattle.rules_text.specs.ValuesRead.{FollowsText}
+use Rattle.text_io.specs.Gathered.{gathered}
+use Rattle.text_io.specs.declared.ending.Done.TheVariants.{Ended}
+
+-- The text is within the limit, and the code is a program for it: it is accepted, and on every cell the machine gives the value of the
+-- text's rules. `upc-lab rules` may print it.
+pub record IsProgramOfRules (text : List ℕ) (code : List Instr) : Type 0 where
+  pub within : gathered most_rules_octets text ≡ Some text
+  pub accepted : IsAccepted code
+  pub follows : FollowsText text code
+
+-- The text has a fault, and `upc-lab rules` prints this line for it.
+abbrev pub IsFaultOfRules : List ℕ → List ℕ → Type 0
+IsFaultOfRules text fault = IsRulesText text fault Ended
+
+-- The same, but that the code of any rules may be said to be too long.
+abbrev pub MayBeFaultOfRules : List ℕ → List ℕ → Type 0
+MayBeFaultOfRules text fault = MayBeRulesText text fault Ended
+
+-- The first of the texts that are left; a text that is missing counts as empty.
+abbrev pub next_text : List (List ℕ) → List ℕ
+next_text [] = []
+next_text (text ∷ texts) = text
+
+-- The texts that are left after the first of them.
+abbrev pub later_texts : List (List ℕ) → List (List ℕ)
+later_texts [] = []
+later_texts (text ∷ texts) = texts

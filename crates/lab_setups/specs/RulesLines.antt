@@ -1,0 +1,30 @@
+-- The lines of a setup script that name files of rules.
+use Rattle.std.specs.Prelude.{ℕ, if◌then◌else◌, List, [], ◌∷◌, codes, Option, Some, None}
+use Rattle.std.specs.Str.{bytes_eq}
+use Rattle.text_io.specs.Lines.{Line, lines_of, said}
+use Rattle.text_io.specs.Words.{words_of}
+
+-- The second of exactly two words, if the first is `rules`.
+abbrev pub word_after_rules : List (List ℕ) → Option (List ℕ)
+word_after_rules [] = None
+word_after_rules (word ∷ []) = None
+word_after_rules (word ∷ name ∷ []) = if bytes_eq word (codes "rules") then Some name else None
+word_after_rules (word ∷ name ∷ other ∷ words) = None
+
+-- The name of the file of rules that a line names, if it is a line `rules NAME`.
+unfoldable pub rules_name : List ℕ → Option (List ℕ)
+rules_name content = word_after_rules (words_of content)
+
+-- These names, with one more in front of them if there is one.
+abbrev pub with_name : Option (List ℕ) → List (List ℕ) → List (List ℕ)
+with_name None names = names
+with_name (Some name) names = name ∷ names
+
+-- The names of these lines, in order.
+abbrev pub names_in : List Line → List (List ℕ)
+names_in [] = []
+names_in (line ∷ lines) = with_name (rules_name (said line)) (names_in lines)
+
+-- The names of a script's lines, in order.
+abbrev pub rules_names : List ℕ → List (List ℕ)
+rules_names script = names_in (lines_of script)

@@ -1,0 +1,38 @@
+-- How the code replaces lines.
+use Rattle.std.specs.Prelude.{◌≡◌, ℕ, List, [], ◌++◌, map, MatchOption, Option}
+use Rattle.std.specs.Global.{Vec}
+use Rattle.bpf_code.specs.declared.instr.Instr.{Instr}
+use Rattle.text_io.specs.Lines.{lines_of}
+use Rattle.lab_setups.specs.FaultyRules.{HasFaultIn, HasFaultyRules}
+use Rattle.lab_setups.specs.RulesFiles.{IsFaultOfRules, IsProgramOfRules}
+use Rattle.lab_setups.specs.RulesLines.{rules_names}
+use Rattle.lab_setups.specs.SetupPrograms.{HasPrograms, HasProgramsIn, load_line}
+use Rattle.lab_setups.specs.declared.compiling.Compiled.{Compiled}
+use Rattle.lab_setups.specs.declared.compiling.Compiled.TheVariants.{Program, Faulty}
+use Rattle.lab_setups.specs.declared.expanding.Expanded.{Expanded}
+use Rattle.lab_setups.specs.declared.expanding.Expanded.TheVariants as expanded
+
+-- The octets of each text.
+abbrev pub octets_of_texts : List (Vec ℕ) → List (List ℕ)
+octets_of_texts texts = map (λ text. text.items) texts
+
+-- What a text of rules leads to.
+abbrev pub CompilesTo : List ℕ → Compiled → Type 0
+CompilesTo text (Program code) = IsProgramOfRules text code.items
+CompilesTo text (Faulty fault) = IsFaultOfRules text fault.items
+
+-- The script grew by the line that loads a program of this text.
+abbrev pub GrowsByProgram : List ℕ → List ℕ → List ℕ → Type 0
+GrowsByProgram text old new = (code : List Instr) × IsProgramOfRules text code × (new ≡ old ++ load_line code)
+
+-- What a script leads to.
+abbrev pub ExpandsTo : List ℕ → List (List ℕ) → Expanded → Type 0
+ExpandsTo script texts expanded.Itself = HasPrograms script texts script
+ExpandsTo script texts (expanded.Replaced made) = HasPrograms script texts made.items
+ExpandsTo script texts (expanded.Faulty text) = HasFaultyRules script texts text.items
+
+-- The lines that are left, after `met` others, complete the script: what replaces them goes behind what was made, and a fault among them
+-- is the script's.
+pub record Completes (script : List ℕ) (texts : List (List ℕ)) (made : List ℕ) (met : ℕ) (left : List ℕ) (texts_left : List (List ℕ)) : Type 0 where
+  pub programs : (rest : List ℕ) → HasProgramsIn (lines_of left) texts_left rest → HasPrograms script texts (made ++ rest)
+  pub faults : (text : List ℕ) → HasFaultIn IsFaultOfRules met (lines_of left) texts_left text → HasFaultyRules script texts text

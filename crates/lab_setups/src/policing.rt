@@ -1,0 +1,63 @@
+//! The cells of a capture, policed by a setup script with files of rules.
+
+ghost use Rattle.std.specs.Prelude.{◌≡◌, ◌≢◌, ◌++◌, Err, map, IfOk, OnErr, OnOk};
+ghost use Rattle.text_io.specs.Devices.{Adds, IsPart};
+ghost use Rattle.text_io.specs.Failures.{write_failures};
+ghost use Rattle.text_io.specs.Serving.{IsServed};
+ghost use Rattle.lab_setups.specs.SetupText.{IsSetupPoliced, MayBeSetupPoliced};
+
+use crate::expanding::{Expanded, expand_setup};
+use captures::Tick;
+use lab_captures::CellLines;
+use lab_police::police_capture;
+use std::alloc::Global;
+use text_io::{Done, Input, Output, RunFault, give_last};
+
+/// Writes the text about rules with a fault.
+fn write_rules_fault<O: Output>(output: &mut O, mut text: Vec<u8>) -> Result<Done, RunFault>
+    ensures done { IfOk result (λ done. done ≡ Done.Ended) }
+    ensures given { O.is_known → OnOk result (O.held output.new ≡ O.held output.old ++ text.items) }
+    ensures front { O.is_known → OnErr result (IsPart (O.held output.old) (O.held output.new) text.items) }
+    ensures fault { result ≢ Err RunFault.ReadFailed }
+    ensures writing { O.failures output.new ≡ write_failures result (O.failures output.old) }
+{
+    give_last(output, &mut text, Done::Ended)
+}
+
+/// Polices the cells of a capture, as [`police_capture`] does, by a setup script that may name files of rules. `texts` are the octets of
+/// these files, in the order of [`rules_names`](crate::rules_names). Each line `rules NAME` loads the program of its text, as the next
+/// program of the script. If a text has a fault, the output is its fault line, and the line of the script that names it; no cell is
+/// policed then. docs/LAB.md has the format.
+///
+/// Memory is that of [`police_capture`], the script with the programs of its rules in hexadecimal digits, and what one text of rules is
+/// compiled in. A script that names no rules isn't copied.
+///
+/// # Errors
+///
+/// `ReadFailed` or `WriteFailed` if that device failed; the run ends at the first failure. `NoMemory` if an
+/// allocation fails. The output is then a prefix of the text.
+pub fn police_setup<I: Input, O: Output>(
+    alloc: Global,
+    setup: &[u8],
+    texts: &[Vec<u8>],
+    lines: CellLines,
+    tick: Tick,
+    interface: Option<u8>,
+    input: &mut I,
+    output: &mut O,
+) -> Result<Done, RunFault>
+    ensures served { IsServed (MayBeSetupPoliced lines tick.nanoseconds interface setup.now (map (λ text. text.items) texts.now))
+        I.Input input.old input.new O.Output output.old output.new result }
+    ensures policed { I.is_known → O.is_known → IfOk result (λ done.
+        Adds (λ text. IsSetupPoliced lines tick.nanoseconds interface setup.now (map (λ text. text.items) texts.now) (I.rest input.old) text done)
+        (O.held output.old) (O.held output.new)) }
+{
+    match expand_setup(alloc, setup, texts) {
+        Err(_) => Err(RunFault::NoMemory),
+        Ok(Expanded::Faulty(text)) => write_rules_fault(output, text),
+        Ok(Expanded::Itself) => police_capture(alloc, setup, lines, tick, interface, input, output),
+        Ok(Expanded::Replaced(script)) => {
+            police_capture(alloc, &script, lines, tick, interface, input, output)
+        }
+    }
+}

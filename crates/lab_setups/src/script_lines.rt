@@ -1,0 +1,21 @@
+//! The lines of a script.
+
+ghost use Rattle.std.specs.Prelude.{◌≡◌, ◌<◌, [], length, IfSome, MatchOption};
+ghost use Rattle.text_io.specs.Lines.{lines_of};
+ghost use Rattle.lab_setups.specs.inner.ScriptLine.{IsCutOff};
+
+use text_io::{before_return, first_feed};
+
+/// Returns what the first line of a text says, its octets with its line feed, and the rest.
+pub(crate) fn next_line(text: &[u8]) -> Option<(&[u8], &[u8], &[u8])>
+    ensures lines { MatchOption result (lines_of text.now ≡ []) (λ found. IsCutOff text.now found.0.now found.1.now found.2.now) }
+    ensures shorter { IfSome result (λ found. length found.2.now < length text.now) }
+{
+    if text.is_empty() {
+        return None;
+    }
+    match first_feed(text, 0) {
+        Some(at) => Some((before_return(&text[..at]), &text[..at + 1], &text[at + 1..])),
+        None => Some((text, text, &text[text.len()..])),
+    }
+}
