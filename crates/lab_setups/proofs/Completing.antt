@@ -4,12 +4,12 @@ use Rattle.std.specs.Option.{MatchOption}
 use Rattle.bpf_code.specs.declared.instr.Instr.{Instr}
 use Rattle.text_io.specs.Lines.{Line, lines_of, said}
 use Rattle.lab_rules.specs.AsmText.{whole_line}
-use Rattle.lab_setups.specs.FaultyRules.{HasFaultIn, HasFaultyRules, IsFaultAt, rules_place}
+use Rattle.lab_setups.specs.FaultyRules.{HasFaultIn, HasFaultyRules, IsRulesFaultAt, rules_place}
 use Rattle.lab_setups.specs.RulesFiles.{IsFaultOfRules, IsProgramOfRules, later_texts, next_text}
 use Rattle.lab_setups.specs.RulesLines.{rules_name}
 use Rattle.lab_setups.specs.SetupPrograms.{HasPrograms, HasProgramsIn, load_line}
 use Rattle.lab_setups.specs.inner.Expansion.{Completes, GrowsByProgram}
-use Rattle.lab_setups.specs.inner.ScriptLine.{IsCutOff}
+use Rattle.lab_setups.specs.inner.ScriptLine.{BeginsWithLine}
 
 -- What replaces lines, the first of which has this name or none.
 abbrev pub ReplacesAt : Option (List ℕ) → Line → List Line → List (List ℕ) → List ℕ → Type 0
@@ -22,7 +22,7 @@ ReplacesAt name line lines texts expanded = MatchOption name
 abbrev pub FailsAt : (List ℕ → List ℕ → Type 0) → Option (List ℕ) → ℕ → List Line → List (List ℕ) → List ℕ → Type 0
 FailsAt IsFault name met lines texts text = MatchOption name
     (HasFaultIn IsFault (met + 1) lines texts text)
-    (λ name. IsFaultAt IsFault (met + 1) name (next_text texts) text
+    (λ name. IsRulesFaultAt IsFault (met + 1) name (next_text texts) text
     ⊎ ((code : List Instr) × IsProgramOfRules (next_text texts) code × HasFaultIn IsFault (met + 1) lines (later_texts texts) text))
 
 module _ (script : List ℕ) (texts : List (List ℕ)) (made : List ℕ) (met : ℕ) (left : List ℕ) (texts_left : List (List ℕ)) (so : Completes script texts made met left texts_left) where
@@ -31,7 +31,7 @@ module _ (script : List ℕ) (texts : List (List ℕ)) (made : List ℕ) (met : 
   made_whole none =
       subst (HasPrograms script texts) (append-nil made) (so.programs [] (subst (λ (ls : List Line). HasProgramsIn ls texts_left []) (sym none) refl))
 
-  module _ (content whole rest : List ℕ) (cut : IsCutOff left content whole rest) where
+  module _ (content whole rest : List ℕ) (cut : BeginsWithLine left content whole rest) where
     replaces : (name : Option (List ℕ)) (expanded : List ℕ) → rules_name content ≡ name → ReplacesAt name cut.line (lines_of rest) texts_left expanded
         → HasPrograms script texts (made ++ expanded)
     replaces name expanded named is =
@@ -40,7 +40,7 @@ module _ (script : List ℕ) (texts : List (List ℕ)) (made : List ℕ) (met : 
         (subst (λ (n : Option (List ℕ)). ReplacesAt n cut.line (lines_of rest) texts_left expanded) (sym here) is))
 
     fails : (name : Option (List ℕ)) (text : List ℕ) → rules_name content ≡ name → FailsAt IsFaultOfRules name met (lines_of rest) texts_left text
-        → HasFaultyRules script texts text
+        → HasFaultyRules IsFaultOfRules script texts text
     fails name text named is =
         let here : rules_name (said cut.line) ≡ name = ap rules_name (sym cut.says) ∙ named in
         so.faults text (subst (λ (ls : List Line). HasFaultIn IsFaultOfRules met ls texts_left text) (sym cut.lines)

@@ -16,7 +16,7 @@ use Rattle.lab_rules.specs.RuleFaults.{rule_fault}
 use Rattle.lab_rules.specs.RulesText.{AnswersRules, most_rules_octets}
 use Rattle.upc_words.specs.FaultLines.{too_long}
 use Rattle.lab_rules.specs.AsmText.{whole_line}
-use Rattle.lab_setups.specs.FaultyRules.{HasFaultIn, HasFaultyRulesBy, IsFaultAt, rules_place}
+use Rattle.lab_setups.specs.FaultyRules.{HasFaultIn, IsRulesFaultAt, rules_place}
 use Rattle.lab_setups.specs.RulesFiles.{IsFaultOfRules, MayBeFaultOfRules, later_texts, next_text}
 use Rattle.lab_setups.specs.RulesLines.{rules_name}
 use Rattle.lab_setups.specs.SetupLaws.{PolicesEachSetup}

@@ -3,10 +3,10 @@ use Rattle.std.proofs.Common.{◌≡◌, ◌≢◌, ℕ, ◌+◌, ◌<◌, true,
 use Rattle.std.proofs.lemmas.List.{drop_all, drop_more, get_or-take, length-take, take_more}
 use Rattle.text_io.specs.Lines.{lines_of, without_return}
 use Rattle.text_io.proofs.LinesLemmas.{NoFeed, lines-at_feed, lines-of_rest}
-use Rattle.lab_setups.specs.inner.ScriptLine.{IsCutOff}
+use Rattle.lab_setups.specs.inner.ScriptLine.{BeginsWithLine}
 
 pub cut_ended : (text : List ℕ) (at : ℕ) → at < length text → get_or text at 0 ≡ 10 → ((k : ℕ) → k < at → get_or text k 0 ≢ 10)
-    → IsCutOff text (without_return (take at text)) (take (at + 1) text) (drop (at + 1) text)
+    → BeginsWithLine text (without_return (take at text)) (take (at + 1) text) (drop (at + 1) text)
 cut_ended text at lt feed before =
     let front = take at text in
     let free : NoFeed front = λ k below.
@@ -21,7 +21,7 @@ cut_ended text at lt feed before =
       octets = take_more text at 0 lt ∙ ap (λ (o : ℕ). front ++ o ∷ []) feed;
     }
 
-pub cut_last : (text : List ℕ) → 0 < length text → ((k : ℕ) → k < length text → get_or text k 0 ≢ 10) → IsCutOff text text text (drop (length text) text)
+pub cut_last : (text : List ℕ) → 0 < length text → ((k : ℕ) → k < length text → get_or text k 0 ≢ 10) → BeginsWithLine text text text (drop (length text) text)
 cut_last text some free = record {
   line = record { octets = text; ended = false };
   lines = lines-of_rest text some free ∙ ap (λ (r : List ℕ). (record { octets = text; ended = false }) ∷ lines_of r) (sym (drop_all (length text) text (omega arith)));

@@ -5,7 +5,7 @@ use Rattle.std.proofs.lemmas.Bool.{eqb-true}
 use Rattle.bpf_code.specs.declared.instr.Instr.{Instr}
 use Rattle.text_io.specs.Lines.{Line, begun_with, lines_of, said}
 use Rattle.lab_rules.specs.AsmText.{whole_line}
-use Rattle.lab_setups.specs.RulesLines.{names_in, rules_name, rules_names, with_name}
+use Rattle.lab_setups.specs.RulesLines.{names_in, rules_name, rules_names, with_rules_name}
 use Rattle.lab_setups.specs.SetupLaws.{ScriptsWithoutRulesStay}
 use Rattle.lab_setups.specs.SetupPrograms.{HasPrograms, HasProgramsIn}
 use Rattle.lab_setups.proofs.Completing.{ReplacesAt}
@@ -38,7 +38,7 @@ whole_text (octet ∷ octets) = whole_by (octet == 10) octet octets refl (whole_
 -- ---- lines that name no rules
 
 -- A line that adds no name has none, and the others have none either.
-no_name : (name : Option (List ℕ)) (names : List (List ℕ)) → with_name name names ≡ [] → (name ≡ None) × (names ≡ [])
+no_name : (name : Option (List ℕ)) (names : List (List ℕ)) → with_rules_name name names ≡ [] → (name ≡ None) × (names ≡ [])
 no_name None names e = (refl, e)
 no_name (Some name) names e = cc
 

@@ -3,7 +3,7 @@ use Rattle.std.specs.Prelude.{◌≡◌, ◌⊎◌, ℕ, ◌+◌, List, [], ◌�
 use Rattle.bpf_code.specs.declared.instr.Instr.{Instr}
 use Rattle.text_io.specs.Lines.{Line, lines_of, said}
 use Rattle.lab_scripts.specs.Places.{place_words, quoted}
-use Rattle.lab_setups.specs.RulesFiles.{IsFaultOfRules, IsProgramOfRules, later_texts, next_text}
+use Rattle.lab_setups.specs.RulesFiles.{IsProgramOfRules, later_texts, next_text}
 use Rattle.lab_setups.specs.RulesLines.{rules_name}
 
 -- The line that says which line of the script names the rules.
@@ -11,8 +11,8 @@ abbrev pub rules_place : ℕ → List ℕ → List ℕ
 rules_place number name = place_words number None ++ (codes "in the rules of " ++ (quoted name ++ codes "\n"))
 
 -- The text for a line of the script with this number, which names rules with a fault: the fault line of the rules, and where they are named.
-abbrev pub IsFaultAt : (List ℕ → List ℕ → Type 0) → ℕ → List ℕ → List ℕ → List ℕ → Type 0
-IsFaultAt IsFault number name rules text = (fault : List ℕ) × IsFault rules fault × (text ≡ fault ++ rules_place number name)
+abbrev pub IsRulesFaultAt : (List ℕ → List ℕ → Type 0) → ℕ → List ℕ → List ℕ → List ℕ → Type 0
+IsRulesFaultAt IsFault number name rules text = (fault : List ℕ) × IsFault rules fault × (text ≡ fault ++ rules_place number name)
 
 -- The text is about the first of these lines whose rules have a fault; the rules of those before it have programs. `met` lines of the script
 -- are before these, and the texts are those that are left. `IsFault` says which line is the fault line of a text.
@@ -20,13 +20,9 @@ abbrev pub HasFaultIn : (List ℕ → List ℕ → Type 0) → ℕ → List Line
 HasFaultIn IsFault met [] texts text = ⊥
 HasFaultIn IsFault met (line ∷ lines) texts text = MatchOption (rules_name (said line))
     (HasFaultIn IsFault (met + 1) lines texts text)
-    (λ name. IsFaultAt IsFault (met + 1) name (next_text texts) text
+    (λ name. IsRulesFaultAt IsFault (met + 1) name (next_text texts) text
     ⊎ ((code : List Instr) × IsProgramOfRules (next_text texts) code × HasFaultIn IsFault (met + 1) lines (later_texts texts) text))
 
--- The text is about the first line of a script whose rules have a fault by this relation.
-abbrev pub HasFaultyRulesBy : (List ℕ → List ℕ → Type 0) → List ℕ → List (List ℕ) → List ℕ → Type 0
-HasFaultyRulesBy IsFault script texts text = HasFaultIn IsFault 0 (lines_of script) texts text
-
 -- The text is about the first line of a script whose rules have a fault.
-abbrev pub HasFaultyRules : List ℕ → List (List ℕ) → List ℕ → Type 0
-HasFaultyRules = HasFaultyRulesBy IsFaultOfRules
+abbrev pub HasFaultyRules : (List ℕ → List ℕ → Type 0) → List ℕ → List (List ℕ) → List ℕ → Type 0
+HasFaultyRules IsFault script texts text = HasFaultIn IsFault 0 (lines_of script) texts text

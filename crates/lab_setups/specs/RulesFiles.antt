@@ -1,18 +1,32 @@
 -- What the text of a file of rules leads to: a program, or a fault line.
 use Rattle.std.specs.Prelude.{◌≡◌, ℕ, List, [], ◌∷◌, Some}
+use Rattle.bpf_code.specs.Encoding.{code_octets}
+use Rattle.bpf_code.specs.OctetSpelling.{SpellsCode}
 use Rattle.bpf_code.specs.declared.instr.Instr.{Instr}
 use Rattle.bpf_verify.specs.Accepted.{IsAccepted}
+use Rattle.hex.specs.Hex.{encode_lower}
 use Rattle.lab_rules.specs.RulesText.{IsRulesText, MayBeRulesText, most_rules_octets}
 use Rattle.rules_text.specs.ValuesRead.{FollowsText}
 use Rattle.text_io.specs.Gathered.{gathered}
 use Rattle.text_io.specs.declared.ending.Done.TheVariants.{Ended}
+use Rattle.upc_words.specs.Hexadecimal.{octets_of_digits}
 
--- The text is within the limit, and the code is a program for it: it is accepted, and on every cell the machine gives the value of the
--- text's rules. `upc-lab rules` may print it.
+-- The octets of a code in lower case hexadecimal digits, as `upc-lab rules` prints them.
+abbrev pub program_digits : List Instr → List ℕ
+program_digits code = encode_lower (code_octets code)
+
+-- Whoever reads these digits gets the octets, and the octets spell the code.
+pub record IsReadAgain (code : List Instr) : Type 0 where
+  pub digits : octets_of_digits (program_digits code) ≡ Some (code_octets code)
+  pub spelled : SpellsCode (code_octets code) code
+
+-- The text is within the limit, and the code is a program for it: it is accepted, on every cell the machine gives the value of the text's
+-- rules, and it is what its digits are read as.
 pub record IsProgramOfRules (text : List ℕ) (code : List Instr) : Type 0 where
   pub within : gathered most_rules_octets text ≡ Some text
   pub accepted : IsAccepted code
   pub follows : FollowsText text code
+  pub read_again : IsReadAgain code
 
 -- The text has a fault, and `upc-lab rules` prints this line for it.
 abbrev pub IsFaultOfRules : List ℕ → List ℕ → Type 0

@@ -16,14 +16,14 @@ unfoldable pub rules_name : List ℕ → Option (List ℕ)
 rules_name content = word_after_rules (words_of content)
 
 -- These names, with one more in front of them if there is one.
-abbrev pub with_name : Option (List ℕ) → List (List ℕ) → List (List ℕ)
-with_name None names = names
-with_name (Some name) names = name ∷ names
+abbrev pub with_rules_name : Option (List ℕ) → List (List ℕ) → List (List ℕ)
+with_rules_name None names = names
+with_rules_name (Some name) names = name ∷ names
 
 -- The names of these lines, in order.
 abbrev pub names_in : List Line → List (List ℕ)
 names_in [] = []
-names_in (line ∷ lines) = with_name (rules_name (said line)) (names_in lines)
+names_in (line ∷ lines) = with_rules_name (rules_name (said line)) (names_in lines)
 
 -- The names of a script's lines, in order.
 abbrev pub rules_names : List ℕ → List (List ℕ)

@@ -1,10 +1,16 @@
 -- What is proved of setup scripts with files of rules.
-use Rattle.std.specs.Prelude.{◌≡◌, ℕ, List, [], ◌∷◌, length, Option, MatchOption}
+use Rattle.std.specs.Prelude.{◌≡◌, ℕ, List, [], ◌∷◌, length, Option, Some, MatchOption}
+use Rattle.bpf_code.specs.Encoding.{code_octets}
 use Rattle.bpf_code.specs.declared.instr.Instr.{Instr}
 use Rattle.lab_captures.specs.declared.cell_lines.CellLines.{CellLines}
 use Rattle.text_io.specs.Lines.{Line, lines_of, said}
+use Rattle.text_io.specs.Words.{words_of}
 use Rattle.text_io.specs.declared.ending.Done.{Done}
-use Rattle.lab_setups.specs.RulesFiles.{IsProgramOfRules, later_texts, next_text}
+use Rattle.upc_cell.specs.declared.side.Side.{Side}
+use Rattle.upc_codes.specs.Program.{ProgramReading, ReadsAs, is_program}
+use Rattle.upc_script.specs.ScriptCommands.{command_of, load}
+use Rattle.upc_words.specs.Hexadecimal.{octets_of_digits}
+use Rattle.lab_setups.specs.RulesFiles.{IsProgramOfRules, later_texts, next_text, program_digits}
 use Rattle.lab_setups.specs.RulesLines.{rules_name, rules_names}
 use Rattle.lab_setups.specs.SetupPrograms.{HasPrograms, load_command}
 use Rattle.lab_setups.specs.SetupText.{MayBeSetupPoliced}
@@ -40,3 +46,14 @@ pub record IsItsOwn (script : List ℕ) (texts : List (List ℕ)) : Type 0 where
 -- That is so for every script without a line `rules NAME`.
 abbrev pub ScriptsWithoutRulesStay : Type 0
 ScriptsWithoutRulesStay = (script : List ℕ) (texts : List (List ℕ)) → rules_names script ≡ [] → IsItsOwn script texts
+
+-- On a card of this side, `upc run` reads the command that loads a code as the load of that program, and of no other.
+pub record LoadsItsCode (side : Side) (code : List Instr) : Type 0 where
+  pub command : command_of side (words_of (load_command code)) ≡ Some (load (program_digits code))
+  pub digits : octets_of_digits (program_digits code) ≡ Some (code_octets code)
+  pub program : ReadsAs (code_octets code) (is_program code)
+  pub only : (reading : ProgramReading) → ReadsAs (code_octets code) reading → reading ≡ is_program code
+
+-- That is so for every program of a text of rules, on a card of either side.
+abbrev pub LoadCommandsLoad : Type 0
+LoadCommandsLoad = (side : Side) (text : List ℕ) (code : List Instr) → IsProgramOfRules text code → LoadsItsCode side code

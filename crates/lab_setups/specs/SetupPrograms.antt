@@ -1,17 +1,15 @@
 -- A setup script with the programs of its files of rules.
 use Rattle.std.specs.Prelude.{◌≡◌, ℕ, List, [], ◌∷◌, ◌++◌, codes, MatchOption}
-use Rattle.bpf_code.specs.Encoding.{code_octets}
 use Rattle.bpf_code.specs.declared.instr.Instr.{Instr}
-use Rattle.hex.specs.Hex.{encode_lower}
 use Rattle.text_io.specs.Lines.{Line, lines_of, said}
 use Rattle.lab_rules.specs.AsmText.{whole_line}
 use Rattle.upc_words.specs.FaultLines.{line as ended_by_feed}
-use Rattle.lab_setups.specs.RulesFiles.{IsProgramOfRules, later_texts, next_text}
+use Rattle.lab_setups.specs.RulesFiles.{IsProgramOfRules, later_texts, next_text, program_digits}
 use Rattle.lab_setups.specs.RulesLines.{rules_name}
 
--- The command that loads a code: its octets are in lower case hexadecimal digits.
+-- The command that loads a code.
 abbrev pub load_command : List Instr → List ℕ
-load_command code = codes "load " ++ encode_lower (code_octets code)
+load_command code = codes "load " ++ program_digits code
 
 -- The line of that command, which a line feed ends.
 abbrev pub load_line : List Instr → List ℕ

@@ -5,7 +5,7 @@ use Rattle.lab_captures.specs.declared.cell_lines.CellLines.{CellLines}
 use Rattle.lab_police.specs.PoliceText.{IsPoliceText}
 use Rattle.text_io.specs.declared.ending.Done.{Done}
 use Rattle.text_io.specs.declared.ending.Done.TheVariants.{Ended}
-use Rattle.lab_setups.specs.FaultyRules.{HasFaultyRulesBy}
+use Rattle.lab_setups.specs.FaultyRules.{HasFaultyRules}
 use Rattle.lab_setups.specs.RulesFiles.{IsFaultOfRules, MayBeFaultOfRules}
 use Rattle.lab_setups.specs.SetupPrograms.{HasPrograms}
 
@@ -13,7 +13,7 @@ use Rattle.lab_setups.specs.SetupPrograms.{HasPrograms}
 -- fault line of a text of rules.
 abbrev pub IsSetupPolicedBy : (List ℕ → List ℕ → Type 0) → CellLines → ℕ → Option ℕ → List ℕ → List (List ℕ) → List ℕ → List ℕ → Done → Type 0
 IsSetupPolicedBy IsFault lines tick interface setup texts octets text done =
-    (HasFaultyRulesBy IsFault setup texts text × (done ≡ Ended))
+    (HasFaultyRules IsFault setup texts text × (done ≡ Ended))
     ⊎ ((script : List ℕ) × HasPrograms setup texts script × IsPoliceText lines tick interface script octets text done)
 
 -- The same, where the fault line is that of `upc-lab rules`.

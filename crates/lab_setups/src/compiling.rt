@@ -1,8 +1,10 @@
 //! The program of a text of rules.
 
 ghost use Rattle.std.specs.Prelude.{◌≡◌, ◌++◌, IfOk, OnOk, MatchOption};
+ghost use Rattle.std.specs.String.{string_bytes};
+ghost use Rattle.hex.specs.Hex.{IsBytes, encode_lower};
 ghost use Rattle.lab_rules.specs.RuleFaults.{rule_fault};
-ghost use Rattle.lab_setups.specs.RulesFiles.{IsFaultOfRules};
+ghost use Rattle.lab_setups.specs.RulesFiles.{IsFaultOfRules, IsReadAgain, program_digits};
 ghost use Rattle.lab_setups.specs.SetupPrograms.{load_line};
 ghost use Rattle.lab_setups.specs.inner.Expansion.{CompilesTo, GrowsByProgram};
 
@@ -54,13 +56,32 @@ fn program_or_fault(alloc: Global, text: &[u8]) -> Result<Compiled, AllocError>
     }
 }
 
+/// Returns octets in lower case hexadecimal digits.
+fn digits_of(alloc: Global, octets: &[u8]) -> Result<String, AllocError>
+    ensures digits { IfOk result (λ digits. string_bytes digits ≡ encode_lower octets.now) }
+    ensures octets { IsBytes octets.now }
+{
+    Ok(hex::encode(alloc, octets)?)
+}
+
+/// Returns the octets of a code in digits, which are read again as the code.
+fn program_digits(alloc: Global, code: &[Instr]) -> Result<String, AllocError>
+    ensures digits { IfOk result (λ digits. string_bytes digits ≡ program_digits code.now) }
+    ensures read_again { OnOk result (IsReadAgain code.now) }
+{
+    match encode(alloc, code) {
+        Ok(octets) => digits_of(alloc, &octets),
+        Err(_) => Err(AllocError),
+    }
+}
+
 /// Appends the line that loads a code.
 #[tactic(auto, using(std::proofs::lemmas::List::append_assoc))]
 fn add_load(alloc: Global, script: &mut Vec<u8>, code: &[Instr]) -> Result<(), AllocError>
-    ensures { OnOk result (script.new.items ≡ script.old.items ++ load_line code.now) }
+    ensures line { OnOk result (script.new.items ≡ script.old.items ++ load_line code.now) }
+    ensures read_again { OnOk result (IsReadAgain code.now) }
 {
-    let octets = encode(alloc, code).map_err(|_| AllocError)?;
-    let digits = hex::encode(alloc, &octets)?;
+    let digits = program_digits(alloc, code)?;
     add_text(script, b"load ")?;
     add_text(script, digits.as_bytes())?;
     add_text(script, b"\n")

@@ -1,6 +1,6 @@
 //! Laws of the definitions that this crate's contracts cite. Each function does nothing; its contract is the law.
 
-ghost use Rattle.lab_setups.specs.SetupLaws.{PolicesEachSetup, ProgramsKeepLines, ScriptsWithoutRulesStay};
+ghost use Rattle.lab_setups.specs.SetupLaws.{LoadCommandsLoad, PolicesEachSetup, ProgramsKeepLines, ScriptsWithoutRulesStay};
 
 /// A setup script, the texts of its files of rules and a capture have a text, for each choice of lines, tick and interface.
 pub fn each_setup_has_a_text()
@@ -15,4 +15,9 @@ pub fn programs_keep_lines()
 /// A script without a line `rules NAME` stays as it is.
 pub fn scripts_without_rules_stay()
     ensures { ScriptsWithoutRulesStay }
+{}
+
+/// `upc run` reads the command that loads a program of rules as the load of that program.
+pub fn load_commands_load_their_programs()
+    ensures { LoadCommandsLoad }
 {}

@@ -1,7 +1,7 @@
 //! The lines of a setup script that name files of rules.
 
 ghost use Rattle.std.specs.Prelude.{◌≡◌, ◌++◌, [], false, map, option_map, IfOk, OnOk};
-ghost use Rattle.lab_setups.specs.RulesLines.{rules_name, rules_names, with_name};
+ghost use Rattle.lab_setups.specs.RulesLines.{rules_name, rules_names, with_rules_name};
 
 use crate::script_lines::next_line;
 use std::alloc::{AllocError, Global};
@@ -40,7 +40,7 @@ pub(crate) fn has_rules(script: &[u8]) -> bool
 /// Appends the name of a line, if it has one.
 fn add_name(alloc: Global, names: &mut Vec<Vec<u8>>, line: &[u8]) -> Result<(), AllocError>
     ensures { OnOk result (map (λ name. name.items) names.new.items
-        ≡ map (λ name. name.items) names.old.items ++ with_name (rules_name line.now) []) }
+        ≡ map (λ name. name.items) names.old.items ++ with_rules_name (rules_name line.now) []) }
 {
     let Some(name) = rules_name(line) else {
         return Ok(());

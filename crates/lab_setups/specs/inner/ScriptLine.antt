@@ -4,7 +4,7 @@ use Rattle.text_io.specs.Lines.{Line, lines_of, said}
 use Rattle.lab_rules.specs.AsmText.{whole_line}
 
 -- The text begins with a line that says this and has these octets, and the rest follows.
-pub record IsCutOff (text content whole rest : List ℕ) : Type 0 where
+pub record BeginsWithLine (text content whole rest : List ℕ) : Type 0 where
   pub line : Line
   pub lines : lines_of text ≡ line ∷ lines_of rest
   pub says : content ≡ said line

@@ -10,6 +10,7 @@ use Rattle.lab_police.proofs.PoliceLemmas.{served_as}
 use Rattle.lab_police.specs.PoliceText.{IsPoliceText}
 use Rattle.lab_setups.proofs.Existence.{may_be_policed, polices_each}
 use Rattle.lab_setups.specs.FaultyRules.{HasFaultyRules}
+use Rattle.lab_setups.specs.RulesFiles.{IsFaultOfRules}
 use Rattle.lab_setups.specs.SetupPrograms.{HasPrograms}
 use Rattle.lab_setups.specs.SetupText.{IsSetupPoliced, MayBeSetupPoliced}
 use Rattle.lab_setups.specs.declared.expanding.Expanded.{Expanded}
@@ -37,7 +38,7 @@ returns-in-Ok-Faulty-clause-served g c =
     let line = c.in-Ok-Faulty.text.items in
     let texts = octets_of_texts c.args.texts.now in
     let IsText = MayBeSetupPoliced c.args.lines c.args.tick.nanoseconds c.args.interface c.args.setup.now texts in
-    let faulty : HasFaultyRules c.args.setup.now texts line =
+    let faulty : HasFaultyRules IsFaultOfRules c.args.setup.now texts line =
     subst (λ (e : Expanded). ExpandsTo c.args.setup.now texts e) c.in-Ok-Faulty.field-0-is c.in-Ok-Faulty.ensures in
     let told : (octets : List ℕ) → IsText octets line Ended = λ octets.
     may_be_policed c.args.lines c.args.tick.nanoseconds c.args.interface c.args.setup.now texts octets line Ended (inl (faulty, refl)) in
@@ -57,7 +58,7 @@ returns-in-Ok-Faulty-clause-served g c =
 pub returns-in-Ok-Faulty-clause-policed : goal.returns-in-Ok-Faulty-clause-policed
 returns-in-Ok-Faulty-clause-policed g c ki ko =
     let texts = octets_of_texts c.args.texts.now in
-    let faulty : HasFaultyRules c.args.setup.now texts c.in-Ok-Faulty.text.items =
+    let faulty : HasFaultyRules IsFaultOfRules c.args.setup.now texts c.in-Ok-Faulty.text.items =
     subst (λ (e : Expanded). ExpandsTo c.args.setup.now texts e) c.in-Ok-Faulty.field-0-is c.in-Ok-Faulty.ensures in
     if_given c.write_rules_fault.result Ended _ _ c.write_rules_fault.ensures.done (c.write_rules_fault.ensures.given ko)
     (λ gives. (c.in-Ok-Faulty.text.items, gives, inl (faulty, refl)))
