@@ -46,7 +46,7 @@ module _ (script : List ℕ) (texts : List (List ℕ)) (made : List ℕ) (met : 
         so.faults text (subst (λ (ls : List Line). HasFaultIn IsFaultOfRules met ls texts_left text) (sym cut.lines)
         (subst (λ (n : Option (List ℕ)). FailsAt IsFaultOfRules n met (lines_of rest) texts_left text) (sym here) is))
 
-    -- A line that names no rules goes as it is behind what was made.
+    -- A line that names no rules goes as it is after what was made.
     pub kept_line : (new : List ℕ) → rules_name content ≡ None → new ≡ made ++ whole → Completes script texts new (met + 1) rest texts_left
     kept_line new named is = record {
       programs = λ more h.

@@ -40,7 +40,7 @@ ExpandsTo script texts expanded.Itself = HasPrograms script texts script
 ExpandsTo script texts (expanded.Replaced made) = HasPrograms script texts made.items
 ExpandsTo script texts (expanded.Faulty text) = HasFaultyRules IsFaultOfRules script texts text.items
 
--- The lines that are left, after `met` others, complete the script: what replaces them goes behind what was made, and a fault among them
+-- The lines that are left, after `met` others, complete the script: what replaces them goes after what was made, and a fault among them
 -- is the script's.
 pub record Completes (script : List ℕ) (texts : List (List ℕ)) (made : List ℕ) (met : ℕ) (left : List ℕ) (texts_left : List (List ℕ)) : Type 0 where
   pub programs : (rest : List ℕ) → HasProgramsIn (lines_of left) texts_left rest → HasPrograms script texts (made ++ rest)
