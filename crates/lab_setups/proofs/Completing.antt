@@ -1,10 +1,10 @@
 -- How the lines that are left complete a script.
-use Rattle.std.proofs.Common.{◌≡◌, ◌⊎◌, inl, inr, ℕ, ◌+◌, List, [], ◌∷◌, ◌++◌, Option, Some, None, refl, sym, ap, subst, ◌∙◌, append-nil, append_assoc}
+use Rattle.std.proofs.Common.{◌≡◌, ◌⊎◌, inr, ℕ, ◌+◌, List, [], ◌++◌, Option, Some, None, refl, sym, ap, subst, ◌∙◌, append-nil, append_assoc}
 use Rattle.std.specs.Option.{MatchOption}
 use Rattle.bpf_code.specs.declared.instr.Instr.{Instr}
 use Rattle.text_io.specs.Lines.{Line, lines_of, said}
 use Rattle.lab_rules.specs.AsmText.{whole_line}
-use Rattle.lab_setups.specs.FaultyRules.{HasFaultIn, HasFaultyRules, IsRulesFaultAt, rules_place}
+use Rattle.lab_setups.specs.FaultyRules.{HasFaultIn, HasFaultyRules, IsRulesFaultAt}
 use Rattle.lab_setups.specs.RulesFiles.{IsFaultOfRules, IsProgramOfRules, later_texts, next_text}
 use Rattle.lab_setups.specs.RulesLines.{rules_name}
 use Rattle.lab_setups.specs.SetupPrograms.{HasPrograms, HasProgramsIn, load_line}

@@ -1,5 +1,5 @@
 -- The digits of a program, read again.
-use Rattle.std.proofs.Common.{◌≡◌, inl, ℕ, zero, suc, ◌+◌, ◌*◌, ◌-◌, ◌/◌, ◌%◌, ◌<◌, ◌==◌, ◌&&◌, ◌||◌, not, Bool, true, false, List, [], ◌∷◌, ◌++◌, codes, length, get_or, Some, refl, sym, ap, subst, ◌∙◌, arith}
+use Rattle.std.proofs.Common.{◌≡◌, inl, ℕ, zero, suc, ◌/◌, ◌%◌, ◌<◌, ◌&&◌, not, Bool, true, false, List, [], ◌∷◌, ◌++◌, codes, length, get_or, refl, ap, subst, ◌∙◌, arith}
 use Rattle.std.specs.Result.{result_ok}
 use Rattle.std.proofs.lemmas.Bool.{and_from, and_parts, not-true}
 use Rattle.bpf_code.proofs.Plainly.{plainly-spells}
@@ -13,12 +13,10 @@ use Rattle.hex.specs.Hex.{IsBytes, encode_lower, encode_with, lower_digits}
 use Rattle.text_io.proofs.Public.{first-word, one-word}
 use Rattle.text_io.specs.Words.{is_blank, words_of}
 use Rattle.upc_codes.proofs.Public.{reads-once}
-use Rattle.upc_codes.specs.Program.{ProgramReading, ReadsAs, is_program}
-use Rattle.upc_script.specs.ScriptCommands.{command_of, load}
-use Rattle.lab_setups.specs.RulesFiles.{IsProgramOfRules, IsReadAgain, program_digits}
-use Rattle.lab_setups.specs.SetupLaws.{LoadCommandsLoad, LoadsItsCode}
-use Rattle.lab_setups.specs.SetupPrograms.{load_command}
-use Rattle.upc_cell.specs.declared.side.Side.{Side}
+use Rattle.upc_codes.specs.Program.{ReadsAs, is_program}
+use Rattle.upc_script.specs.ScriptCommands.{command_of}
+use Rattle.lab_setups.specs.RulesFiles.{IsReadAgain, program_digits}
+use Rattle.lab_setups.specs.SetupLaws.{LoadCommandsLoad}
 
 -- Octets that spell a code and are written in digits are read again.
 pub read_again : (octets : List ℕ) (code : List Instr) → octets ≡ code_octets code → SpellsPlainly octets code → IsBytes octets → IsReadAgain code

@@ -1,6 +1,5 @@
 -- Every setup script, texts and capture have a text.
 use Rattle.std.proofs.Common.{◌≡◌, ◌⊎◌, inl, inr, ℕ, ◌+◌, Bool, true, false, if◌then◌else◌, nat_lt, List, [], ◌∷◌, ◌++◌, length, Option, Some, None, Result, Ok, Err, refl, sym, subst, ◌∙◌}
-use Rattle.std.specs.Option.{MatchOption}
 use Rattle.rules_text.specs.RulesRead.{RulesRead}
 use Rattle.rules_text.specs.TextOfRules.{placed_fault, rules_in}
 use Rattle.rules_text.specs.declared.fault.RuleFault.{RuleFault}
@@ -11,16 +10,15 @@ use Rattle.text_io.specs.declared.ending.Done.{Done}
 use Rattle.text_io.specs.declared.ending.Done.TheVariants.{Ended}
 use Rattle.lab_captures.specs.declared.cell_lines.CellLines.{CellLines}
 use Rattle.lab_police.proofs.Public.{some_police_text}
-use Rattle.lab_police.specs.PoliceText.{IsPoliceText}
 use Rattle.lab_rules.specs.RuleFaults.{rule_fault}
 use Rattle.lab_rules.specs.RulesText.{AnswersRules, most_rules_octets}
 use Rattle.upc_words.specs.FaultLines.{too_long}
 use Rattle.lab_rules.specs.AsmText.{whole_line}
-use Rattle.lab_setups.specs.FaultyRules.{HasFaultIn, IsRulesFaultAt, rules_place}
+use Rattle.lab_setups.specs.FaultyRules.{HasFaultIn, rules_place}
 use Rattle.lab_setups.specs.RulesFiles.{IsFaultOfRules, MayBeFaultOfRules, later_texts, next_text}
 use Rattle.lab_setups.specs.RulesLines.{rules_name}
 use Rattle.lab_setups.specs.SetupLaws.{PolicesEachSetup}
-use Rattle.lab_setups.specs.SetupPrograms.{HasPrograms, HasProgramsIn}
+use Rattle.lab_setups.specs.SetupPrograms.{HasProgramsIn}
 use Rattle.lab_setups.specs.SetupText.{IsSetupPoliced, MayBeSetupPoliced}
 use Rattle.lab_setups.proofs.Completing.{FailsAt, ReplacesAt}
 

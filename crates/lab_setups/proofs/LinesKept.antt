@@ -1,17 +1,16 @@
 -- A script with its programs has the lines of the script.
-use Rattle.std.proofs.Common.{◌≡◌, ◌⊎◌, inl, inr, ℕ, zero, suc, ◌+◌, ◌-◌, ◌/◌, ◌%◌, ◌<◌, ◌==◌, ◌&&◌, not, Bool, true, false, if◌then◌else◌, List, [], ◌∷◌, ◌++◌, codes, length, get_or, take, Option, Some, None, refl, sym, ap, subst, ◌∙◌, arith, append-nil, append_assoc}
+use Rattle.std.proofs.Common.{◌≡◌, ◌⊎◌, inl, inr, ℕ, zero, suc, ◌-◌, ◌/◌, ◌%◌, ◌<◌, ◌==◌, ◌&&◌, not, Bool, true, false, if◌then◌else◌, List, [], ◌∷◌, ◌++◌, codes, length, get_or, Option, Some, None, refl, sym, ap, subst, ◌∙◌, arith, append-nil, append_assoc}
 use Rattle.std.specs.Option.{MatchOption}
 use Rattle.std.proofs.lemmas.Bool.{and_from, and_parts, not-true}
 use Rattle.bpf_code.specs.Encoding.{code_octets}
 use Rattle.bpf_code.specs.declared.instr.Instr.{Instr}
 use Rattle.hex.specs.Hex.{encode_lower, encode_with, lower_digits}
 use Rattle.text_io.specs.Lines.{Line, begun_with, lines_of, said, without_return}
-use Rattle.lab_rules.specs.AsmText.{whole_line}
 use Rattle.lab_rules.proofs.CommentsPut.{AllFree, AreCut, cut}
 use Rattle.lab_setups.specs.RulesFiles.{IsProgramOfRules, later_texts, next_text}
 use Rattle.lab_setups.specs.RulesLines.{rules_name}
-use Rattle.lab_setups.specs.SetupLaws.{AreReplaced, KeepsLines, ProgramsKeepLines}
-use Rattle.lab_setups.specs.SetupPrograms.{HasPrograms, HasProgramsIn, load_command, load_line}
+use Rattle.lab_setups.specs.SetupLaws.{AreReplaced, ProgramsKeepLines}
+use Rattle.lab_setups.specs.SetupPrograms.{HasProgramsIn, load_command, load_line}
 use Rattle.lab_setups.proofs.Completing.{ReplacesAt}
 
 -- ---- one line, and what follows it

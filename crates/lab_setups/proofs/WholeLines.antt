@@ -1,8 +1,6 @@
 -- A script without a line that names rules stays as it is.
 use Rattle.std.proofs.Common.{◌≡◌, ℕ, ◌==◌, Bool, true, false, if◌then◌else◌, List, [], ◌∷◌, ◌++◌, codes, Option, Some, None, refl, sym, ap, subst, ◌∙◌}
-use Rattle.std.specs.Option.{MatchOption}
 use Rattle.std.proofs.lemmas.Bool.{eqb-true}
-use Rattle.bpf_code.specs.declared.instr.Instr.{Instr}
 use Rattle.text_io.specs.Lines.{Line, begun_with, lines_of, said}
 use Rattle.lab_rules.specs.AsmText.{whole_line}
 use Rattle.lab_setups.specs.RulesLines.{names_in, rules_name, rules_names, with_rules_name}

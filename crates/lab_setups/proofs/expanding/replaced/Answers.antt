@@ -1,6 +1,6 @@
 -- The lines that are left complete the script, whatever is done for each.
 use Rattle.std.proofs.Common.{◌+◌, arith, sym, subst, List, ℕ}
-use Rattle.lab_setups.specs.RulesFiles.{later_texts, next_text}
+use Rattle.lab_setups.specs.RulesFiles.{next_text}
 use Rattle.lab_setups.specs.inner.Expansion.{Completes, GrowsByProgram, octets_of_texts}
 use Rattle.lab_setups.proofs.Completing.{kept_line, loaded_line, made_whole}
 use Rattle.lab_setups.proofs.expanding.replaced.Goals as goal

@@ -1,5 +1,5 @@
 -- The text of `police` for a setup script with files of rules is that of the first rules with a fault, or that of the capture.
-use Rattle.std.proofs.Common.{◌≡◌, List, ℕ, [], inl, inr, map, refl, subst, sym, Vec}
+use Rattle.std.proofs.Common.{◌≡◌, List, ℕ, [], inl, inr, refl, subst, sym}
 use Rattle.std.proofs.lemmas.Result.{IfOk-weaker}
 use Rattle.lab_captures.proofs.CaptureTexts.{a_front, all_needed, not_read}
 use Rattle.lab_captures.proofs.Progresses.{if_done, if_given, on_fault}
@@ -12,7 +12,7 @@ use Rattle.lab_setups.proofs.Existence.{may_be_policed, polices_each}
 use Rattle.lab_setups.specs.FaultyRules.{HasFaultyRules}
 use Rattle.lab_setups.specs.RulesFiles.{IsFaultOfRules}
 use Rattle.lab_setups.specs.SetupPrograms.{HasPrograms}
-use Rattle.lab_setups.specs.SetupText.{IsSetupPoliced, MayBeSetupPoliced}
+use Rattle.lab_setups.specs.SetupText.{MayBeSetupPoliced}
 use Rattle.lab_setups.specs.declared.expanding.Expanded.{Expanded}
 use Rattle.lab_setups.specs.inner.Expansion.{ExpandsTo, octets_of_texts}
 use Rattle.lab_setups.proofs.policing.police_setup.Goals as goal
