@@ -5,11 +5,13 @@
 
 mod plain_cards;
 
-use plain_cards::{Arrival, CELLS, Card, REFUSED, Told, Verdict, arrivals_of, cards_with, key_of, traffic};
+use plain_cards::{Arrival, CELLS, Card, REFUSED, Told, Verdict, arrivals_of, cards_with, key_of, traffic_among};
 use std::thread;
 use std::time::Instant;
 
 const ROUNDS: u64 = 100;
+const CONNECTIONS: u64 = 256;
+const JOURNAL: usize = 1024;
 
 fn card_of(cell: &[u8; 52], cards: usize) -> usize {
     key_of(cell) as usize % cards
@@ -44,7 +46,7 @@ fn police(cards: &mut [Card], arrivals: &[Arrival]) -> Vec<Told> {
 
 /// How many cells passed in all rounds, and the least time of a round.
 fn measure(all: &[u32], headers: &[u32], many: usize, size: usize) -> (u64, u128) {
-    let mut cards = cards_with(all, many);
+    let mut cards = cards_with(all, many, JOURNAL);
     let copies = if size > CELLS { 16 } else { 1 };
     let (mut passed, mut least) = (0, u128::MAX);
     for round in 0..ROUNDS {
@@ -62,7 +64,7 @@ fn measure(all: &[u32], headers: &[u32], many: usize, size: usize) -> (u64, u128
 }
 
 fn main() {
-    let (all, headers) = traffic();
+    let (all, headers) = traffic_among(CONNECTIONS);
     for size in [256, 4096, 65536] {
         for many in [1, 2, 4] {
             let (passed, least) = measure(&all, &headers, many, size);
