@@ -131,13 +131,15 @@ pub struct Connection {
 #[derive(Default)]
 pub struct Stored {
     pub code: Option<Vec<Step>>,
-    uses: u32,
+    pub uses: u32,
 }
 
 #[derive(Default)]
 pub struct Card {
     pub most: usize,
     pub ports: usize,
+    /// The bits of a cell's path and channel.
+    pub mask: u32,
     pub programs: Vec<Stored>,
     pub connections: HashMap<u32, Connection, BuildHasherDefault<Spread>>,
 }
@@ -162,7 +164,7 @@ pub fn first(line: &[u8]) -> (&[u8], &[u8]) {
     }
 }
 
-fn name(answers: &mut impl Text, key: u32) {
+pub fn name(answers: &mut impl Text, key: u32) {
     answers.number(key >> 16);
     answers.text(b"/");
     answers.number(key & 0xffff);
@@ -185,9 +187,13 @@ pub fn header_of(cell: &[u8; 52]) -> u32 {
     u32::from_be_bytes([cell[0], cell[1], cell[2], cell[3]])
 }
 
-/// A connection's path and channel, as one number.
+/// The bits of a path and a channel between users and the network, and within the network.
+const UNI: u32 = 0x00ff_ffff;
+const NNI: u32 = 0x0fff_ffff;
+
+/// A connection's path and channel, as one number, at the side of users.
 pub fn key_of(cell: &[u8; 52]) -> u32 {
-    header_of(cell) >> 4 & 0x00ff_ffff
+    header_of(cell) >> 4 & UNI
 }
 
 impl Connection {
@@ -247,8 +253,20 @@ pub fn tell(answers: &mut impl Text, program: u32, key: u32, value: u32, verdict
 }
 
 /// The number of a program by its name.
-fn program(word: &[u8]) -> u32 {
+pub fn program(word: &[u8]) -> u32 {
     number(&word[1..]) as u32 - 1
+}
+
+/// The steps that the digits spell.
+pub fn steps_of(word: &[u8]) -> Vec<Step> {
+    let steps = word.as_chunks::<16>().0.iter().map(|digits| {
+        let mut eight = [0; 8];
+        if !decode(digits, &mut eight) {
+            exit(1);
+        }
+        Step::read(&eight)
+    });
+    steps.collect()
 }
 
 /// What is told of a journal that is handed out.
@@ -273,7 +291,7 @@ impl Card {
         let Some((moment, cell)) = arrival(line) else {
             return answers.text(b"fault script 3 BadHex\n");
         };
-        let key = key_of(&cell);
+        let key = header_of(&cell) >> 4 & self.mask;
         let Some(connection) = self.connections.get_mut(&key) else {
             return answers.text(b"fault arrive 1 NoConnection\n");
         };
@@ -290,17 +308,11 @@ impl Card {
             b"card" => {
                 self.ports = number(words[2]) as usize;
                 self.most = number(words[3]) as usize;
+                self.mask = if words.get(4) == Some(&&b"nni"[..]) { NNI } else { UNI };
                 answers.text(b"ready\n");
             }
             b"load" => {
-                let steps = words[0].as_chunks::<16>().0.iter().map(|digits| {
-                    let mut eight = [0; 8];
-                    if !decode(digits, &mut eight) {
-                        exit(1);
-                    }
-                    Step::read(&eight)
-                });
-                self.programs.push(Stored { code: Some(steps.collect()), uses: 0 });
+                self.programs.push(Stored { code: Some(steps_of(words[0])), uses: 0 });
                 answers.text(b"loaded p");
                 answers.number(self.programs.len() as u32);
                 answers.text(b"\n");
