@@ -1,17 +1,15 @@
 -- By fixed rules, records have one text.
-use Rattle.std.proofs.Common.{◌≡◌, ℕ, List, [], ◌∷◌, ◌++◌, Option, Some, None, refl, sym, ap, ap₂, ◌∙◌, subst, append-nil}
+use Rattle.std.proofs.Common.{◌≡◌, ℕ, List, [], ◌∷◌, ◌++◌, Option, Some, None, sym, ap, ap₂, ◌∙◌, subst, append-nil}
 use Rattle.std.specs.Option.{MatchOption}
 use Rattle.std.specs.Prelude.{◌↔◌}
 use Rattle.captures.specs.declared.fault.Fault.{Fault}
 use Rattle.captures.specs.declared.reader.Record.{Record}
 use Rattle.lab_captures.specs.CaptureText.{IsTextOfRecords, fixed_rules}
-use Rattle.lab_captures.specs.Following.{ClosesCapture, FollowsRecord, TurnsAtRecord}
-use Rattle.lab_captures.specs.inner.FixedRules.{FollowsSteps, fixed_text, fixed_total, text_then, world_after}
+use Rattle.lab_captures.specs.Following.{ClosesCapture}
+use Rattle.lab_captures.specs.inner.FixedRules.{fixed_text, fixed_total, text_then}
 use Rattle.lab_captures.proofs.Texts.{records_some}
 use Rattle.text_io.specs.declared.ending.Done.{Done}
 use Rattle.text_io.specs.declared.ending.Done.TheVariants.{Ended}
-use Rattle.text_io.specs.declared.machine.Turn.{Turn}
-use Rattle.text_io.specs.declared.machine.Turn.TheVariants.{GoesOn, Ends}
 
 -- A text of records is that one.
 pub fixed_is : {World : Type 0} (steps : World → Record → List ℕ × Option World) (closes : World → Option Fault → List ℕ)
@@ -30,10 +28,10 @@ fixed_is {World = World} steps closes (said ∷ records) ending world text done 
 
     then : ((v : World) → Later v → goes v ≡ (more, done)) → (after : Option World) → MatchOption after ((more ≡ []) × (done ≡ Ended)) Later
         → text_then here after goes ≡ (text, done)
-    then behind None (none, ended) =
+    then later None (none, ended) =
         ap₂ (λ (t : List ℕ) (d : Done). (t, d)) (sym (is ∙ ap (λ xs. here ++ xs) none ∙ append-nil here)) (sym ended)
-    then behind (Some v) told =
-        ap (λ (r : List ℕ × Done). (here ++ r.0, r.1)) (behind v told) ∙ ap (λ (t : List ℕ). (t, done)) (sym is)
+    then later (Some v) told =
+        ap (λ (r : List ℕ × Done). (here ++ r.0, r.1)) (later v told) ∙ ap (λ (t : List ℕ). (t, done)) (sym is)
 
 -- So records have exactly one text.
 pub fixed_only : {World : Type 0} (steps : World → Record → List ℕ × Option World) (closes : World → Option Fault → List ℕ)
@@ -53,25 +51,7 @@ fixed_only {World = World} steps closes records ending world whole text end done
       subst (λ (p : List ℕ × Done). IsTextOfRecords (fixed_rules steps closes) world records ending p.0 p.1) same some.2,
 )
 
-turns_fixed : {World : Type 0} (steps : World → Record → List ℕ × Option World) (closes : World → Option Fault → List ℕ)
-    (before after : World) (said : Record) (turn : Turn) (here : List ℕ) → steps before said ≡ (here, world_after turn after)
-    → TurnsAtRecord (fixed_rules steps closes) before said here turn (λ w. w ≡ after)
-turns_fixed steps closes before after said GoesOn here step = (after, refl, step)
-turns_fixed steps closes before after said Ends here step = step
-
--- A follower that shows one world answers a record by the steps.
-pub follows_fixed : {World : Type 0} (steps : World → Record → List ℕ × Option World) (closes : World → Option Fault → List ℕ)
-    (before after : World) (said : Record) (turn : Turn) (old new : List ℕ) → FollowsSteps steps before said turn after old new
-    → FollowsRecord (fixed_rules steps closes) (λ w. w ≡ before) said turn (λ w. w ≡ after) old new
-follows_fixed {World = World} steps closes before after said turn old new follows = (
-  follows.0,
-  follows.1,
-  λ world sound is.
-      subst (λ (w : World). TurnsAtRecord (fixed_rules steps closes) w said follows.0 turn (λ v. v ≡ after)) (sym is)
-      (turns_fixed steps closes before after said turn follows.0 follows.2),
-)
-
--- And the end of a capture.
+-- A follower that shows one world answers the end of a capture by the rules.
 pub closes_fixed : {World : Type 0} (steps : World → Record → List ℕ × Option World) (closes : World → Option Fault → List ℕ)
     (shown : World) (ending : Option Fault) (old new : List ℕ) → new ≡ old ++ closes shown ending
     → ClosesCapture (fixed_rules steps closes) (λ w. w ≡ shown) ending old new

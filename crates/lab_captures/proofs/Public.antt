@@ -5,7 +5,7 @@ use Rattle.lab_captures.specs.CellsText.{IsCellsText, cells_closes, cells_rules,
 use Rattle.lab_captures.proofs.CaptureTexts as texts
 pub use Rattle.lab_captures.specs.inner.FixedRules.{fixed_total}
 pub use Rattle.lab_captures.proofs.CaptureTexts.{some_capture_text, one_fixed_text, no_front}
-pub use Rattle.lab_captures.proofs.FixedTexts.{closes_fixed, fixed_only, follows_fixed}
+pub use Rattle.lab_captures.proofs.FixedTexts.{closes_fixed, fixed_only}
 pub use Rattle.lab_captures.proofs.Progresses.{on_done}
 use Rattle.text_io.specs.declared.ending.Done.{Done}
 

@@ -87,13 +87,13 @@ records_some {World = World} rules total (said ∷ records) ending world sound =
     let then = after (λ v is. records_some rules total records ending v is) now.0 now.1 now.2 in
     (now.0 ++ then.0, then.1, (now.0, then.0, now.1, refl, now.2, then.2))
   where
-    Behind : Type 0
-    Behind = (v : World) → rules.is_sound v → (more : List ℕ) × (done : Done) × IsTextOfRecords rules v records ending more done
+    Later : Type 0
+    Later = (v : World) → rules.is_sound v → (more : List ℕ) × (done : Done) × IsTextOfRecords rules v records ending more done
 
-    after : Behind → (here : List ℕ) (next : Option World) → rules.steps world said here next
+    after : Later → (here : List ℕ) (next : Option World) → rules.steps world said here next
         → (more : List ℕ) × (done : Done) × MatchOption next ((more ≡ []) × (done ≡ Ended)) (λ v. IsTextOfRecords rules v records ending more done)
-    after behind here None step = ([], Ended, (refl, refl))
-    after behind here (Some v) step = behind v (total.keeps world said here v sound step)
+    after later here None step = ([], Ended, (refl, refl))
+    after later here (Some v) step = later v (total.keeps world said here v sound step)
 
 -- So have any octets.
 pub some_text : {World : Type 0} (rules : CaptureRules World) → AnswersEachRecord rules

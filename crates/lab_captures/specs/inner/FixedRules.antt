@@ -22,11 +22,6 @@ abbrev pub world_after : {World : Type 0} → Turn → World → Option World
 world_after GoesOn after = Some after
 world_after Ends after = None
 
--- The answers grew by the text that answers a record by these steps, from the one world, and the other is the next.
-abbrev pub FollowsSteps : {World : Type 0} → (World → Record → List ℕ × Option World) → World → Record → Turn → World → List ℕ → List ℕ → Type 0
-FollowsSteps steps before said turn after old new =
-    (here : List ℕ) × (new ≡ old ++ here) × (steps before said ≡ (here, world_after turn after))
-
 -- The text after this one, if there is a next world.
 abbrev pub text_then : {World : Type 0} → List ℕ → Option World → (World → List ℕ × Done) → List ℕ × Done
 text_then here None goes = (here, Ended)
