@@ -72,7 +72,7 @@ impl Police {
         for line in script.split(|&octet| octet == b'\n') {
             match first(line) {
                 ([] | [b'#', ..], _) => {}
-                (command, behind) => card.desk(command, behind, &mut Vec::new()),
+                (command, rest) => card.desk(command, rest, &mut Vec::new()),
             }
         }
         Police {
