@@ -30,13 +30,13 @@ def sum_of(*texts):
     return summed.hexdigest()[:DIGITS]
 
 
-def sum_of_files(*places):
-    """Returns the checksum of these files, and of those below these folders, without what was built and without notes."""
+def sum_of_files(*places, pages=True):
+    """Returns the checksum of these files, and of those below these folders, with pages or without, and without what was built and notes."""
     texts = []
     for place in places:
         for at, folders, names in os.walk(f"{kit.ROOT}/{place}") if os.path.isdir(f"{kit.ROOT}/{place}") else [(kit.ROOT, [], [place])]:
             folders[:] = sorted(it for it in folders if it not in ("out", "__pycache__"))
-            for name in sorted(it for it in names if f"{at}/{it}" != ELSEWHERE):
+            for name in sorted(it for it in names if f"{at}/{it}" != ELSEWHERE and (pages or not it.endswith(".md"))):
                 with open(f"{at}/{name}", "rb") as it:
                     texts += [os.path.relpath(f"{at}/{name}", kit.ROOT), it.read()]
     return sum_of(*texts)
