@@ -2,9 +2,12 @@
 
     python3 -m captures.police UPC_LAB [COUNT] [SEED]
 
-Where a line of the script has a fault, the output is that of `upc-lab explain`. The last line is 'N passed, M failed'.
+Where a line of the script has a fault, the output is that of `upc-lab explain`. Some scripts name files of rules: then the output is
+that for the script with the programs that `upc-lab rules` makes of them, or the fault of the first file that has one. The last line is
+'N passed, M failed'.
 """
 import os
+import random
 import shlex
 import subprocess
 import sys
@@ -72,6 +75,56 @@ def compared(program, cases):
         yield None if ours == theirs else f"capture {number} ({asked}): {wrong_lines(ours, theirs)}"
 
 
+def rules_of(random_):
+    """Returns a text of rules that gives numbers of contracts; one in ten has a fault."""
+    lines = [f"vci {random_.randint(0, 9)} -> {random_.randint(0, 5)}" for _ in range(random_.randint(0, 3))]
+    lines += ["clp 1 -> 2"] * random_.randint(0, 1) + [f"otherwise -> {random_.randint(1, 2)}"]
+    if random_.random() < 0.1:
+        lines[random_.randrange(len(lines))] = random_.choice(["any > 1", "vpi 4096 -> 1", "otherwise", ""])
+    return "\n".join(lines).encode()
+
+
+class Rules:
+    """A case with files of rules in place of some of its programs."""
+
+    def __init__(self, program, case, random_):
+        self.program, self.fault = program, None
+        self.named, self.expanded = [], []
+        for number, line in enumerate(case.script.split(b"\n"), 1):
+            is_replaced = line.startswith(b"load ") and random_.random() < 0.7
+            self.add_file(number, rules_of(random_), random_.choice([b"", b"./"])) if is_replaced else self.add(line, line)
+        self.named_case = case._replace(script=b"\n".join(self.named))
+        self.expanded_case = case._replace(script=b"\n".join(self.expanded))
+
+    def add(self, named, expanded):
+        """Adds a line to both scripts."""
+        self.named.append(named)
+        self.expanded.append(expanded)
+
+    def add_file(self, number, text, before):
+        """Writes a file of rules, and adds the line that names it, and the line that loads its program."""
+        name = before + b"%d.rules" % number
+        with open(os.path.join(os.path.dirname(self.program.setup), name.decode()), "wb") as it:
+            it.write(text)
+        output, _, status = self.program.ran(["rules"], text)
+        if status and self.fault is None:
+            self.fault = output + b"line %d: in the rules of `%s`\n" % (number, name)
+        self.add(b" rules  %s" % name, b"load " + output.split(b"\n")[1])
+
+    def wrong(self):
+        """Returns what is wrong with the answer, or None."""
+        ours = self.program.police(self.named_case)
+        theirs = (self.fault, b"", 1) if self.fault else wanted(self.program, self.expanded_case)
+        return None if ours == theirs else wrong_lines(ours, theirs)
+
+
+def rules_tried(program, seed, count):
+    """Yields for each case with rules what is wrong with its answer, or None."""
+    for number in range(count):
+        wrong = Rules(program, case_of(seed, number), random.Random(f"{seed} rules {number}")).wrong()
+        yield wrong and f"rules of capture {number}: {wrong}"
+
+
 def words_tried(program):
     """Yields what is wrong with the answers to words that the program refuses, or None."""
     for status, some in ((2, WRONG_WORDS), (3, UNREADABLE)):
@@ -88,7 +141,7 @@ def main(path, count="200", seed="1"):
     cases = list(enumerate(edges(), -len(edges()))) + [(number, case_of(seed, number)) for number in range(int(count))]
     with tempfile.TemporaryDirectory() as folder:
         program = Program(os.path.abspath(path), folder)
-        found = [*words_tried(program), *compared(program, cases)]
+        found = [*words_tried(program), *compared(program, cases), *rules_tried(program, seed, int(count) // 4)]
     wrong = [it for it in found if it]
     for it in wrong:
         print(f"seed {seed}, {it}")

@@ -4,9 +4,9 @@ use Rattle.text_io.specs.declared.ending.Done.{Done}
 use Rattle.lab_captures.proofs.Public.{fixed_total, some_capture_text, some_cells_text}
 use Rattle.lab_faults.proofs.Public.{some-explain_text}
 use Rattle.lab_fit.specs.FitText.{fit_closes, fit_rules, fit_start, fit_steps}
-use Rattle.lab_police.proofs.Public.{some_police_text}
 use Rattle.lab_programs.proofs.Public.{some-list_text, some-trace_text}
 use Rattle.lab_rules.proofs.Public.{some-asm_text, some-rules_text, some-why_text}
+use Rattle.lab_setups.proofs.Public.{some_setup_text}
 use Rattle.lab_sizes.proofs.Public.{some-sizes_text}
 use Rattle.upc_lab.specs.LabText.{IsAskedText, IsLabText}
 use Rattle.upc_lab.specs.declared.choice.Asked.{Asked}
@@ -23,10 +23,12 @@ some-lab_text lab.Trace octets = some-trace_text octets
 some-lab_text lab.Size octets = some-sizes_text octets
 some-lab_text lab.Explain octets = some-explain_text octets
 
-pub some-asked_text : (asked : Asked) (setup octets : List ℕ) → (answer : List ℕ) × (done : Done) × IsAskedText setup asked octets answer done
-some-asked_text (Plain subcommand) setup octets = some-lab_text subcommand octets
-some-asked_text (Cells options) setup octets = some_cells_text options.tick.nanoseconds options.interface octets
-some-asked_text (Police options) setup octets = some_police_text options.lines options.tick.nanoseconds options.interface setup octets
-some-asked_text (Fit options) setup octets =
+pub some-asked_text : (asked : Asked) (setup : List ℕ) (rules : List (List ℕ)) (octets : List ℕ)
+    → (answer : List ℕ) × (done : Done) × IsAskedText setup rules asked octets answer done
+some-asked_text (Plain subcommand) setup rules octets = some-lab_text subcommand octets
+some-asked_text (Cells options) setup rules octets = some_cells_text options.tick.nanoseconds options.interface octets
+some-asked_text (Police options) setup rules octets =
+    some_setup_text options.lines options.tick.nanoseconds options.interface setup rules octets
+some-asked_text (Fit options) setup rules octets =
     some_capture_text fit_rules (fixed_total fit_steps fit_closes)
     (fit_start options.increment options.tick.nanoseconds options.interface options.side) octets tt

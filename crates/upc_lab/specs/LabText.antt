@@ -3,12 +3,12 @@ use Rattle.std.specs.Prelude.{ℕ, List}
 use Rattle.lab_captures.specs.CellsText.{IsCellsText}
 use Rattle.lab_fit.specs.FitText.{IsFitText}
 use Rattle.lab_faults.specs.Explained.{IsExplainText}
-use Rattle.lab_police.specs.PoliceText.{IsPoliceText}
 use Rattle.lab_programs.specs.ListedProgram.{IsListText}
 use Rattle.lab_programs.specs.Trace.{IsTraceText}
 use Rattle.lab_rules.specs.AsmText.{MayBeAsmText}
 use Rattle.lab_rules.specs.RulesText.{MayBeRulesText}
 use Rattle.lab_rules.specs.WhyText.{IsWhyText}
+use Rattle.lab_setups.specs.SetupText.{MayBeSetupPoliced}
 use Rattle.lab_sizes.specs.SizeText.{IsSizesText}
 use Rattle.text_io.specs.declared.ending.Done.{Done}
 use Rattle.upc_lab.specs.declared.choice.Asked.{Asked}
@@ -26,9 +26,10 @@ IsLabText lab.Trace = IsTraceText
 IsLabText lab.Size = IsSizesText
 IsLabText lab.Explain = IsExplainText
 
--- The output for the octets of the file that the words name and for a whole input, and how the run ends. Only `police` has a file.
-abbrev pub IsAskedText : List ℕ → Asked → List ℕ → List ℕ → Done → Type 0
-IsAskedText setup (Plain subcommand) = IsLabText subcommand
-IsAskedText setup (Cells options) = IsCellsText options.tick.nanoseconds options.interface
-IsAskedText setup (Police options) = IsPoliceText options.lines options.tick.nanoseconds options.interface setup
-IsAskedText setup (Fit options) = IsFitText options.increment options.tick.nanoseconds options.interface options.side
+-- The output for the octets of the files that the words name, which are a setup script and files of rules, and for a whole input, and
+-- how the run ends. Only `police` has files.
+abbrev pub IsAskedText : List ℕ → List (List ℕ) → Asked → List ℕ → List ℕ → Done → Type 0
+IsAskedText setup rules (Plain subcommand) = IsLabText subcommand
+IsAskedText setup rules (Cells options) = IsCellsText options.tick.nanoseconds options.interface
+IsAskedText setup rules (Police options) = MayBeSetupPoliced options.lines options.tick.nanoseconds options.interface setup rules
+IsAskedText setup rules (Fit options) = IsFitText options.increment options.tick.nanoseconds options.interface options.side

@@ -4,4 +4,5 @@ pub mod LabText
 pub mod LabMessages
 pub mod FailureLines
 pub mod SetupFile
+pub mod Progress
 pub mod inner

@@ -1,5 +1,6 @@
--- What the program does with the file that the words name.
-use Rattle.std.specs.Prelude.{◌≡◌, ◌⊎◌, ◌==◌, if◌then◌else◌, ℕ, List, [], ◌++◌, Option, Some, None, Result, Ok, Err, Vec, codes, length}
+-- What the program does with the files that the words name: a setup script, and the files of rules that it names.
+use Rattle.std.specs.Prelude.{◌≡◌, ◌⊎◌, ◌==◌, if◌then◌else◌, ℕ, List, [], ◌++◌, map, Option, Some, None, Result, Ok, Err, codes, length}
+use Rattle.std.specs.Path.{path_with_file_name}
 use Rattle.std.specs.String.{string_bytes}
 use Rattle.text_io.specs.declared.device.Input.{Ghosts as InputView}
 use Rattle.text_io.specs.declared.device.Output.{Ghosts as OutputView}
@@ -10,6 +11,7 @@ use Rattle.upc_exit.specs.Messages.{IsIdle, WritesMessage}
 use Rattle.upc_lab.specs.LabText.{IsAskedText}
 use Rattle.upc_lab.specs.declared.choice.Asked.{Asked}
 use Rattle.upc_lab.specs.declared.choice.Asked.TheVariants.{Police}
+use Rattle.upc_lab.specs.declared.setup_file.SetupFiles.{SetupFiles}
 use Rattle.upc_lab.specs.declared.setup_file.Unreadable.{Unreadable}
 
 -- The name of the file with the setup script, if the words name one.
@@ -23,25 +25,33 @@ unreadable_line name reason = codes "upc-lab: cannot read " ++ (name ++ (codes "
 
 -- The message without the name and a reason, for which no allocation was left.
 abbrev pub plain_unreadable_line : List ℕ
-plain_unreadable_line = codes "upc-lab: cannot read the setup script\n"
+plain_unreadable_line = codes "upc-lab: cannot read the files of the setup\n"
 
 -- The line is the message about the file with this name, or is empty because no allocation was left for it.
 abbrev pub IsUnreadable : List ℕ → Unreadable → Type 0
 IsUnreadable name unreadable = (unreadable.line.items ≡ []) ⊎ (unreadable.line.items ≡ unreadable_line name unreadable.reason.items)
 
--- What is said.
+-- The same, of the setup script with this name or of a file of rules beside it.
+abbrev pub IsUnreadableSetup : List ℕ → Unreadable → Type 0
+IsUnreadableSetup name unreadable = IsUnreadable name unreadable ⊎ ((rules : List ℕ) × IsUnreadable (path_with_file_name name rules) unreadable)
+
+-- The message.
 abbrev pub unreadable_message : Unreadable → List ℕ
 unreadable_message unreadable = if length unreadable.line.items == 0 then plain_unreadable_line else unreadable.line.items
 
--- The effect of the program for its words and for the octets of the file that they name, with these messages for failures. If the file
+-- The octets of each file of rules, in order.
+abbrev pub rules_in_files : SetupFiles → List (List ℕ)
+rules_in_files files = map (λ rules. rules.items) files.rules.items
+
+-- The effect of the program for its words and for the octets of the files that they name, with these messages for failures. If a file
 -- couldn't be read, nothing is read or written but the message about it.
-abbrev pub CarriesAllOut : {Z Source Sink Errors : Type 0} → (RunFault → List ℕ) → Result Asked Stop → Result (Vec ℕ Z) Unreadable
+abbrev pub CarriesAllOut : {Source Sink Errors : Type 0} → (RunFault → List ℕ) → Result Asked Stop → Result SetupFiles Unreadable
     → InputView Source → Source → Source → OutputView Sink → Sink → Sink → OutputView Errors → Errors → Errors → ℕ → Type 0
-CarriesAllOut message chosen (Ok setup) = CarriesOut message (IsAskedText setup.items) chosen
+CarriesAllOut message chosen (Ok files) = CarriesOut message (IsAskedText files.script.items (rules_in_files files)) chosen
 CarriesAllOut message chosen (Err unreadable) = λ I input input' O output output' E errors errors' status.
     (status ≡ 3) × IsIdle I input input' O output output' × WritesMessage E errors errors' (unreadable_message unreadable)
 
 -- The exit status. No more is promised for devices whose octets no contract knows.
-abbrev pub IsStatusIn : {Z : Type 0} → Result Asked Stop → Result (Vec ℕ Z) Unreadable → ℕ → Type 0
-IsStatusIn chosen (Ok setup) status = IsStatusFor chosen status
+abbrev pub IsStatusIn : Result Asked Stop → Result SetupFiles Unreadable → ℕ → Type 0
+IsStatusIn chosen (Ok files) status = IsStatusFor chosen status
 IsStatusIn chosen (Err unreadable) status = status ≡ 3

@@ -1,5 +1,6 @@
 -- Definitions that only private functions and proofs use.
 pub mod FoundName
 pub mod RowNamed
-pub mod RulesAlone
+pub mod PartialCommands
 pub mod ReasonedLine
+pub mod ProgressText

@@ -11,7 +11,7 @@ ghost use Rattle.upc_lab.specs.LabWords.{AsksLab, IsLabStop, NamesLab, begins_ce
 ghost use Rattle.upc_lab.specs.declared.choice.Asked.{Asked as TheAsked};
 ghost use Rattle.upc_lab.specs.inner.FoundName.{lab_name_in};
 ghost use Rattle.upc_lab.specs.inner.RowNamed.{row_named};
-ghost use Rattle.upc_lab.specs.inner.RulesAlone.{rules_app};
+ghost use Rattle.upc_lab.specs.inner.PartialCommands.{plain_app, rules_app};
 
 use clap::{Command, Error};
 use lab_options::{
@@ -141,6 +141,7 @@ fn line_of_words(alloc: Global, mut words: Vec<String>) -> Result<Vec<String>, A
     Ok(words)
 }
 
+/// Returns the command `upc-lab`.
 #[tactic(auto, unfolding(crate::specs::LabWords::lab_app))]
 fn own_command<'a>(alloc: Global) -> Result<Command<'a>, AllocError>
     ensures { IfOk result (λ command. app_of command ≡ lab_app) }
@@ -167,16 +168,17 @@ fn own_command<'a>(alloc: Global) -> Result<Command<'a>, AllocError>
         "Compile rules for cells and print their program in assembly, with the rules as comments",
         "Example: upc-lab asm < examples/customer.rules",
     )?;
-    with_program_subcommands(alloc, command)
+    let command = with_program_subcommands(alloc, command)?;
+    with_capture_subcommands(alloc, command)
 }
 
-#[tactic(auto, unfolding(crate::specs::LabWords::lab_app))]
+/// Adds the subcommands for programs, contracts and faults.
 fn with_program_subcommands<'a>(
     alloc: Global,
     command: Command<'a>,
 ) -> Result<Command<'a>, AllocError>
     requires { app_of command ≡ rules_app }
-    ensures { IfOk result (λ command. app_of command ≡ lab_app) }
+    ensures { IfOk result (λ command. app_of command ≡ plain_app) }
 {
     let command = with_subcommand(
         alloc,
@@ -199,13 +201,24 @@ fn with_program_subcommands<'a>(
         "Print the buckets of contracts on paper, and the rates that they police",
         "Example: echo cbr1 pcr 353207 cdvt 250us tick 100ns | upc-lab size",
     )?;
-    let command = with_subcommand(
+    with_subcommand(
         alloc,
         command,
         "explain",
         "Explain the faults of a script, or after a line `source` that of a source of assembly",
         "Example: upc-lab explain < examples/desk-refusals.run",
-    )?;
+    )
+}
+
+/// Adds the subcommands for captures.
+#[tactic(auto, unfolding(crate::specs::LabWords::lab_app))]
+fn with_capture_subcommands<'a>(
+    alloc: Global,
+    command: Command<'a>,
+) -> Result<Command<'a>, AllocError>
+    requires { app_of command ≡ plain_app }
+    ensures { IfOk result (λ command. app_of command ≡ lab_app) }
+{
     let command = with_subcommand(
         alloc,
         command,

@@ -7,17 +7,17 @@ ghost use Rattle.upc_exit.specs.Invocation.{CarriesOut, IsStatusFor};
 ghost use Rattle.upc_exit.specs.Messages.{Reports};
 ghost use Rattle.upc_lab.specs.LabMessages.{lab_failure_line, shell_status_of};
 ghost use Rattle.upc_lab.specs.LabText.{IsAskedText, IsLabText};
-ghost use Rattle.upc_lab.specs.SetupFile.{CarriesAllOut, IsStatusIn};
+ghost use Rattle.upc_lab.specs.SetupFile.{CarriesAllOut, IsStatusIn, rules_in_files};
 
 use crate::choice::{Asked, Subcommand};
 use crate::reason::Reasoned;
-use crate::setup_file::Unreadable;
+use crate::setup_file::{SetupFiles, Unreadable};
 use lab_captures::cells_of_capture;
 use lab_faults::{Ahead, explain_faults};
 use lab_fit::fit_capture;
-use lab_police::police_capture;
 use lab_programs::{list_program, trace_cells};
 use lab_rules::{assemble_rules, compile_rules, decide_cells};
+use lab_setups::police_setup;
 use lab_sizes::size_contracts;
 use std::alloc::Global;
 use text_io::{Done, Output, RunFault, give_all};
@@ -89,15 +89,15 @@ fn run_plain<I: Ahead, O: Output>(
     }
 }
 
-/// Runs what was asked for over the whole input, with the octets of the file that the words name.
+/// Runs what was asked for over the whole input, with the files that the words name.
 fn run<I: Ahead, O: Output>(
     alloc: Global,
     asked: &Asked,
-    setup: &[u8],
+    files: &SetupFiles,
     input: &mut I,
     output: &mut O,
 ) -> Result<Done, RunFault>
-    ensures { IsServed (IsAskedText setup.now asked.now) I.Input input.old input.new O.Output output.old output.new result }
+    ensures { IsServed (IsAskedText files.now.script.items (rules_in_files files.now) asked.now) I.Input input.old input.new O.Output output.old output.new result }
 {
     match asked {
         Asked::Plain(subcommand) => run_plain(alloc, *subcommand, input, output),
@@ -117,9 +117,10 @@ fn run<I: Ahead, O: Output>(
             input,
             output,
         ),
-        Asked::Police(options) => police_capture(
+        Asked::Police(options) => police_setup(
             alloc,
-            setup,
+            files.script.as_slice(),
+            files.rules.as_slice(),
             options.lines,
             options.tick,
             options.interface,
@@ -129,24 +130,24 @@ fn run<I: Ahead, O: Output>(
     }
 }
 
-/// Does what the words ask for, with the octets of the file that they name, and returns the exit status: it runs the
+/// Does what the words ask for, with the files that they name, and returns the exit status: it runs the
 /// subcommand, writes the help, or writes a message about the words. A failure also gets a message.
 fn carry_out_with<I: Ahead + Reasoned, O: Output + Reasoned, E: Output>(
     alloc: Global,
     chosen: &Result<Asked, Stop>,
-    setup: &[u8],
+    files: &SetupFiles,
     input: &mut I,
     output: &mut O,
     errors: &mut E,
 ) -> u8
     ensures carried { I.is_known → O.is_known → E.is_known → CarriesOut
         (lab_failure_line (I.message input.new) (O.message output.new) (O.is_closed output.new))
-        (IsAskedText setup.now) chosen.now I.Input input.old input.new O.Output output.old output.new E.Output errors.old errors.new result }
+        (IsAskedText files.now.script.items (rules_in_files files.now)) chosen.now I.Input input.old input.new O.Output output.old output.new E.Output errors.old errors.new result }
     ensures status { IsStatusFor chosen.now result }
 {
     match chosen {
         Ok(asked) => {
-            let ended = run(alloc, asked, setup, input, output);
+            let ended = run(alloc, asked, files, input, output);
             report(ended, input, output, errors)
         }
         Err(Stop::Help(text)) => match give_all(output, text.as_bytes()) {
@@ -161,12 +162,12 @@ fn carry_out_with<I: Ahead + Reasoned, O: Output + Reasoned, E: Output>(
     }
 }
 
-/// Does what the words ask for, and returns the exit status. If the file that they name could not be read, it only writes a message
+/// Does what the words ask for, and returns the exit status. If a file that they name could not be read, it only writes a message
 /// that says so, and the status is 3.
 pub fn carry_out<I: Ahead + Reasoned, O: Output + Reasoned, E: Output>(
     alloc: Global,
     chosen: &Result<Asked, Stop>,
-    setup: &Result<Vec<u8>, Unreadable>,
+    setup: &Result<SetupFiles, Unreadable>,
     input: &mut I,
     output: &mut O,
     errors: &mut E,
@@ -177,7 +178,7 @@ pub fn carry_out<I: Ahead + Reasoned, O: Output + Reasoned, E: Output>(
     ensures status { IsStatusIn chosen.now setup.now result }
 {
     match setup {
-        Ok(octets) => carry_out_with(alloc, chosen, octets.as_slice(), input, output, errors),
+        Ok(files) => carry_out_with(alloc, chosen, files, input, output, errors),
         Err(unreadable) => {
             tell(errors, unreadable.message());
             3

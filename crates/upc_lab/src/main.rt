@@ -5,6 +5,7 @@ mod choice;
 mod invocation;
 mod laws;
 mod notice;
+mod progress;
 mod reason;
 mod setup_file;
 #[cfg(test)]
@@ -18,13 +19,14 @@ pub use lab_fit::fit_capture;
 pub use lab_options::{
     CellsOptions, FitOptions, PoliceOptions, cells_options, fit_options, police_options,
 };
-pub use lab_police::police_capture;
 pub use lab_programs::{list_program, trace_cells};
 pub use lab_rules::{assemble_rules, compile_rules, decide_cells};
+pub use lab_setups::police_setup;
 pub use lab_sizes::size_contracts;
 pub use notice::awaited;
+pub use progress::{Counted, reads_capture};
 pub use reason::{Knowing, Reasoned, Work};
-pub use setup_file::{Unreadable, read_setup};
+pub use setup_file::{SetupFiles, Unreadable, read_setup};
 use std::io::IsTerminal;
 use std::process::ExitCode;
 use text_io::Giving;
@@ -42,8 +44,14 @@ fn main(rt: HostRuntime) -> ExitCode {
     {
         let _ = eprintln!(rt; "{}", awaited(asked));
     }
+    let shows = reads_capture(&chosen) && rt.stderr().is_terminal() && !rt.stdout().is_terminal();
+    let shown_on = if shows {
+        Some(Giving::new(rt.stderr()))
+    } else {
+        None
+    };
     let stdin = Knowing::new(rt.alloc(), Work::Reading, rt.stdin());
-    let mut input = LookedAt::new(rt.alloc(), stdin);
+    let mut input = LookedAt::new(rt.alloc(), Counted::new(rt.alloc(), stdin, shown_on));
     let mut output = Knowing::new(rt.alloc(), Work::Writing, rt.stdout());
     let mut errors = Giving::new(rt.stderr());
     let status = carry_out(
@@ -54,5 +62,6 @@ fn main(rt: HostRuntime) -> ExitCode {
         &mut output,
         &mut errors,
     );
+    input.input.finish();
     ExitCode::from(shell_status(status, output.is_closed()))
 }

@@ -5,7 +5,7 @@
 ghost use Rattle.std.specs.Prelude.{◌++◌, [], codes, false, true};
 
 use crate::{
-    Asked, CellsOptions, LookedAt, Reasoned, Unreadable, carry_out, choose, read_setup,
+    Asked, CellsOptions, LookedAt, Reasoned, SetupFiles, Unreadable, carry_out, choose, read_setup,
     shell_status,
 };
 use captures::Tick;
@@ -59,6 +59,13 @@ fn chosen_by(alloc: Global, line: &str) -> Result<Result<Asked, Stop>, AllocErro
     Ok(choose(alloc, words))
 }
 
+fn no_files(alloc: Global) -> SetupFiles {
+    SetupFiles {
+        script: Vec::new(alloc),
+        rules: Vec::new(alloc),
+    }
+}
+
 /// Runs the program with these words, over an input and an output that move one octet a call, and fail after a number of
 /// successful calls.
 fn run_words(
@@ -72,7 +79,7 @@ fn run_words(
     let mut input = LookedAt::new(alloc, FaultyInput::new(octets, takes));
     let mut output = FaultyOutput::new(alloc, gives);
     let mut errors = FaultyOutput::new(alloc, 10000);
-    let setup = Ok(Vec::new(alloc));
+    let setup = Ok(no_files(alloc));
     let status = carry_out(alloc, &chosen, &setup, &mut input, &mut output, &mut errors);
     Ok(Left {
         status,
@@ -293,7 +300,7 @@ fn no_message_is_written_if_nobody_reads(rt: HostRuntime) -> Result<(), Fail> {
     let mut input = LookedAt::new(rt.alloc(), FaultyInput::new(b"otherwise -> 7\n", 100));
     let mut output = Unread(0);
     let mut errors = FaultyOutput::new(rt.alloc(), 100);
-    let setup = Ok(Vec::new(rt.alloc()));
+    let setup = Ok(no_files(rt.alloc()));
     let status = carry_out(
         rt.alloc(),
         &chosen,
@@ -336,11 +343,14 @@ fn a_setup_file_that_cannot_be_read_ends_with_status_3(rt: HostRuntime) -> Resul
 }
 
 #[test]
-fn words_without_a_file_have_no_octets_of_one(rt: HostRuntime) -> Result<(), Fail> {
+fn words_without_a_file_have_no_files(rt: HostRuntime) -> Result<(), Fail> {
     for line in ["rules", "cells", "fit --increment 1", "police", "--help"] {
         let chosen = chosen_by(rt.alloc(), line)?;
         let setup = read_setup(&rt, &chosen);
-        assert!(rt; matches!(&setup, Ok(octets) if octets.is_empty()), "{line}");
+        assert!(rt;
+            matches!(&setup, Ok(files) if files.script.is_empty() && files.rules.is_empty()),
+            "{line}"
+        );
     }
     Ok(())
 }
@@ -353,7 +363,7 @@ fn a_message_without_a_reason_names_no_file(rt: HostRuntime) -> Result<(), Fail>
     };
     assert_eq!(rt;
         unreadable.message(),
-        b"upc-lab: cannot read the setup script\n".as_slice()
+        b"upc-lab: cannot read the files of the setup\n".as_slice()
     );
     Ok(())
 }
