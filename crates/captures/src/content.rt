@@ -78,7 +78,7 @@ fn received_place(octets: &[u8], channel: usize) -> Result<usize, NoCell>
 
 /// Returns the place of the cell of a record, or why it holds none.
 #[inline(always)]
-fn place_of(octets: &[u8]) -> Result<usize, NoCell>
+pub(crate) fn place_of(octets: &[u8]) -> Result<usize, NoCell>
     requires { 16 ≤ length octets.now }
     ensures { IsPlaced (IsContent octets.now) octets.now result }
 {
@@ -91,7 +91,7 @@ fn place_of(octets: &[u8]) -> Result<usize, NoCell>
 
 /// Returns the cell that begins at this place.
 #[inline(always)]
-fn cell_at(octets: &[u8], place: usize) -> Cell
+pub(crate) fn cell_at(octets: &[u8], place: usize) -> Cell
     requires { place + 52 ≤ length octets.now }
     ensures { result ≡ take 52 (drop place octets.now) }
 {
@@ -99,16 +99,4 @@ fn cell_at(octets: &[u8], place: usize) -> Cell
         unreachable!();
     };
     Cell::from(*cell)
-}
-
-/// Returns the cell of a record, or why it holds none. Its octets are copied once, after each test.
-#[inline(always)]
-pub(crate) fn content_of(octets: &[u8]) -> Result<Cell, NoCell>
-    requires { 16 ≤ length octets.now }
-    ensures { IsContent octets.now result }
-{
-    match place_of(octets) {
-        Ok(place) => Ok(cell_at(octets, place)),
-        Err(why) => Err(why),
-    }
 }

@@ -1,9 +1,10 @@
 //! The records of a capture, one after the other.
 
 ghost use Rattle.std.specs.Prelude.{◌≡◌, ◌≤◌, length};
+ghost use Rattle.captures.specs.RecordContent.{IsContent};
 ghost use Rattle.captures.specs.RecordReading.{SaysRecord};
 
-use crate::content::{NoCell, content_of};
+use crate::content::{NoCell, cell_at, place_of};
 use crate::fault::{Fault, RecordFault};
 use crate::format::Format;
 use byteorder::{ByteOrder, LittleEndian};
@@ -47,17 +48,18 @@ pub struct Reader {
     ghost counted: { count ≤ at },
 }
 
-/// Returns what a record says.
+/// Returns what a record says that has this content.
 #[inline(always)]
-fn record_of(number: u64, octets: &[u8]) -> Record
-    requires { 16 ≤ length octets.now }
+fn record_of(number: u64, octets: &[u8], content: Result<Cell, NoCell>) -> Record
+    requires headed { 16 ≤ length octets.now }
+    requires held { IsContent octets.now content }
     ensures { SaysRecord number octets.now result }
 {
     Record {
         number,
         interface: octets[9] % 4,
         time: LittleEndian::read_u64(octets),
-        content: content_of(octets),
+        content,
     }
 }
 
@@ -111,7 +113,14 @@ impl Reader {
             return Next::Passed(own);
         };
         self.count += 1;
-        Next::Taken(record_of(self.count, framed), own)
+        // A cell is copied once, on a way of its own: each place where two ways join would copy it again.
+        match place_of(framed) {
+            Ok(place) => {
+                let content = Ok(cell_at(framed, place));
+                Next::Taken(record_of(self.count, framed, content), own)
+            }
+            Err(why) => Next::Taken(record_of(self.count, framed, Err(why)), own),
+        }
     }
 
     /// Returns what comes next if the octets at this place are no record for this reason.

@@ -25,8 +25,8 @@ returns-in_default-framed c =
     refl
     (omega arith)
 
-pub returns : goal.returns
-returns c =
+pub returns-in-Ok-place_of : goal.returns-in-Ok-place_of
+returns-in-Ok-place_of c =
     let some : 0 < c.in-Ok.own = omega (arith, c.in-Ok.ensures.least, head_some c.args.self.now.format) in
     takes_frame
     c.args.self.now
@@ -44,6 +44,29 @@ returns c =
     ∙ ap (λ framed. Ok (c.in-Ok-held_in.held.after, option_map (λ octets. octets.now) framed)) c.in-Some-framed.is)
     (omega arith)
     c.record_of.ensures
+    refl
+    refl
+    (omega arith)
+
+pub returns-in-Err-place_of : goal.returns-in-Err-place_of
+returns-in-Err-place_of c =
+    let some : 0 < c.in-Ok.own = omega (arith, c.in-Ok.ensures.least, head_some c.args.self.now.format) in
+    takes_frame
+    c.args.self.now
+    _
+    c.args.octets.now
+    c.in-Ok.own
+    c.in-Ok-held_in.held.after
+    (Some c.in-Some-framed.framed.now)
+    (Some c.record_of-in-Err-place_of.result)
+    (omega arith)
+    (sym c.size_of.ensures.size ∙ c.in-Ok.is)
+    some
+    (omega arith)
+    (c.in-Ok-held_in.ensures.held
+    ∙ ap (λ framed. Ok (c.in-Ok-held_in.held.after, option_map (λ octets. octets.now) framed)) c.in-Some-framed.is)
+    (omega arith)
+    c.record_of-in-Err-place_of.ensures
     refl
     refl
     (omega arith)
