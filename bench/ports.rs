@@ -14,7 +14,7 @@ const NO_COMMAND: u8 = 16;
 const BAD_DIGITS: u8 = 17;
 const DESK: u8 = 18;
 
-/// The cells of a port, and what they are answered, one text behind the other.
+/// The cells of a port, and their answers, one text after the other.
 #[derive(Default)]
 struct Port {
     cells: Vec<(u64, [u8; 52])>,
@@ -113,8 +113,8 @@ pub fn police() {
         let line = &left[..length];
         left = &left[left.len().min(length + 1)..];
         match first(line) {
-            (b"cell", behind) => {
-                let Some((moment, cell)) = arrival(behind) else {
+            (b"cell", rest) => {
+                let Some((moment, cell)) = arrival(rest) else {
                     order.push(BAD_DIGITS);
                     continue;
                 };
@@ -124,7 +124,7 @@ pub fn police() {
                 order.push(number as u8);
             }
             ([] | [b'#', ..], _) => {}
-            (command, behind) if order.is_empty() => card.desk(command, behind, &mut answers),
+            (command, rest) if order.is_empty() => card.desk(command, rest, &mut answers),
             (b"card" | b"load" | b"retire" | b"setup" | b"reload" | b"cut" | b"release", _) => {
                 commands.push(first(line));
                 order.push(DESK);

@@ -66,7 +66,7 @@ fn next_number(state: u32) -> u32 {
     state.wrapping_mul(1664525).wrapping_add(1013904223)
 }
 
-/// The number of the card of this channel, among so many.
+/// The number of the card of this channel, where there are `cards` cards.
 fn card_of(channel: u16, cards: u16) -> u16 {
     channel.checked_rem(cards).unwrap_or(0)
 }
@@ -88,7 +88,7 @@ fn arrivals(alloc: Global, start: u64) -> Result<Vec<Arrival>, Fail> {
     Ok(all)
 }
 
-/// The arrivals of the card of this number, among so many.
+/// The arrivals of the card of this number, where there are `cards` cards.
 fn own(alloc: Global, all: &[Arrival], number: u16, cards: u16) -> Result<Vec<Arrival>, Fail> {
     let mut own = Vec::new(alloc);
     for arrival in all {

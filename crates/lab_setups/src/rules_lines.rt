@@ -12,11 +12,11 @@ use text_io::first_word;
 pub(crate) fn rules_name(line: &[u8]) -> Option<&[u8]>
     ensures { option_map (λ name. name.now) result ≡ rules_name line.entry.now }
 {
-    let (word, behind) = first_word(line)?;
+    let (word, after) = first_word(line)?;
     if word != b"rules".as_slice() {
         return None;
     }
-    let (name, rest) = first_word(behind)?;
+    let (name, rest) = first_word(after)?;
     match first_word(rest) {
         None => Some(name),
         Some(_) => None,
