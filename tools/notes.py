@@ -13,6 +13,7 @@ import sys
 import threading
 
 import kit
+from atlas.edits import edits_of
 
 HERE = f"{kit.ROOT}/out/passed"
 ELSEWHERE = f"{kit.ROOT}/tests/passed"
@@ -75,15 +76,10 @@ def note(summed, what):
 def write_for_others():
     """Writes the last note of each name, by names. Edits that are no longer tried have none."""
     last = {name: summed for file in (ELSEWHERE, HERE) for summed, name in notes_in(file).items()}
-    last = {name: summed for name, summed in last.items() if not name.endswith(".edit") or os.path.exists(path_of(name))}
+    tried = {edit.noted_as for crate in kit.crates() for edit in edits_of(crate.name) if edit.is_deep}
+    last = {name: summed for name, summed in last.items() if not name.endswith(".edit") or name in tried}
     with open(ELSEWHERE, "w", encoding="utf-8") as it:
         it.writelines(f"{summed} {name}\n" for name, summed in sorted(last.items()))
-
-
-def path_of(name):
-    """Returns the file of a deep edit with the name of its notes."""
-    crate, _, edit = name.partition("/")
-    return f"{kit.ROOT}/crates/{crate}/must-fail-deep/{edit}"
 
 
 if __name__ == "__main__":

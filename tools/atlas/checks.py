@@ -6,7 +6,7 @@ from . import definitions, memory, places
 from .definitions import reached
 from .files import ROOT, exists, files_below, text_of
 
-LINK = re.compile(r"\]\(([^)#\s]+)(?:#[^)]*)?\)")
+LINK = re.compile(r"\]\(([^)#\s]+)(?:#([^)]*))?\)")
 # A name in a page that reads like a function or a definition: of one word with an underscore or a `::`, or of two capitals.
 NAME = re.compile(r"`([A-Za-z_][\w]*(?:::[\w]+)+|[a-z]+(?:_[a-z0-9]+)+|[A-Z][a-z]+[A-Z]\w*)(?:\(\))?`")
 
@@ -19,20 +19,20 @@ def comments(sources):
 
 
 def turned(sources):
-    """Yields each public function with a promise that no edit turns and that doesn't say why, and edits that serve nothing."""
+    """Yields each public function with a promise that no bug turns and that doesn't say why, and bugs that serve nothing."""
     known = {}
     for it in sources.functions:
         known.setdefault((it.crate, it.name), []).append(it)
     for it in sources.functions:
         promises = any(clause.kind == "ensures" for clause in it.clauses)
         if sources.is_open(it) and promises and not it.is_law and not it.no_edit and not sources.edits_of(it) and not sources.edits_below(it):
-            yield f"{it.path}:{it.line}: no edit turns {it.full}, and no comment 'no edit: ..' says why"
+            yield f"{it.path}:{it.line}: no planted bug turns {it.full}, and no comment 'no edit: ..' says why"
     for it in sources.edits:
         if it.fault:
-            yield f"{it.path}: {it.fault}"
+            yield f"{it.where}: {it.fault}"
         last = it.function.rpartition("::")[2]
         if it.function and (it.crate, last) not in known:
-            yield f"{it.path}: {it.crate} has no function {it.function}"
+            yield f"{it.where}: {it.crate} has no function {it.function}"
 
 
 def defined(sources):
@@ -63,11 +63,15 @@ def pages_of(sources):
 
 
 def linked(sources):
-    """Yields each link of a page to a file that doesn't exist."""
+    """Yields each link of a page to a file that doesn't exist, or to a planted bug that its file doesn't have."""
+    bugs = {(it.path, it.name) for it in sources.edits}
     for page in pages_of(sources):
-        for target in LINK.findall(text_of(page)):
-            if not re.match(r"https?:", target) and not exists(os.path.normpath(f"{os.path.dirname(page)}/{target}")):
+        for target, part in LINK.findall(text_of(page)):
+            path = os.path.normpath(f"{os.path.dirname(page)}/{target}")
+            if not re.match(r"https?:", target) and not exists(path):
                 yield f"{page}: no file {target}"
+            elif path.endswith(".edits") and (path, part) not in bugs:
+                yield f"{page}: {target} has no bug {part}"
 
 
 def named(sources):

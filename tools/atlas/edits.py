@@ -1,9 +1,10 @@
-"""The edits that a prover must refuse, and the patches that a test must catch."""
+"""The planted bugs: edits that a prover must refuse, and patches that a test must catch."""
 import os
 import re
 
 from .files import files_below, text_of
 from .functions import HEAD, OWNER, type_of
+from .planted import Bug, Misread, bugs_in
 
 
 class Place:
@@ -24,27 +25,23 @@ class Place:
 
 
 class Edit:
-    """A wrong body: the texts that it changes, and the function that it turns."""
+    """A planted bug of a crate, the line where it stands, and the function that it turns."""
 
-    def __init__(self, crate, path):
-        self.crate, self.path, self.pairs = crate, path, []
-        self.name, self.is_deep = os.path.basename(path).removesuffix(".edit"), "/must-fail-deep/" in path
-        self.refused_at, self.is_each, file, old = "", not self.is_deep, "", ""
-        for line in text_of(path).split("\n"):
-            word, _, text = line.partition(":")
-            text = text[1:] if text.startswith(" ") else text
-            if word == "file":
-                file = text
-            elif word == "refused at":
-                self.refused_at = text.strip()
-            elif word == "gate":
-                self.is_each = text.strip() == "each"
-            elif word == "old":
-                old = text
-            elif word == "new":
-                self.pairs.append((file, old, text))
+    def __init__(self, crate, path, bug, is_deep):
+        self.crate, self.path, self.line, self.name, self.is_deep = crate, path, bug.line, bug.name, is_deep
+        self.pairs, self.refused_at, self.is_each = bug.pairs, bug.refused_at, bug.is_each or not is_deep
         self.fault, self.place = self.tried()
         self.function = self.refused_at or (self.place.full if self.place else "")
+
+    @property
+    def noted_as(self):
+        """Returns what tests/edits and its notes call it."""
+        return f"{self.crate}/{self.name}.edit"
+
+    @property
+    def where(self):
+        """Returns its file and line."""
+        return f"{self.path}:{self.line}"
 
     def tried(self):
         """Returns why the edit can't be applied, or nothing, and where it changes first. A pair that changes spaces alone only makes the
@@ -84,9 +81,34 @@ def place_at(crate, file, text, at):
     return Place(crate, module, type_ + trait, has_arguments, HEAD.match(head)[3])
 
 
+def bug_alone(path):
+    """Returns the bug of a file of must-fail/, in the form that the toolchain reads."""
+    bug, file, old = Bug(os.path.basename(path).removesuffix(".edit"), 1), "", ""
+    for line in text_of(path).split("\n"):
+        word, _, text = line.partition(":")
+        text = text[1:] if text.startswith(" ") else text
+        if word == "file":
+            file = text
+        elif word == "refused at":
+            bug.refused_at = text.strip()
+        elif word == "old":
+            old = text
+        elif word == "new":
+            bug.pairs.append((file, old, text))
+    return bug
+
+
 def edits_of(crate):
-    """Returns the edits of a crate, those of each gate first."""
-    return [Edit(crate, it) for folder in ("must-fail", "must-fail-deep") for it in files_below(f"crates/{crate}/{folder}", ".edit")]
+    """Returns the planted bugs of a crate: those of must-fail/, which the toolchain tries, and then the deep ones of bugs/."""
+    found = [Edit(crate, it, bug_alone(it), False) for it in files_below(f"crates/{crate}/must-fail", ".edit")]
+    homes = {}
+    for path in files_below(f"crates/{crate}/bugs", ""):
+        for bug in bugs_in(text_of(path), path.removeprefix(f"crates/{crate}/bugs/"), path):
+            if bug.name in homes:
+                raise Misread(f"{path}:{bug.line}: {homes[bug.name]} has a bug of this heading")
+            homes[bug.name] = path
+            found.append(Edit(crate, path, bug, True))
+    return found
 
 
 class Patch:

@@ -50,7 +50,7 @@ def search(sources, words):
     for it in sources.edits:
         score = score_of(words, it.name, it.crate)
         if score:
-            found.append(Found("edit", it, score - it.is_deep))
+            found.append(Found("planted bug", it, score - it.is_deep))
     for it in sources.patches:
         score = score_of(words, it.name, it.sentence)
         if score:
@@ -84,8 +84,8 @@ def said(text):
 def about_function(sources, it):
     """Returns what belongs to a function."""
     called = [f"{other.name} {other.path}:{other.line}" for other in sources.called_by(it)]
-    edits = [edit.path for edit in sources.edits_of(it)]
-    edits += [f"{edit.path} (in {edit.function.rpartition('::')[2]})" for edit in sources.edits_below(it)]
+    edits = [f"{edit.name} {edit.where}" for edit in sources.edits_of(it)]
+    edits += [f"{edit.name} {edit.where} (in {edit.function.rpartition('::')[2]})" for edit in sources.edits_below(it)]
     if not edits:
         edits = ["none: a law has no code to turn" if it.is_law else f"none: {it.no_edit}" if it.no_edit else "none"]
     clauses = [f"{clause.kind} {clause.name}".strip() + (f": {clause.sentence}" if clause.sentence else "") for clause in it.clauses]
@@ -96,7 +96,7 @@ def about_function(sources, it):
         *row("calls", listed(called)),
         *row("proof", [sources.proof_of(it) or "found by the prover"]),
         *row("tests", listed(tests)),
-        *row("edits", listed(edits)),
+        *row("bugs", listed(edits)),
     ]
 
 
@@ -107,14 +107,14 @@ def about_definition(sources, it):
     # What has code to turn comes first, and what cites the definition itself before what reaches it by another.
     by = sorted(promisers, key=lambda function: (function.is_law, function not in direct))
     tests = sorted({test.full for function in by[:3] for test in sources.tests_of(function)})
-    edits = [edit.path for function in by[:3] for edit in sources.edits_of(function) + sources.edits_below(function)]
+    edits = [f"{edit.name} {edit.where}" for function in by[:3] for edit in sources.edits_of(function) + sources.edits_below(function)]
     clauses = [f"{function.full} {function.path}:{function.line}" for function in by]
     proofs = [proof for function in by[:3] if (proof := sources.proof_of(function))]
     return [
         *row("promised by", listed(clauses) if clauses else ["no public contract: it only helps"]),
         *row("proof", proofs or ["found by the prover"] if by else []),
         *row("tests", listed(tests)),
-        *row("edits", listed(edits)),
+        *row("bugs", listed(edits)),
     ]
 
 
@@ -125,9 +125,9 @@ def about(sources, found):
         return [f"{found.kind} {it.full}  {it.path}:{it.line}", *said(it.sentence), *(about_function(sources, it) if found.kind == "function" else [])]
     if found.kind == "definition":
         return [f"definition {it.name}  {it.module.path}:{it.line}", *said(sentence(it.sentence) if it.sentence else ""), *about_definition(sources, it)]
-    if found.kind == "edit":
+    if found.kind == "planted bug":
         turned = next((function for function in sources.functions if function.crate == it.crate and it in sources.edits_of(function)), None)
-        head = [f"edit {it.path}", *row("turns", [f"{turned.full} {turned.path}:{turned.line}" if turned else it.function or "a table"])]
+        head = [f"planted bug {it.name}  {it.where}", *row("turns", [f"{turned.full} {turned.path}:{turned.line}" if turned else it.function or "a table"])]
         return head + (about_function(sources, turned) if turned else [])
     if found.kind == "patch":
         return [f"patch {it.path}", *row("caught by", [it.test])]

@@ -26,7 +26,7 @@ def function_part(sources, it):
     clauses = [f"<code>{html.escape(clause.kind + ' ' + clause.name)}</code> {html.escape(clause.sentence)}" for clause in it.clauses]
     proof = sources.proof_of(it)
     reason = "a law has no code to turn" if it.is_law else it.no_edit
-    edits = [link(edit.path, name=edit.name) for edit in sources.edits_of(it) + sources.edits_below(it)] or [html.escape(f"none: {reason}" if reason else "none")]
+    edits = [link(edit.path, edit.line, edit.name) for edit in sources.edits_of(it) + sources.edits_below(it)] or [html.escape(f"none: {reason}" if reason else "none")]
     return f'<h3 id="{html.escape(it.full)}"><code>{html.escape(it.full)}</code></h3><p>{html.escape(it.sentence)}</p>' + rows([
         ("code", [link(it.path, it.line)]),
         ("clauses", clauses),
@@ -34,7 +34,7 @@ def function_part(sources, it):
         ("calls", [f"{html.escape(other.name)} {link(other.path, other.line)}" for other in sources.called_by(it)]),
         ("proof", [link(proof) if proof else "found by the prover"]),
         ("tests", [link(test.path, test.line, test.full) for test in sources.tests_of(it)]),
-        ("edits", edits),
+        ("planted bugs", edits),
     ])
 
 
