@@ -1,0 +1,113 @@
+"""An index of all that answers questions: which words each answer has, how rare they are, and how well they fit a question."""
+import math
+import re
+
+from .parts import HEADER, all_parts, types_of
+from .words import meanings_of, stems_of
+
+# What a word counts in each field of an answer. REST is the text around the sentence that answers.
+NAME, SENTENCE, HEADING, TEXT, REST, CONTEXT = 3.0, 2.0, 1.5, 1.0, 0.6, 0.5
+# How much a word of docs/GLOSSARY.md counts in place of the one that was asked for.
+OTHER = 0.85
+# How well an answer has to fit, as a part of what fits best.
+WORTH = 0.4
+# How much words that belong together count where an answer has them apart.
+APART = 0.5
+# From how often on another occurrence of a word adds little; and how much longer texts count less.
+OFTEN, LONG = 1.2, 0.5
+# The pages that say what the programs do; the others say how and why.
+RULING = ("docs/FORMATS.md", "docs/RULES.md", "docs/CONTRACTS.md", "docs/LAB.md", "include/upc.h")
+STRING = re.compile(r'"((?:[^"\\\n]|\\.)*)"')
+# Tests come after what they test, and bugs last.
+TESTS, BUGS = 1, 2
+RANKS = {"test": TESTS, "case": TESTS, "patch": BUGS, "planted bug": BUGS}
+
+
+class Answer:
+    """What may answer a question: its kind, what it is, how much its kind counts, and its words with their weights."""
+
+    def __init__(self, kind, it, counts, fields):
+        self.kind, self.it, self.counts, self.rank, self.score = kind, it, counts, RANKS.get(kind, 0), 0
+        self.words, self.pairs, self.length = {}, set(), 0
+        for weight, text in fields:
+            stems = stems_of(text)
+            for stem in stems:
+                self.words[stem] = self.words.get(stem, 0) + weight
+                self.length += weight
+            self.pairs.update(zip(stems, stems[1:]))
+
+
+class Index:
+    """All answers, by their words."""
+
+    def __init__(self, sources):
+        self.answers, self.having = list(answers(sources)), {}
+        for it in self.answers:
+            for stem in it.words:
+                self.having.setdefault(stem, []).append(it)
+        self.usual = sum(it.length for it in self.answers) / len(self.answers)
+
+    def rarity(self, stem):
+        """Returns how much a word tells: the fewer answers have it, the more."""
+        return math.log(1 + len(self.answers) / (1 + len(self.having.get(stem, []))))
+
+    def fit(self, answer, stems):
+        """Returns how well some words fit an answer: nothing unless it has all of them."""
+        total = 0
+        for stem in stems:
+            often = answer.words.get(stem, 0) / (1 - LONG + LONG * answer.length / self.usual)
+            if not often:
+                return 0
+            total += self.rarity(stem) * often * (OFTEN + 1) / (often + OFTEN)
+        is_apart = any(pair not in answer.pairs for pair in zip(stems, stems[1:]))
+        return total / len(stems) ** 0.5 * (APART if is_apart else 1)
+
+    def fits(self, meanings):
+        """Returns the answers that some of these words fit, each with how well."""
+        found = {}
+        for k, stems in enumerate(meanings):
+            rarest = min((self.having.get(it, []) for it in stems), key=len)
+            for answer in rarest:
+                fit = self.fit(answer, stems) * (OTHER if k else 1)
+                if fit > found.get(answer, 0):
+                    found[answer] = fit
+        return found
+
+    def search(self, words):
+        """Returns the answers to a question, the best first: each by its sentence that fits best."""
+        fits = [self.fits(it) for it in meanings_of(words)]
+        best = {}
+        for answer in {answer for it in fits for answer in it}:
+            each = [it.get(answer, 0) for it in fits]
+            answer.score = sum(each) * sum(it > 0 for it in each) / len(each) * answer.counts
+            if id(answer.it) not in best or best[id(answer.it)].score < answer.score:
+                best[id(answer.it)] = answer
+        least = WORTH * max((it.score for it in best.values()), default=0)
+        return sorted((it for it in best.values() if it.score >= least), key=lambda it: (it.rank, -it.score))
+
+
+def answers(sources):
+    """Yields all that may answer: functions with their clauses, definitions, parts of pages, tests and planted bugs."""
+    for it in sources.functions:
+        strings = " ".join(STRING.findall(it.body))
+        clauses = " ".join(f"{clause.name} {clause.sentence}" for clause in it.clauses)
+        is_test = it.is_test or it.module.startswith("tests")
+        kind, counts = ("test", 0.8) if is_test else ("function", 0.9 if sources.is_open(it) else 0.6)
+        yield Answer(kind, it, counts, [(NAME, it.name), (CONTEXT, it.full), (SENTENCE, it.sentence), (TEXT, clauses), (TEXT, strings)])
+    for module in sources.specs.modules.values():
+        for it in module.definitions.values():
+            context = f"{module.crate} {module.inside}"
+            yield Answer("definition", it, 0.6 if module.helps() else 1.0, [(NAME, it.name), (SENTENCE, it.sentence), (TEXT, it.text), (CONTEXT, context)])
+    for crate in sources.crates:
+        for it in types_of(crate):
+            yield Answer("type", it, 0.9, [(NAME, it.name), (SENTENCE, it.text), (TEXT, it.about), (CONTEXT, crate)])
+    for it in all_parts():
+        counts = 1.3 if it.path in RULING else 0.7
+        for sentence in it.sentences:
+            yield Answer("declaration" if it.path == HEADER else "page", it, counts, [(NAME, it.name), (SENTENCE, sentence), (HEADING, it.heading), (CONTEXT, it.path), (REST, f"{it.about} {it.text}")])
+    for name, said in sources.cases.items():
+        yield Answer("case", name, 0.8, [(NAME, name), (SENTENCE, said)])
+    for it in sources.patches:
+        yield Answer("patch", it, 0.8, [(NAME, it.name), (SENTENCE, it.sentence)])
+    for it in sources.edits:
+        yield Answer("planted bug", it, 0.8, [(NAME, it.name), (CONTEXT, it.function)])
