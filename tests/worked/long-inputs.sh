@@ -1,5 +1,5 @@
 # The inputs and the texts that are too long for a file. `input-NAME` prints the input of the case NAME, and
-# `answers-NAME` its text if there is no file NAME.answers.
+# `answers-NAME` its text, if the case has no lines of it.
 
 # octets OCTET COUNT: an octet COUNT times.
 octets() {

@@ -72,15 +72,13 @@ def about(sources, found):
         return [name_of(found), *said(it.sentence), *(about_function(sources, it) if found.kind == "function" else [])]
     if found.kind == "definition":
         return [name_of(found), *said(sentence(it.sentence) if it.sentence else ""), *about_definition(sources, it)]
-    if found.kind in ("page", "declaration", "type"):
+    if found.kind in ("page", "declaration", "type", "case"):
         return [name_of(found), *said(it.text)]
     if found.kind == "planted bug":
         turned = next((function for function in sources.functions if function.crate == it.crate and it in sources.edits_of(function)), None)
         head = [name_of(found), *row("turns", [f"{turned.full} {turned.path}:{turned.line}" if turned else it.function or "a table"])]
         return head + (about_function(sources, turned) if turned else [])
-    if found.kind == "patch":
-        return [name_of(found), *row("caught by", [it.test])]
-    return [name_of(found), *said(sources.cases[it])]
+    return [name_of(found), *row("caught by", [it.test])]
 
 
 def name_of(found):
@@ -96,8 +94,6 @@ def name_of(found):
         return f"planted bug {it.name}  {it.where}"
     if found.kind == "patch":
         return f"patch {it.path}"
-    if found.kind == "case":
-        return f"case tests/worked/{it}"
     return f"{found.kind} {getattr(it, 'full', it.name)}  {it.path}:{it.line}"
 
 

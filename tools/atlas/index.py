@@ -2,7 +2,7 @@
 import math
 import re
 
-from .parts import HEADER, all_parts, types_of
+from .parts import HEADER, all_parts, cases, types_of
 from .words import meanings_of, stems_of
 
 # What a word counts in each field of an answer. REST is the text around the sentence that answers.
@@ -105,8 +105,8 @@ def answers(sources):
         counts = 1.3 if it.path in RULING else 0.7
         for sentence in it.sentences:
             yield Answer("declaration" if it.path == HEADER else "page", it, counts, [(NAME, it.name), (SENTENCE, sentence), (HEADING, it.heading), (CONTEXT, it.path), (REST, f"{it.about} {it.text}")])
-    for name, said in sources.cases.items():
-        yield Answer("case", name, 0.8, [(NAME, name), (SENTENCE, said)])
+    for it in cases():
+        yield Answer("case", it, 0.8, [(NAME, it.name), (SENTENCE, it.text)])
     for it in sources.patches:
         yield Answer("patch", it, 0.8, [(NAME, it.name), (SENTENCE, it.sentence)])
     for it in sources.edits:

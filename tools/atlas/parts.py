@@ -128,6 +128,15 @@ def types_of(crate):
                 yield Part(path, at + 1, crate, found[1], " ".join(comment), " ".join(it.strip("/ ,") for it in inside))
 
 
+def cases():
+    """Yields the cases of tests/worked/, each with what it shows."""
+    for path in files_below("tests/worked", ".cases"):
+        lines = text_of(path).split("\n")
+        for number, (line, below) in enumerate(zip(lines, lines[1:]), 1):
+            if line.startswith("# "):
+                yield Part(path, number, "", line[2:], below.partition(": ")[2])
+
+
 def all_parts():
     """Yields the parts of all pages and of the header. The words of others are no answer: they lead to one."""
     for path in pages():

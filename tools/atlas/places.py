@@ -25,7 +25,7 @@ def scripts():
                 path = os.path.relpath(f"{at}/{name}", ROOT)
                 if os.access(f"{ROOT}/{path}", os.X_OK) or name.endswith((".py", ".sh")):
                     found.append(path)
-    return [it for it in [*found, "tests/worked/index", "tests/worked/library-examples"] if exists(it)]
+    return [it for it in [*found, "tests/worked/cases.sh", "tests/worked/library-examples"] if exists(it)]
 
 
 def is_there(path):

@@ -7,7 +7,7 @@ from .files import below, crates, exists, files_below, text_of
 
 
 class Sources:
-    """The repository's functions, definitions, tests, edits and cases, and how they belong together."""
+    """The repository's functions, definitions, tests and planted bugs, and how they belong together."""
 
     def __init__(self):
         self.crates = crates()
@@ -155,16 +155,6 @@ class Sources:
         if it.owner:
             return it.owner in names and (it.is_pub or it.trait in names)
         return it.is_pub and (it.name in names or it.module in modules)
-
-    @functools.cached_property
-    def cases(self):
-        """The cases of tests/worked/: the name of each and what it shows."""
-        found = {}
-        for line in text_of("tests/worked/index").split("\n"):
-            words = line.split(None, 3)
-            if len(words) == 4 and not line.startswith("#"):
-                found[words[0]] = words[3]
-        return found
 
 
 @functools.lru_cache(maxsize=None)

@@ -1,2 +1,0 @@
-a: ret a
-a: ret a

@@ -1,2 +1,0 @@
-jeq x, gone
-ret a

@@ -1,2 +1,0 @@
-ja next
-next: ret #0 ; done

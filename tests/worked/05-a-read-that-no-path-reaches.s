@@ -1,3 +1,0 @@
-ret #0
-ld M[3]
-ret a

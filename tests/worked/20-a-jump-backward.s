@@ -1,3 +1,0 @@
-top: ld #1
-ja top
-ret a

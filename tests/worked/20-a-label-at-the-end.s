@@ -1,2 +1,0 @@
-ja end
-end:

@@ -1,3 +1,0 @@
-div #0
-ret #1
-ret x

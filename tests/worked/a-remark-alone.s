@@ -1,1 +1,0 @@
-; a remark alone
