@@ -52,7 +52,7 @@ def parts_of(path, text):
             columns = cells_of(plain)
         elif is_row and not line.startswith("|--"):
             yield row_of(path, number, heading, columns, cells_of(plain), lead)
-        elif plain and not is_row:
+        elif plain and not is_row and not line.startswith("!["):
             open_part = Part(path, number, heading, "", plain)
     if open_part:
         yield open_part
