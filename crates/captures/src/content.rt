@@ -5,9 +5,10 @@ ghost use Rattle.captures.specs.Record.{HasExtensions};
 ghost use Rattle.captures.specs.RecordContent.{IsContent};
 ghost use Rattle.captures.specs.inner.Received.{IsCellFrom, IsPlaced, IsReceived};
 
+use crate::lent_cell::LentCell;
 use crate::packet::HEADER_OCTETS;
 use thiserror::Error;
-use upc_cell::{CELL_OCTETS, Cell};
+use upc_cell::CELL_OCTETS;
 
 /// The octets of an extension header.
 const EXTENSION_OCTETS: usize = 8;
@@ -91,12 +92,12 @@ pub(crate) fn place_of(octets: &[u8]) -> Result<usize, NoCell>
 
 /// Returns the cell that begins at this place.
 #[inline(always)]
-pub(crate) fn cell_at(octets: &[u8], place: usize) -> Cell
+pub(crate) fn cell_at(octets: &[u8], place: usize) -> LentCell<'_>
     requires { place + 52 ≤ length octets.now }
     ensures { result ≡ take 52 (drop place octets.now) }
 {
     let Some((cell, _)) = octets[place..].split_first_chunk::<CELL_OCTETS>() else {
         unreachable!();
     };
-    Cell::from(*cell)
+    LentCell::of(cell)
 }

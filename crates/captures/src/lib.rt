@@ -7,6 +7,7 @@ mod content;
 mod fault;
 mod format;
 pub mod laws;
+mod lent_cell;
 mod opening;
 mod packet;
 mod reader;
@@ -16,6 +17,7 @@ pub use clock::{Clock, Tick};
 pub use content::NoCell;
 pub use fault::{Fault, RecordFault};
 pub use format::{Format, Order};
+pub use lent_cell::LentCell;
 pub use opening::{FileFault, Opening, open};
 pub use reader::{Next, Reader, Record};
 

@@ -7,27 +7,27 @@ ghost use Rattle.captures.specs.RecordReading.{SaysRecord};
 use crate::content::{NoCell, cell_at, place_of};
 use crate::fault::{Fault, RecordFault};
 use crate::format::Format;
+use crate::lent_cell::LentCell;
 use byteorder::{ByteOrder, LittleEndian};
-use upc_cell::Cell;
 
-/// What a record says.
-#[derive(Clone, Copy, PartialEq, Eq, Debug)]
-pub struct Record {
+/// What a record says. It borrows its cell from the octets that it was read from.
+#[derive(PartialEq, Eq, Drop, Debug)]
+pub struct Record<'a> {
     /// The number of the record in its capture, from 1.
     pub number: u64,
     /// The interface at which it was received, 0 to 3.
     pub interface: u8,
     /// When it was received, in units of 2^-32 seconds since 1970.
     pub time: u64,
-    /// Its cell, or why it holds none.
-    pub content: Result<Cell, NoCell>,
+    /// Its cell, which the octets lend, or why it holds none.
+    pub content: Result<LentCell<'a>, NoCell>,
 }
 
 /// What comes next in a capture.
-#[derive(Clone, Copy, PartialEq, Eq, Debug)]
-pub enum Next {
+#[derive(PartialEq, Eq, Drop, Debug)]
+pub enum Next<'a> {
     /// A record, and how many octets are of it and its packet or block.
-    Taken(Record, usize),
+    Taken(Record<'a>, usize),
     /// A block without a record, and how many octets it has.
     Passed(usize),
     /// The beginning of a record, packet or block, or nothing: more octets are wanted.
@@ -50,7 +50,7 @@ pub struct Reader {
 
 /// Returns what a record says that has this content.
 #[inline(always)]
-fn record_of(number: u64, octets: &[u8], content: Result<Cell, NoCell>) -> Record
+fn record_of<'a>(number: u64, octets: &'a [u8], content: Result<LentCell<'a>, NoCell>) -> Record<'a>
     requires headed { 16 ≤ length octets.now }
     requires held { IsContent octets.now content }
     ensures { SaysRecord number octets.now result }
@@ -84,9 +84,9 @@ impl Reader {
     /// Reads the next record of a capture, of which these are octets that come next, as many as there are yet. Give it the
     /// octets after the record then.
     ///
-    /// It and what it calls are inlined into the caller's loop. So a record that the caller passes over isn't copied.
+    /// It and what it calls are inlined into the caller's loop. No octet is copied: the record borrows its cell from these octets.
     #[inline(always)]
-    pub fn next(&mut self, octets: &[u8]) -> Next
+    pub fn next<'a>(&mut self, octets: &'a [u8]) -> Next<'a>
         ensures { ComesNext self.old octets.now result self.new }
     {
         let format = self.format;
@@ -113,7 +113,6 @@ impl Reader {
             return Next::Passed(own);
         };
         self.count += 1;
-        // A cell is copied once, on a way of its own: each place where two ways join would copy it again.
         match place_of(framed) {
             Ok(place) => {
                 let content = Ok(cell_at(framed, place));
@@ -125,7 +124,7 @@ impl Reader {
 
     /// Returns what comes next if the octets at this place are no record for this reason.
     #[inline(always)]
-    fn broken(&self, reason: RecordFault) -> Next
+    fn broken<'a>(&self, reason: RecordFault) -> Next<'a>
         ensures { result ≡ Next.Broken (record { at = self.now.at; reason = reason }) }
     {
         Next::Broken(Fault {

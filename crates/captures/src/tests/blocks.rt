@@ -57,7 +57,7 @@ fn blocks_of(order: Order, changes: [(usize, u32); 2]) -> [u8; 148] {
 }
 
 /// Reads the blocks of a file, as far as there are three. Returns the reader after them, and what comes next.
-fn read_blocks(octets: &[u8]) -> (Reader, Next) {
+fn read_blocks(octets: &[u8]) -> (Reader, Next<'_>) {
     let Opening::Opened(format) = open(octets) else {
         return (Reader::new(Format::Erf), Next::Unfinished);
     };
@@ -144,7 +144,8 @@ fn octets_that_are_no_block(rt: HostRuntime) -> Result<(), Fail> {
             ([(52, 28), (72, 28)], 48, RecordFault::ShortBlock(28)),
             ([(144, 96), (144, 96)], 48, RecordFault::LengthsDiffer(96)),
         ] {
-            let (reader, next) = read_blocks(&blocks_of(order, changes));
+            let octets = blocks_of(order, changes);
+            let (reader, next) = read_blocks(&octets);
             assert_eq!(rt; next, Next::Broken(Fault { at, reason }));
             assert_eq!(rt; (reader.count, reader.at), (0, at));
         }

@@ -42,11 +42,11 @@ returns-in-Ok-place_of c =
     (omega arith)
     (c.in-Ok-held_in.ensures.held
     ∙ ap (λ framed. Ok (c.in-Ok-held_in.held.after, option_map (λ octets. octets.now) framed)) c.in-Some-framed.is)
-    (omega arith)
+    (omega (arith, c.in-Some.ensures))
     c.record_of.ensures
     refl
     refl
-    (omega arith)
+    (omega (arith, c.in-Some.ensures))
 
 pub returns-in-Err-place_of : goal.returns-in-Err-place_of
 returns-in-Err-place_of c =
