@@ -13,12 +13,13 @@ import subprocess
 import sys
 import tempfile
 
-from captures.police_cases import Case, case_of, edges
+from captures.police_cases import Case, case_of, edges, long_case
 from captures.policing import policed
 
 # A script and a capture, and words that are refused.
 ONE = Case(b"card 1 1 1 1\n", b"", 100, None, "all")
-WRONG_WORDS = ["", "''", "{} {}", "{} --lines", "{} --lines some", "{} --lines=", "{} --tick 0us", "{} --tick 10", "{} --interface 4", "{} --side nni"]
+WRONG_WORDS = ["", "''", "{} {}", "{} --lines", "{} --lines some", "{} --lines=", "{} --tick 0us", "{} --tick 10", "{} --interface 4", "{} --side nni", "{} --threads", "{} --threads 0", "{} --threads 65", "{} --threads all"]
+THREADS = [[], [], ["--threads", "1"], ["--threads=2"], ["--threads", "64"]]
 UNREADABLE = ["{}.missing", "/"]
 
 
@@ -28,13 +29,15 @@ class Program:
     def __init__(self, path, folder):
         self.path = path
         self.setup = os.path.join(folder, "a setup")
+        self.source = None
 
     def ran(self, words, octets):
         """Returns the output, the messages and the status of a subcommand."""
-        ran = subprocess.run([self.path, *words], input=octets, stdout=subprocess.PIPE, stderr=subprocess.PIPE)
+        given = {"stdin": self.source} if self.source else {"input": octets}
+        ran = subprocess.run([self.path, *words], **given, stdout=subprocess.PIPE, stderr=subprocess.PIPE)
         return ran.stdout, ran.stderr, ran.returncode
 
-    def police(self, case):
+    def police(self, case, threads=()):
         """Returns what it answers to a case. Options with their default are left out where that is what is asked."""
         with open(self.setup, "wb") as it:
             it.write(case.script)
@@ -42,7 +45,16 @@ class Program:
         # The setup may come between the options.
         words += [self.setup] if case.interface is None else [self.setup, f"--interface={case.interface}"]
         words += [] if case.lines == "all" else ["--lines", case.lines]
-        return self.ran(words, case.octets)
+        return self.ran([*words, *threads], case.octets)
+
+    def police_file(self, case, threads):
+        """Returns what it answers to a case whose capture is a file. Its reading fills the buffer, and that of a pipe does not."""
+        with open(f"{self.setup} and a capture", "wb") as it:
+            it.write(case.octets)
+        with open(f"{self.setup} and a capture", "rb") as self.source:
+            answer = self.police(case, threads)
+        self.source = None
+        return answer
 
     def refused(self, words):
         """Returns what it answers to these words, of which {} is the file."""
@@ -70,9 +82,19 @@ def wrong_lines(ours, theirs):
 def compared(program, cases):
     """Yields for each case what is wrong with its answer, or None."""
     for number, case in cases:
-        ours, theirs = program.police(case), wanted(program, case)
+        ours, theirs = program.police(case, THREADS[number % len(THREADS)]), wanted(program, case)
         asked = f"a tick of {case.tick} ns, interface {case.interface}, lines {case.lines}"
         yield None if ours == theirs else f"capture {number} ({asked}): {wrong_lines(ours, theirs)}"
+
+
+def long_ones(program, seed, count):
+    """Yields for long captures, each read from a file on one thread and on two, what is wrong with the answer, or None."""
+    for number in range(count):
+        case = long_case(seed, number)
+        theirs = wanted(program, case)
+        for threads in (["--threads", "1"], ["--threads", "2"]):
+            ours = program.police_file(case, threads)
+            yield None if ours == theirs else f"long capture {number} ({' '.join(threads)}): {wrong_lines(ours, theirs)}"
 
 
 def rules_of(random_):
@@ -132,7 +154,7 @@ def words_tried(program):
             output, messages, ended = program.refused(words)
             yield None if not output and messages and ended == status else f"police {words} ends with {ended}: {messages}"
     output, _, ended = program.ran(["police", "--help"], b"")
-    is_whole = all(word in output for word in (b"--tick <TIME>", b"--interface <N>", b"--lines <", b"[default: all]"))
+    is_whole = all(word in output for word in (b"--tick <TIME>", b"--interface <N>", b"--lines <", b"[default: all]", b"--threads <N>", b"[default: 2]"))
     yield None if is_whole and ended == 0 else f"police --help prints {output}"
 
 
@@ -141,7 +163,7 @@ def main(path, count="200", seed="1"):
     cases = list(enumerate(edges(), -len(edges()))) + [(number, case_of(seed, number)) for number in range(int(count))]
     with tempfile.TemporaryDirectory() as folder:
         program = Program(os.path.abspath(path), folder)
-        found = [*words_tried(program), *compared(program, cases), *rules_tried(program, seed, int(count) // 4)]
+        found = [*words_tried(program), *compared(program, cases), *rules_tried(program, seed, int(count) // 4), *long_ones(program, seed, max(4, int(count) // 50))]
     wrong = [it for it in found if it]
     for it in wrong:
         print(f"seed {seed}, {it}")

@@ -133,11 +133,11 @@ def broken(random_, octets):
     ])
 
 
-def capture_of(random_, script, tick):
-    """Returns a capture for a script, or for one without a fault in it."""
+def capture_of(random_, script, tick, count):
+    """Returns a capture of this many records for a script, or for one without a fault in it."""
     card = card_of(script) or card_of(b"card 1 1 1 1\nload 0006000000000001\nsetup 1 5 p1 cbr1:5/5\n")
     traffic = Traffic(random_, card, tick)
-    made = [traffic.record() for _ in range(random_.choice([0, 1, 10, 30, 60, 100, 200, 300]))]
+    made = [traffic.record() for _ in range(count)]
     octets = random_.choice([b"".join, b"".join, lambda it: as_pcap(it, random_), lambda it: in_pcapng(random_, it)])(made)
     return broken(random_, octets) if random_.random() < 0.15 else octets
 
@@ -147,7 +147,17 @@ def case_of(seed, number):
     random_ = random.Random(f"{seed} police {number}")
     script, tick = script_of(random_), random_.choice(TICKS)
     interface = random_.choice([None] * 10 + [0] * 6 + [1, 2, 3])
-    return Case(script, capture_of(random_, script, tick), tick, interface, random_.choice(LINES))
+    count = random_.choice([0, 1, 10, 30, 60, 100, 200, 300])
+    return Case(script, capture_of(random_, script, tick, count), tick, interface, random_.choice(LINES))
+
+
+def long_case(seed, number):
+    """Returns a case whose capture fills the buffer that records are read from once or several times: it holds some 7,700 of them."""
+    random_ = random.Random(f"{seed} long {number}")
+    lines = without_faults(usual_lines(random_))
+    script, tick = b"\n".join(lines) + b"\n", random_.choice(TICKS)
+    count = random_.choice([7_000, 7_800, 9_000, 16_000, 25_000])
+    return Case(script, capture_of(random_, script, tick, count), tick, random_.choice([None, 0]), random_.choice(LINES))
 
 
 def cell_at(ticks, header=0x00100640, flags=0, kind=3):

@@ -22,6 +22,9 @@ use Rattle.text_io.specs.Devices.{Adds, IsPart, TakesEnough}
 use Rattle.text_io.specs.Failures.{read_failures}
 use Rattle.text_io.specs.Limits.{most_ahead}
 use Rattle.text_io.specs.Printing.{IsFront}
+use Rattle.text_io.specs.Serving.{IsServed}
+use Rattle.text_io.specs.declared.device.Input.{Ghosts as InputView}
+use Rattle.text_io.specs.declared.device.Output.{Ghosts as OutputView}
 use Rattle.text_io.specs.declared.ending.Done.{Done}
 use Rattle.text_io.specs.declared.ending.Done.TheVariants.{Ended}
 use Rattle.text_io.specs.declared.ending.RunFault.{RunFault}
@@ -138,3 +141,10 @@ pub one_fixed_text : {World : Type 0} (steps : World → Record → List ℕ × 
     → (one ≡ other) × (ends ≡ other_ends)
 one_fixed_text steps closes world octets one other ends other_ends first second =
     opened_one steps closes world octets (opening_of octets) one other ends other_ends first second
+
+-- The same promise in an equal world.
+pub served_at : {World : Type 0} (rules : CaptureRules World) (one other : World) {Source Sink : Type 0} (I : InputView Source) (O : OutputView Sink)
+    (source source' : Source) (sink sink' : Sink) (result : Result Done RunFault) → one ≡ other
+    → IsServed (IsCaptureText rules one) I source source' O sink sink' result → IsServed (IsCaptureText rules other) I source source' O sink sink' result
+served_at {World = World} rules one other I O source source' sink sink' result same served =
+    subst (λ (world : World). IsServed (IsCaptureText rules world) I source source' O sink sink' result) same served

@@ -4,11 +4,12 @@ use Rattle.std.proofs.lemmas.Option.{same_Some}
 use Rattle.captures.specs.declared.fault.Fault.{Fault}
 use Rattle.captures.specs.declared.reader.Record.{Record}
 use Rattle.lab_captures.specs.CaptureText.{RunsThrough, done_at}
-use Rattle.lab_captures.specs.CellFilter.{CountedCell, FilterState, counted_cells, counted_then, filter_record, filter_start}
+use Rattle.lab_captures.specs.CellFilter.{FilterState, counted_cells, counted_then, filter_record, filter_start}
 use Rattle.lab_captures.specs.CellsText.{CellsAreWritten, cells_answer, cells_closes, cells_rules, cells_steps, counted_lines}
 use Rattle.lab_captures.specs.inner.FixedRules.{fixed_text, text_then}
 use Rattle.lab_captures.specs.RunLines.{closing_lines}
 use Rattle.lab_captures.proofs.FixedTexts.{fixed_only}
+use Rattle.lab_captures.specs.declared.counted.CountedCell.{CountedCell}
 use Rattle.lab_captures.specs.declared.filter.Filtered.{Filtered}
 use Rattle.lab_captures.specs.declared.filter.Filtered.TheVariants.{Counts, Passed, Several}
 use Rattle.text_io.specs.declared.ending.Done.{Done}

@@ -2,6 +2,12 @@ pub mod Texts
 pub mod FixedTexts
 pub mod Progresses
 pub mod ShownProgress
+pub mod QueueLemmas
+pub mod AheadLemmas
+pub mod AdvanceLemmas
+pub mod FillsAheadLemmas
+pub mod CellTotals
+pub mod QueueProgress
 pub mod CaptureTexts
 pub mod CountedLemmas
 pub mod Public

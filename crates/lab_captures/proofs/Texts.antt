@@ -32,7 +32,7 @@ passed_text rules before after world octets more text own done takes rest =
     )
 
 -- A record has its own text.
-taken_text : {World : Type 0} (rules : CaptureRules World) (before after : Reader) (world next : World) (said : Record) (octets more here text : List ℕ) (own : ℕ) (done : Done)
+pub taken_text : {World : Type 0} (rules : CaptureRules World) (before after : Reader) (world next : World) (said : Record) (octets more here text : List ℕ) (own : ℕ) (done : Done)
     → TakesFrame before octets (Some said) own after → rules.steps world said here (Some next)
     → IsTextFrom rules after next (drop own octets ++ more) text done → IsTextFrom rules before world (octets ++ more) (here ++ text) done
 taken_text rules before after world next said octets more here text own done takes step rest =
@@ -48,7 +48,7 @@ taken_text rules before after world next said octets more here text own done tak
     )
 
 -- It may end the run, whatever follows.
-ended_text : {World : Type 0} (rules : CaptureRules World) (before after : Reader) (world : World) (said : Record) (octets more here : List ℕ) (own : ℕ)
+pub ended_text : {World : Type 0} (rules : CaptureRules World) (before after : Reader) (world : World) (said : Record) (octets more here : List ℕ) (own : ℕ)
     → TakesFrame before octets (Some said) own after → rules.steps world said here None
     → IsTextFrom rules before world (octets ++ more) here Ended
 ended_text rules before after world said octets more here own takes step =
@@ -65,7 +65,7 @@ ended_text rules before after world said octets more here own takes step =
     )
 
 -- So does a fault.
-broken_text : {World : Type 0} (rules : CaptureRules World) (before after : Reader) (world : World) (fault : Fault) (octets more : List ℕ)
+pub broken_text : {World : Type 0} (rules : CaptureRules World) (before after : Reader) (world : World) (fault : Fault) (octets more : List ℕ)
     → ComesNext before octets (Broken fault) after
     → IsTextFrom rules before world (octets ++ more) (rules.closes world (Some fault)) Ended
 broken_text rules before after world fault octets more next =

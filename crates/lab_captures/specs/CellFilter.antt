@@ -4,6 +4,7 @@ use Rattle.captures.specs.Moments.{whole_ticks}
 use Rattle.captures.specs.declared.content.NoCell.{NoCell}
 use Rattle.captures.specs.declared.reader.Record.{Record}
 use Rattle.lab_captures.specs.PassedRecords.{none_passed, one_more_record, without_cell}
+use Rattle.lab_captures.specs.declared.counted.CountedCell.{CountedCell}
 use Rattle.lab_captures.specs.declared.filter.CellFilter.{CellFilter}
 use Rattle.lab_captures.specs.declared.filter.Filtered.{Filtered}
 use Rattle.lab_captures.specs.declared.filter.Filtered.TheVariants.{Counts, Passed, Several}
@@ -62,12 +63,6 @@ filter_content state clock said (Ok cell) = filter_at_interface state clock.0 cl
 -- What a record is in this state, and the next state. The first record's time is moment 0.
 abbrev pub filter_record : FilterState → Record → Filtered × FilterState
 filter_record state said = filter_content state (unwrap_or state.clock (said.time, said.time)) said said.content
-
--- A cell that counts: the number of its record, its moment and its octets.
-pub record CountedCell : Type 0 where
-  pub number : ℕ
-  pub moment : ℕ
-  pub cell : List ℕ
 
 -- The cells that count among a record with this number and those after it.
 abbrev pub counted_then : Filtered → ℕ → List CountedCell → List CountedCell

@@ -4,8 +4,9 @@ use Rattle.hex.specs.Hex.{encode_lower}
 use Rattle.captures.specs.declared.fault.Fault.{Fault}
 use Rattle.captures.specs.declared.reader.Record.{Record}
 use Rattle.lab_captures.specs.CaptureText.{CaptureRules, IsCaptureText, IsTextOfRecords, RunsThrough, done_at, fixed_rules}
-use Rattle.lab_captures.specs.CellFilter.{CountedCell, FilterState, counted_cells, filter_record, filter_start}
+use Rattle.lab_captures.specs.CellFilter.{FilterState, counted_cells, filter_record, filter_start}
 use Rattle.lab_captures.specs.RunLines.{closing_lines, several_line}
+use Rattle.lab_captures.specs.declared.counted.CountedCell.{CountedCell}
 use Rattle.lab_captures.specs.declared.filter.Filtered.{Filtered}
 use Rattle.lab_captures.specs.declared.filter.Filtered.TheVariants.{Counts, Passed, Several}
 use Rattle.text_io.specs.declared.ending.Done.{Done}

@@ -1,6 +1,8 @@
 pub mod CaptureFaults
 pub mod CaptureText
 pub mod CellFilter
+pub mod CellFollowing
+pub mod CellRules
 pub mod CellsText
 pub mod Following
 pub mod PassedRecords

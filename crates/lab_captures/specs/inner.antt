@@ -3,3 +3,5 @@ pub mod Waiting
 pub mod Steps
 pub mod Progress
 pub mod FixedRules
+pub mod Answered
+pub mod Ahead

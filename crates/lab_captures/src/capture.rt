@@ -18,11 +18,11 @@ use std::alloc::Global;
 use text_io::{Done, Failed, Input, Output, RunFault, give_last};
 
 /// Reads the first octets of a file, until they say what it is or the file ends.
-fn find_opening<I: Input>(window: &mut Window, input: &mut I) -> Result<Opening, Failed>
+pub(crate) fn find_opening<I: Input>(window: &mut Window, input: &mut I) -> Result<Opening, Failed>
     requires { window.old ≡ [] }
     ensures octets { I.is_known → IfOk result (λ _. I.rest input.old ≡ window.new ++ I.rest input.new) }
     ensures opening { IfOk result (λ opening. opening ≡ opening_of window.new) }
-    ensures bounded { length window.new ≤ 131072 }
+    ensures bounded { length window.new ≤ 524288 }
     ensures end { I.is_known → IfOk result (λ opening. opening ≡ Opening.Undecided → I.rest input.new ≡ []) }
     ensures calm { OnOk result (I.failures input.new ≡ I.failures input.old) }
     ensures failed { OnErr result (I.failures input.new ≡ one_more (I.failures input.old)) }
@@ -40,7 +40,7 @@ fn find_opening<I: Input>(window: &mut Window, input: &mut I) -> Result<Opening,
 }
 
 /// Returns how a file ends that is too short for a capture.
-fn short_ending(octets: &[u8]) -> Option<Fault>
+pub(crate) fn short_ending(octets: &[u8]) -> Option<Fault>
     ensures { result ≡ ends_short octets.now }
 {
     if octets.is_empty() {
@@ -53,7 +53,11 @@ fn short_ending(octets: &[u8]) -> Option<Fault>
 }
 
 /// Answers a file that isn't read.
-fn refuse<O: Output>(alloc: Global, output: &mut O, fault: FileFault) -> Result<Done, RunFault>
+pub(crate) fn refuse<O: Output>(
+    alloc: Global,
+    output: &mut O,
+    fault: FileFault,
+) -> Result<Done, RunFault>
     ensures done { IfOk result (λ done. done ≡ Done.Ended) }
     ensures given { O.is_known → OnOk result (O.held output.new ≡ O.held output.old ++ file_fault_line fault) }
     ensures front { O.is_known → OnErr result (IsPart (O.held output.old) (O.held output.new) (file_fault_line fault)) }
@@ -90,7 +94,7 @@ fn close_short<O: Output, F: Follower>(
     }
 }
 
-/// Runs a follower over the records of a capture, in bounded memory: two buffers of 131,072 octets, and the answers that are not written yet.
+/// Runs a follower over the records of a capture, in bounded memory: two buffers of 524,288 octets, and the answers that are not written yet.
 ///
 /// # Errors
 ///

@@ -9,10 +9,10 @@ use crate::capture::follow_capture;
 use crate::filter::{CellFilter, Filtered};
 use crate::follower::Follower;
 use crate::run_lines::{add_closing, add_several};
-use captures::{Fault, Record, Tick};
+use captures::{Fault, LentCell, Record, Tick};
 use std::alloc::{AllocError, Global};
 use text_io::{Done, Input, Output, RunFault, Turn};
-use upc_cell::{CELL_OCTETS, Cell};
+use upc_cell::CELL_OCTETS;
 use upc_words::{add_number, add_text};
 
 /// A run of `cells`.
@@ -22,7 +22,7 @@ pub(crate) struct Cells {
 }
 
 /// Appends the octets of a cell in hexadecimal digits.
-fn add_octets(answers: &mut Vec<u8>, cell: &Cell) -> Result<(), AllocError>
+fn add_octets(answers: &mut Vec<u8>, cell: &LentCell<'_>) -> Result<(), AllocError>
     ensures { OnOk result (answers.new.items ≡ answers.old.items ++ encode_lower cell.now) }
 {
     let mut digits = [0; 104];
@@ -34,7 +34,7 @@ fn add_octets(answers: &mut Vec<u8>, cell: &Cell) -> Result<(), AllocError>
 
 /// Appends the line of a cell.
 #[tactic(auto, using(std::proofs::lemmas::List::append_assoc))]
-fn add_cell(answers: &mut Vec<u8>, moment: u64, cell: &Cell) -> Result<(), AllocError>
+fn add_cell(answers: &mut Vec<u8>, moment: u64, cell: &LentCell<'_>) -> Result<(), AllocError>
     ensures { OnOk result (answers.new.items ≡ answers.old.items ++ cell_line moment cell.now) }
 {
     add_text(answers, b"cell ")?;
@@ -57,7 +57,7 @@ impl Follower for Cells {
 
     ghost rules = { cells_rules };
 
-    fn follow(&mut self, said: &Record, answers: &mut Vec<u8>) -> Result<Turn, AllocError> {
+    fn follow(&mut self, said: &Record<'_>, answers: &mut Vec<u8>) -> Result<Turn, AllocError> {
         match self.filter.read(said) {
             Filtered::Counts(moment, cell) => {
                 add_cell(answers, moment, &cell)?;

@@ -21,7 +21,7 @@ use text_io::{Done, Failed, Input, Output, RunFault, give_all, give_last};
 const ENOUGH: usize = 65536;
 
 /// Writes the collected answers and clears them.
-fn give_answers<O: Output>(output: &mut O, answers: &mut Vec<u8>) -> Result<(), Failed>
+pub(crate) fn give_answers<O: Output>(output: &mut O, answers: &mut Vec<u8>) -> Result<(), Failed>
     ensures ok { O.is_known → OnOk result (O.held output.new ≡ O.held output.old ++ answers.old.items) }
     ensures none { OnOk result (answers.new.items ≡ []) }
     ensures front { O.is_known → IsPart (O.held output.old) (O.held output.new) answers.old.items }
@@ -50,7 +50,7 @@ fn give_if_enough<O: Output>(output: &mut O, answers: &mut Vec<u8>) -> Result<()
 }
 
 /// Writes the collected answers, and then reads more input into the window.
-fn refill<I: Input, O: Output>(
+pub(crate) fn refill<I: Input, O: Output>(
     window: &mut Window,
     input: &mut I,
     output: &mut O,
@@ -60,7 +60,7 @@ fn refill<I: Input, O: Output>(
     ensures octets { I.is_known → IfOk result (λ _. window.old ++ I.rest input.old ≡ window.new ++ I.rest input.new) }
     ensures count { IfOk result (λ count. length window.new ≡ length window.old + count) }
     ensures front_octets { IfOk result (λ _. take (length window.old) window.new ≡ window.old) }
-    ensures bounded { length window.new ≤ 131072 }
+    ensures bounded { length window.new ≤ 524288 }
     ensures same { result ≡ Ok 0 → window.new ≡ window.old }
     ensures end { I.is_known → result ≡ Ok 0 → I.rest input.new ≡ [] }
     ensures given { O.is_known → OnOk result
@@ -127,7 +127,7 @@ pub(crate) fn follow_records<I: Input, O: Output, F: Follower>(
     mut window: Window,
     mut reader: Reader,
 ) -> Result<Done, RunFault>
-    requires { length window ≤ 131072 }
+    requires { length window ≤ 524288 }
     ensures text { I.is_known → O.is_known → IfOk result (λ done. OfEachShown F.rules (F.shows follower.old) (λ first.
         Adds (λ text. IsTextFrom F.rules reader first (window ++ I.rest input.old) text done)
         (O.held output.old) (O.held output.new))) }

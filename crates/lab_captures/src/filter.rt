@@ -4,14 +4,13 @@ ghost use Rattle.std.specs.Prelude.{◌≡◌};
 ghost use Rattle.lab_captures.specs.CellFilter.{filter_at_interface, filter_at_time, filter_record, filter_start, filter_state};
 
 use crate::passed::PassedOver;
-use captures::{Clock, Record, Tick};
-use upc_cell::Cell;
+use captures::{Clock, LentCell, Record, Tick};
 
 /// What a record is to a run that reads the cells of one interface.
-#[derive(Clone, Copy, PartialEq, Eq, Debug)]
-pub enum Filtered {
+#[derive(PartialEq, Eq, Drop, Debug)]
+pub enum Filtered<'a> {
     /// Its cell counts: the moment, in whole ticks since the first record, and the cell.
-    Counts(u64, Cell),
+    Counts(u64, LentCell<'a>),
     /// It is passed over.
     Passed,
     /// Its cell is of a second interface, and none was asked for: the first interface, and this one.
@@ -56,7 +55,12 @@ impl CellFilter {
 
     /// Reads a cell of the right interface.
     #[inline(always)]
-    fn read_at(&mut self, mut clock: Clock, said: &Record, cell: &Cell) -> Filtered
+    fn read_at<'a>(
+        &mut self,
+        mut clock: Clock,
+        said: &Record<'a>,
+        cell: &LentCell<'a>,
+    ) -> Filtered<'a>
         ensures { filter_at_time (filter_state self.old) clock.first clock.latest said.now cell.now
             ≡ (result, filter_state self.new) }
     {
@@ -67,13 +71,18 @@ impl CellFilter {
                 self.passed.back = self.passed.back.with(said.number);
                 Filtered::Passed
             }
-            Some(moment) => Filtered::Counts(moment, *cell),
+            Some(moment) => Filtered::Counts(moment, cell.lend()),
         }
     }
 
     /// Reads a cell.
     #[inline(always)]
-    fn read_cell(&mut self, clock: Clock, said: &Record, cell: &Cell) -> Filtered
+    fn read_cell<'a>(
+        &mut self,
+        clock: Clock,
+        said: &Record<'a>,
+        cell: &LentCell<'a>,
+    ) -> Filtered<'a>
         ensures { filter_at_interface (filter_state self.old) clock.first clock.latest said.now cell.now self.old.interface
             ≡ (result, filter_state self.new) }
     {
@@ -94,7 +103,7 @@ impl CellFilter {
 
     /// Reads the next record. After `Several` the filter is as before. It is inlined, as `Reader::next` is.
     #[inline(always)]
-    pub fn read(&mut self, said: &Record) -> Filtered
+    pub fn read<'a>(&mut self, said: &Record<'a>) -> Filtered<'a>
         ensures { filter_record (filter_state self.old) said.now ≡ (result, filter_state self.new) }
     {
         let clock = match self.clock {

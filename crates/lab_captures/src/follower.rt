@@ -21,7 +21,7 @@ pub trait Follower {
     ghost rules: { CaptureRules World };
 
     /// Appends the answer to a record to the answers.
-    fn follow(&mut self, said: &Record, answers: &mut Vec<u8>) -> Result<Turn, AllocError>
+    fn follow(&mut self, said: &Record<'_>, answers: &mut Vec<u8>) -> Result<Turn, AllocError>
         ensures { IfOk result (λ turn.
             FollowsRecord rules (shows self.old) said.now turn (shows self.new) answers.old.items answers.new.items) };
 

@@ -1,21 +1,32 @@
 //! Subcommands of `upc-lab` over captures of links, and what others share with them.
 #![tactic(auto)]
 
+mod advance;
+mod ahead;
 mod capture;
+mod cell_capture;
+mod cell_driver;
+mod cell_follower;
 mod cell_lines;
 mod cells;
+mod counted;
 mod driver;
 mod fault_lines;
 mod filter;
 mod follower;
 pub mod laws;
 mod passed;
+mod queue;
+mod reading_ahead;
 mod run_lines;
 mod window;
 
 pub use capture::follow_capture;
+pub use cell_capture::follow_cells;
+pub use cell_follower::CellFollower;
 pub use cell_lines::CellLines;
 pub use cells::cells_of_capture;
+pub use counted::CountedCell;
 pub use filter::{CellFilter, Filtered};
 pub use follower::Follower;
 pub use passed::{PassedOver, Tally};

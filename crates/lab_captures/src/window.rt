@@ -8,8 +8,8 @@ use std::marker::Model;
 use std::mem;
 use text_io::{Failed, Input};
 
-/// The capacity of a window, in octets. No frame is longer.
-const WINDOW_ROOM: usize = 131_072;
+/// The capacity of a window, in octets. A frame has at most 131,072.
+const WINDOW_ROOM: usize = 524_288;
 
 /// The octets that were read and not yet taken. Contracts see the list of them.
 #[derive(Drop)]
@@ -67,6 +67,13 @@ impl Window {
         self.start += count;
     }
 
+    // no ensures: it decides only whether cells are answered at once or while more octets are read
+    /// Returns whether the last reading filled the window.
+    #[inline(always)]
+    pub(crate) fn is_full(&self) -> bool {
+        self.end == self.buffer.len()
+    }
+
     /// Reads more octets after those that wait, and returns their number. It is 0 only at the end of the input.
     pub(crate) fn fill<I: Input>(&mut self, input: &mut I) -> Result<usize, Failed>
         requires { length self.old < 131072 }
@@ -74,7 +81,7 @@ impl Window {
             (λ _. self.old ++ I.rest input.old ≡ self.new ++ I.rest input.new) }
         ensures count { IfOk result (λ count. length self.new ≡ length self.old + count) }
         ensures front { take (length self.old) self.new ≡ self.old }
-        ensures bounded { length self.new ≤ 131072 }
+        ensures bounded { length self.new ≤ 524288 }
         ensures end { I.is_known → result ≡ Ok 0 → I.rest input.new ≡ [] }
         ensures none { result ≡ Ok 0 → self.new ≡ self.old }
         ensures same { OnErr result (self.new ≡ self.old) }

@@ -1,7 +1,7 @@
 -- Why the highest level that a cell finds is the least limit.
 use Rattle.std.proofs.Common.{◌≡◌, ◌⊎◌, ℕ, ◌+◌, ◌<◌, ◌≤◌, ◌↔◌, max, nat_lt, Bool, true, false, cond, List, [], ◌∷◌, ◌++◌, length, refl, sym, ap, ◌∙◌, subst, inl, inr, arith}
 use Rattle.std.proofs.lemmas.Bool.{leb-true, le-leb, ltb-true, ltb-false}
-use Rattle.lab_captures.specs.CellFilter.{CountedCell}
+use Rattle.lab_captures.specs.declared.counted.CountedCell.{CountedCell}
 use Rattle.leaky.specs.Bucket.{level_at, opening}
 use Rattle.leaky.specs.Bursts.{AllFill}
 use Rattle.leaky.specs.declared.gcra.Gcra.{Gcra}

@@ -7,8 +7,9 @@ use Rattle.std.proofs.lemmas.Nat.{div-add-mod', le-div}
 use Rattle.captures.specs.Moments.{whole_ticks}
 use Rattle.captures.specs.declared.content.NoCell.{NoCell}
 use Rattle.captures.specs.declared.reader.Record.{Record}
-use Rattle.lab_captures.specs.CellFilter.{CountedCell, FilterState, counted_cells, counted_then, filter_at_interface, filter_at_time, filter_content, filter_record, filter_start}
+use Rattle.lab_captures.specs.CellFilter.{FilterState, counted_cells, counted_then, filter_at_interface, filter_at_time, filter_content, filter_record, filter_start}
 use Rattle.lab_captures.specs.PassedRecords.{one_more_record}
+use Rattle.lab_captures.specs.declared.counted.CountedCell.{CountedCell}
 use Rattle.lab_captures.specs.declared.filter.Filtered.{Filtered}
 use Rattle.lab_captures.specs.declared.filter.Filtered.TheVariants.{Counts, Passed, Several}
 use Rattle.leaky.specs.Moments.{GoesOn}

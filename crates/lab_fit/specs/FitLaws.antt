@@ -6,7 +6,8 @@ use Rattle.std.specs.Ordering.{nat_cmp}
 use Rattle.captures.specs.declared.fault.Fault.{Fault}
 use Rattle.captures.specs.declared.reader.Record.{Record}
 use Rattle.lab_captures.specs.CaptureText.{IsTextOfRecords, RunsThrough, done_at}
-use Rattle.lab_captures.specs.CellFilter.{CountedCell, counted_cells, filter_start}
+use Rattle.lab_captures.specs.CellFilter.{counted_cells, filter_start}
+use Rattle.lab_captures.specs.declared.counted.CountedCell.{CountedCell}
 use Rattle.leaky.specs.Bucket.{opening}
 use Rattle.leaky.specs.Bursts.{AllFill}
 use Rattle.leaky.specs.Moments.{GoesOn}

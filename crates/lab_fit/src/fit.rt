@@ -84,9 +84,11 @@ impl Follower for FitRun {
 
     ghost rules = { fit_rules };
 
-    fn follow(&mut self, said: &Record, answers: &mut Vec<u8>) -> Result<Turn, AllocError> {
+    fn follow(&mut self, said: &Record<'_>, answers: &mut Vec<u8>) -> Result<Turn, AllocError> {
         match self.filter.read(said) {
-            Filtered::Counts(moment, cell) => self.take_cell(moment, &cell, said.number, answers),
+            Filtered::Counts(moment, cell) => {
+                self.take_cell(moment, &cell.cell(), said.number, answers)
+            }
             Filtered::Passed => Ok(Turn::GoesOn),
             Filtered::Several(one, other) => {
                 add_several(answers, one, other)?;

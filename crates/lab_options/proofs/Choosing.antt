@@ -1,5 +1,5 @@
 -- clap's definitions, computed for the command `upc-lab cells`.
-use Rattle.std.proofs.Common.{◌≡◌, ◌∙◌, ap, refl, sym, true, inl, inr, ℕ, List, [], ◌∷◌, Option, Some, None, IfErr, IfOk, IsErrAnd, Ok, Err, option_map, Result}
+use Rattle.std.proofs.Common.{◌≡◌, ◌∙◌, ap, refl, sym, true, inl, inr, ℕ, List, [], Option, Some, None, IfErr, IfOk, IsErrAnd, Ok, Err, option_map, Result}
 use Rattle.clap.specs.Faults.{is_simple_and_free}
 use Rattle.clap.specs.Kinds.{FailsBy}
 use Rattle.clap.specs.Simple.{is_simple}

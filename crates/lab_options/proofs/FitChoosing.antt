@@ -1,5 +1,5 @@
 -- clap's definitions, computed for the command `upc-lab fit`.
-use Rattle.std.proofs.Common.{◌≡◌, ◌∙◌, ap, codes, refl, sym, true, inl, inr, List, [], Option, Some, None, IfErr, IfOk, IsErrAnd, Ok, Err, option_map, Result}
+use Rattle.std.proofs.Common.{◌≡◌, ◌∙◌, codes, refl, sym, true, inl, inr, List, [], Option, Some, None, IfErr, IfOk, IsErrAnd, Ok, Err, option_map, Result}
 use Rattle.clap.specs.Faults.{is_simple_and_free}
 use Rattle.clap.specs.Kinds.{FailsBy}
 use Rattle.clap.specs.Simple.{is_simple}

@@ -1,5 +1,5 @@
 -- clap's definitions, computed for the command `upc-lab police`.
-use Rattle.std.proofs.Common.{◌≡◌, ◌∙◌, ap, codes, refl, sym, true, inl, inr, List, [], Option, Some, None, IfErr, IfOk, IsErrAnd, Ok, Err, option_map, Result}
+use Rattle.std.proofs.Common.{◌≡◌, ◌∙◌, codes, refl, sym, true, inl, inr, List, [], Option, Some, None, IfErr, IfOk, IsErrAnd, Ok, Err, option_map, Result}
 use Rattle.clap.specs.Faults.{is_simple_and_free}
 use Rattle.clap.specs.Kinds.{FailsBy}
 use Rattle.clap.specs.Simple.{is_simple}
@@ -29,6 +29,7 @@ police_is_free = refl
 abbrev pub spelled : WrittenPolice → Option PoliceAsked
 spelled written = police_values (option_map (λ text. text.now) written.setup) (option_map (λ text. text.now) written.tick)
     (option_map (λ text. text.now) written.interface) (option_map (λ text. text.now) written.lines)
+    (option_map (λ text. text.now) written.threads)
 
 pub record PoliceAnswers (words : List Text) (answer : Result PoliceOptions Stop) : Type 0 where
   pub asked : IfOk answer (λ options. AsksPolice words (police_asked_by options))
@@ -68,8 +69,8 @@ answers words (Err error) (Err stop) kinds same values stopped = record {
   granted = λ asked it. memory_alone (kinds_in police_app words) error stop kinds stopped it.faultless;
 }
 
--- Four values that are those of the words spell what the words ask for.
-pub same_values : (words : List Text) (setup tick interface lines : Option Text) → setup ≡ option_value police_app words (codes "SETUP")
+-- Five values that are those of the words spell what the words ask for.
+pub same_values : (words : List Text) (setup tick interface lines threads : Option Text) → setup ≡ option_value police_app words (codes "SETUP")
     → tick ≡ option_value police_app words (codes "tick") → interface ≡ option_value police_app words (codes "interface") → lines ≡ option_value police_app words (codes "lines")
-    → police_values setup tick interface lines ≡ police_asked words
-same_values words setup tick interface lines one two three four = rw (one, two, three, four) refl
+    → threads ≡ option_value police_app words (codes "threads") → police_values setup tick interface lines threads ≡ police_asked words
+same_values words setup tick interface lines threads one two three four five = rw (one, two, three, four, five) refl

@@ -52,3 +52,7 @@ cell_lines_named word =
 -- Which cells have lines.
 abbrev pub cell_lines_of : Option Text → Option CellLines
 cell_lines_of text = option_and_then cell_lines_named text
+
+-- The number of threads: 1 to 64.
+abbrev pub threads_of : Option Text → Option ℕ
+threads_of text = option_and_then (λ word. option_and_then positive (number_up_to 64 word)) text

@@ -6,7 +6,7 @@ use Rattle.clap.specs.Walk.{Rule, Text}
 use Rattle.lab_captures.specs.declared.cell_lines.CellLines.{CellLines}
 use Rattle.lab_options.specs.CellsOptions.{interface_rule, tick_rule}
 use Rattle.lab_options.specs.OptionLines.{kinds_in, option_value}
-use Rattle.lab_options.specs.OptionValues.{cell_lines_of, interface_of, setup_name_of, tick_of}
+use Rattle.lab_options.specs.OptionValues.{cell_lines_of, interface_of, setup_name_of, threads_of, tick_of}
 use Rattle.lab_options.specs.declared.police.PoliceOptions.{PoliceOptions}
 use Rattle.upc_choice.specs.Stopping.{AsksHelp, IsFaulty}
 use Rattle.upc_choice.specs.declared.choice.Stop.{Stop}
@@ -24,17 +24,27 @@ lines_rule = record (new_rule (codes "lines")) {
   defaults = codes "all" ∷ [];
 }
 
--- The command `upc-lab police`: this argument and this option, the options of `cells`, and that for help, which every command has.
-unfoldable pub police_app : App
-police_app = with_rule (with_rule (with_rule (with_rule (new_app (codes "upc-lab police")) setup_rule) tick_rule) interface_rule) lines_rule
+-- The option `--threads N`, whose value is 2 if it isn't given.
+abbrev pub threads_rule : Rule
+threads_rule = record (new_rule (codes "threads")) {
+  long = Some (codes "threads");
+  value_names = 1;
+  defaults = codes "2" ∷ [];
+}
 
--- What is asked for: the name of the file with the setup script, the nanoseconds of a tick, the interface, if any, and which cells
--- have lines.
+-- The command `upc-lab police`: this argument and these options, the options of `cells`, and that for help, which every command has.
+unfoldable pub police_app : App
+police_app =
+    with_rule (with_rule (with_rule (with_rule (with_rule (new_app (codes "upc-lab police")) setup_rule) tick_rule) interface_rule) lines_rule) threads_rule
+
+-- What is asked for: the name of the file with the setup script, the nanoseconds of a tick, the interface, if any, which cells have lines,
+-- and the number of threads.
 pub record PoliceAsked : Type 0 where
   pub setup : Text
   pub nanoseconds : ℕ
   pub interface : Option ℕ
   pub lines : CellLines
+  pub threads : ℕ
 
 -- What options of `police` ask for.
 abbrev pub police_asked_by : PoliceOptions → PoliceAsked
@@ -43,22 +53,24 @@ police_asked_by options = record {
   nanoseconds = options.tick.nanoseconds;
   interface = options.interface;
   lines = options.lines;
+  threads = options.threads;
 }
 
 -- What these values spell, if each spells something.
-abbrev pub police_values : Option Text → Option Text → Option Text → Option Text → Option PoliceAsked
-police_values setup tick interface lines =
-    option_and_then (λ name. option_and_then (λ nanoseconds. option_and_then (λ asked. option_map (λ which. record {
+abbrev pub police_values : Option Text → Option Text → Option Text → Option Text → Option Text → Option PoliceAsked
+police_values setup tick interface lines threads =
+    option_and_then (λ name. option_and_then (λ nanoseconds. option_and_then (λ asked. option_and_then (λ which. option_map (λ number. record {
       setup = name;
       nanoseconds = nanoseconds;
       interface = asked;
       lines = which;
-    }) (cell_lines_of lines)) (interface_of interface)) (tick_of tick)) (setup_name_of setup)
+      threads = number;
+    }) (threads_of threads)) (cell_lines_of lines)) (interface_of interface)) (tick_of tick)) (setup_name_of setup)
 
 -- What the values of the argument and the options in the words spell.
 abbrev pub police_asked : List Text → Option PoliceAsked
 police_asked words = police_values (option_value police_app words (codes "SETUP")) (option_value police_app words (codes "tick"))
-    (option_value police_app words (codes "interface")) (option_value police_app words (codes "lines"))
+    (option_value police_app words (codes "interface")) (option_value police_app words (codes "lines")) (option_value police_app words (codes "threads"))
 
 -- The words have no error for clap, and ask for this.
 pub record AsksPolice (words : List Text) (asked : PoliceAsked) : Type 0 where

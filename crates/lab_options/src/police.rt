@@ -7,14 +7,15 @@ ghost use Rattle.clap.specs.Simple.{app_of, new_app};
 ghost use Rattle.clap.specs.Walk.{rule_of};
 ghost use Rattle.clap.specs.Kinds.{FailsBy};
 ghost use Rattle.lab_options.specs.OptionLines.{kinds_in, option_line};
-ghost use Rattle.lab_options.specs.PoliceOptions.{AsksPolice, IsPoliceStop, PoliceAsked, lines_rule, police_app, police_asked, police_asked_by, police_values, setup_rule};
+ghost use Rattle.lab_options.specs.PoliceOptions.{AsksPolice, IsPoliceStop, PoliceAsked, lines_rule, police_app, police_asked, police_asked_by, police_values, setup_rule, threads_rule};
 ghost use Rattle.lab_options.specs.inner.Answered.{AnswersPolice};
 ghost use Rattle.upc_choice.specs.Stopping.{IsStopFor};
 
 use crate::cells::{interface_option, tick_option};
 use crate::line::{line_of_words, with_option};
 use crate::values::{
-    WRONG_INTERFACE, WRONG_TICK, cell_lines_of, interface_of, setup_name_of, tick_of, wrong_value,
+    WRONG_INTERFACE, WRONG_TICK, cell_lines_of, interface_of, setup_name_of, threads_of, tick_of,
+    wrong_value,
 };
 use captures::Tick;
 use clap::{Arg, Command, Error};
@@ -33,6 +34,8 @@ pub struct PoliceOptions {
     pub interface: Option<u8>,
     /// Which cells have lines.
     pub lines: CellLines,
+    /// How many threads may work at once, 1 to 64.
+    pub threads: u8,
 }
 
 /// The values of the argument and the options as they are written.
@@ -42,11 +45,12 @@ pub(crate) struct WrittenPolice<'a> {
     tick: Option<&'a str>,
     interface: Option<&'a str>,
     lines: Option<&'a str>,
+    threads: Option<&'a str>,
 }
 
-/// Reads the words after `upc-lab police`: the name of a file, `--tick TIME`, which is 100ns if it isn't given, `--interface N`, and
-/// `--lines LINES`, which is all if it isn't given. The forms of help that `clap` has request help. Any other word is an error,
-/// and so are a wrong value, an empty name and words without a name.
+/// Reads the words after `upc-lab police`: the name of a file, `--tick TIME`, which is 100ns if it isn't given, `--interface N`,
+/// `--lines LINES`, which is all if it isn't given, and `--threads N`, which is 2 if it isn't given. The forms of help that `clap` has
+/// request help. Any other word is an error, and so are a wrong value, an empty name and words without a name.
 pub fn police_options(alloc: Global, words: Vec<String>) -> Result<PoliceOptions, Stop>
     ensures asked { IfOk result (λ options. AsksPolice (map string_bytes words.items) (police_asked_by options)) }
     ensures stopped { IfErr result (IsPoliceStop (map string_bytes words.items)) }
@@ -83,6 +87,17 @@ fn lines_option<'a>(alloc: Global) -> Arg<'a>
         .help("The cells that have lines: all, refused or none")
 }
 
+fn threads_option<'a>(alloc: Global) -> Arg<'a>
+    ensures rule { rule_of result ≡ threads_rule }
+    ensures own { result.global ≡ false }
+{
+    Arg::new(alloc, "threads")
+        .long("threads")
+        .value_name("N")
+        .default_value("2")
+        .help("1 reads and judges in turn, 2 or more at the same time")
+}
+
 fn bare_command<'a>(alloc: Global) -> Command<'a>
     ensures { app_of result ≡ new_app (codes "upc-lab police") }
 {
@@ -101,7 +116,8 @@ fn police_command<'a>(alloc: Global) -> Result<Command<'a>, AllocError>
     let command = with_option(command, setup_argument(alloc))?;
     let command = with_option(command, tick_option(alloc))?;
     let command = with_option(command, interface_option(alloc))?;
-    with_option(command, lines_option(alloc))
+    let command = with_option(command, lines_option(alloc))?;
+    with_option(command, threads_option(alloc))
 }
 
 /// Returns the values of the argument and the options in the words, if `clap` accepts them.
@@ -111,7 +127,7 @@ fn values_in<'a>(command: Command<'a>, words: &'a [String]) -> Result<WrittenPol
         → FailsBy (kinds_in police_app given) result }
     ensures values { (given : List (List ℕ)) → map string_bytes words.entry.now ≡ option_line police_app given
         → IfOk result (λ written. police_values (option_map (λ text. text.now) written.setup) (option_map (λ text. text.now) written.tick)
-        (option_map (λ text. text.now) written.interface) (option_map (λ text. text.now) written.lines) ≡ police_asked given) }
+        (option_map (λ text. text.now) written.interface) (option_map (λ text. text.now) written.lines) (option_map (λ text. text.now) written.threads) ≡ police_asked given) }
 {
     match command.try_get_matches_from(words) {
         Ok(matches) => Ok(WrittenPolice {
@@ -119,6 +135,7 @@ fn values_in<'a>(command: Command<'a>, words: &'a [String]) -> Result<WrittenPol
             tick: matches.get_str("tick"),
             interface: matches.get_str("interface"),
             lines: matches.get_str("lines"),
+            threads: matches.get_str("threads"),
         }),
         Err(error) => Err(error),
     }
@@ -127,7 +144,8 @@ fn values_in<'a>(command: Command<'a>, words: &'a [String]) -> Result<WrittenPol
 /// Returns the options that these values spell.
 fn read(alloc: Global, written: WrittenPolice) -> Result<PoliceOptions, Stop>
     ensures { AnswersPolice (police_values (option_map (λ text. text.now) written.entry.setup) (option_map (λ text. text.now) written.entry.tick)
-        (option_map (λ text. text.now) written.entry.interface) (option_map (λ text. text.now) written.entry.lines)) result }
+        (option_map (λ text. text.now) written.entry.interface) (option_map (λ text. text.now) written.entry.lines)
+        (option_map (λ text. text.now) written.entry.threads)) result }
 {
     let Some(setup) = setup_name_of(written.setup) else {
         return Err(wrong_value(alloc, "error: SETUP is the name of a file\n"));
@@ -144,6 +162,12 @@ fn read(alloc: Global, written: WrittenPolice) -> Result<PoliceOptions, Stop>
             "error: the value of '--lines' is all, refused or none\n",
         ));
     };
+    let Some(threads) = threads_of(written.threads) else {
+        return Err(wrong_value(
+            alloc,
+            "error: the value of '--threads' is a number from 1 to 64\n",
+        ));
+    };
     let Ok(setup) = String::from_str(alloc, setup) else {
         return Err(Stop::NoMemory);
     };
@@ -152,13 +176,14 @@ fn read(alloc: Global, written: WrittenPolice) -> Result<PoliceOptions, Stop>
         tick,
         interface,
         lines,
+        threads,
     })
 }
 
 fn answer_to(alloc: Global, found: Result<WrittenPolice, Error>) -> Result<PoliceOptions, Stop>
     ensures values { IfOk found.entry (λ written. AnswersPolice
         (police_values (option_map (λ text. text.now) written.setup) (option_map (λ text. text.now) written.tick)
-        (option_map (λ text. text.now) written.interface) (option_map (λ text. text.now) written.lines)) result) }
+        (option_map (λ text. text.now) written.interface) (option_map (λ text. text.now) written.lines) (option_map (λ text. text.now) written.threads)) result) }
     ensures stopped { IfErr found.entry (λ error. IsErrAnd result (IsStopFor (kind_of error))) }
 {
     match found {

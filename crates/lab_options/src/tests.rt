@@ -108,29 +108,38 @@ fn fit_wants_an_increment(rt: HostRuntime) -> Result<(), Fail> {
 
 #[test]
 fn police_wants_a_file(rt: HostRuntime) -> Result<(), Fail> {
-    for (line, setup, nanoseconds, interface, lines) in [
-        ("a.setup", "a.setup", 100, None, CellLines::All),
+    for (line, setup, nanoseconds, interface, lines, threads) in [
+        ("a.setup", "a.setup", 100, None, CellLines::All, 2),
         (
             "--tick 1us b --lines refused",
             "b",
             1000,
             None,
             CellLines::Refused,
+            2,
         ),
         (
-            "--lines=none --interface=3 -- --tick",
+            "--lines=none --threads=64 --interface=3 -- --tick",
             "--tick",
             100,
             Some(3),
             CellLines::Nothing,
+            64,
         ),
-        ("--lines all /tmp/c", "/tmp/c", 100, None, CellLines::All),
+        (
+            "--threads 1 --lines all /tmp/c",
+            "/tmp/c",
+            100,
+            None,
+            CellLines::All,
+            1,
+        ),
     ] {
         let tick = Tick::new(nanoseconds).expect(&rt, "a tick");
         let answer = police_options(rt.alloc(), words_of(rt.alloc(), line)?);
         assert!(rt;
             matches!(&answer, Ok(found) if found.setup.as_str() == setup
-                && (found.tick, found.interface, found.lines) == (tick, interface, lines)),
+                && (found.tick, found.interface, found.lines, found.threads) == (tick, interface, lines, threads)),
             "{line}"
         );
     }
@@ -141,6 +150,9 @@ fn police_wants_a_file(rt: HostRuntime) -> Result<(), Fail> {
         "a --lines",
         "a --tick 0s",
         "a --interface 4",
+        "a --threads 0",
+        "a --threads 65",
+        "a --threads two",
         "--lines none",
     ] {
         let answer = police_options(rt.alloc(), words_of(rt.alloc(), line)?);

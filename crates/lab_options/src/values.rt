@@ -1,7 +1,7 @@
 //! The values of options.
 
 ghost use Rattle.std.specs.Prelude.{◌≡◌, option_map};
-ghost use Rattle.lab_options.specs.OptionValues.{cell_lines_of, fit_increment_of, fit_side_of, interface_of, setup_name_of, tick_of};
+ghost use Rattle.lab_options.specs.OptionValues.{cell_lines_of, fit_increment_of, fit_side_of, interface_of, setup_name_of, threads_of, tick_of};
 ghost use Rattle.lab_options.specs.inner.Answered.{IsWrongValue};
 
 use captures::Tick;
@@ -78,6 +78,16 @@ pub(crate) fn cell_lines_of(text: Option<&str>) -> Option<CellLines>
         "all" => Some(CellLines::All),
         "refused" => Some(CellLines::Refused),
         "none" => Some(CellLines::Nothing),
+        _ => None,
+    }
+}
+
+/// Returns the number of threads that the value of `--threads` spells.
+pub(crate) fn threads_of(text: Option<&str>) -> Option<u8>
+    ensures { result ≡ threads_of (option_map (λ text. text.now) text.entry) }
+{
+    match number(text?.as_bytes()) {
+        Some(threads) if 0 < threads && threads <= 64 => Some(threads as u8),
         _ => None,
     }
 }

@@ -2,18 +2,14 @@
 use Rattle.std.proofs.Common.{◌≡◌, ◌||◌, ℕ, Bool, true, false, if◌then◌else◌, List, [], ◌++◌, Option, Some, None, Result, refl, sym, ap, ◌∙◌, subst, append-nil, append_assoc}
 use Rattle.std.proofs.lemmas.Result.{IfOk-weaker}
 use Rattle.captures.specs.declared.fault.Fault.{Fault}
-use Rattle.captures.specs.declared.reader.Record.{Record}
 use Rattle.card_core.specs.Agreement.{CoreView}
 use Rattle.card_core.specs.declared.answer.Answer.{Answer}
 use Rattle.card_core.specs.declared.shape.Shape.{Shape}
-use Rattle.lab_captures.specs.CellFilter.{FilterState, filter_record, filter_state}
+use Rattle.lab_captures.specs.CellFollowing.{FollowsCell}
 use Rattle.lab_captures.proofs.Progresses.{on_fault}
-use Rattle.lab_captures.specs.Following.{FollowsRecord}
 use Rattle.lab_captures.specs.RunLines.{closing_lines}
 use Rattle.lab_captures.specs.declared.cell_lines.CellLines.{CellLines}
-use Rattle.lab_captures.specs.declared.filter.CellFilter.{CellFilter}
-use Rattle.lab_captures.specs.declared.filter.Filtered.{Filtered}
-use Rattle.lab_captures.specs.declared.filter.Filtered.TheVariants.{Counts, Passed}
+use Rattle.lab_captures.specs.declared.counted.CountedCell.{CountedCell}
 use Rattle.lab_captures.specs.declared.passed.PassedOver.{PassedOver}
 use Rattle.leaky.specs.declared.excess.Excess.{Excess}
 use Rattle.text_io.specs.Serving.{IsServed}
@@ -21,20 +17,19 @@ use Rattle.text_io.specs.declared.device.Input.{Ghosts as InputView}
 use Rattle.text_io.specs.declared.device.Output.{Ghosts as OutputView}
 use Rattle.text_io.specs.declared.ending.Done.{Done}
 use Rattle.text_io.specs.declared.ending.RunFault.{RunFault}
-use Rattle.text_io.specs.declared.machine.Turn.TheVariants.{GoesOn}
 use Rattle.upc_cell.specs.Connection.{vc_of}
 use Rattle.upc_cell.specs.Header.{has_low_priority}
 use Rattle.upc_cell.specs.declared.vc.Vc.{Vc}
 use Rattle.lab_police.specs.ConnectionCounts.{counts_heading, counts_lines}
 use Rattle.lab_police.specs.NotJudgedCells.{not_judged_after, not_judged_lines}
 use Rattle.lab_police.specs.PoliceLines.{excess_of_answer, has_line, police_line, verdict_heading}
-use Rattle.lab_police.specs.PoliceText.{PolicesFiltered, PoliceWorld, after_cell, policed_text, connection_of_cell, police_closes, police_gap, police_rules}
+use Rattle.lab_police.specs.PoliceText.{PoliceWorld, after_cell, policed_text, connection_of_cell, police_closes, police_gap, police_rules}
 use Rattle.lab_police.specs.declared.not_judged.NotJudged.{NotJudged}
 use Rattle.lab_police.specs.declared.police.PoliceRun.{PoliceRun}
 use Rattle.lab_police.specs.inner.CardArrival.{ArrivesWithRoom}
 use Rattle.lab_police.specs.inner.ExcessLeft.{LeavesConnection}
 use Rattle.lab_police.proofs.LeftLemmas.{room_leaves}
-use Rattle.lab_police.specs.inner.PoliceShown.{AddsCell, PolicesBy, ShowsPolice, lined}
+use Rattle.lab_police.specs.inner.PoliceShown.{AddsCell, ShowsPolice, lined}
 
 -- A text that has a line only if it is wanted depends on its excess only then.
 lined_same : (wanted : Bool) (front : List ℕ) (line : Option Excess → List ℕ) (one other : Option Excess) → (wanted ≡ true → one ≡ other)
@@ -43,16 +38,19 @@ lined_same true front line one other same = ap (λ e. front ++ line e) (same ref
 lined_same false front line one other same = refl
 
 -- A cell that arrived, with the text for it.
-pub polices_by : (before : PoliceRun) (core : CoreView) (given : Answer) (vc : Vc) (number moment : ℕ) (cell : List ℕ)
+pub polices_by : (before : PoliceRun) (core : CoreView) (given : Answer) (vc : Vc) (counted : CountedCell)
     (begun : Bool) (not_judged : NotJudged) (old new : List ℕ)
-    → ArrivesWithRoom before.core cell moment (Some given) core → vc ≡ vc_of before.core.shape.side cell
-    → AddsCell before.lines before.begun number moment vc (has_low_priority cell) given core old new begun
-    → not_judged ≡ not_judged_after before.not_judged number given
-    → PolicesBy before number moment cell (record before { core = core; begun = begun; not_judged = not_judged }) old new
-polices_by before core given vc number moment cell begun not_judged old new arrives named adds counts = (
-  lined before.lines before.begun number moment vc (has_low_priority cell) given adds.excess,
+    → ArrivesWithRoom before.core counted.cell counted.moment (Some given) core → vc ≡ vc_of before.core.shape.side counted.cell
+    → AddsCell before.lines before.begun counted.number counted.moment vc (has_low_priority counted.cell) given core old new begun
+    → not_judged ≡ not_judged_after before.not_judged counted.number given
+    → FollowsCell police_rules (ShowsPolice before) counted (ShowsPolice (record before { core = core; begun = begun; not_judged = not_judged })) old new
+polices_by before core given vc counted begun not_judged old new arrives named adds counts = (
+  lined before.lines before.begun counted.number counted.moment vc (has_low_priority counted.cell) given adds.excess,
   adds.added,
-  λ world filter led shown.
+  λ world led shown.
+      let number = counted.number in
+      let moment = counted.moment in
+      let cell = counted.cell in
       let clp = has_low_priority cell in
       let on = arrives world.card led shown.agrees in
       let same : given ≡ on.0 = let e : Some given ≡ Some on.0 = on.1 in cc in
@@ -63,15 +61,13 @@ polices_by before core given vc number moment cell begun not_judged old new arri
       (room_leaves world.card on.2 cell moment on.0 led on.3)) in
       let Text : CellLines → Bool → Vc → Answer → List ℕ = λ lines begun vc given.
       lined lines begun number moment vc clp given (excess_of_answer world.card.world vc clp given) in
-      let text : lined before.lines before.begun number moment vc clp given adds.excess ≡ policed_text world number moment cell on.0 =
+      let text : lined before.lines before.begun number moment vc clp given adds.excess ≡ policed_text world counted on.0 =
       lined_same (has_line before.lines given) (if before.begun then [] else verdict_heading) (λ excess. police_line number moment vc clp given excess)
       adds.excess (excess_of_answer world.card.world vc clp given) (λ wanted. adds.right wanted world.card.world on.2.world on.4 leaves)
       ∙ ap (λ (lines : CellLines). Text lines before.begun vc given) shown.lines ∙ ap (λ b. Text world.lines b vc given) shown.begun
       ∙ ap (λ (v : Vc). Text world.lines world.begun v given) here ∙ ap (λ (a : Answer). Text world.lines world.begun (connection_of_cell world.card cell) a) same
       in (
-        after_cell world filter number on.0 on.2,
-        record { given = on.0; card = on.2; taken = on.3; told = text; after = refl },
-        refl,
+        after_cell world number on.0 on.2,
         record {
           lines = shown.lines;
           agrees = on.4;
@@ -80,56 +76,15 @@ polices_by before core given vc number moment cell begun not_judged old new arri
           not_judged = counts ∙ ap (λ (cells : NotJudged). not_judged_after cells number given) shown.not_judged
               ∙ ap (λ (a : Answer). not_judged_after world.not_judged number a) same;
         },
+        record { given = on.0; card = on.2; taken = on.3; written = text; after = refl },
       ),
 )
 
 -- No represented card leaves a cell without an answer.
-pub polices_never : (before after : PoliceRun) (core : CoreView) (number moment : ℕ) (cell old : List ℕ) → ArrivesWithRoom before.core cell moment None core
-    → PolicesBy before number moment cell after old old
-polices_never before after core number moment cell old arrives = (
-  [],
-  sym (append-nil old),
-  λ world filter led shown. let on = arrives world.card led shown.agrees in let no = on.1 in cc,
-)
-
--- A record with a cell that counts.
-pub follows_counts : (before after : PoliceRun) (filter : CellFilter) (said : Record) (found : Filtered) (moment : ℕ) (cell old new : List ℕ)
-    → filter_record (filter_state before.filter) said ≡ (found, filter_state filter) → found ≡ Counts moment cell
-    → PolicesBy (record before { filter = filter }) said.number moment cell after old new → after.filter ≡ filter
-    → FollowsRecord police_rules (ShowsPolice before) said GoesOn (ShowsPolice after) old new
-follows_counts before after filter said found moment cell old new read is by kept = (
-  by.0,
-  by.1,
-  λ world led shown.
-      let same : (Counts moment cell, filter_state filter) ≡ filter_record world.filter said =
-      sym (ap (λ (f : FilterState). filter_record f said) (sym shown.filter) ∙ read ∙ ap (λ (x : Filtered). (x, filter_state filter)) is) in
-      let on = by.2 world (filter_state filter) led
-      (record { lines = shown.rest.lines; agrees = shown.rest.agrees; begun = shown.rest.begun; not_judged = shown.rest.not_judged }) in (
-        on.0,
-        record { filter = ap filter_state kept ∙ sym on.2; rest = on.3 },
-        subst (λ (p : Filtered × FilterState). PolicesFiltered world p.0 p.1 said.number by.0 (Some on.0)) same on.1,
-      ),
-)
-
--- A record that is passed over.
-pub follows_passed : (before : PoliceRun) (filter : CellFilter) (said : Record) (found : Filtered) (old : List ℕ)
-    → filter_record (filter_state before.filter) said ≡ (found, filter_state filter) → found ≡ Passed
-    → FollowsRecord police_rules (ShowsPolice before) said GoesOn (ShowsPolice (record before { filter = filter })) old old
-follows_passed before filter said found old read is = (
-  [],
-  sym (append-nil old),
-  λ world led shown.
-      let same : (Passed, filter_state filter) ≡ filter_record world.filter said =
-      sym (ap (λ (f : FilterState). filter_record f said) (sym shown.filter) ∙ read ∙ ap (λ (x : Filtered). (x, filter_state filter)) is) in
-      let next : PoliceWorld = record world { filter = filter_state filter } in (
-        next,
-        record {
-          filter = refl;
-          rest = record { lines = shown.rest.lines; agrees = shown.rest.agrees; begun = shown.rest.begun; not_judged = shown.rest.not_judged };
-        },
-        subst (λ (p : Filtered × FilterState). PolicesFiltered world p.0 p.1 said.number [] (Some next)) same (refl, refl),
-      ),
-)
+pub polices_never : (before after : PoliceRun) (core : CoreView) (counted : CountedCell) (old : List ℕ)
+    → ArrivesWithRoom before.core counted.cell counted.moment None core → FollowsCell police_rules (ShowsPolice before) counted (ShowsPolice after) old old
+polices_never before after core counted old arrives =
+    ([], sym (append-nil old), λ world led shown. let on = arrives world.card led shown.agrees in let no = on.1 in cc)
 
 -- The parts of the end, one after another.
 joined : (old gap heading counts cells closing : List ℕ) → (((old ++ gap) ++ (heading ++ counts)) ++ cells) ++ closing
@@ -141,20 +96,18 @@ joined old gap heading counts cells closing =
     ∙ ap (λ xs. old ++ (gap ++ xs)) (append_assoc heading counts (cells ++ closing))
 
 -- The end of a capture.
-pub closes_by : (run : PoliceRun) (world : PoliceWorld) (ending : Option Fault) (passed : PassedOver) (old one two three new : List ℕ) → ShowsPolice run world
+pub closes_by : (run : PoliceRun) (world : PoliceWorld) (passed : PassedOver) (ending : Option Fault) (old one two three new : List ℕ) → ShowsPolice run world
     → one ≡ old ++ police_gap run.begun → two ≡ one ++ (counts_heading ++ counts_lines world.card.world) → three ≡ two ++ not_judged_lines run.not_judged
-    → passed ≡ (filter_state run.filter).passed → new ≡ three ++ closing_lines passed ending → new ≡ old ++ police_closes world ending
-closes_by run world ending passed old one two three new shown first second third is last =
+    → new ≡ three ++ closing_lines passed ending → new ≡ old ++ police_closes world passed ending
+closes_by run world passed ending old one two three new shown first second third last =
     let gap = police_gap run.begun in
     let counts = counts_lines world.card.world in
-    let Closes : Bool → NotJudged → FilterState → List ℕ = λ begun cells filter.
-    old ++ (police_gap begun ++ (counts_heading ++ (counts ++ (not_judged_lines cells ++ closing_lines filter.passed ending)))) in
-    last ∙ ap (λ xs. xs ++ closing_lines passed ending) (third ∙ ap (λ xs. xs ++ not_judged_lines run.not_judged)
+    let closing = closing_lines passed ending in
+    let Closes : Bool → NotJudged → List ℕ = λ begun cells. old ++ (police_gap begun ++ (counts_heading ++ (counts ++ (not_judged_lines cells ++ closing)))) in
+    last ∙ ap (λ xs. xs ++ closing) (third ∙ ap (λ xs. xs ++ not_judged_lines run.not_judged)
     (second ∙ ap (λ xs. xs ++ (counts_heading ++ counts)) first))
-    ∙ joined old gap counts_heading counts (not_judged_lines run.not_judged) (closing_lines passed ending)
-    ∙ ap (λ (p : PassedOver). old ++ (gap ++ (counts_heading ++ (counts ++ (not_judged_lines run.not_judged ++ closing_lines p ending))))) is
-    ∙ ap (λ b. Closes b run.not_judged (filter_state run.filter)) shown.rest.begun ∙ ap (λ (cells : NotJudged). Closes world.begun cells (filter_state run.filter)) shown.rest.not_judged
-    ∙ ap (λ (f : FilterState). Closes world.begun world.not_judged f) shown.filter
+    ∙ joined old gap counts_heading counts (not_judged_lines run.not_judged) closing
+    ∙ ap (λ b. Closes b run.not_judged) shown.begun ∙ ap (λ (cells : NotJudged). Closes world.begun cells) shown.not_judged
 
 -- A text of a capture by the card that a script leads to is a text of `police`.
 module _ {Source Sink : Type 0} (I : InputView Source) (O : OutputView Sink) (source source' : Source) (sink sink' : Sink) (result : Result Done RunFault) where

@@ -2,16 +2,16 @@
 -- judges the cells of a capture, at port 0 and in order.
 use Rattle.std.specs.Prelude.{◌≡◌, ◌≢◌, ◌⊎◌, ℕ, ◌||◌, Bool, false, if◌then◌else◌, List, [], ◌++◌, codes, Option, Some, None}
 use Rattle.captures.specs.declared.fault.Fault.{Fault}
-use Rattle.captures.specs.declared.reader.Record.{Record}
 use Rattle.card_core.specs.declared.answer.Answer.{Answer}
 use Rattle.card_core.specs.declared.answer.Answer.TheVariants.{JournalFull}
 use Rattle.card_core.specs.declared.step.Step.TheVariants.{Cut}
-use Rattle.lab_captures.specs.CaptureText.{CaptureRules, IsCaptureText}
-use Rattle.lab_captures.specs.CellFilter.{FilterState, filter_record, filter_start}
-use Rattle.lab_captures.specs.RunLines.{closing_lines, several_line}
+use Rattle.lab_captures.specs.CaptureText.{IsCaptureText}
+use Rattle.lab_captures.specs.CellFilter.{filter_start}
+use Rattle.lab_captures.specs.CellRules.{CellRules, capture_rules}
+use Rattle.lab_captures.specs.RunLines.{closing_lines}
 use Rattle.lab_captures.specs.declared.cell_lines.CellLines.{CellLines}
-use Rattle.lab_captures.specs.declared.filter.Filtered.{Filtered}
-use Rattle.lab_captures.specs.declared.filter.Filtered.TheVariants.{Counts, Passed, Several}
+use Rattle.lab_captures.specs.declared.counted.CountedCell.{CountedCell}
+use Rattle.lab_captures.specs.declared.passed.PassedOver.{PassedOver}
 use Rattle.lab_scripts.specs.ScriptText.{IsScriptExplained}
 use Rattle.text_io.specs.Lines.{lines_of}
 use Rattle.text_io.specs.Printing.{EndsAt}
@@ -27,19 +27,16 @@ use Rattle.lab_police.specs.NotJudgedCells.{all_judged, not_judged_after, not_ju
 use Rattle.lab_police.specs.PoliceLines.{excess_of_answer, has_line, police_line, verdict_heading}
 use Rattle.lab_police.specs.declared.not_judged.NotJudged.{NotJudged}
 
--- The state of a run: which cells have lines, the state of the filter, the card, whether the heading of the lines was written, and the cells
--- that were not judged.
+-- The state of a run: which cells have lines, the card, whether the heading of the lines was written, and the cells that were not judged.
 pub record PoliceWorld : Type 0 where
   pub lines : CellLines
-  pub filter : FilterState
   pub card : Card
   pub begun : Bool
   pub not_judged : NotJudged
 
--- The state at first, with a tick of this many nanoseconds and the interface that was asked for.
-abbrev pub police_start : CellLines → ℕ → Option ℕ → Card → PoliceWorld
-police_start lines tick interface card =
-    record { lines = lines; filter = filter_start tick interface; card = card; begun = false; not_judged = all_judged }
+-- The state at first.
+abbrev pub police_start : CellLines → Card → PoliceWorld
+police_start lines card = record { lines = lines; card = card; begun = false; not_judged = all_judged }
 
 -- The connection that the cell's header names, read at the card's side.
 abbrev pub connection_of_cell : Card → List ℕ → Vc
@@ -65,41 +62,29 @@ TakesCellWithRoom before cell moment given after =
     ((given ≢ JournalFull) × TakesCell before cell moment given after) ⊎ TakesCellAfterCut before cell moment given after
 
 -- The text for a cell with this answer: its line, and before the first line the heading.
-abbrev pub policed_text : PoliceWorld → ℕ → ℕ → List ℕ → Answer → List ℕ
-policed_text before number moment cell given =
+abbrev pub policed_text : PoliceWorld → CountedCell → Answer → List ℕ
+policed_text before counted given =
     if has_line before.lines given
     then (if before.begun then [] else verdict_heading)
-    ++ police_line number moment (connection_of_cell before.card cell) (has_low_priority cell) given
-    (excess_of_answer before.card.world (connection_of_cell before.card cell) (has_low_priority cell) given)
+    ++ police_line counted.number counted.moment (connection_of_cell before.card counted.cell) (has_low_priority counted.cell) given
+    (excess_of_answer before.card.world (connection_of_cell before.card counted.cell) (has_low_priority counted.cell) given)
     else []
 
--- The state after a cell with this answer.
-abbrev pub after_cell : PoliceWorld → FilterState → ℕ → Answer → Card → PoliceWorld
-after_cell before filter number given card = record before {
-  filter = filter;
+-- The state after a cell with this answer, whose record has this number.
+abbrev pub after_cell : PoliceWorld → ℕ → Answer → Card → PoliceWorld
+after_cell before number given card = record before {
   card = card;
   begun = before.begun || has_line before.lines given;
   not_judged = not_judged_after before.not_judged number given;
 }
 
--- A cell that counts is policed.
-pub record PolicesCounted (before : PoliceWorld) (filter : FilterState) (number moment : ℕ) (cell text : List ℕ) (next : Option PoliceWorld) : Type 0 where
+-- A cell is policed: this text answers it, and leads to the next state.
+pub record PolicesCounted (before : PoliceWorld) (counted : CountedCell) (text : List ℕ) (next : PoliceWorld) : Type 0 where
   pub given : Answer
   pub card : Card
-  pub taken : TakesCellWithRoom before.card cell moment given card
-  pub told : text ≡ policed_text before number moment cell given
-  pub after : next ≡ Some (after_cell before filter number given card)
-
--- The answer to a record with this number that is this, after which this is the state of the filter.
-abbrev pub PolicesFiltered : PoliceWorld → Filtered → FilterState → ℕ → List ℕ → Option PoliceWorld → Type 0
-PolicesFiltered before (Counts moment cell) filter number text next = PolicesCounted before filter number moment cell text next
-PolicesFiltered before Passed filter number text next = (text ≡ []) × (next ≡ Some (record before { filter = filter }))
-PolicesFiltered before (Several one other) filter number text next = (text ≡ several_line one other) × (next ≡ None)
-
--- The answer to a record.
-abbrev pub PolicesRecord : PoliceWorld → Record → List ℕ → Option PoliceWorld → Type 0
-PolicesRecord before said text next =
-    PolicesFiltered before (filter_record before.filter said).0 (filter_record before.filter said).1 said.number text next
+  pub taken : TakesCellWithRoom before.card counted.cell counted.moment given card
+  pub written : text ≡ policed_text before counted given
+  pub after : next ≡ after_cell before counted.number given card
 
 -- An empty line, if there are lines before it.
 abbrev pub police_gap : Bool → List ℕ
@@ -107,14 +92,14 @@ police_gap begun = if begun then codes "\n" else []
 
 -- The text at the end: an empty line after the lines about cells, if there are any; the table of the connections; the comments; and the
 -- fault at which the reading ended.
-abbrev pub police_closes : PoliceWorld → Option Fault → List ℕ
-police_closes world ending =
+abbrev pub police_closes : PoliceWorld → PassedOver → Option Fault → List ℕ
+police_closes world passed ending =
     police_gap world.begun ++ (counts_heading ++ (counts_lines world.card.world
-    ++ (not_judged_lines world.not_judged ++ closing_lines world.filter.passed ending)))
+    ++ (not_judged_lines world.not_judged ++ closing_lines passed ending)))
 
 -- The rules of `police`.
-abbrev pub police_rules : CaptureRules PoliceWorld
-police_rules = record { steps = PolicesRecord; closes = police_closes; is_sound = λ world. IsLed world.card }
+abbrev pub police_rules : CellRules PoliceWorld
+police_rules = record { steps = PolicesCounted; closes = police_closes; is_sound = λ world. IsLed world.card }
 
 -- A script without a fault, which leads to this card.
 pub record IsSetUpBy (script : List ℕ) (card : Card) : Type 0 where
@@ -127,4 +112,4 @@ pub record IsSetUpBy (script : List ℕ) (card : Card) : Type 0 where
 abbrev pub IsPoliceText : CellLines → ℕ → Option ℕ → List ℕ → List ℕ → List ℕ → Done → Type 0
 IsPoliceText lines tick interface script octets text done =
     (IsScriptExplained script text Ended × (done ≡ Ended))
-    ⊎ ((card : Card) × IsSetUpBy script card × IsCaptureText police_rules (police_start lines tick interface card) octets text done)
+    ⊎ ((card : Card) × IsSetUpBy script card × IsCaptureText (capture_rules police_rules) (filter_start tick interface, police_start lines card) octets text done)

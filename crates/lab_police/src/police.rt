@@ -4,7 +4,6 @@ ghost use Rattle.std.specs.Prelude.{◌≡◌, ◌≢◌, ◌≤◌, ◌++◌, L
 ghost use Rattle.card_core.specs.Sections.{answer_to};
 ghost use Rattle.card_core.specs.Agreement.{CoreAgrees};
 ghost use Rattle.card_core.specs.World.{Connection, World};
-ghost use Rattle.lab_captures.specs.CellFilter.{filter_state};
 ghost use Rattle.line_record.specs.History.{numbered};
 ghost use Rattle.text_io.specs.Devices.{IsPart};
 ghost use Rattle.text_io.specs.Failures.{write_failures};
@@ -13,21 +12,20 @@ ghost use Rattle.lab_police.specs.PoliceLines.{excess_of_answer};
 ghost use Rattle.lab_police.specs.PoliceText.{IsPoliceText, police_gap};
 ghost use Rattle.lab_police.specs.inner.CardArrival.{ArrivesOnce, ArrivesWithRoom, CutsOff, is_full};
 ghost use Rattle.lab_police.specs.inner.ExcessLeft.{IsKeptOnLine, LeavesConnection, excess_left, first_met};
-ghost use Rattle.lab_police.specs.inner.PoliceShown.{AddsCell, PolicesBy};
+ghost use Rattle.lab_police.specs.inner.PoliceShown.{AddsCell};
 
 use crate::cell_lines::{add_line, has_line};
 use crate::connection_counts::add_counts;
 use crate::not_judged::{NotJudged, add_not_judged};
 use crate::setting_up::{SetUp, set_up};
-use captures::{Fault, Record, Tick};
+use captures::{Fault, Tick};
 use card_core::{Core, DeskFault, Judgement, Unjudged};
-use lab_captures::{
-    CellFilter, CellLines, Filtered, Follower, add_closing, add_several, follow_capture,
-};
+use lab_captures::{CellFollower, CellLines, CountedCell, PassedOver, add_closing, follow_cells};
 use leaky::{Excess, Levels, Verdict, excess_at};
 use line_record::{Line, LineFault};
 use std::alloc::{AllocError, Global};
-use text_io::{Done, Input, Output, RunFault, Turn, give_last};
+use std::thread::Threads;
+use text_io::{Done, Input, Output, RunFault, give_last};
 use upc_cell::{Cell, Vc};
 
 /// The port that every cell of a capture enters.
@@ -183,47 +181,13 @@ fn add_gap(answers: &mut Vec<u8>, begun: bool) -> Result<(), AllocError>
 pub(crate) struct PoliceRun {
     /// Which cells have lines.
     lines: CellLines,
-    filter: CellFilter,
     core: Core,
     /// Whether the heading was written.
     begun: bool,
     not_judged: NotJudged,
 }
 
-impl PoliceRun {
-    /// Polices a cell that counts, whose record has this number.
-    #[inline(always)]
-    fn police(
-        &mut self,
-        number: u64,
-        moment: u64,
-        cell: &Cell,
-        answers: &mut Vec<u8>,
-    ) -> Result<(), AllocError>
-        ensures policed { OnOk result (PolicesBy self.old number moment cell.now self.new answers.old.items answers.new.items) }
-        ensures filter { self.new.filter ≡ self.old.filter }
-    {
-        let vc = cell.vc_at(self.core.shape().side);
-        let Some(told) = arrive_with_room(&mut self.core, cell, moment)? else {
-            return Ok(());
-        };
-        self.begun = add_cell(
-            answers,
-            self.lines,
-            self.begun,
-            number,
-            moment,
-            vc,
-            cell.clp(),
-            &told,
-            &self.core,
-        )?;
-        self.not_judged.count(number, &told);
-        Ok(())
-    }
-}
-
-impl Follower for PoliceRun {
+impl CellFollower for PoliceRun {
     ghost use Rattle.lab_police.specs.PoliceText.{PoliceWorld, police_rules};
     ghost use Rattle.lab_police.specs.inner.PoliceShown.{ShowsPolice};
     ghost use Rattle.lab_police.specs.inner.PoliceTotal.{police-total};
@@ -235,26 +199,42 @@ impl Follower for PoliceRun {
     ghost rules = { police_rules };
 
     #[inline(always)]
-    fn follow(&mut self, said: &Record, answers: &mut Vec<u8>) -> Result<Turn, AllocError> {
-        match self.filter.read(said) {
-            Filtered::Counts(moment, cell) => {
-                self.police(said.number, moment, &cell, answers)?;
-                Ok(Turn::GoesOn)
-            }
-            Filtered::Passed => Ok(Turn::GoesOn),
-            Filtered::Several(one, other) => {
-                add_several(answers, one, other)?;
-                Ok(Turn::Ends)
-            }
-        }
+    fn follow_cell(
+        &mut self,
+        counted: &CountedCell,
+        answers: &mut Vec<u8>,
+    ) -> Result<(), AllocError> {
+        let cell = &counted.cell;
+        let moment = counted.moment;
+        let vc = cell.vc_at(self.core.shape().side);
+        let Some(told) = arrive_with_room(&mut self.core, cell, moment)? else {
+            return Ok(());
+        };
+        self.begun = add_cell(
+            answers,
+            self.lines,
+            self.begun,
+            counted.number,
+            moment,
+            vc,
+            cell.clp(),
+            &told,
+            &self.core,
+        )?;
+        self.not_judged.count(counted.number, &told);
+        Ok(())
     }
 
-    fn close(&self, ending: Option<Fault>, answers: &mut Vec<u8>) -> Result<(), AllocError> {
+    fn close(
+        &self,
+        passed: &PassedOver,
+        ending: Option<Fault>,
+        answers: &mut Vec<u8>,
+    ) -> Result<(), AllocError> {
         add_gap(answers, self.begun)?;
         add_counts(answers, &self.core)?;
         add_not_judged(answers, &self.not_judged)?;
-        let passed = self.filter.passed();
-        add_closing(answers, &passed, ending)
+        add_closing(answers, passed, ending)
     }
 
     ghost is_total = { police-total };
@@ -275,13 +255,18 @@ fn write_faults<O: Output>(output: &mut O, mut text: Vec<u8>) -> Result<Done, Ru
 /// count, and have their moments, as in `upc-lab cells`. A connection whose journal is full is cut, so that any number of cells is judged.
 /// Which cells have lines is said by `lines`; a table has the counts of each connection. docs/LAB.md has the format.
 ///
-/// Memory is bounded: that of the card, two buffers of 131,072 octets, and the answers that are not written yet.
+/// With `threads` above 1, records are read on one thread while the cells of earlier ones are judged on another, as in
+/// [`follow_cells`]. The output is the same.
+///
+/// Memory is bounded: that of the card, and that of [`follow_cells`].
 ///
 /// # Errors
 ///
 /// `ReadFailed` or `WriteFailed` if that device failed; the run ends at the first failure. `NoMemory` if an
 /// allocation fails. The output is then a prefix of the text.
-pub fn police_capture<I: Input, O: Output>(
+pub fn police_capture<R: Threads, I: Input + Send, O: Output>(
+    rt: &R,
+    threads: usize,
     alloc: Global,
     setup: &[u8],
     lines: CellLines,
@@ -298,12 +283,11 @@ pub fn police_capture<I: Input, O: Output>(
         Ok(SetUp::Ready(core)) => {
             let mut run = PoliceRun {
                 lines,
-                filter: CellFilter::new(tick, interface),
                 core,
                 begun: false,
                 not_judged: NotJudged::none(),
             };
-            follow_capture(alloc, input, output, &mut run)
+            follow_cells(rt, threads, alloc, tick, interface, input, output, &mut run)
         }
     }
 }

@@ -3,8 +3,9 @@
 use crate::*;
 use captures::Tick;
 use lab_captures::CellLines;
-use std::alloc::Global;
+use std::alloc::{AllocError, Global};
 use std::test::Fail;
+use std::thread::Threads;
 use text_io::{Done, Giving, RunFault, Taking};
 
 /// A script for one connection with a tick of a second: an increment of 4 and a limit of 1, and journals of one entry.
@@ -23,35 +24,58 @@ fn record_of(seconds: u8, channel: u8) -> [u8; 68] {
     octets
 }
 
-/// The output of `police` for a capture of such records, and how the run ends.
+/// The output of `police` for a capture, and how the run ends.
 fn policed(
+    rt: &impl Threads,
+    threads: usize,
     alloc: Global,
     setup: &[u8],
-    records: &[(u8, u8)],
+    capture: &[u8],
     lines: CellLines,
 ) -> Result<(Vec<u8>, Done), RunFault> {
     let Some(tick) = Tick::new(1_000_000_000) else {
         return Err(RunFault::NoMemory);
     };
+    let mut source = Taking::new(capture);
+    let mut sink = Giving::new(Vec::new(alloc));
+    let done = police_capture(
+        rt,
+        threads,
+        alloc,
+        setup,
+        lines,
+        tick,
+        None,
+        &mut source,
+        &mut sink,
+    )?;
+    Ok((sink.writer, done))
+}
+
+/// A capture of such records.
+fn capture_of(alloc: Global, records: &[(u8, u8)]) -> Result<Vec<u8>, AllocError> {
     let mut capture = Vec::new(alloc);
     for (seconds, channel) in records {
-        if capture
-            .extend_from_slice(&record_of(*seconds, *channel))
-            .is_err()
-        {
-            return Err(RunFault::NoMemory);
-        }
+        capture.extend_from_slice(&record_of(*seconds, *channel))?;
     }
-    let mut source = Taking::new(capture.as_slice());
-    let mut sink = Giving::new(Vec::new(alloc));
-    let done = police_capture(alloc, setup, lines, tick, None, &mut source, &mut sink)?;
-    Ok((sink.writer, done))
+    Ok(capture)
+}
+
+/// A capture of 20,000 records, longer than two buffers that records are read from.
+fn long_capture(alloc: Global) -> Result<Vec<u8>, AllocError> {
+    let mut capture = Vec::new(alloc);
+    for number in 0..20_000u32 {
+        let seconds = (number / 100) as u8;
+        let channel = 5 + (number % 7 / 5) as u8;
+        capture.extend_from_slice(&record_of(seconds, channel))?;
+    }
+    Ok(capture)
 }
 
 #[test]
 fn cells_by_hand(rt: HostRuntime) -> Result<(), Fail> {
-    let cells = [(0, 5), (3, 5), (6, 5), (7, 6), (8, 5)];
-    let Ok((text, done)) = policed(rt.alloc(), SETUP, &cells, CellLines::All) else {
+    let capture = capture_of(rt.alloc(), &[(0, 5), (3, 5), (6, 5), (7, 6), (8, 5)])?;
+    let Ok((text, done)) = policed(&rt, 1, rt.alloc(), SETUP, &capture, CellLines::All) else {
         return Err(Fail::new("no text"));
     };
     assert_eq!(rt; done, Done::Whole);
@@ -75,11 +99,28 @@ vpi\tvci\tpassed\ttagged\tdiscarded\trefused\n\
 #[test]
 fn a_faulty_setup_polices_nothing(rt: HostRuntime) -> Result<(), Fail> {
     let setup = b"card 1 1 1 1\nsetpu 1 5 p1 cbr1:4/1\n".as_slice();
-    let Ok((text, done)) = policed(rt.alloc(), setup, &[(0, 5)], CellLines::All) else {
+    let capture = capture_of(rt.alloc(), &[(0, 5)])?;
+    let Ok((text, done)) = policed(&rt, 2, rt.alloc(), setup, &capture, CellLines::All) else {
         return Err(Fail::new("no text"));
     };
     assert_eq!(rt; done, Done::Ended);
     let explained = b"fault script 1 BadLine\nline 2 ".as_slice();
     assert_eq!(rt; text.as_slice().starts_with(explained), true);
+    Ok(())
+}
+
+#[test]
+fn two_threads_answer_as_one(rt: HostRuntime) -> Result<(), Fail> {
+    let capture = long_capture(rt.alloc())?;
+    let Ok((one, done)) = policed(&rt, 1, rt.alloc(), SETUP, &capture, CellLines::All) else {
+        return Err(Fail::new("no text"));
+    };
+    let Ok((two, also_done)) = policed(&rt, 2, rt.alloc(), SETUP, &capture, CellLines::All) else {
+        return Err(Fail::new("no text"));
+    };
+    assert_eq!(rt; done, Done::Whole);
+    assert_eq!(rt; also_done, Done::Whole);
+    assert!(rt; 400_000 < one.len(), "{}", one.len());
+    assert!(rt; one == two, "{} and {} octets", one.len(), two.len());
     Ok(())
 }

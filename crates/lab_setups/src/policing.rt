@@ -11,6 +11,7 @@ use captures::Tick;
 use lab_captures::CellLines;
 use lab_police::police_capture;
 use std::alloc::Global;
+use std::thread::Threads;
 use text_io::{Done, Input, Output, RunFault, give_last};
 
 /// Writes the text about rules with a fault.
@@ -36,7 +37,9 @@ fn write_rules_fault<O: Output>(output: &mut O, mut text: Vec<u8>) -> Result<Don
 ///
 /// `ReadFailed` or `WriteFailed` if that device failed; the run ends at the first failure. `NoMemory` if an
 /// allocation fails. The output is then a prefix of the text.
-pub fn police_setup<I: Input, O: Output>(
+pub fn police_setup<R: Threads, I: Input + Send, O: Output>(
+    rt: &R,
+    threads: usize,
     alloc: Global,
     setup: &[u8],
     texts: &[Vec<u8>],
@@ -55,9 +58,11 @@ pub fn police_setup<I: Input, O: Output>(
     match expand_setup(alloc, setup, texts) {
         Err(_) => Err(RunFault::NoMemory),
         Ok(Expanded::Faulty(text)) => write_rules_fault(output, text),
-        Ok(Expanded::Itself) => police_capture(alloc, setup, lines, tick, interface, input, output),
-        Ok(Expanded::Replaced(script)) => {
-            police_capture(alloc, &script, lines, tick, interface, input, output)
-        }
+        Ok(Expanded::Itself) => police_capture(
+            rt, threads, alloc, setup, lines, tick, interface, input, output,
+        ),
+        Ok(Expanded::Replaced(script)) => police_capture(
+            rt, threads, alloc, &script, lines, tick, interface, input, output,
+        ),
     }
 }

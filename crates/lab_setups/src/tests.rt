@@ -5,6 +5,7 @@ use captures::Tick;
 use lab_captures::CellLines;
 use std::alloc::Global;
 use std::test::Fail;
+use std::thread::Threads;
 use text_io::{Done, Giving, RunFault, Taking};
 
 /// A script for two connections with a tick of a second, each with rules of its own.
@@ -39,7 +40,11 @@ fn texts_of(alloc: Global, one: &[u8], other: &[u8]) -> Result<Vec<Vec<u8>>, Run
 }
 
 /// The output of `police` for a cell of each connection, and how the run ends.
-fn policed(alloc: Global, texts: &[Vec<u8>]) -> Result<(Vec<u8>, Done), RunFault> {
+fn policed(
+    rt: &impl Threads,
+    alloc: Global,
+    texts: &[Vec<u8>],
+) -> Result<(Vec<u8>, Done), RunFault> {
     let Some(tick) = Tick::new(1_000_000_000) else {
         return Err(RunFault::NoMemory);
     };
@@ -55,6 +60,8 @@ fn policed(alloc: Global, texts: &[Vec<u8>]) -> Result<(Vec<u8>, Done), RunFault
     let mut source = Taking::new(capture.as_slice());
     let mut sink = Giving::new(Vec::new(alloc));
     let done = police_setup(
+        rt,
+        1,
         alloc,
         SETUP,
         texts,
@@ -83,7 +90,7 @@ fn two_programs_by_hand(rt: HostRuntime) -> Result<(), Fail> {
     let Ok(texts) = texts_of(rt.alloc(), b"otherwise -> 1\n", b"otherwise -> refuse\n") else {
         return Err(Fail::new("no texts"));
     };
-    let Ok((text, done)) = policed(rt.alloc(), &texts) else {
+    let Ok((text, done)) = policed(&rt, rt.alloc(), &texts) else {
         return Err(Fail::new("no text"));
     };
     assert_eq!(rt; done, Done::Whole);
@@ -106,7 +113,7 @@ fn a_faulty_file_by_hand(rt: HostRuntime) -> Result<(), Fail> {
     let Ok(texts) = texts_of(rt.alloc(), b"otherwise -> 1\n", b"# one\nothrewise -> 0\n") else {
         return Err(Fail::new("no texts"));
     };
-    let Ok((text, done)) = policed(rt.alloc(), &texts) else {
+    let Ok((text, done)) = policed(&rt, rt.alloc(), &texts) else {
         return Err(Fail::new("no text"));
     };
     assert_eq!(rt; done, Done::Ended);

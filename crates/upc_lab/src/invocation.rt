@@ -20,6 +20,7 @@ use lab_rules::{assemble_rules, compile_rules, decide_cells};
 use lab_setups::police_setup;
 use lab_sizes::size_contracts;
 use std::alloc::Global;
+use std::thread::Threads;
 use text_io::{Done, Output, RunFault, give_all};
 use upc_choice::Stop;
 use upc_exit::{status, tell};
@@ -90,7 +91,8 @@ fn run_plain<I: Ahead, O: Output>(
 }
 
 /// Runs what was asked for over the whole input, with the files that the words name.
-fn run<I: Ahead, O: Output>(
+fn run<R: Threads, I: Ahead + Send, O: Output>(
+    rt: &R,
     alloc: Global,
     asked: &Asked,
     files: &SetupFiles,
@@ -118,6 +120,8 @@ fn run<I: Ahead, O: Output>(
             output,
         ),
         Asked::Police(options) => police_setup(
+            rt,
+            usize::from(options.threads),
             alloc,
             files.script.as_slice(),
             files.rules.as_slice(),
@@ -132,7 +136,8 @@ fn run<I: Ahead, O: Output>(
 
 /// Does what the words ask for, with the files that they name, and returns the exit status: it runs the
 /// subcommand, writes the help, or writes a message about the words. A failure also gets a message.
-fn carry_out_with<I: Ahead + Reasoned, O: Output + Reasoned, E: Output>(
+fn carry_out_with<R: Threads, I: Ahead + Reasoned + Send, O: Output + Reasoned, E: Output>(
+    rt: &R,
     alloc: Global,
     chosen: &Result<Asked, Stop>,
     files: &SetupFiles,
@@ -147,7 +152,7 @@ fn carry_out_with<I: Ahead + Reasoned, O: Output + Reasoned, E: Output>(
 {
     match chosen {
         Ok(asked) => {
-            let ended = run(alloc, asked, files, input, output);
+            let ended = run(rt, alloc, asked, files, input, output);
             report(ended, input, output, errors)
         }
         Err(Stop::Help(text)) => match give_all(output, text.as_bytes()) {
@@ -164,7 +169,8 @@ fn carry_out_with<I: Ahead + Reasoned, O: Output + Reasoned, E: Output>(
 
 /// Does what the words ask for, and returns the exit status. If a file that they name could not be read, it only writes a message
 /// that says so, and the status is 3.
-pub fn carry_out<I: Ahead + Reasoned, O: Output + Reasoned, E: Output>(
+pub fn carry_out<R: Threads, I: Ahead + Reasoned + Send, O: Output + Reasoned, E: Output>(
+    rt: &R,
     alloc: Global,
     chosen: &Result<Asked, Stop>,
     setup: &Result<SetupFiles, Unreadable>,
@@ -178,7 +184,7 @@ pub fn carry_out<I: Ahead + Reasoned, O: Output + Reasoned, E: Output>(
     ensures status { IsStatusIn chosen.now setup.now result }
 {
     match setup {
-        Ok(files) => carry_out_with(alloc, chosen, files, input, output, errors),
+        Ok(files) => carry_out_with(rt, alloc, chosen, files, input, output, errors),
         Err(unreadable) => {
             tell(errors, unreadable.message());
             3

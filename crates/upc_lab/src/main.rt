@@ -55,6 +55,7 @@ fn main(rt: HostRuntime) -> ExitCode {
     let mut output = Knowing::new(rt.alloc(), Work::Writing, rt.stdout());
     let mut errors = Giving::new(rt.stderr());
     let status = carry_out(
+        &rt,
         rt.alloc(),
         &chosen,
         &setup,

@@ -12,6 +12,7 @@ use captures::Tick;
 use std::alloc::{AllocError, Global};
 use std::process::Abort;
 use std::test::Fail;
+use std::thread::Threads;
 use text_io::{Failed, FaultyInput, FaultyOutput, Output};
 use upc_choice::Stop;
 
@@ -69,6 +70,7 @@ fn no_files(alloc: Global) -> SetupFiles {
 /// Runs the program with these words, over an input and an output that move one octet a call, and fail after a number of
 /// successful calls.
 fn run_words(
+    rt: &impl Threads,
     alloc: Global,
     line: &str,
     octets: &[u8],
@@ -80,7 +82,15 @@ fn run_words(
     let mut output = FaultyOutput::new(alloc, gives);
     let mut errors = FaultyOutput::new(alloc, 10000);
     let setup = Ok(no_files(alloc));
-    let status = carry_out(alloc, &chosen, &setup, &mut input, &mut output, &mut errors);
+    let status = carry_out(
+        rt,
+        alloc,
+        &chosen,
+        &setup,
+        &mut input,
+        &mut output,
+        &mut errors,
+    );
     Ok(Left {
         status,
         written: output.held,
@@ -98,7 +108,7 @@ fn rules_are_comments_of_their_source(rt: HostRuntime) -> Result<(), Fail> {
         ),
         (b"any > 7\n", 1, b"fault rules 1 BadLine 1 5\n"),
     ] {
-        let left = run_words(rt.alloc(), "asm", octets, 1000, 1000)?;
+        let left = run_words(&rt, rt.alloc(), "asm", octets, 1000, 1000)?;
         assert_eq!(rt; (left.status, left.written.as_slice()), (status, written));
     }
     Ok(())
@@ -120,20 +130,20 @@ fn cells_are_answered_by_the_lines_that_decide_them(rt: HostRuntime) -> Result<(
             b"fault rules 1 BadLine 1 5\n",
         ),
     ] {
-        let left = run_words(rt.alloc(), "why", octets, 1000, 1000)?;
+        let left = run_words(&rt, rt.alloc(), "why", octets, 1000, 1000)?;
         assert_eq!(rt; (left.status, left.written.as_slice()), (status, written));
     }
     Ok(())
 }
 
 /// Expects this status, output and message of `rules`.
-fn expect<R: Abort>(
+fn expect<R: Abort + Threads>(
     rt: &R,
     alloc: Global,
     (octets, takes, gives): (&[u8], usize, usize),
     (status, written, messages): (u8, &[u8], &[u8]),
 ) -> Result<(), AllocError> {
-    let left = run_words(alloc, "rules", octets, takes, gives)?;
+    let left = run_words(rt, alloc, "rules", octets, takes, gives)?;
     assert_eq!(rt;
         (
             left.status,
@@ -241,7 +251,7 @@ fn help_is_written_and_nothing_is_read(rt: HostRuntime) -> Result<(), Fail> {
         ("--help", "\n  police "),
         ("police --help", "--lines"),
     ] {
-        let left = run_words(rt.alloc(), line, b"any -> 7\n", 0, 10000)?;
+        let left = run_words(&rt, rt.alloc(), line, b"any -> 7\n", 0, 10000)?;
         assert!(rt; left.status == 0 && left.messages.is_empty(), "{line}");
         let text = String::from_utf8(left.written).map_err(|_| Fail::new("help is a text"))?;
         assert!(rt; text.as_str().contains(part), "{line}");
@@ -302,6 +312,7 @@ fn no_message_is_written_if_nobody_reads(rt: HostRuntime) -> Result<(), Fail> {
     let mut errors = FaultyOutput::new(rt.alloc(), 100);
     let setup = Ok(no_files(rt.alloc()));
     let status = carry_out(
+        &rt,
         rt.alloc(),
         &chosen,
         &setup,
@@ -329,6 +340,7 @@ fn a_setup_file_that_cannot_be_read_ends_with_status_3(rt: HostRuntime) -> Resul
     let mut output = FaultyOutput::new(rt.alloc(), 0);
     let mut errors = FaultyOutput::new(rt.alloc(), 1000);
     let status = carry_out(
+        &rt,
         rt.alloc(),
         &chosen,
         &setup,

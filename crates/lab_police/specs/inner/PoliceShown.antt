@@ -1,29 +1,22 @@
 -- A run of `police` as the code stores it, and the states that it shows.
-use Rattle.std.specs.Prelude.{◌≡◌, ◌||◌, ◌++◌, if◌then◌else◌, List, [], ℕ, Bool, true, Option, Some}
+use Rattle.std.specs.Prelude.{◌≡◌, ◌||◌, ◌++◌, if◌then◌else◌, List, [], ℕ, Bool, true, Option}
 use Rattle.card_core.specs.Agreement.{CoreAgrees, CoreView}
 use Rattle.card_core.specs.World.{World}
 use Rattle.card_core.specs.declared.answer.Answer.{Answer}
-use Rattle.lab_captures.specs.CellFilter.{FilterState, filter_state}
 use Rattle.lab_captures.specs.declared.cell_lines.CellLines.{CellLines}
 use Rattle.leaky.specs.declared.excess.Excess.{Excess}
 use Rattle.upc_cell.specs.declared.vc.Vc.{Vc}
-use Rattle.upc_run.specs.RunText.{IsLed}
 use Rattle.lab_police.specs.PoliceLines.{excess_of_answer, has_line, police_line, verdict_heading}
-use Rattle.lab_police.specs.PoliceText.{PolicesCounted, PoliceWorld}
+use Rattle.lab_police.specs.PoliceText.{PoliceWorld}
 use Rattle.lab_police.specs.declared.police.PoliceRun.{PoliceRun}
 use Rattle.lab_police.specs.inner.ExcessLeft.{LeavesConnection}
 
--- The run has what the state has, but for the filter.
-pub record ShowsAllButFilter (run : PoliceRun) (world : PoliceWorld) : Type 0 where
+-- The run has what the state has.
+pub record ShowsPolice (run : PoliceRun) (world : PoliceWorld) : Type 0 where
   pub lines : run.lines ≡ world.lines
   pub agrees : CoreAgrees run.core world.card.world
   pub begun : run.begun ≡ world.begun
   pub not_judged : run.not_judged ≡ world.not_judged
-
--- The run has what the state has.
-pub record ShowsPolice (run : PoliceRun) (world : PoliceWorld) : Type 0 where
-  pub filter : filter_state run.filter ≡ world.filter
-  pub rest : ShowsAllButFilter run world
 
 -- The text for a cell with this answer and this excess.
 abbrev pub lined : CellLines → Bool → ℕ → ℕ → Vc → Bool → Answer → Option Excess → List ℕ
@@ -38,9 +31,3 @@ pub record AddsCell (lines : CellLines) (begun : Bool) (number moment : ℕ) (vc
   pub right : has_line lines given ≡ true → (before after : World) → CoreAgrees core after
       → LeavesConnection before.connections after.connections vc clp given → excess ≡ excess_of_answer before vc clp given
   pub written : now ≡ (begun || has_line lines given)
-
--- The answers grew by the text for a cell that counts, from each state that the run had.
-abbrev pub PolicesBy : PoliceRun → ℕ → ℕ → List ℕ → PoliceRun → List ℕ → List ℕ → Type 0
-PolicesBy before number moment cell after old new =
-    (text : List ℕ) × (new ≡ old ++ text) × ((world : PoliceWorld) (filter : FilterState) → IsLed world.card → ShowsAllButFilter before world
-    → (next : PoliceWorld) × PolicesCounted world filter number moment cell text (Some next) × (next.filter ≡ filter) × ShowsAllButFilter after next)

@@ -1,15 +1,11 @@
--- The rules of `police` are total: each record has an answer. This law is in `specs/` because the run cites it.
-use Rattle.std.proofs.Common.{◌≡◌, ◌≢◌, ◌⊎◌, inl, inr, ℕ, List, [], Option, Some, None, refl, subst, sym}
+-- The rules of `police` are total: each cell has an answer. This law is in `specs/` because the run cites it.
+use Rattle.std.proofs.Common.{◌≡◌, ◌≢◌, ◌⊎◌, inl, inr, ℕ, List, refl, subst, sym}
 use Rattle.card_core.specs.declared.answer.Answer.{Answer}
 use Rattle.card_core.specs.declared.answer.Answer.TheVariants as answer
-use Rattle.lab_captures.specs.CaptureText.{AnswersEachRecord}
-use Rattle.lab_captures.specs.CellFilter.{FilterState, filter_record}
-use Rattle.lab_captures.specs.RunLines.{several_line}
-use Rattle.lab_captures.specs.declared.filter.Filtered.{Filtered}
-use Rattle.lab_captures.specs.declared.filter.Filtered.TheVariants.{Counts, Passed, Several}
+use Rattle.lab_captures.specs.CellRules.{AnswersEachCell}
 use Rattle.upc_run.specs.RunText.{Card, IsLed}
 use Rattle.upc_run.specs.inner.RunLaws.{arrived-led, cell-some, cut-led, cut-some}
-use Rattle.lab_police.specs.PoliceText.{PolicesFiltered, PoliceWorld, TakesCell, TakesCellWithRoom, after_cell, policed_text, connection_of_cell, police_rules}
+use Rattle.lab_police.specs.PoliceText.{PoliceWorld, TakesCell, TakesCellWithRoom, after_cell, policed_text, connection_of_cell, police_rules}
 
 -- The answer of a full journal, or another one.
 full_or : (given : Answer) → (given ≡ answer.JournalFull) ⊎ (given ≢ answer.JournalFull)
@@ -56,31 +52,16 @@ room_some before cell moment led =
           )
     ]
 
-filtered_led : (before after : PoliceWorld) (found : Filtered) (filter : FilterState) (number : ℕ) (text : List ℕ) → IsLed before.card
-    → PolicesFiltered before found filter number text (Some after) → IsLed after.card
-filtered_led before after (Counts moment cell) filter number text led polices =
-    let same : after ≡ after_cell before filter number polices.given polices.card = let e = polices.after in cc in
-    subst (λ (world : PoliceWorld). IsLed world.card) (sym same) (room_led before.card polices.card cell moment polices.given led polices.taken)
-filtered_led before after Passed filter number text led passed =
-    let same : after ≡ record before { filter = filter } = let e = passed.1 in cc in
-    subst (λ (world : PoliceWorld). IsLed world.card) (sym same) led
-filtered_led before after (Several one other) filter number text led ends = let no = ends.1 in cc
-
-filtered_some : (before : PoliceWorld) (found : Filtered) (filter : FilterState) (number : ℕ) → IsLed before.card
-    → (text : List ℕ) × (next : Option PoliceWorld) × PolicesFiltered before found filter number text next
-filtered_some before (Counts moment cell) filter number led =
-    let room = room_some before.card cell moment led in (
-      policed_text before number moment cell room.0,
-      Some (after_cell before filter number room.0 room.1),
-      record { given = room.0; card = room.1; taken = room.2; told = refl; after = refl },
-    )
-filtered_some before Passed filter number led = ([], Some (record before { filter = filter }), (refl, refl))
-filtered_some before (Several one other) filter number led = (several_line one other, None, (refl, refl))
-
 -- The rules of `police` are total.
-pub police-total : AnswersEachRecord police_rules
+pub police-total : AnswersEachCell police_rules
 police-total = record {
-  keeps = λ before said text after led steps.
-      filtered_led before after (filter_record before.filter said).0 (filter_record before.filter said).1 said.number text led steps;
-  step = λ before said led. filtered_some before (filter_record before.filter said).0 (filter_record before.filter said).1 said.number led;
+  keeps = λ before counted text after led polices.
+      subst (λ (world : PoliceWorld). IsLed world.card) (sym polices.after)
+      (room_led before.card polices.card counted.cell counted.moment polices.given led polices.taken);
+  step = λ before counted led.
+      let room = room_some before.card counted.cell counted.moment led in (
+        policed_text before counted room.0,
+        after_cell before counted.number room.0 room.1,
+        record { given = room.0; card = room.1; taken = room.2; written = refl; after = refl },
+      );
 }

@@ -5,10 +5,10 @@ use Rattle.lab_captures.proofs.capture.find_opening.Given as goal
 abbrev pub invariant-loop-opening : goal.invariant-loop-opening
 invariant-loop-opening g l =
     record {
-      bounded : length l.window ≤ 131072;
+      bounded : length l.window ≤ 524288;
       octets : g.I.Input.is_known → g.I.Input.rest l.fn.input ≡ l.window ++ g.I.Input.rest l.input;
       calm : g.I.Input.failures l.input ≡ g.I.Input.failures l.fn.input;
     }
 
 abbrev pub decreases-loop-opening : goal.decreases-loop-opening
-decreases-loop-opening g l = 131072 - length l.window
+decreases-loop-opening g l = 524288 - length l.window

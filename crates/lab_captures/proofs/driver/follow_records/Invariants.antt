@@ -8,7 +8,7 @@ abbrev pub invariant-loop-answers : goal.invariant-loop-answers
 invariant-loop-answers g l =
     let f = g.F.Follower in
     record {
-      bounded : length l.window ≤ 131072;
+      bounded : length l.window ≤ 524288;
       near : l.reader.at < 2 ^ 64;
       reading : g.I.Input.failures l.input ≡ g.I.Input.failures l.fn.input;
       writing : g.O.Output.failures l.output ≡ g.O.Output.failures l.fn.output;
@@ -20,4 +20,4 @@ invariant-loop-answers g l =
 -- The loop ends: each frame brings the reader nearer to the last place, by more than a window holds, and each refill makes the
 -- window longer.
 abbrev pub decreases-loop-answers : goal.decreases-loop-answers
-decreases-loop-answers g l = (2 ^ 64 - l.reader.at) * 200000 - length l.window
+decreases-loop-answers g l = (2 ^ 64 - l.reader.at) * 600000 - length l.window

@@ -12,11 +12,12 @@ returns-in-Ok-clause-kinds c = λ given all.
 
 pub returns-in-Ok-clause-values : goal.returns-in-Ok-clause-values
 returns-in-Ok-clause-values c = λ given all.
-    same_values given _ _ _ _
+    same_values given _ _ _ _ _
     (value_at police_app _ _ given _ c.in-Ok.matches _ police_is_simple c.requires all c.get_str.ensures c.in-Ok.ensures.matches)
     (value_at police_app _ _ given _ c.in-Ok.matches _ police_is_simple c.requires all c.get_str-in-Ok.ensures c.in-Ok.ensures.matches)
     (value_at police_app _ _ given _ c.in-Ok.matches _ police_is_simple c.requires all c.get_str-in-Ok-2.ensures c.in-Ok.ensures.matches)
     (value_at police_app _ _ given _ c.in-Ok.matches _ police_is_simple c.requires all c.get_str-in-Ok-3.ensures c.in-Ok.ensures.matches)
+    (value_at police_app _ _ given _ c.in-Ok.matches _ police_is_simple c.requires all c.get_str-in-Ok-4.ensures c.in-Ok.ensures.matches)
 
 pub returns-in-Err-clause-kinds : goal.returns-in-Err-clause-kinds
 returns-in-Err-clause-kinds c = λ given all.

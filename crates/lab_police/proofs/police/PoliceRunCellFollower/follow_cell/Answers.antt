@@ -7,28 +7,29 @@ use Rattle.upc_cell.specs.Connection.{vc_of}
 use Rattle.lab_police.specs.inner.CardArrival.{ArrivesWithRoom}
 use Rattle.lab_police.specs.inner.PoliceShown.{AddsCell}
 use Rattle.lab_police.proofs.PoliceLemmas.{polices_by, polices_never}
-use Rattle.lab_police.proofs.police.PoliceRun.police.Goals as goal
+use Rattle.lab_police.proofs.police.PoliceRunCellFollower.follow_cell.Goals as goal
 
-pub returns-in_default-clause-policed : goal.returns-in_default-clause-policed
-returns-in_default-clause-policed c =
-    let cell = c.args.cell.now in
+pub returns-in_default : goal.returns-in_default
+returns-in_default c =
+    let counted = c.args.counted.now in
     let run = c.args.self.now in
     let core = c.arrive_with_room.new.core in
-    polices_never run (record run { core = core }) core c.args.number c.args.moment cell c.args.answers.now.items
-    (subst (λ (o : Option (Result Judgement Unjudged)). ArrivesWithRoom run.core cell c.args.moment (option_map (λ told. answer_to cell told) o) core)
+    polices_never run (record run { core = core }) core counted c.args.answers.now.items
+    (subst (λ (o : Option (Result Judgement Unjudged)). ArrivesWithRoom run.core counted.cell counted.moment (option_map (λ told. answer_to counted.cell told) o) core)
     c.in_default.is c.in_ok-told.ensures)
 
-pub returns-clause-policed : goal.returns-clause-policed
-returns-clause-policed c =
-    let cell = c.args.cell.now in
+pub returns : goal.returns
+returns c =
+    let counted = c.args.counted.now in
+    let cell = counted.cell in
     let run = c.args.self.now in
     let core = c.arrive_with_room.new.core in
     let given = answer_to cell c.in-Some.told in
-    polices_by run core given c.vc_at-vc.result c.args.number c.args.moment cell c.in_ok-self.field-0 c.count.new.self
+    polices_by run core given c.vc_at-vc.result counted c.in_ok-self.field-0 c.count.new.self
     c.args.answers.now.items c.add_cell.new.answers.items
-    (subst (λ (o : Option (Result Judgement Unjudged)). ArrivesWithRoom run.core cell c.args.moment (option_map (λ told. answer_to cell told) o) core)
+    (subst (λ (o : Option (Result Judgement Unjudged)). ArrivesWithRoom run.core cell counted.moment (option_map (λ told. answer_to cell told) o) core)
     c.in-Some.is c.in_ok-told.ensures)
     (c.vc_at-vc.ensures.connection ∙ ap (λ (shape : Shape). vc_of shape.side cell) c.shape.ensures)
-    (subst (λ (clp : Bool). AddsCell run.lines run.begun c.args.number c.args.moment c.vc_at-vc.result clp given core
+    (subst (λ (clp : Bool). AddsCell run.lines run.begun counted.number counted.moment c.vc_at-vc.result clp given core
     c.args.answers.now.items c.add_cell.new.answers.items c.in_ok-self.field-0) c.clp.ensures.test (c.in_ok-self.ensures cell))
     (c.count.ensures cell)

@@ -1,0 +1,94 @@
+//! The text of the cells of a whole capture.
+
+ghost use Rattle.std.specs.Prelude.{◌≡◌, ◌≢◌, ◌++◌, Err, IfOk, OnErr, OnOk};
+ghost use Rattle.lab_captures.specs.CaptureText.{IsCaptureText, done_at as ends_at, short_ending as ends_short};
+ghost use Rattle.lab_captures.specs.CellFilter.{filter_start};
+ghost use Rattle.lab_captures.specs.CellFollowing.{OfEachWorld};
+ghost use Rattle.lab_captures.specs.CellRules.{capture_rules};
+ghost use Rattle.text_io.specs.Devices.{IsPart};
+ghost use Rattle.text_io.specs.Failures.{write_failures};
+ghost use Rattle.text_io.specs.Serving.{IsServed};
+
+use crate::capture::{find_opening, refuse, short_ending};
+use crate::cell_driver::follow_cells_on;
+use crate::cell_follower::{CellFollower, answers_each_cell};
+use crate::driver::done_at;
+use crate::filter::CellFilter;
+use crate::passed::PassedOver;
+use crate::reading_ahead::ReadingAhead;
+use crate::window::Window;
+use captures::{Opening, Reader, Tick};
+use std::alloc::Global;
+use std::thread::Threads;
+use text_io::{Done, Input, Output, RunFault, give_last};
+
+/// Answers a file that is too short for a capture.
+fn close_short<O: Output, F: CellFollower>(
+    alloc: Global,
+    output: &mut O,
+    follower: &F,
+    passed: &PassedOver,
+    octets: &[u8],
+) -> Result<Done, RunFault>
+    ensures done { IfOk result (λ done. done ≡ ends_at (ends_short octets.now)) }
+    ensures given { O.is_known → OnOk result (OfEachWorld F.rules (F.shows follower.now) (λ world.
+        O.held output.new ≡ O.held output.old ++ F.rules.closes world passed.now (ends_short octets.now))) }
+    ensures front { O.is_known → OnErr result (OfEachWorld F.rules (F.shows follower.now) (λ world.
+        IsPart (O.held output.old) (O.held output.new) (F.rules.closes world passed.now (ends_short octets.now)))) }
+    ensures fault { result ≢ Err RunFault.ReadFailed }
+    ensures writing { O.failures output.new ≡ write_failures result (O.failures output.old) }
+{
+    let ending = short_ending(octets);
+    let mut answers = Vec::new(alloc);
+    match follower.close(passed, ending, &mut answers) {
+        Err(_) => Err(RunFault::NoMemory),
+        Ok(()) => give_last(output, &mut answers, done_at(ending)),
+    }
+}
+
+/// Runs a follower over the cells of a capture that count, in bounded memory: two buffers of 524,288 octets, the cells that were read from
+/// them, and the answers to these cells.
+///
+/// With one thread, what was read is answered before more is read. With two, records are read on one thread while the cells of those before
+/// them are answered on another, as long as each reading fills the buffer: that of a file does, and that of a pipe doesn't.
+///
+/// # Errors
+///
+/// `ReadFailed` or `WriteFailed` if that device failed; the run ends at the first failure. `NoMemory` if an
+/// allocation fails. The output is then a prefix of the text.
+pub fn follow_cells<R: Threads, I: Input + Send, O: Output, F: CellFollower + Send>(
+    rt: &R,
+    threads: usize,
+    alloc: Global,
+    tick: Tick,
+    interface: Option<u8>,
+    input: &mut I,
+    output: &mut O,
+    follower: &mut F,
+) -> Result<Done, RunFault>
+    ensures { OfEachWorld F.rules (F.shows follower.old) (λ world.
+        IsServed (IsCaptureText (capture_rules F.rules) (filter_start tick.nanoseconds interface, world))
+        I.Input input.old input.new O.Output output.old output.new result) }
+{
+    answers_each_cell(follower);
+    let filter = CellFilter::new(tick, interface);
+    let Ok(mut window) = Window::new(alloc) else {
+        return Err(RunFault::NoMemory);
+    };
+    match find_opening(&mut window, input) {
+        Err(_) => Err(RunFault::ReadFailed),
+        Ok(Opening::Refused(fault)) => refuse(alloc, output, fault),
+        Ok(Opening::Undecided) => {
+            close_short(alloc, output, follower, &filter.passed(), window.octets())
+        }
+        Ok(Opening::Opened(format)) => {
+            window.skip(format.start());
+            let reading = ReadingAhead {
+                window,
+                reader: Reader::new(format),
+                filter,
+            };
+            follow_cells_on(rt, 1 < threads, alloc, input, output, follower, reading)
+        }
+    }
+}

@@ -1,0 +1,61 @@
+//! Programs that answer the cells of a capture that count.
+
+ghost use Rattle.std.specs.Prelude.{OnOk};
+ghost use Rattle.lab_captures.specs.CellFollowing.{ClosesCells, FollowsCell};
+ghost use Rattle.lab_captures.specs.inner.Answered.{AnswersCells};
+ghost use Rattle.lab_captures.specs.CellRules.{AnswersEachCell, CellRules};
+
+use crate::counted::CountedCell;
+use crate::passed::PassedOver;
+use captures::Fault;
+use std::alloc::AllocError;
+
+/// A program that gets one cell that counts after another and answers each.
+///
+/// Its rules say which answers are allowed, as steps from world to world. As for a [`Follower`](crate::Follower), its state may stand
+/// for several worlds: it shows worlds, and its answer must be allowed from each of them.
+pub trait CellFollower {
+    ghost World: { Type 0 };
+
+    ghost shows: { Self → World → Type 0 };
+
+    ghost rules: { CellRules World };
+
+    /// Appends the answer to a cell to the answers.
+    fn follow_cell(
+        &mut self,
+        counted: &CountedCell,
+        answers: &mut Vec<u8>,
+    ) -> Result<(), AllocError>
+        ensures { OnOk result (FollowsCell rules (shows self.old) counted.now (shows self.new) answers.old.items answers.new.items) };
+
+    /// Appends the answer to the end of the capture, or to its fault, to the answers. These records were passed over.
+    fn close(
+        &self,
+        passed: &PassedOver,
+        ending: Option<Fault>,
+        answers: &mut Vec<u8>,
+    ) -> Result<(), AllocError>
+        ensures { OnOk result (ClosesCells rules (shows self.now) passed.now ending answers.old.items answers.new.items) };
+
+    ghost is_total: { AnswersEachCell rules };
+}
+
+/// Does nothing. Its contract says of a follower that may be on another thread what the trait says of each.
+pub(crate) fn answers_each_cell<F: CellFollower>(_: &F)
+    ensures { AnswersEachCell F.rules }
+{}
+
+/// Answers cells in order.
+pub(crate) fn answer_cells<F: CellFollower>(
+    follower: &mut F,
+    cells: &[CountedCell],
+    answers: &mut Vec<u8>,
+) -> Result<(), AllocError>
+    ensures { OnOk result (AnswersCells F.rules (F.shows follower.old) cells.now (F.shows follower.new) answers.old.items answers.new.items) }
+{
+    for counted in cells {
+        follower.follow_cell(counted, answers)?;
+    }
+    Ok(())
+}

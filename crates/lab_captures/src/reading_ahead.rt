@@ -1,0 +1,96 @@
+//! Records that are read before the cells of earlier ones are answered.
+
+ghost use Rattle.std.specs.Prelude.{◌≡◌, ◌≢◌, ◌<◌, Err, IfOk, length};
+ghost use Rattle.text_io.specs.Failures.{read_failures};
+ghost use Rattle.lab_captures.specs.inner.Ahead.{FillsAndReads, ReadsCells};
+
+use crate::cell_follower::CellFollower;
+use crate::counted::CountedCell;
+use crate::filter::{CellFilter, Filtered};
+use crate::window::Window;
+use captures::{Fault, Next, Reader};
+use std::alloc::AllocError;
+use text_io::{Input, RunFault};
+
+/// What comes after the records that were read.
+#[derive(Clone, Copy, PartialEq, Eq, Debug)]
+pub(crate) enum Coming {
+    /// The octets that wait begin a frame, or there are none: more octets are wanted.
+    Wants,
+    /// Enough cells were read. There may be more frames.
+    Enough,
+    /// A cell of a second interface, where none was asked for: the first interface, and this one.
+    Several(u8, u8),
+    /// A fault of the capture.
+    Broken(Fault),
+}
+
+/// What reads the records of a capture.
+#[derive(Drop)]
+pub(crate) struct ReadingAhead {
+    /// The octets that wait.
+    pub(crate) window: Window,
+    pub(crate) reader: Reader,
+    pub(crate) filter: CellFilter,
+}
+
+impl ReadingAhead {
+    /// Reads more octets, and then the frames among those that wait. None at the end of the input.
+    ///
+    /// # Errors
+    ///
+    /// `ReadFailed` if the input failed, and `NoMemory` if an allocation fails.
+    pub(crate) fn fill_and_read<I: Input, F: CellFollower>(
+        &mut self,
+        input: &mut I,
+        cells: &mut Vec<CountedCell>,
+    ) -> Result<Option<Coming>, RunFault>
+        requires { length self.old.window < 131072 }
+        ensures filled { IfOk result (λ coming. FillsAndReads F.rules I.is_known (I.rest input.old) (I.rest input.new)
+            self.old coming self.new cells.old.items cells.new.items) }
+        ensures fault { result ≢ Err RunFault.WriteFailed }
+        ensures reading { I.failures input.new ≡ read_failures result (I.failures input.old) }
+    {
+        match self.window.fill(input) {
+            Err(_) => Err(RunFault::ReadFailed),
+            Ok(0) => Ok(None),
+            Ok(_) => match self.read::<F>(cells, usize::MAX) {
+                Err(_) => Err(RunFault::NoMemory),
+                Ok(coming) => Ok(Some(coming)),
+            },
+        }
+    }
+
+    /// Reads the whole frames among the octets that wait, and appends the cells that count to the others. It stops at what ends a run,
+    /// and after a cell if there are `most` or more then.
+    pub(crate) fn read<F: CellFollower>(
+        &mut self,
+        cells: &mut Vec<CountedCell>,
+        most: usize,
+    ) -> Result<Coming, AllocError>
+        ensures { IfOk result (λ coming. ReadsCells F.rules self.old coming self.new cells.old.items cells.new.items) }
+    {
+        loop {
+            match self.reader.next(self.window.octets()) {
+                Next::Unfinished => return Ok(Coming::Wants),
+                Next::Broken(fault) => return Ok(Coming::Broken(fault)),
+                Next::Passed(own) => self.window.skip(own),
+                Next::Taken(said, own) => match self.filter.read(&said) {
+                    Filtered::Passed => self.window.skip(own),
+                    Filtered::Several(one, other) => return Ok(Coming::Several(one, other)),
+                    Filtered::Counts(moment, cell) => {
+                        cells.push(CountedCell {
+                            number: said.number,
+                            moment,
+                            cell: cell.cell(),
+                        })?;
+                        self.window.skip(own);
+                        if most <= cells.len() {
+                            return Ok(Coming::Enough);
+                        }
+                    }
+                },
+            }
+        }
+    }
+}
