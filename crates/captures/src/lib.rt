@@ -20,6 +20,3 @@ pub use format::{Format, Order};
 pub use lent_cell::LentCell;
 pub use opening::{FileFault, Opening, open};
 pub use reader::{Next, Reader, Record};
-
-#[cfg(test)]
-mod tests;

@@ -11,6 +11,3 @@ pub mod laws;
 pub use connection_fit::ConnectionFit;
 pub use fault::FitFault;
 pub use fit::fit_capture;
-
-#[cfg(test)]
-mod tests;

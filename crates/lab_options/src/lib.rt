@@ -5,8 +5,6 @@ mod cells;
 mod fit;
 mod line;
 mod police;
-#[cfg(test)]
-mod tests;
 mod values;
 
 pub use cells::{CellsOptions, cells_options};

@@ -10,6 +10,3 @@ mod setting_up;
 
 pub use not_judged::NotJudged;
 pub use police::police_capture;
-
-#[cfg(test)]
-mod tests;

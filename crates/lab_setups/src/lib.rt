@@ -10,6 +10,3 @@ mod script_lines;
 
 pub use policing::police_setup;
 pub use rules_lines::rules_names;
-
-#[cfg(test)]
-mod tests;

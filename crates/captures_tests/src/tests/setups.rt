@@ -1,8 +1,9 @@
 //! Setups by hand: two files of rules with a cell that each decides, and a file with a fault.
 
-use crate::*;
+use super::link::record_of;
 use captures::Tick;
 use lab_captures::CellLines;
+use lab_setups::{police_setup, rules_names};
 use std::alloc::Global;
 use std::test::Fail;
 use std::thread::Threads;
@@ -11,19 +12,6 @@ use text_io::{Done, Giving, RunFault, Taking};
 /// A script for two connections with a tick of a second, each with rules of its own.
 const SETUP: &[u8] =
     b"card 2 2 1 9\nrules first\n rules\tsecond\r\nsetup 1 5 p1 cbr1:4/1\nsetup 1 6 p2 cbr1:4/1";
-
-/// A record with a cell of path 1 and this channel, received after this many seconds.
-fn record_of(seconds: u8, channel: u8) -> [u8; 68] {
-    let mut octets = [0; 68];
-    octets[4] = seconds;
-    octets[8] = 3;
-    octets[11] = 68;
-    octets[15] = 52;
-    octets[17] = 0x10;
-    octets[18] = channel / 0x10;
-    octets[19] = channel % 0x10 * 0x10;
-    octets
-}
 
 /// The octets of two texts.
 fn texts_of(alloc: Global, one: &[u8], other: &[u8]) -> Result<Vec<Vec<u8>>, RunFault> {
@@ -51,7 +39,7 @@ fn policed(
     let mut capture = Vec::new(alloc);
     for (seconds, channel) in [(0, 5), (1, 6)] {
         if capture
-            .extend_from_slice(&record_of(seconds, channel))
+            .extend_from_slice(&record_of(seconds, channel, 0))
             .is_err()
         {
             return Err(RunFault::NoMemory);

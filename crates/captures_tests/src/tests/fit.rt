@@ -1,25 +1,12 @@
 //! Least limits by hand, and the texts of faults.
 
-use crate::*;
+use super::link::record_of;
 use captures::Tick;
+use lab_fit::{FitFault, fit_capture};
 use std::alloc::Global;
 use std::test::Fail;
 use text_io::{Done, Giving, RunFault, Taking};
 use upc_cell::Side;
-
-/// A record with a cell of path 1 and this channel, received after this many seconds at this interface.
-fn record_of(seconds: u8, channel: u8, interface: u8) -> [u8; 68] {
-    let mut octets = [0; 68];
-    octets[4] = seconds;
-    octets[8] = 3;
-    octets[9] = interface;
-    octets[11] = 68;
-    octets[15] = 52;
-    octets[17] = 0x10;
-    octets[18] = channel / 0x10;
-    octets[19] = channel % 0x10 * 0x10;
-    octets
-}
 
 /// The output of `fit` for a capture of such records, and how the run ends, with a tick of one second.
 fn fitted(

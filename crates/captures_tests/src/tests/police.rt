@@ -1,8 +1,9 @@
 //! A capture by hand: excesses, a journal that is full, a cell without a connection, and a faulty setup.
 
-use crate::*;
+use super::link::record_of;
 use captures::Tick;
 use lab_captures::CellLines;
+use lab_police::police_capture;
 use std::alloc::{AllocError, Global};
 use std::test::Fail;
 use std::thread::Threads;
@@ -10,19 +11,6 @@ use text_io::{Done, Giving, RunFault, Taking};
 
 /// A script for one connection with a tick of a second: an increment of 4 and a limit of 1, and journals of one entry.
 const SETUP: &[u8] = b"card 1 1 1 1\nload 0006000000000001\nsetup 1 5 p1 cbr1:4/1\n";
-
-/// A record with a cell of path 1 and this channel, received after this many seconds.
-fn record_of(seconds: u8, channel: u8) -> [u8; 68] {
-    let mut octets = [0; 68];
-    octets[4] = seconds;
-    octets[8] = 3;
-    octets[11] = 68;
-    octets[15] = 52;
-    octets[17] = 0x10;
-    octets[18] = channel / 0x10;
-    octets[19] = channel % 0x10 * 0x10;
-    octets
-}
 
 /// The output of `police` for a capture, and how the run ends.
 fn policed(
@@ -56,7 +44,7 @@ fn policed(
 fn capture_of(alloc: Global, records: &[(u8, u8)]) -> Result<Vec<u8>, AllocError> {
     let mut capture = Vec::new(alloc);
     for (seconds, channel) in records {
-        capture.extend_from_slice(&record_of(*seconds, *channel))?;
+        capture.extend_from_slice(&record_of(*seconds, *channel, 0))?;
     }
     Ok(capture)
 }
@@ -67,7 +55,7 @@ fn long_capture(alloc: Global) -> Result<Vec<u8>, AllocError> {
     for number in 0..20_000u32 {
         let seconds = (number / 100) as u8;
         let channel = 5 + (number % 7 / 5) as u8;
-        capture.extend_from_slice(&record_of(seconds, channel))?;
+        capture.extend_from_slice(&record_of(seconds, channel, 0))?;
     }
     Ok(capture)
 }

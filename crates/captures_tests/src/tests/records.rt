@@ -3,7 +3,9 @@
 
 mod blocks;
 
-use crate::*;
+use captures::{
+    Clock, Fault, FileFault, Format, Next, NoCell, Opening, Order, Reader, RecordFault, Tick, open,
+};
 use std::test::Fail;
 
 /// Octets that begin with a record of this type, flags and length, received a second and a half after 1970 began. From octet

@@ -2,7 +2,7 @@
 //! description of pcapng.
 
 use super::octets_of;
-use crate::*;
+use captures::{Fault, Format, Next, Opening, Order, Reader, RecordFault, Section, open};
 use std::test::Fail;
 
 /// The octets of a number in this order.

@@ -1,8 +1,8 @@
 //! Tests of the options.
 
-use crate::{CellsOptions, FitOptions, cells_options, fit_options, police_options};
 use captures::Tick;
 use lab_captures::CellLines;
+use lab_options::{CellsOptions, FitOptions, cells_options, fit_options, police_options};
 use std::alloc::{AllocError, Global};
 use std::test::Fail;
 use upc_cell::Side;

@@ -1,0 +1,15 @@
+//! Records of a link, made by hand.
+
+/// A record with a cell of path 1 and this channel, received after this many seconds at this interface.
+pub fn record_of(seconds: u8, channel: u8, interface: u8) -> [u8; 68] {
+    let mut octets = [0; 68];
+    octets[4] = seconds;
+    octets[8] = 3;
+    octets[9] = interface;
+    octets[11] = 68;
+    octets[15] = 52;
+    octets[17] = 0x10;
+    octets[18] = channel / 0x10;
+    octets[19] = channel % 0x10 * 0x10;
+    octets
+}
