@@ -1,6 +1,6 @@
 //! The ports of the core, and their states.
 
-ghost use Rattle.std.specs.Prelude.{◌≡◌, IfSome, replicate, slice_get, slice_set};
+ghost use Rattle.std.specs.Prelude.{◌≡◌, IfSome, option_copied, replicate, slice_get, slice_set};
 ghost use Rattle.std.specs.List.{list_all};
 ghost use Rattle.card_core.specs.inner.Ports.{is_free_port, is_idle, came_in, found_in};
 
@@ -50,22 +50,22 @@ pub(crate) fn is_idle_at(ports: &[Port], port: u8) -> bool
     }
 }
 
-/// Returns the cell that entered the port of this number, if there is one.
-pub(crate) fn entered_at(ports: &[Port], port: u8) -> Option<Came>
-    ensures { result ≡ came_in (slice_get ports.now port) }
+/// Returns the cell that entered the port of this number, if there is one. It stays in its place.
+pub(crate) fn entered_at(ports: &[Port], port: u8) -> Option<&Came>
+    ensures { option_copied result ≡ came_in (slice_get ports.now port) }
 {
     match ports.get(usize::from(port)) {
-        Some(Port::Entered(came)) => Some(*came),
+        Some(Port::Entered(came)) => Some(came),
         Some(Port::Outside | Port::Picked(_)) | None => None,
     }
 }
 
-/// Returns the picked cell of the port of this number, if there is one.
-pub(crate) fn picked_at(ports: &[Port], port: u8) -> Option<Found>
-    ensures { result ≡ found_in (slice_get ports.now port) }
+/// Returns the picked cell of the port of this number, if there is one. It stays in its place.
+pub(crate) fn picked_at(ports: &[Port], port: u8) -> Option<&Found>
+    ensures { option_copied result ≡ found_in (slice_get ports.now port) }
 {
     match ports.get(usize::from(port)) {
-        Some(Port::Picked(found)) => Some(*found),
+        Some(Port::Picked(found)) => Some(found),
         Some(Port::Outside | Port::Entered(_)) | None => None,
     }
 }

@@ -209,7 +209,7 @@ impl Core {
         let Some(found) = picked_at(&self.ports, port) else {
             return PortReply::NotNow;
         };
-        let answer = judge_line(&mut self.lines, &found);
+        let answer = judge_line(&mut self.lines, found);
         move_port(&mut self.ports, port, Port::Outside);
         PortReply::Answered(answer)
     }

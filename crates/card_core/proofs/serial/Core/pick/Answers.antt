@@ -1,5 +1,5 @@
-use Rattle.std.proofs.Common.{◌≡◌, ◌<◌, ℕ, Some, None, List, length, refl, sym, subst}
-use Rattle.std.specs.Prelude.{slice_get}
+use Rattle.std.proofs.Common.{◌≡◌, ◌<◌, ℕ, Some, None, List, length, refl, sym, ap, subst}
+use Rattle.std.specs.Prelude.{option_copied, slice_get}
 use Rattle.card_core.specs.declared.answer.Answer.{Answer}
 use Rattle.card_core.specs.declared.port.Port.{Port}
 use Rattle.card_core.specs.declared.port.Port.TheVariants.{Picked as PickedPort}
@@ -21,7 +21,7 @@ pub returns-in_default-clause-follows : goal.returns-in_default-clause-follows
 returns-in_default-clause-follows c =
     let l = c.self.inside in
     let none : came_in (slice_get l.ports.items c.args.port) ≡ None =
-    let test = c.entered_at.ensures in let same = c.deref.ensures.value in let is = c.in_default.is in cc in
+    let test = c.entered_at.ensures in let same = c.deref.ensures.value in let is = ap option_copied c.in_default.is in cc in
     subst (λ (core : CoreView). Follows core (Pick c.args.port) NotNow core) c.self.view_is
     (pick-not l.shape l.store l.directory l.lines.items l.ports.items c.args.port none)
 
@@ -43,9 +43,9 @@ invariant_of-self-in-Err c =
 pub returns-in-Ok-clause-follows : goal.returns-in-Ok-clause-follows
 returns-in-Ok-clause-follows c =
     let l = c.self.inside in
-    let there : came_in (slice_get l.ports.items c.args.port) ≡ Some c.in-Some.came =
-    let test = c.entered_at.ensures in let same = c.deref.ensures.value in let is = c.in-Some.is in cc in
-    let goes = pick-goes l.shape l.store l.directory l.lines.items l.ports.items c.args.port c.in-Some.came there
+    let there : came_in (slice_get l.ports.items c.args.port) ≡ Some c.in-Some.came.now =
+    let test = c.entered_at.ensures in let same = c.deref.ensures.value in let is = ap option_copied c.in-Some.is in cc in
+    let goes = pick-goes l.shape l.store l.directory l.lines.items l.ports.items c.args.port c.in-Some.came.now there
     c.in-Ok.found c.in-Ok.ensures.found in
     let New : List Port → CoreView = λ ports. core_of l.shape l.store l.directory l.lines.items ports in
     subst (λ (core : CoreView). Follows core (Pick c.args.port) Picked (New c.move_port.new.ports.items)) c.self.view_is
@@ -54,10 +54,10 @@ returns-in-Ok-clause-follows c =
 pub returns-in-Err-clause-follows : goal.returns-in-Err-clause-follows
 returns-in-Err-clause-follows c =
     let l = c.self.inside in
-    let there : came_in (slice_get l.ports.items c.args.port) ≡ Some c.in-Some.came =
-    let test = c.entered_at.ensures in let same = c.deref.ensures.value in let is = c.in-Some.is in cc in
+    let there : came_in (slice_get l.ports.items c.args.port) ≡ Some c.in-Some.came.now =
+    let test = c.entered_at.ensures in let same = c.deref.ensures.value in let is = ap option_copied c.in-Some.is in cc in
     let answer = unjudged_answer c.in-Err.reason in
-    let goes = pick-missed l.shape l.store l.directory l.lines.items l.ports.items c.args.port c.in-Some.came there
+    let goes = pick-missed l.shape l.store l.directory l.lines.items l.ports.items c.args.port c.in-Some.came.now there
     answer c.in-Err.ensures.found in
     let New : List Port → CoreView = λ ports. core_of l.shape l.store l.directory l.lines.items ports in
     subst (λ (core : CoreView). Follows core (Pick c.args.port) (Answered c.answer.result) (New c.move_port-in-Err.new.ports.items)) c.self.view_is
