@@ -2,7 +2,7 @@
 import os
 import re
 
-from . import definitions, memory, places
+from . import definitions, history, memory, places
 from .definitions import reached
 from .files import ROOT, exists, files_below, text_of
 
@@ -132,7 +132,12 @@ def coded(sources):
                 yield f"{page}: its code isn't in {source[2]}"
 
 
-CHECKS = (comments, turned, defined, meant, linked, named, placed, failed, coded)
+def explained(sources):
+    """Yields each commit that changes a contract or a figure without a word about it."""
+    yield from history.silent()
+
+
+CHECKS = (comments, turned, defined, meant, linked, named, placed, failed, coded, explained)
 
 
 def checked(sources):
