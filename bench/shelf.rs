@@ -5,7 +5,7 @@
 
 mod plain_cards;
 
-use plain_cards::{Arrival, CELLS, Card, REFUSED, Told, Verdict, arrivals_of, cards_with, key_of, traffic_among};
+use plain_cards::{Arrival, CELLS, Card, REFUSED, Decision, Verdict, arrivals_of, cards_with, key_of, traffic_among};
 use std::thread;
 use std::time::Instant;
 
@@ -17,7 +17,7 @@ fn card_of(cell: &[u8; 52], cards: usize) -> usize {
     key_of(cell) as usize % cards
 }
 
-fn police(cards: &mut [Card], arrivals: &[Arrival]) -> Vec<Told> {
+fn police(cards: &mut [Card], arrivals: &[Arrival]) -> Vec<Decision> {
     let many = cards.len();
     let mut dealt = vec![Vec::new(); many];
     for (place, arrival) in arrivals.iter().enumerate() {
@@ -39,7 +39,7 @@ fn police(cards: &mut [Card], arrivals: &[Arrival]) -> Vec<Told> {
         .map(|arrival| {
             let number = card_of(&arrival.cell, many);
             next[number] += 1;
-            cards[number].told[next[number] - 1]
+            cards[number].decisions[next[number] - 1]
         })
         .collect()
 }
@@ -53,8 +53,8 @@ fn measure(all: &[u32], headers: &[u32], many: usize, size: usize) -> (u64, u128
         let arrivals = arrivals_of(headers, copies, round * (3 * copies * CELLS) as u64);
         let begun = Instant::now();
         for batch in arrivals.chunks(size) {
-            for told in police(&mut cards, batch) {
-                passed += told.map_or(REFUSED, |judgement| u64::from(judgement.verdict == Verdict::Pass));
+            for decision in police(&mut cards, batch) {
+                passed += decision.map_or(REFUSED, |judgement| u64::from(judgement.verdict == Verdict::Pass));
             }
         }
         least = least.min(begun.elapsed().as_nanos());

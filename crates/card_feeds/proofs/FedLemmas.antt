@@ -12,21 +12,21 @@ use Rattle.card_shelf.specs.declared.arrival.Arrival.{Arrival}
 use Rattle.card_shelf.specs.Own.{ServesAll}
 use Rattle.card_shelf.specs.inner.Rest.{IsAtRest}
 use Rattle.card_shelf.proofs.GoingOn.{goes-on}
-use Rattle.card_shelf.proofs.OwnLemmas.{Told}
+use Rattle.card_shelf.proofs.OwnLemmas.{Decision}
 use Rattle.card_shelf.proofs.RestLemmas.{resting-takes, serving-rests}
 use Rattle.card_feeds.specs.Feeding.{IsAnswerAt0, AnswersInOrder, ServesIfFree, IsFed}
 use Rattle.card_feeds.specs.inner.SoFar.{FedSoFar}
 
 -- What `Core::arrive` promises of its answer.
-pub answer-is : (old new : CoreView) (x : Arrival) (answer : Option Told)
-    → IfSome answer (λ told. AnswersArrival old 0 x.cell x.moment (answer_to x.cell told) new)
+pub answer-is : (old new : CoreView) (x : Arrival) (answer : Option Decision)
+    → IfSome answer (λ decision. AnswersArrival old 0 x.cell x.moment (answer_to x.cell decision) new)
     → IfNone answer (Follows old (Enter 0 x.cell x.moment) NotNow new) → IfNone answer (new ≡ old)
-    → IfSome answer (λ told. OnErr told (new ≡ old)) → IsAnswerAt0 x answer old new
+    → IfSome answer (λ decision. OnErr decision (new ≡ old)) → IsAnswerAt0 x answer old new
 answer-is old new x None answered not_now unchanged refused = (not_now, unchanged)
-answer-is old new x (Some told) answered not_now unchanged refused = record { answers = answered; refused = refused }
+answer-is old new x (Some decision) answered not_now unchanged refused = record { answers = answered; refused = refused }
 
 -- A card that has answered some arrivals answers one more.
-pub answers-next : (old middle new : CoreView) (xs : List Arrival) (answers : List (Option Told)) (x : Arrival) (answer : Option Told)
+pub answers-next : (old middle new : CoreView) (xs : List Arrival) (answers : List (Option Decision)) (x : Arrival) (answer : Option Decision)
     → AnswersInOrder old xs answers middle → IsAnswerAt0 x answer middle new
     → AnswersInOrder old (xs ++ x ∷ []) (answers ++ answer ∷ []) new
 answers-next old middle new [] [] x answer so_far next =
@@ -36,39 +36,39 @@ answers-next old middle new (y ∷ xs) [] x answer so_far next = absurd so_far
 answers-next old middle new (y ∷ xs) (a ∷ answers) x answer so_far next =
     (so_far.0, so_far.1, answers-next so_far.0 middle new xs answers x answer so_far.2 next)
 
--- What a card at rest has told of arrivals, which it has served.
-record Serving (old : CoreView) (arrivals : List Arrival) (answers : List (Option Told)) (new : CoreView) : Type 0 where
-  told : List Told
-  all : answers ≡ map Some told
-  serves : ServesAll old arrivals told new
+-- The decisions of a card at rest about arrivals, which it has served.
+record Serving (old : CoreView) (arrivals : List Arrival) (answers : List (Option Decision)) (new : CoreView) : Type 0 where
+  decisions : List Decision
+  all : answers ≡ map Some decisions
+  serves : ServesAll old arrivals decisions new
   rest : IsAtRest new
 
-serving : (old new : CoreView) (arrivals : List Arrival) (answers : List (Option Told)) → IsAtRest old
+serving : (old new : CoreView) (arrivals : List Arrival) (answers : List (Option Decision)) → IsAtRest old
     → AnswersInOrder old arrivals answers new → Serving old arrivals answers new
-serving old new [] [] rest goes = record { told = []; all = refl; serves = goes; rest = subst IsAtRest (sym goes) rest }
+serving old new [] [] rest goes = record { decisions = []; all = refl; serves = goes; rest = subst IsAtRest (sym goes) rest }
 serving old new [] (answer ∷ more) rest goes = absurd goes
 serving old new (arrival ∷ later) [] rest goes = absurd goes
 serving old new (arrival ∷ later) (None ∷ more) rest goes =
     absurd (resting-takes old goes.0 arrival.cell arrival.moment rest goes.1.0)
-serving old new (arrival ∷ later) (Some told ∷ more) rest goes =
-    let next = serving-rests old goes.0 arrival.cell arrival.moment (answer_to arrival.cell told) rest goes.1.answers in
+serving old new (arrival ∷ later) (Some decision ∷ more) rest goes =
+    let next = serving-rests old goes.0 arrival.cell arrival.moment (answer_to arrival.cell decision) rest goes.1.answers in
     let others = serving goes.0 new later more next goes.2 in
     record {
-      told = told ∷ others.told;
-      all = ap (λ (answers : List (Option Told)). Some told ∷ answers) others.all;
+      decisions = decision ∷ others.decisions;
+      all = ap (λ (answers : List (Option Decision)). Some decision ∷ answers) others.all;
       serves = (goes.0, goes.1, others.serves);
       rest = others.rest;
     }
 
 -- A card whose port 0 has no cell serves its arrivals.
-pub serves-if-free : (old new : CoreView) (arrivals : List Arrival) (answers : List (Option Told))
+pub serves-if-free : (old new : CoreView) (arrivals : List Arrival) (answers : List (Option Decision))
     → AnswersInOrder old arrivals answers new → ServesIfFree old arrivals answers new
 serves-if-free old new arrivals answers goes shape log before leads agrees free =
     let rest : IsAtRest old = record { shape = shape; log = log; world = before; leads = leads; agrees = agrees; free = free } in
     let served = serving old new arrivals answers rest goes in
-    let gone = goes-on old new arrivals served.told served.serves shape log before leads agrees in
+    let gone = goes-on old new arrivals served.decisions served.serves shape log before leads agrees in
     record {
-      told = served.told;
+      decisions = served.decisions;
       all = served.all;
       serves = served.serves;
       events = gone.0;
@@ -77,7 +77,7 @@ serves-if-free old new arrivals answers goes shape log before leads agrees free 
       free = ap (λ (ports : List PortState). slice_get ports 0) (sym gone.2.agrees.ports ∙ served.rest.agrees.ports) ∙ served.rest.free;
     }
 
-module _ (old : CoreView) (arrivals : List Arrival) (had : List (Option Told) → Type 0) where
+module _ (old : CoreView) (arrivals : List Arrival) (had : List (Option Decision) → Type 0) where
   -- At first all arrivals are left.
   pub fed-first : FedSoFar old arrivals had old arrivals had
   fed-first = record {
@@ -89,10 +89,10 @@ module _ (old : CoreView) (arrivals : List Arrival) (had : List (Option Told) �
   }
 
   -- One more is answered.
-  pub fed-next : (middle new : CoreView) (left later : List Arrival) (between after has : List (Option Told) → Type 0)
-      (x : Arrival) (answer : Option Told) → FedSoFar old arrivals had middle left between → left ≡ x ∷ later
-      → IsAnswerAt0 x answer middle new → ((answers : List (Option Told)) → between answers → after answers)
-      → ((answers : List (Option Told)) → after answers → has (answers ++ answer ∷ []))
+  pub fed-next : (middle new : CoreView) (left later : List Arrival) (between after has : List (Option Decision) → Type 0)
+      (x : Arrival) (answer : Option Decision) → FedSoFar old arrivals had middle left between → left ≡ x ∷ later
+      → IsAnswerAt0 x answer middle new → ((answers : List (Option Decision)) → between answers → after answers)
+      → ((answers : List (Option Decision)) → after answers → has (answers ++ answer ∷ []))
       → FedSoFar old arrivals had new later has
   fed-next middle new left later between after has x answer fed e answers given taken = record {
     given = fed.given ++ x ∷ [];
@@ -104,9 +104,9 @@ module _ (old : CoreView) (arrivals : List Arrival) (had : List (Option Told) �
   }
 
   -- None is left.
-  pub fed-last : (new : CoreView) (left ended : List Arrival) (between has : List (Option Told) → Type 0)
+  pub fed-last : (new : CoreView) (left ended : List Arrival) (between has : List (Option Decision) → Type 0)
       → FedSoFar old arrivals had new left between → left ≡ [] → ended ≡ []
-      → ((answers : List (Option Told)) → between answers → has answers) → IsFed old arrivals had new ended has
+      → ((answers : List (Option Decision)) → between answers → has answers) → IsFed old arrivals had new ended has
   fed-last new left ended between has fed e end kept =
       let all : fed.given ≡ arrivals = sym (fed.parted ∙ ap (λ (xs : List Arrival). fed.given ++ xs) e ∙ append-nil fed.given) in
       let answered = subst (λ (xs : List Arrival). AnswersInOrder old xs fed.answers new) all fed.answered in

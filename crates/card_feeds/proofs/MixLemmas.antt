@@ -7,10 +7,10 @@ use Rattle.upc_cell.specs.declared.side.Side.{Side}
 use Rattle.gen_arena.proofs.Public.{slice_get-set, slice_get-set_same, slice_get-set_other}
 use Rattle.card_shelf.specs.declared.arrival.Arrival.{Arrival}
 use Rattle.card_shelf.specs.Dealing.{card_for}
-use Rattle.card_shelf.specs.Own.{own_arrivals, own_told, ServesAll, EachServes}
-use Rattle.card_shelf.proofs.Beside.{tells-as-one}
+use Rattle.card_shelf.specs.Own.{own_arrivals, own_decisions, ServesAll, EachServes}
+use Rattle.card_shelf.proofs.Beside.{decides-as-one}
 use Rattle.card_shelf.proofs.Lists.{there}
-use Rattle.card_shelf.proofs.OwnLemmas.{Told, own-here, own-elsewhere, told-here, told-elsewhere, serves-length}
+use Rattle.card_shelf.proofs.OwnLemmas.{Decision, own-here, own-elsewhere, decisions-here, decisions-elsewhere, serves-length}
 use Rattle.card_shelf.proofs.Weaving.{weave}
 use Rattle.card_feeds.specs.Mixing.{IsMixOf, AreOnTheirCards, FedCardsAnswerAsOneCard}
 
@@ -44,29 +44,29 @@ mix-own side cards queues (x ∷ xs) homes mixed number queue at =
     ]
 
 -- Each list of answers is as long as the list of the card's own arrivals.
-abbrev HaveLengths : Side → ℕ → List Arrival → List (List Told) → Type 0
-HaveLengths side cards mix answers = (number : ℕ) (own : List Told) → slice_get answers number ≡ Some own
+abbrev HaveLengths : Side → ℕ → List Arrival → List (List Decision) → Type 0
+HaveLengths side cards mix answers = (number : ℕ) (own : List Decision) → slice_get answers number ≡ Some own
     → length own ≡ length (own_arrivals side cards number mix)
 
 -- These are answers to all, of which each card's own are its list.
-record Joined (side : Side) (cards : ℕ) (mix : List Arrival) (answers : List (List Told)) : Type 0 where
-  told : List Told
-  one_each : length told ≡ length mix
-  own : (number : ℕ) (own : List Told) → slice_get answers number ≡ Some own → own_told side cards number mix told ≡ own
+record Joined (side : Side) (cards : ℕ) (mix : List Arrival) (answers : List (List Decision)) : Type 0 where
+  decisions : List Decision
+  one_each : length decisions ≡ length mix
+  own : (number : ℕ) (own : List Decision) → slice_get answers number ≡ Some own → own_decisions side cards number mix decisions ≡ own
 
-no-answers : (told : List Told) → length told ≡ 0 → [] ≡ told
+no-answers : (decisions : List Decision) → length decisions ≡ 0 → [] ≡ decisions
 no-answers [] e = refl
 no-answers (t ∷ ts) e = absurd (omega (arith, e))
 
 -- A list with this length begins with something.
-begins : (told : List Told) (n : ℕ) → length told ≡ suc n → (t : Told) × (ts : List Told) × (told ≡ t ∷ ts)
+begins : (decisions : List Decision) (n : ℕ) → length decisions ≡ suc n → (t : Decision) × (ts : List Decision) × (decisions ≡ t ∷ ts)
 begins [] n e = absurd (omega (arith, e))
 begins (t ∷ ts) n e = (t, ts, refl)
 
-join : (side : Side) (cards : ℕ) (mix : List Arrival) (answers : List (List Told)) → length answers ≡ cards
+join : (side : Side) (cards : ℕ) (mix : List Arrival) (answers : List (List Decision)) → length answers ≡ cards
     → ((arrival : Arrival) → card_for side cards arrival < cards) → HaveLengths side cards mix answers → Joined side cards mix answers
 join side cards [] answers sized within lengths = record {
-  told = [];
+  decisions = [];
   one_each = refl;
   own = λ number own at. no-answers own (lengths number own at);
 }
@@ -87,17 +87,17 @@ join side cards (x ∷ xs) answers sized within lengths =
     ] in
     let later = join side cards xs (slice_set answers k ts) (length-set answers k ts ∙ sized) within fewer in
     record {
-      told = t ∷ later.told;
+      decisions = t ∷ later.decisions;
       one_each = omega (arith, later.one_each);
       own = λ number others at. elim (cases_eq number k) [
         | inl same ↦
             let first : own.0 ≡ others = same_Some own.0 others (sym own.1 ∙ ap (slice_get answers) (sym same) ∙ at) in
-            told-here side cards number x xs t later.told (sym same)
-            ∙ ap (λ (us : List Told). t ∷ us) (later.own number ts
+            decisions-here side cards number x xs t later.decisions (sym same)
+            ∙ ap (λ (us : List Decision). t ∷ us) (later.own number ts
             (ap (slice_get (slice_set answers k ts)) same ∙ slice_get-set_same answers k ts (slice_get_within answers k own.0 own.1)))
             ∙ sym parts.2 ∙ first
         | inr apart ↦
-            told-elsewhere side cards number x xs t later.told (λ e. apart (sym e))
+            decisions-elsewhere side cards number x xs t later.decisions (λ e. apart (sym e))
             ∙ later.own number others (slice_get-set_other answers k number ts apart ∙ at)
       ];
     }
@@ -109,26 +109,26 @@ mix-answered shape old new queues answers have mix mixed =
     let cards = length old in
     let own = mix-own side cards queues mix have.homes mixed in
     let within : (arrival : Arrival) → card_for side cards arrival < cards = λ arrival. mod-lt _ have.some in
-    let lengths : HaveLengths side cards mix answers = λ number told at.
-    let below = slice_get_within answers number told at in
+    let lengths : HaveLengths side cards mix answers = λ number decisions at.
+    let below = slice_get_within answers number decisions at in
     let queue = there queues number (omega (arith, below, have.answers_each, have.queues_each)) in
     let card = there old number (omega (arith, below, have.answers_each)) in
     let next = there new number (omega (arith, below, have.answers_each, have.cards)) in
-    serves-length card.0 next.0 queue.0 told (have.served number card.0 next.0 queue.0 told card.1 next.1 queue.1 at)
+    serves-length card.0 next.0 queue.0 decisions (have.served number card.0 next.0 queue.0 decisions card.1 next.1 queue.1 at)
     ∙ ap length (sym (own number queue.0 queue.1)) in
     let all = join side cards mix answers have.answers_each within lengths in
-    let each : EachServes side old mix all.told new = λ number card next here after.
+    let each : EachServes side old mix all.decisions new = λ number card next here after.
     let below = slice_get_within old number card here in
     let queue = there queues number (omega (arith, below, have.queues_each)) in
-    let told = there answers number (omega (arith, below, have.answers_each)) in
-    subst (λ (ts : List Told). ServesAll card (own_arrivals side cards number mix) ts next) (sym (all.own number told.0 told.1))
-    (subst (λ (xs : List Arrival). ServesAll card xs told.0 next) (sym (own number queue.0 queue.1))
-    (have.served number card next queue.0 told.0 here after queue.1 told.1)) in
-    let policed = weave side old new mix all.told have.some have.cards all.one_each within each in
+    let decisions = there answers number (omega (arith, below, have.answers_each)) in
+    subst (λ (ts : List Decision). ServesAll card (own_arrivals side cards number mix) ts next) (sym (all.own number decisions.0 decisions.1))
+    (subst (λ (xs : List Arrival). ServesAll card xs decisions.0 next) (sym (own number queue.0 queue.1))
+    (have.served number card next queue.0 decisions.0 here after queue.1 decisions.1)) in
+    let policed = weave side old new mix all.decisions have.some have.cards all.one_each within each in
     record {
-      told = all.told;
+      decisions = all.decisions;
       one_each = all.one_each;
       own = all.own;
       policed = policed;
-      as_one = tells-as-one shape old new mix all.told policed;
+      as_one = decides-as-one shape old new mix all.decisions policed;
     }

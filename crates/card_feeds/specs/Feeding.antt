@@ -16,7 +16,7 @@ use Rattle.card_shelf.specs.Policing.{ServesArrival}
 -- The answer of `Core::arrive` to an arrival at port 0: the card serves the arrival. Or there is none, since it is not the
 -- time for a cell, and the card is as before.
 abbrev pub IsAnswerAt0 : Arrival → Option (Result Judgement Unjudged) → CoreView → CoreView → Type 0
-IsAnswerAt0 arrival (Some told) old new = ServesArrival arrival told old new
+IsAnswerAt0 arrival (Some decision) old new = ServesArrival arrival decision old new
 IsAnswerAt0 arrival None old new = Follows old (Enter 0 arrival.cell arrival.moment) NotNow new × (new ≡ old)
 
 -- The card gives these answers to these arrivals, one after another.
@@ -31,11 +31,11 @@ AnswersInOrder old (arrival ∷ later) (answer ∷ more) new =
 -- the card agrees with now, and there port 0 has no cell.
 pub record HasServed (shape : Shape) (log : List Event) (before : World) (arrivals : List Arrival)
     (answers : List (Option (Result Judgement Unjudged))) (old new : CoreView) : Type 0 where
-  pub told : List (Result Judgement Unjudged)
-  pub all : answers ≡ map Some told
-  pub serves : ServesAll old arrivals told new
+  pub decisions : List (Result Judgement Unjudged)
+  pub all : answers ≡ map Some decisions
+  pub serves : ServesAll old arrivals decisions new
   pub events : List Event
-  pub ways : AreWaysOf arrivals told events
+  pub ways : AreWaysOf arrivals decisions events
   pub gone : GoneAll shape log before events new
   pub free : slice_get gone.after.ports 0 ≡ Some outside
 

@@ -7,8 +7,8 @@ use Rattle.card_core.specs.declared.answer.Unjudged.{Unjudged}
 use Rattle.card_core.specs.declared.shape.Shape.{Shape}
 use Rattle.card_shelf.specs.declared.arrival.Arrival.{Arrival}
 use Rattle.card_shelf.specs.Dealing.{card_for}
-use Rattle.card_shelf.specs.OneCard.{TellsAsOneCard}
-use Rattle.card_shelf.specs.Own.{ServesAll, own_told}
+use Rattle.card_shelf.specs.OneCard.{DecidesAsOneCard}
+use Rattle.card_shelf.specs.Own.{ServesAll, own_decisions}
 use Rattle.card_shelf.specs.Policing.{PolicesAll}
 
 -- The list has all arrivals of these queues and no others, and those of each queue in their order. It begins with the
@@ -32,21 +32,21 @@ pub record HaveServedQueues (side : Side) (old : List CoreView) (queues : List (
   pub queues_each : length queues ≡ length old
   pub answers_each : length answers ≡ length old
   pub homes : AreOnTheirCards side (length old) queues
-  pub served : (number : ℕ) (card next : CoreView) (queue : List Arrival) (told : List (Result Judgement Unjudged))
+  pub served : (number : ℕ) (card next : CoreView) (queue : List Arrival) (decisions : List (Result Judgement Unjudged))
       → slice_get old number ≡ Some card → slice_get new number ≡ Some next
-      → slice_get queues number ≡ Some queue → slice_get answers number ≡ Some told
-      → ServesAll card queue told next
+      → slice_get queues number ≡ Some queue → slice_get answers number ≡ Some decisions
+      → ServesAll card queue decisions next
 
 -- There is an answer to each arrival of the mix, and those of each card are its own answers. The cards answer the mix so,
 -- one arrival after another, and the answers are those of one card with all their connections.
 pub record MixIsAnswered (shape : Shape) (old : List CoreView) (answers : List (List (Result Judgement Unjudged)))
     (new : List CoreView) (mix : List Arrival) : Type 0 where
-  pub told : List (Result Judgement Unjudged)
-  pub one_each : length told ≡ length mix
+  pub decisions : List (Result Judgement Unjudged)
+  pub one_each : length decisions ≡ length mix
   pub own : (number : ℕ) (own : List (Result Judgement Unjudged)) → slice_get answers number ≡ Some own
-      → own_told shape.side (length old) number mix told ≡ own
-  pub policed : PolicesAll shape.side old mix told new
-  pub as_one : TellsAsOneCard shape old mix told new
+      → own_decisions shape.side (length old) number mix decisions ≡ own
+  pub policed : PolicesAll shape.side old mix decisions new
+  pub as_one : DecidesAsOneCard shape old mix decisions new
 
 -- If each card has served its own queue, the answers are those of one card that takes all arrivals, in every mix of the
 -- queues.

@@ -5,7 +5,7 @@ ghost use Rattle.card_core.specs.declared.answer.Judgement.{Judgement};
 ghost use Rattle.card_core.specs.declared.answer.Unjudged.{Unjudged};
 ghost use Rattle.card_shelf.specs.declared.arrival.Arrival.{Arrival};
 
-use card_shelf::{Arrival, Told};
+use card_shelf::{Arrival, Decision};
 
 /// The source of a card's arrivals, and the sink of the answers to them.
 ///
@@ -28,7 +28,7 @@ pub trait Feeder {
         ensures kept { (answers : _) → has_taken self.old answers → has_taken self.new answers };
 
     /// Takes the card's answer to the arrival that was given last: that of `Core::arrive` at port 0.
-    fn take_answer(&mut self, answer: Option<Told>)
+    fn take_answer(&mut self, answer: Option<Decision>)
         requires { awaits self.old }
         ensures taken { (answers : _) → has_taken self.old answers → has_taken self.new (answers ++ answer ∷ []) }
         ensures coming { coming self.new ≡ coming self.old };

@@ -6,7 +6,7 @@ ghost use Rattle.card_core.specs.declared.answer.Unjudged.{Unjudged};
 ghost use Rattle.card_shelf.specs.declared.arrival.Arrival.{Arrival};
 
 use crate::feeder::Feeder;
-use card_shelf::{Arrival, Told};
+use card_shelf::{Arrival, Decision};
 use std::alloc::{AllocError, Global};
 use std::marker::Model;
 use std::mem;
@@ -16,7 +16,7 @@ use std::mem;
 pub struct Queue {
     arrivals: Vec<Arrival>,
     given: usize,
-    answers: Vec<Option<Told>>,
+    answers: Vec<Option<Decision>>,
 }
 
 impl Model for Queue {
@@ -71,7 +71,7 @@ impl Queue {
     }
 
     /// The answers that were taken, in the order of the arrivals.
-    pub fn answers(&self) -> &[Option<Told>]
+    pub fn answers(&self) -> &[Option<Decision>]
         ensures { result.now ≡ self.now.answers }
     {
         &self.answers
@@ -101,7 +101,7 @@ impl Feeder for Queue {
         Some(arrival)
     }
 
-    fn take_answer(&mut self, answer: Option<Told>) {
+    fn take_answer(&mut self, answer: Option<Decision>) {
         self.answers.push_reserved(answer);
     }
 }

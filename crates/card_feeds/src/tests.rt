@@ -5,7 +5,7 @@ use arrayvec::ArrayVec;
 use bpf_code::Instr;
 use bpf_verify::verify;
 use card_core::{Ask, Core, PortReply, Reply, Shape, Step, Unjudged};
-use card_shelf::{Arrival, Told};
+use card_shelf::{Arrival, Decision};
 use gen_arena::Id;
 use leaky::{Contract, Gcra, Verdict};
 use std::alloc::Global;
@@ -110,7 +110,7 @@ fn lanes(alloc: Global, all: &[Arrival], cards: u16) -> Result<Vec<Lane<Queue>>,
 }
 
 /// The part of an answer that does not depend on which card has the connection.
-fn seen(answer: Option<Told>) -> Option<Result<(Verdict, u64, u32), Unjudged>> {
+fn seen(answer: Option<Decision>) -> Option<Result<(Verdict, u64, u32), Unjudged>> {
     match answer? {
         Ok(judgement) => Some(Ok((judgement.verdict, judgement.moment, judgement.value))),
         Err(reason) => Some(Err(reason)),
@@ -118,7 +118,7 @@ fn seen(answer: Option<Told>) -> Option<Result<(Verdict, u64, u32), Unjudged>> {
 }
 
 /// Whether this card answers these arrivals with these answers.
-fn answers_all(core: &mut Core, arrivals: &[Arrival], answers: &[Option<Told>]) -> bool {
+fn answers_all(core: &mut Core, arrivals: &[Arrival], answers: &[Option<Decision>]) -> bool {
     let mut same = arrivals.len() == answers.len();
     for (arrival, answer) in arrivals.iter().zip(answers) {
         same = core.arrive(0, &arrival.cell, arrival.moment) == *answer && same;
@@ -141,9 +141,9 @@ fn mix_is_answered(
         let (Some(lane), Some(place)) = (lanes.get(number), places.get_mut(number)) else {
             return Err(Fail::from("no such card"));
         };
-        let told = lane.feeder.answers().get(*place).copied().flatten();
+        let decision = lane.feeder.answers().get(*place).copied().flatten();
         *place = place.wrapping_add(1);
-        same = seen(core.arrive(0, &arrival.cell, arrival.moment)) == seen(told) && same;
+        same = seen(core.arrive(0, &arrival.cell, arrival.moment)) == seen(decision) && same;
     }
     Ok(same)
 }

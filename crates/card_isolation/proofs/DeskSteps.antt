@@ -26,7 +26,7 @@ use Rattle.card_isolation.proofs.Forgotten.{forgotten, seen_entries, entries-for
 use Rattle.card_core.proofs.ConnectionLemmas.{without-here}
 use Rattle.card_isolation.proofs.Connections.{with-here, with-others, without-others, found-same, code-stays}
 use Rattle.card_isolation.proofs.Alone.{Standing, Place, idle, came, looked, Alone, ended, code_alone, piece_alone, reloaded, cut_off, set_up}
-use Rattle.card_isolation.proofs.Views.{standing_of, is_current, place_of, alone_of, alone_in, Goes, Tells, no-more, same-alone, tells-at}
+use Rattle.card_isolation.proofs.Views.{standing_of, is_current, place_of, alone_of, alone_in, Goes, StepEffect, no-more, same-alone, effect-at}
 
 -- Load: the codes that were loaded before remain.
 
@@ -47,15 +47,15 @@ standing-loaded before new None stays = refl
 standing-loaded before new (Some connection) stays =
     ap (λ code. Some (record (standing_of before.given connection) { code = code })) (stays connection refl)
 
-pub tells-loads : (vc : Vc) (before : World) (code : List Instr) (reply : Reply) (after : World) → WorldInvariant before
-    → Loads before code reply after → Tells vc before (Load code) reply after
-tells-loads vc before code reply after sound w =
+pub effect-loads : (vc : Vc) (before : World) (code : List Instr) (reply : Reply) (after : World) → WorldInvariant before
+    → Loads before code reply after → StepEffect vc before (Load code) reply after
+effect-loads vc before code reply after sound w =
     let new : Loading = record { id = w.id; code = code } in
     let here : Option Connection = connection_in before.connections vc in
     let next : w.id.generation ≡ times_given before.given w.id.slot + 1 =
     subst (λ slot. w.id.generation ≡ times_given before.given slot + 1) (sym w.here) w.next in
     let later : World = record before { given = new ∷ before.given; live = new ∷ before.live } in
-    tells-at vc before (Load code) reply (Loaded w.id) after later w.answer w.world (record {
+    effect-at vc before (Load code) reply (Loaded w.id) after later w.answer w.world (record {
       shape = refl;
       notes = refl;
       own = same-alone (alone_in vc later) (alone_in vc before)
@@ -67,10 +67,10 @@ tells-loads vc before code reply after sound w =
       counts = λ line. no-more (before.judged line);
     })
 
-pub tells-retires : (vc : Vc) (before : World) (id : Id) (reply : Reply) (after : World)
-    → Retires before id reply after → Tells vc before (Retire id) reply after
-tells-retires vc before id reply after w =
-    tells-at vc before (Retire id) reply (Retired w.code) after (record before { live = without_code before.live id }) w.answer w.world (record {
+pub effect-retires : (vc : Vc) (before : World) (id : Id) (reply : Reply) (after : World)
+    → Retires before id reply after → StepEffect vc before (Retire id) reply after
+effect-retires vc before id reply after w =
+    effect-at vc before (Retire id) reply (Retired w.code) after (record before { live = without_code before.live id }) w.answer w.world (record {
       shape = refl;
       notes = refl;
       own = refl;
@@ -101,9 +101,9 @@ was-free before ask allowed =
     let two = passed_on (is_some (connection_in before.connections ask.vc)) _ _ one.1 in
     is_missing (connection_in before.connections ask.vc) two.0
 
-pub tells-sets_up : (vc : Vc) (before : World) (ask : Ask) (reply : Reply) (after : World) → WorldInvariant before
-    → refusal before (Setup ask) ≡ None → SetsUp before ask reply after → Tells vc before (Setup ask) reply after
-tells-sets_up vc before ask reply after sound allowed w =
+pub effect-sets_up : (vc : Vc) (before : World) (ask : Ask) (reply : Reply) (after : World) → WorldInvariant before
+    → refusal before (Setup ask) ≡ None → SetsUp before ask reply after → StepEffect vc before (Setup ask) reply after
+effect-sets_up vc before ask reply after sound allowed w =
     let alone : Alone = alone_in vc before in
     let own : Bool = is_same_vc vc ask.vc in
     let code : Option (List Instr) = code_in before.given ask.program in
@@ -128,7 +128,7 @@ tells-sets_up vc before ask reply after sound allowed w =
           }
       | false ↦ λ e. ap (alone_with vc before) (with-others before.connections ask.vc vc new e)
     ] in
-    tells-at vc before (Setup ask) reply (SetUp (record { vc = ask.vc; incarnation = before.used + 1 })) after later w.answer w.world (record {
+    effect-at vc before (Setup ask) reply (SetUp (record { vc = ask.vc; incarnation = before.used + 1 })) after later w.answer w.world (record {
       shape = refl;
       notes = refl;
       own = choice own refl;
@@ -158,9 +158,9 @@ rewritten vc other before old new e found same =
     (λ port. place-kept vc before new old same (slice_get before.ports port))
     ∙ ap (λ (o : Option Connection). (alone_with vc before o).places) (sym was))
 
-pub tells-reloads : (vc : Vc) (before : World) (other : Vc) (program : Id) (reply : Reply) (after : World)
-    → Reloads before other program reply after → Tells vc before (Reload other program) reply after
-tells-reloads vc before other program reply after w =
+pub effect-reloads : (vc : Vc) (before : World) (other : Vc) (program : Id) (reply : Reply) (after : World)
+    → Reloads before other program reply after → StepEffect vc before (Reload other program) reply after
+effect-reloads vc before other program reply after w =
     let alone : Alone = alone_in vc before in
     let own : Bool = is_same_vc vc other in
     let code : Option (List Instr) = code_in before.given program in
@@ -179,7 +179,7 @@ tells-reloads vc before other program reply after w =
           }
       | false ↦ λ e. ap (alone_with vc before) (with-others before.connections other vc new e)
     ] in
-    tells-at vc before (Reload other program) reply (Reloaded w.connection.program) after later w.answer w.world (record {
+    effect-at vc before (Reload other program) reply (Reloaded w.connection.program) after later w.answer w.world (record {
       shape = refl;
       notes = refl;
       own = choice own refl;
@@ -198,9 +198,9 @@ piece-alike before other connection piece is =
     ∙ ap (λ (rest : List NamedCell). handed_out connection.contracts (seen_entries connection.contracts (take connection.handed (map forgotten connection.history)) rest))
     (sym (drop-map forgotten connection.handed connection.history))
 
-pub tells-cuts : (vc : Vc) (before : World) (other : Vc) (reply : Reply) (after : World)
-    → Cuts before other reply after → Tells vc before (Cut other) reply after
-tells-cuts vc before other reply after w =
+pub effect-cuts : (vc : Vc) (before : World) (other : Vc) (reply : Reply) (after : World)
+    → Cuts before other reply after → StepEffect vc before (Cut other) reply after
+effect-cuts vc before other reply after w =
     let alone : Alone = alone_in vc before in
     let own : Bool = is_same_vc vc other in
     let new : Connection = record w.connection { handed = length w.connection.history } in
@@ -220,7 +220,7 @@ tells-cuts vc before other reply after w =
           }
       | false ↦ λ e. ap (alone_with vc before) (with-others before.connections other vc new e)
     ] in
-    tells-at vc before (Cut other) reply (CutOff w.piece) after later w.answer w.world (record {
+    effect-at vc before (Cut other) reply (CutOff w.piece) after later w.answer w.world (record {
       shape = refl;
       notes = refl;
       own = choice own refl;
@@ -251,9 +251,9 @@ gone : (connections : List (Vc × Connection)) (vc other : Vc) → is_same_vc vc
     → connection_in (without_connection connections other) vc ≡ None
 gone connections vc other e = found-same (without_connection connections other) vc other None e (without-here connections other)
 
-pub tells-releases : (vc : Vc) (before : World) (other : Vc) (reply : Reply) (after : World)
-    → Releases before other reply after → Tells vc before (Release other) reply after
-tells-releases vc before other reply after w =
+pub effect-releases : (vc : Vc) (before : World) (other : Vc) (reply : Reply) (after : World)
+    → Releases before other reply after → StepEffect vc before (Release other) reply after
+effect-releases vc before other reply after w =
     let alone : Alone = alone_in vc before in
     let own : Bool = is_same_vc vc other in
     let later : World = record before { connections = without_connection before.connections other } in
@@ -272,7 +272,7 @@ tells-releases vc before other reply after w =
           }
       | false ↦ λ e. ap (alone_with vc before) (without-others before.connections other vc e)
     ] in
-    tells-at vc before (Release other) reply (Released w.piece) after later w.answer w.world (record {
+    effect-at vc before (Release other) reply (Released w.piece) after later w.answer w.world (record {
       shape = refl;
       notes = refl;
       own = choice own refl;

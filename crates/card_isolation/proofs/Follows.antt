@@ -21,10 +21,10 @@ use Rattle.card_isolation.specs.Act.{Act}
 use Rattle.card_isolation.specs.OwnEvents.{OwnEvent, own_event}
 use Rattle.card_isolation.specs.Restriction.{is_for_no_other_than}
 use Rattle.card_isolation.proofs.Alone.{event_with}
-use Rattle.card_isolation.proofs.Views.{alone_in, notes_in, Goes, Tells}
-use Rattle.card_isolation.proofs.Steps.{HasJudgedFew, step-tells}
+use Rattle.card_isolation.proofs.Views.{alone_in, notes_in, Goes, StepEffect}
+use Rattle.card_isolation.proofs.Steps.{HasJudgedFew, step-effect}
 use Rattle.card_isolation.proofs.Unseen.{IsUnseen}
-use Rattle.card_isolation.proofs.Shadow.{Holding, held, holding_of, HasOnlyKept, Shadows, tell-apart, AreOne, are-one, are-none}
+use Rattle.card_isolation.proofs.Shadow.{Holding, held, holding_of, HasOnlyKept, Shadows, are-apart, AreOne, are-one, are-none}
 use Rattle.card_isolation.proofs.OwnSteps.{OwnStep}
 
 -- The shadow doesn't follow a step of the world, or takes the same step, which is the same own event of each kept
@@ -80,9 +80,9 @@ module _ {kept : Vc → Bool} {world shadow : World} (beside : AreBeside kept wo
   stays-shadow step reply after w unseen =
       let same : (vc : Vc) → kept vc ≡ true → alone_in vc after ≡ alone_in vc world = λ vc is.
       subst (λ (o : Option OwnEvent). Goes world.shape.journal o (alone_in vc world) (alone_in vc after)) (unseen.none vc is)
-      (step-tells vc world step reply after beside.sound beside.few w).own in
+      (step-effect vc world step reply after beside.sound beside.few w).own in
       stays unseen.none (record {
-        shape = beside.shadows.shape ∙ sym (step-tells (any_vc world) world step reply after beside.sound beside.few w).shape;
+        shape = beside.shadows.shape ∙ sym (step-effect (any_vc world) world step reply after beside.sound beside.few w).shape;
         given = beside.shadows.given ∙ sym unseen.given;
         live = beside.shadows.live ∙ sym unseen.live;
         alone = λ vc is. beside.shadows.alone vc is ∙ sym (same vc is);
@@ -99,17 +99,17 @@ module _ {kept : Vc → Bool} {world shadow : World} (beside : AreBeside kept wo
       → OwnStep vc world step reply after act holds more → OwnStep vc shadow step answered later other holds more → other ≡ act
       → Follows kept world step reply after shadow
   goes-own vc is_kept step reply answered after later act other holds more w w_too own_step own own_too same =
-      let tells : (another : Vc) → Tells another world step reply after = λ another. step-tells another world step reply after beside.sound beside.few w in
-      let tells_too : (another : Vc) → Tells another shadow step answered later = λ another.
-      step-tells another shadow step answered later beside.sound_too beside.few_too w_too in
+      let effect : (another : Vc) → StepEffect another world step reply after = λ another. step-effect another world step reply after beside.sound beside.few w in
+      let effect_too : (another : Vc) → StepEffect another shadow step answered later = λ another.
+      step-effect another shadow step answered later beside.sound_too beside.few_too w_too in
       let one : (another : Vc) → kept another ≡ true → AreOne another world shadow step reply answered after later = λ another is.
       let choice : (b : Bool) → is_same_vc another vc ≡ b → AreOne another world shadow step reply answered after later = elim [
         | true ↦ λ e.
             subst (λ (v : Vc). AreOne v world shadow step reply answered after later) (sym (vc_same another vc e))
             (are-one vc world shadow step reply answered after later (event_with act own.outcome) (event_with other own_too.outcome)
-            beside.shadows.shape (beside.shadows.alone vc is_kept) (tells vc) (tells_too vc) own.event own_too.event same)
+            beside.shadows.shape (beside.shadows.alone vc is_kept) (effect vc) (effect_too vc) own.event own_too.event same)
         | false ↦ λ e.
-            are-none another world shadow step reply answered after later (beside.shadows.alone another is) (tells another) (tells_too another)
+            are-none another world shadow step reply answered after later (beside.shadows.alone another is) (effect another) (effect_too another)
             (own.apart another e) (own_too.apart another e)
       ] in
       choice (is_same_vc another vc) refl in
@@ -123,14 +123,14 @@ module _ {kept : Vc → Bool} {world shadow : World} (beside : AreBeside kept wo
       ] in
       choice (is_same_vc another vc) refl in
       goes_too answered later w_too own_step (λ another is. (one another is).event) (record {
-        shape = (tells_too vc).shape ∙ beside.shadows.shape ∙ sym (tells vc).shape;
+        shape = (effect_too vc).shape ∙ beside.shadows.shape ∙ sym (effect vc).shape;
         given = own_too.given ∙ beside.shadows.given ∙ sym own.given;
         live = own_too.live ∙ beside.shadows.live ∙ sym own.live;
         alone = λ another is. (one another is).alone;
         holding = held_alike;
         used = omega (arith, own_too.used, own.used, beside.shadows.used);
-        others = λ another isnt. own_too.others another (tell-apart kept another vc false isnt is_kept) ∙ beside.shadows.others another isnt;
-        ports = subst (λ (shape : Shape). HasOnlyKept shape.side kept later.ports) (sym (tells_too vc).shape) (own_too.ports kept is_kept beside.shadows.ports);
+        others = λ another isnt. own_too.others another (are-apart kept another vc false isnt is_kept) ∙ beside.shadows.others another isnt;
+        ports = subst (λ (shape : Shape). HasOnlyKept shape.side kept later.ports) (sym (effect_too vc).shape) (own_too.ports kept is_kept beside.shadows.ports);
       })
 
   -- A step that is no connection's event and changes the programs of both in the same way.
@@ -143,20 +143,20 @@ module _ {kept : Vc → Bool} {world shadow : World} (beside : AreBeside kept wo
       → after.used ≡ world.used → later.used ≡ shadow.used → later.ports ≡ shadow.ports
       → Follows kept world step reply after shadow
   goes-beside step reply answered after later w w_too own_step none none_too given live connections connections_too used used_too ports =
-      let tells : (vc : Vc) → Tells vc world step reply after = λ vc. step-tells vc world step reply after beside.sound beside.few w in
-      let tells_too : (vc : Vc) → Tells vc shadow step answered later = λ vc. step-tells vc shadow step answered later beside.sound_too beside.few_too w_too in
+      let effect : (vc : Vc) → StepEffect vc world step reply after = λ vc. step-effect vc world step reply after beside.sound beside.few w in
+      let effect_too : (vc : Vc) → StepEffect vc shadow step answered later = λ vc. step-effect vc shadow step answered later beside.sound_too beside.few_too w_too in
       let one : (vc : Vc) → kept vc ≡ true → AreOne vc world shadow step reply answered after later = λ vc is.
-      are-none vc world shadow step reply answered after later (beside.shadows.alone vc is) (tells vc) (tells_too vc) (none vc) (none_too vc) in
+      are-none vc world shadow step reply answered after later (beside.shadows.alone vc is) (effect vc) (effect_too vc) (none vc) (none_too vc) in
       let holding_at : Vc → List (Vc × Connection) → Option Holding = λ vc connections. option_map held (connection_in connections vc) in
       goes_too answered later w_too own_step (λ vc is. (one vc is).event) (record {
-        shape = (tells_too (any_vc world)).shape ∙ beside.shadows.shape ∙ sym (tells (any_vc world)).shape;
+        shape = (effect_too (any_vc world)).shape ∙ beside.shadows.shape ∙ sym (effect (any_vc world)).shape;
         given = given;
         live = live;
         alone = λ vc is. (one vc is).alone;
         holding = λ vc is. ap (holding_at vc) connections_too ∙ beside.shadows.holding vc is ∙ sym (ap (holding_at vc) connections);
         used = omega (arith, used, used_too, beside.shadows.used);
         others = λ vc isnt. ap (λ (l : List (Vc × Connection)). connection_in l vc) connections_too ∙ beside.shadows.others vc isnt;
-        ports = subst (λ (shape : Shape). HasOnlyKept shape.side kept later.ports) (sym (tells_too (any_vc world)).shape)
+        ports = subst (λ (shape : Shape). HasOnlyKept shape.side kept later.ports) (sym (effect_too (any_vc world)).shape)
             (subst (λ (l : List PortState). HasOnlyKept shadow.shape.side kept l) (sym ports) beside.shadows.ports);
       })
 

@@ -12,8 +12,8 @@ use Rattle.card_isolation.specs.ByArrival.{opening_arrivals}
 use Rattle.card_isolation.proofs.Renumbered.{Matches, plays-numbered}
 use Rattle.card_isolation.proofs.Basics.{pointwise}
 use Rattle.card_isolation.proofs.Alone.{Place, idle, Alone, Plays, same-outcomes}
-use Rattle.card_isolation.proofs.Views.{place_of, has_own_in, alone_in, notes_in, Goes, Tells, same-notes}
-use Rattle.card_isolation.proofs.Steps.{HasJudgedFew, step-tells}
+use Rattle.card_isolation.proofs.Views.{place_of, has_own_in, alone_in, notes_in, Goes, StepEffect, same-notes}
+use Rattle.card_isolation.proofs.Steps.{HasJudgedFew, step-effect}
 
 -- One event and the later ones.
 plays-behind : (journal : ℕ) (event : Option OwnEvent) (before after : Alone) (later : List OwnEvent)
@@ -30,17 +30,17 @@ module _ (vc : Vc) (shape : Shape) where
   plays-later so_far (event ∷ log) before after leads run is taken counted within =
       let next : World = run.0 in
       let few : HasJudgedFew before = λ line. omega (arith, counted line, within) in
-      let tells : Tells vc before event.step event.reply next =
-      step-tells vc before event.step event.reply next (worlds-sound shape so_far before leads) few run.1 in
+      let effect : StepEffect vc before event.step event.reply next =
+      step-effect vc before event.step event.reply next (worlds-sound shape so_far before leads) few run.1 in
       let goes : Goes shape.journal (own_event shape.side vc (notes_in vc before) event.reply event.step) (alone_in vc before) (alone_in vc next) =
       subst (λ (s : Shape). Goes s.journal (own_event s.side vc (notes_in vc before) event.reply event.step) (alone_in vc before) (alone_in vc next))
-      is tells.own in
+      is effect.own in
       let notes : notes_after shape.side vc (notes_in vc before) event ≡ notes_in vc next =
-      subst (λ (s : Shape). notes_after s.side vc (notes_in vc before) event ≡ notes_in vc next) is tells.notes in
+      subst (λ (s : Shape). notes_after s.side vc (notes_in vc before) event ≡ notes_in vc next) is effect.notes in
       let later : Plays shape.journal (alone_in vc next) (own_events_after shape.side vc (notes_in vc next) log) =
       plays-later (so_far ++ event ∷ []) log next after
-      (log-goes_on (opening_world shape) before next so_far event.step event.reply leads run.1) run.2 (tells.shape ∙ is) (suc taken)
-      (λ line. omega (arith, tells.counts line, counted line)) (omega (arith, within)) in
+      (log-goes_on (opening_world shape) before next so_far event.step event.reply leads run.1) run.2 (effect.shape ∙ is) (suc taken)
+      (λ line. omega (arith, effect.counts line, counted line)) (omega (arith, within)) in
       plays-behind shape.journal (own_event shape.side vc (notes_in vc before) event.reply event.step) (alone_in vc before) (alone_in vc next)
       (own_events_after shape.side vc (notes_after shape.side vc (notes_in vc before) event) log) goes
       (subst (λ (n : Notes). Plays shape.journal (alone_in vc next) (own_events_after shape.side vc n log)) (sym notes) later)

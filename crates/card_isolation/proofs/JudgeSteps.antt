@@ -26,7 +26,7 @@ use Rattle.card_isolation.proofs.Basics.{pointwise, with_at, with_at-same, seen-
 use Rattle.card_isolation.proofs.Forgotten.{forgotten, last-forgotten, verdict-forgotten}
 use Rattle.card_isolation.proofs.Connections.{with-here, with-others, found-same}
 use Rattle.card_isolation.proofs.Alone.{Standing, Place, idle, came, looked, Alone, LooksUp, found_alone, cell_alone, moment_refusal, refusal_alone, judged_alone, answered_alone, outcome_at, with_judged, kept_alone, judged_at, is_idle}
-use Rattle.card_isolation.proofs.Views.{event_of, standing_of, is_current, place_of, has_own_in, alone_of, alone_in, notes_in, Goes, Tells, no-more, same-notes, same-alone, goes-by, tells-at}
+use Rattle.card_isolation.proofs.Views.{event_of, standing_of, is_current, place_of, has_own_in, alone_of, alone_in, notes_in, Goes, StepEffect, no-more, same-notes, same-alone, goes-by, effect-at}
 use Rattle.card_isolation.proofs.PortSteps.{places-set, noted-set}
 
 -- A cell is refused on the card exactly if the connection on its own refuses it, while no line is full.
@@ -149,9 +149,9 @@ module _ (vc : Vc) (before : World) (less : (line : ℕ) → length (before.judg
       ∙ is
 
   -- The cell is refused.
-  tells-unjudged : (answer : Answer) → picking_refusal before picking (connection_in before.connections picking.vc) ≡ Some answer
-      → Tells vc before (Judge port) (Answered answer) (with_port before port outside)
-  tells-unjudged answer is =
+  effect-unjudged : (answer : Answer) → picking_refusal before picking (connection_in before.connections picking.vc) ≡ Some answer
+      → StepEffect vc before (Judge port) (Answered answer) (with_port before port outside)
+  effect-unjudged answer is =
       let alone : Alone = alone_in vc before in
       let later : World = with_port before port outside in
       let outcome : Outcome = outcome_of before.given answer in
@@ -264,8 +264,8 @@ module _ (vc : Vc) (before : World) (less : (line : ℕ) → length (before.judg
         ∙ places-set vc before port (picked picking) outside had
         ∙ ap (λ (p : ℕ → Place). record (alone_in vc before) { places = p }) (with_at-same (alone_in vc before).places port idle (place_none e))
 
-    tells-judged : Tells vc before (Judge port) (Answered (judgement_of before picking connection)) (judged_world before port picking connection)
-    tells-judged =
+    effect-judged : StepEffect vc before (Judge port) (Answered (judgement_of before picking connection)) (judged_world before port picking connection)
+    effect-judged =
         let alone : Alone = alone_in vc before in
         let later : World = judged_world before port picking connection in
         let choice : (b : Bool) → own ≡ b → Goes journal_is (own_where b (judges port) outcome_is) alone (alone_in vc later) = elim [
@@ -283,36 +283,36 @@ module _ (vc : Vc) (before : World) (less : (line : ℕ) → length (before.judg
         }
 
 -- A Judge that succeeds.
-pub tells-judges : (vc : Vc) (before : World) → ((line : ℕ) → length (before.judged line) < 2 ^ 62) → (port : ℕ) (reply : Reply) (after : World)
-    → refusal before (Judge port) ≡ None → Judges before port reply after → Tells vc before (Judge port) reply after
-tells-judges vc before less port reply after allowed w =
+pub effect-judges : (vc : Vc) (before : World) → ((line : ℕ) → length (before.judged line) < 2 ^ 62) → (port : ℕ) (reply : Reply) (after : World)
+    → refusal before (Judge port) ≡ None → Judges before port reply after → StepEffect vc before (Judge port) reply after
+effect-judges vc before less port reply after allowed w =
     let none : picking_refusal before w.picking (connection_in before.connections w.picking.vc) ≡ None =
     unmapped Answered (picking_refusal before w.picking (connection_in before.connections w.picking.vc))
     (subst (λ (o : Option PortState). judge_refusal before o ≡ None) w.had allowed) in
-    tells-at vc before (Judge port) reply (Answered (judgement_of before w.picking w.connection)) after
+    effect-at vc before (Judge port) reply (Answered (judgement_of before w.picking w.connection)) after
     (judged_world before port w.picking w.connection) w.answer w.world
-    (tells-judged vc before less port w.picking w.had w.connection w.found none)
+    (effect-judged vc before less port w.picking w.had w.connection w.found none)
 
 -- NotNow changes no port.
-tells-not_now : (vc : Vc) (before : World) (step : Step) (refused : Reply) → Some NotNow ≡ Some refused → Tells vc before step refused before
-tells-not_now vc before step refused e =
-    subst (λ (r : Reply). Tells vc before step r before) (same_Some NotNow refused e) (record {
+effect-not_now : (vc : Vc) (before : World) (step : Step) (refused : Reply) → Some NotNow ≡ Some refused → StepEffect vc before step refused before
+effect-not_now vc before step refused e =
+    subst (λ (r : Reply). StepEffect vc before step r before) (same_Some NotNow refused e) (record {
       shape = refl;
       notes = refl;
       own = refl;
       counts = λ line. no-more (before.judged line);
     })
 
-pub tells-judge_refused : (vc : Vc) (before : World) → ((line : ℕ) → length (before.judged line) < 2 ^ 62) → (port : ℕ) (refused : Reply)
+pub effect-judge_refused : (vc : Vc) (before : World) → ((line : ℕ) → length (before.judged line) < 2 ^ 62) → (port : ℕ) (refused : Reply)
     → (o : Option PortState) → slice_get before.ports port ≡ o → judge_refusal before o ≡ Some refused
-    → Tells vc before (Judge port) refused (left_by_judge before port o)
-tells-judge_refused vc before less port refused None at e = tells-not_now vc before (Judge port) refused e
-tells-judge_refused vc before less port refused (Some outside) at e = tells-not_now vc before (Judge port) refused e
-tells-judge_refused vc before less port refused (Some (entered cell moment)) at e = tells-not_now vc before (Judge port) refused e
-tells-judge_refused vc before less port refused (Some (picked picking)) at e =
+    → StepEffect vc before (Judge port) refused (left_by_judge before port o)
+effect-judge_refused vc before less port refused None at e = effect-not_now vc before (Judge port) refused e
+effect-judge_refused vc before less port refused (Some outside) at e = effect-not_now vc before (Judge port) refused e
+effect-judge_refused vc before less port refused (Some (entered cell moment)) at e = effect-not_now vc before (Judge port) refused e
+effect-judge_refused vc before less port refused (Some (picked picking)) at e =
     let answer = mapped Answered (picking_refusal before picking (connection_in before.connections picking.vc)) refused e in
-    subst (λ (r : Reply). Tells vc before (Judge port) r (with_port before port outside)) (sym answer.2)
-    (tells-unjudged vc before less port picking at answer.0 answer.1)
+    subst (λ (r : Reply). StepEffect vc before (Judge port) r (with_port before port outside)) (sym answer.2)
+    (effect-unjudged vc before less port picking at answer.0 answer.1)
 
 -- A Pick that finds no connection.
 
@@ -321,10 +321,10 @@ pub no-connection : (o : Option Connection) (refused : Reply) → cond (is_none 
 no-connection None refused e = (refl, sym (same_Some (Answered UnknownCell) refused e))
 no-connection (Some connection) refused e = absurd (cc)
 
-tells-unknown : (vc : Vc) (before : World) (port : ℕ) (cell : List ℕ) (moment : ℕ) → slice_get before.ports port ≡ Some (entered cell moment)
+effect-unknown : (vc : Vc) (before : World) (port : ℕ) (cell : List ℕ) (moment : ℕ) → slice_get before.ports port ≡ Some (entered cell moment)
     → connection_in before.connections (vc_of before.shape.side cell) ≡ None
-    → Tells vc before (Pick port) (Answered UnknownCell) (with_port before port outside)
-tells-unknown vc before port cell moment had none =
+    → StepEffect vc before (Pick port) (Answered UnknownCell) (with_port before port outside)
+effect-unknown vc before port cell moment had none =
     let side : Side = before.shape.side in
     let alone : Alone = alone_in vc before in
     let own : Bool = is_same_vc vc (vc_of side cell) in
@@ -357,12 +357,12 @@ tells-unknown vc before port cell moment had none =
       counts = λ line. no-more (before.judged line);
     }
 
-pub tells-pick_refused : (vc : Vc) (before : World) (port : ℕ) (refused : Reply) → (o : Option PortState) → slice_get before.ports port ≡ o
-    → pick_refusal before o ≡ Some refused → Tells vc before (Pick port) refused (left_by_pick before port o)
-tells-pick_refused vc before port refused None at e = tells-not_now vc before (Pick port) refused e
-tells-pick_refused vc before port refused (Some outside) at e = tells-not_now vc before (Pick port) refused e
-tells-pick_refused vc before port refused (Some (entered cell moment)) at e =
+pub effect-pick_refused : (vc : Vc) (before : World) (port : ℕ) (refused : Reply) → (o : Option PortState) → slice_get before.ports port ≡ o
+    → pick_refusal before o ≡ Some refused → StepEffect vc before (Pick port) refused (left_by_pick before port o)
+effect-pick_refused vc before port refused None at e = effect-not_now vc before (Pick port) refused e
+effect-pick_refused vc before port refused (Some outside) at e = effect-not_now vc before (Pick port) refused e
+effect-pick_refused vc before port refused (Some (entered cell moment)) at e =
     let none = no-connection (connection_in before.connections (vc_of before.shape.side cell)) refused e in
-    subst (λ (r : Reply). Tells vc before (Pick port) r (with_port before port outside)) (sym none.1)
-    (tells-unknown vc before port cell moment at none.0)
-tells-pick_refused vc before port refused (Some (picked picking)) at e = tells-not_now vc before (Pick port) refused e
+    subst (λ (r : Reply). StepEffect vc before (Pick port) r (with_port before port outside)) (sym none.1)
+    (effect-unknown vc before port cell moment at none.0)
+effect-pick_refused vc before port refused (Some (picked picking)) at e = effect-not_now vc before (Pick port) refused e

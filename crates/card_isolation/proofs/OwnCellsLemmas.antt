@@ -26,9 +26,9 @@ use Rattle.card_core.proofs.Public.{worlds-sound, log-goes_on}
 use Rattle.card_isolation.specs.Act.{Act, judges}
 use Rattle.card_isolation.specs.Outcome.{Outcome, was_judged, was_not_judged, outcome_of}
 use Rattle.card_isolation.specs.OwnEvents.{OwnEvent, Notes, notes_after, own_event, own_where, behind, own_events_after, opening_notes}
-use Rattle.card_isolation.specs.OwnCells.{ToldCell, own_answer, judged_outcome, judged_own, judged_on, JudgedCellsAreOwn}
-use Rattle.card_isolation.proofs.Views.{has_own_in, notes_in, Tells, same-notes}
-use Rattle.card_isolation.proofs.Steps.{HasJudgedFew, step-tells, enter-refused}
+use Rattle.card_isolation.specs.OwnCells.{OwnAnswer, own_answer, judged_outcome, judged_own, judged_on, JudgedCellsAreOwn}
+use Rattle.card_isolation.proofs.Views.{has_own_in, notes_in, StepEffect, same-notes}
+use Rattle.card_isolation.proofs.Steps.{HasJudgedFew, step-effect, enter-refused}
 use Rattle.card_core.proofs.LookUps.{mapped}
 use Rattle.card_isolation.proofs.JudgeSteps.{no-connection, picking-plain}
 use Rattle.card_core.proofs.CellLemmas.{vc-after}
@@ -36,11 +36,11 @@ use Rattle.card_isolation.proofs.Isolated.{no-own}
 
 -- The judged cell of an event, if it has one and it is the connection's.
 
-abbrev of_event : Option OwnEvent → List ToldCell
+abbrev of_event : Option OwnEvent → List OwnAnswer
 of_event None = []
 of_event (Some event) = judged_own (event ∷ [])
 
-abbrev in_reply : Shape → Vc → Option JudgedView → List ToldCell
+abbrev in_reply : Shape → Vc → Option JudgedView → List OwnAnswer
 in_reply shape vc None = []
 in_reply shape vc (Some judged) = cond (is_same_vc vc (vc_of shape.side judged.cell)) (own_answer judged ∷ []) []
 
@@ -71,7 +71,7 @@ reply-of shape vc event later =
 -- An event without a judged cell.
 
 plain-own : (own : Bool) (act : Act) (outcome : Outcome) → judged_outcome outcome ≡ None → of_event (own_where own act outcome) ≡ []
-plain-own true act outcome none = ap (λ (o : Option ToldCell). cons_option o []) none
+plain-own true act outcome none = ap (λ (o : Option OwnAnswer). cons_option o []) none
 plain-own false act outcome none = refl
 
 plain-answer : (codes : List Loading) (answer : Answer) → told answer ≡ None → judged_outcome (outcome_of codes answer) ≡ None
@@ -92,69 +92,69 @@ plain-event side vc notes _ _ e = refl
 
 -- A refusal has no judged cell.
 
-plain-told : (answer : Answer) → outcome_of [] answer ≡ was_not_judged answer → told answer ≡ None
-plain-told (Judged line number moment value program verdict cell) e = absurd (cc)
-plain-told _ e = refl
+plain-unjudged : (answer : Answer) → outcome_of [] answer ≡ was_not_judged answer → told answer ≡ None
+plain-unjudged (Judged line number moment value program verdict cell) e = absurd (cc)
+plain-unjudged _ e = refl
 
 at-no-time : (refused : Reply) → Some NotNow ≡ Some refused → judged_in refused ≡ None
 at-no-time refused e = ap judged_in (sym (same_Some NotNow refused e))
 
-pick-untold : (world : World) (refused : Reply) → (o : Option PortState) → pick_refusal world o ≡ Some refused → judged_in refused ≡ None
-pick-untold world refused None e = at-no-time refused e
-pick-untold world refused (Some outside) e = at-no-time refused e
-pick-untold world refused (Some (entered cell moment)) e =
+pick-not_judged : (world : World) (refused : Reply) → (o : Option PortState) → pick_refusal world o ≡ Some refused → judged_in refused ≡ None
+pick-not_judged world refused None e = at-no-time refused e
+pick-not_judged world refused (Some outside) e = at-no-time refused e
+pick-not_judged world refused (Some (entered cell moment)) e =
     ap judged_in (no-connection (connection_in world.connections (vc_of world.shape.side cell)) refused e).1
-pick-untold world refused (Some (picked picking)) e = at-no-time refused e
+pick-not_judged world refused (Some (picked picking)) e = at-no-time refused e
 
-judge-untold : (world : World) (refused : Reply) → (o : Option PortState) → judge_refusal world o ≡ Some refused → judged_in refused ≡ None
-judge-untold world refused None e = at-no-time refused e
-judge-untold world refused (Some outside) e = at-no-time refused e
-judge-untold world refused (Some (entered cell moment)) e = at-no-time refused e
-judge-untold world refused (Some (picked picking)) e =
+judge-not_judged : (world : World) (refused : Reply) → (o : Option PortState) → judge_refusal world o ≡ Some refused → judged_in refused ≡ None
+judge-not_judged world refused None e = at-no-time refused e
+judge-not_judged world refused (Some outside) e = at-no-time refused e
+judge-not_judged world refused (Some (entered cell moment)) e = at-no-time refused e
+judge-not_judged world refused (Some (picked picking)) e =
     let is = mapped Answered (picking_refusal world picking (connection_in world.connections picking.vc)) refused e in
-    ap judged_in is.2 ∙ plain-told is.0 (picking-plain world picking (connection_in world.connections picking.vc) is.0 is.1 [])
+    ap judged_in is.2 ∙ plain-unjudged is.0 (picking-plain world picking (connection_in world.connections picking.vc) is.0 is.1 [])
 
-desk-untold : (fault : Option DeskFault) (refused : Reply) → option_map Refused fault ≡ Some refused → judged_in refused ≡ None
-desk-untold fault refused e = ap judged_in (mapped Refused fault refused e).2
+desk-not_judged : (fault : Option DeskFault) (refused : Reply) → option_map Refused fault ≡ Some refused → judged_in refused ≡ None
+desk-not_judged fault refused e = ap judged_in (mapped Refused fault refused e).2
 
-refused-untold : (world : World) (step : Step) (refused : Reply) → refusal world step ≡ Some refused → judged_in refused ≡ None
-refused-untold world (Enter port cell moment) refused e = ap judged_in (sym (enter-refused (slice_get world.ports port) refused e))
-refused-untold world (Pick port) refused e = pick-untold world refused (slice_get world.ports port) e
-refused-untold world (Judge port) refused e = judge-untold world refused (slice_get world.ports port) e
-refused-untold world (Load code) refused e = ap judged_in (mapped (λ fault. NotLoaded fault code) (load_fault world) refused e).2
-refused-untold world (Retire id) refused e = desk-untold (retire_fault world id) refused e
-refused-untold world (Setup ask) refused e = ap judged_in (mapped (λ fault. NotSetUp fault ask) (setup_fault world ask) refused e).2
-refused-untold world (Reload other program) refused e = desk-untold (reload_fault world other program) refused e
-refused-untold world (Release other) refused e = desk-untold (missing_fault world other) refused e
-refused-untold world (Cut other) refused e = desk-untold (missing_fault world other) refused e
+refused-not_judged : (world : World) (step : Step) (refused : Reply) → refusal world step ≡ Some refused → judged_in refused ≡ None
+refused-not_judged world (Enter port cell moment) refused e = ap judged_in (sym (enter-refused (slice_get world.ports port) refused e))
+refused-not_judged world (Pick port) refused e = pick-not_judged world refused (slice_get world.ports port) e
+refused-not_judged world (Judge port) refused e = judge-not_judged world refused (slice_get world.ports port) e
+refused-not_judged world (Load code) refused e = ap judged_in (mapped (λ fault. NotLoaded fault code) (load_fault world) refused e).2
+refused-not_judged world (Retire id) refused e = desk-not_judged (retire_fault world id) refused e
+refused-not_judged world (Setup ask) refused e = ap judged_in (mapped (λ fault. NotSetUp fault ask) (setup_fault world ask) refused e).2
+refused-not_judged world (Reload other program) refused e = desk-not_judged (reload_fault world other program) refused e
+refused-not_judged world (Release other) refused e = desk-not_judged (missing_fault world other) refused e
+refused-not_judged world (Cut other) refused e = desk-not_judged (missing_fault world other) refused e
 
-starved-untold : (step : Step) (reply : Reply) → without_memory step ≡ Some reply → judged_in reply ≡ None
-starved-untold (Setup ask) reply e = ap judged_in (sym (same_Some (NotSetUp NoMemory ask) reply e))
-starved-untold (Cut other) reply e = ap judged_in (sym (same_Some (Refused NoMemory) reply e))
-starved-untold (Enter port cell moment) reply e = absurd (cc)
-starved-untold (Pick port) reply e = absurd (cc)
-starved-untold (Judge port) reply e = absurd (cc)
-starved-untold (Load code) reply e = absurd (cc)
-starved-untold (Retire id) reply e = absurd (cc)
-starved-untold (Reload other program) reply e = absurd (cc)
-starved-untold (Release other) reply e = absurd (cc)
+starved-not_judged : (step : Step) (reply : Reply) → without_memory step ≡ Some reply → judged_in reply ≡ None
+starved-not_judged (Setup ask) reply e = ap judged_in (sym (same_Some (NotSetUp NoMemory ask) reply e))
+starved-not_judged (Cut other) reply e = ap judged_in (sym (same_Some (Refused NoMemory) reply e))
+starved-not_judged (Enter port cell moment) reply e = absurd (cc)
+starved-not_judged (Pick port) reply e = absurd (cc)
+starved-not_judged (Judge port) reply e = absurd (cc)
+starved-not_judged (Load code) reply e = absurd (cc)
+starved-not_judged (Retire id) reply e = absurd (cc)
+starved-not_judged (Reload other program) reply e = absurd (cc)
+starved-not_judged (Release other) reply e = absurd (cc)
 
 -- An event has a judged cell of the connection exactly if it is its own event.
 
-abbrev TellsAlike : Vc → World → Step → Reply → Type 0
-TellsAlike vc world step reply =
+abbrev IsAnsweredAlike : Vc → World → Step → Reply → Type 0
+IsAnsweredAlike vc world step reply =
     of_event (own_event world.shape.side vc (notes_in vc world) reply step) ≡ in_reply world.shape vc (judged_in reply)
 
-untold : (vc : Vc) (world : World) (step : Step) (reply : Reply) → judged_in reply ≡ None → TellsAlike vc world step reply
-untold vc world step reply e =
+not_judged : (vc : Vc) (world : World) (step : Step) (reply : Reply) → judged_in reply ≡ None → IsAnsweredAlike vc world step reply
+not_judged vc world step reply e =
     plain-event world.shape.side vc (notes_in vc world) reply step e ∙ sym (ap (in_reply world.shape vc) e)
 
 judges-alike : (vc : Vc) (world : World) (port : ℕ) (reply : Reply) (after : World) → WorldInvariant world → Judges world port reply after
-    → TellsAlike vc world (Judge port) reply
+    → IsAnsweredAlike vc world (Judge port) reply
 judges-alike vc world port reply after sound w =
     let verdict : Verdict = verdict_on w.connection (cell_of_picking w.picking) in
     let leaving : List ℕ = cell_after verdict w.picking.cell in
-    let cell : ToldCell = record { moment = w.picking.moment; value = w.picking.value; verdict = verdict; cell = leaving } in
+    let cell : OwnAnswer = record { moment = w.picking.moment; value = w.picking.value; verdict = verdict; cell = leaving } in
     let outcome : Outcome = was_judged w.picking.moment w.picking.value (code_in world.given w.picking.program) verdict leaving in
     let vc_is : w.picking.vc ≡ vc_of world.shape.side leaving =
     (sound.ports port w.picking w.had).own ∙ sym (vc-after world.shape.side verdict w.picking.cell) in
@@ -162,35 +162,35 @@ judges-alike vc world port reply after sound w =
       | true ↦ refl
       | false ↦ refl
     ] in
-    subst (λ (r : Reply). TellsAlike vc world (Judge port) r) (sym w.answer)
+    subst (λ (r : Reply). IsAnsweredAlike vc world (Judge port) r) (sym w.answer)
     (ap (λ b. of_event (own_where b (judges port) outcome)) (ap (has_own_in world.shape.side vc) w.had)
     ∙ choice (is_same_vc vc w.picking.vc)
     ∙ ap (λ (v : Vc). cond (is_same_vc vc v) (cell ∷ []) []) vc_is)
 
 succeeded-alike : (vc : Vc) (world : World) (step : Step) (reply : Reply) (after : World) → WorldInvariant world → Succeeds world step reply after
-    → TellsAlike vc world step reply
-succeeded-alike vc world (Enter port cell moment) reply after sound w = untold vc world (Enter port cell moment) reply (ap judged_in w.answer)
-succeeded-alike vc world (Pick port) reply after sound w = untold vc world (Pick port) reply (ap judged_in w.answer)
+    → IsAnsweredAlike vc world step reply
+succeeded-alike vc world (Enter port cell moment) reply after sound w = not_judged vc world (Enter port cell moment) reply (ap judged_in w.answer)
+succeeded-alike vc world (Pick port) reply after sound w = not_judged vc world (Pick port) reply (ap judged_in w.answer)
 succeeded-alike vc world (Judge port) reply after sound w = judges-alike vc world port reply after sound w
-succeeded-alike vc world (Load code) reply after sound w = untold vc world (Load code) reply (ap judged_in w.answer)
-succeeded-alike vc world (Retire id) reply after sound w = untold vc world (Retire id) reply (ap judged_in w.answer)
-succeeded-alike vc world (Setup ask) reply after sound w = untold vc world (Setup ask) reply (ap judged_in w.answer)
-succeeded-alike vc world (Reload other program) reply after sound w = untold vc world (Reload other program) reply (ap judged_in w.answer)
-succeeded-alike vc world (Release other) reply after sound w = untold vc world (Release other) reply (ap judged_in w.answer)
-succeeded-alike vc world (Cut other) reply after sound w = untold vc world (Cut other) reply (ap judged_in w.answer)
+succeeded-alike vc world (Load code) reply after sound w = not_judged vc world (Load code) reply (ap judged_in w.answer)
+succeeded-alike vc world (Retire id) reply after sound w = not_judged vc world (Retire id) reply (ap judged_in w.answer)
+succeeded-alike vc world (Setup ask) reply after sound w = not_judged vc world (Setup ask) reply (ap judged_in w.answer)
+succeeded-alike vc world (Reload other program) reply after sound w = not_judged vc world (Reload other program) reply (ap judged_in w.answer)
+succeeded-alike vc world (Release other) reply after sound w = not_judged vc world (Release other) reply (ap judged_in w.answer)
+succeeded-alike vc world (Cut other) reply after sound w = not_judged vc world (Cut other) reply (ap judged_in w.answer)
 
 step-alike : (vc : Vc) (world : World) (step : Step) (reply : Reply) (after : World) → WorldInvariant world → WorldStep world step reply after
-    → TellsAlike vc world step reply
+    → IsAnsweredAlike vc world step reply
 step-alike vc world step reply after sound w =
     let choice : (o : Option Reply) → refusal world step ≡ o
     → MatchOption o (Succeeds world step reply after ⊎ FindsNoMemory world step reply after)
     (λ refused. IsRefused world step refused reply after)
-    → TellsAlike vc world step reply = elim [
+    → IsAnsweredAlike vc world step reply = elim [
       | None ↦ λ e w. elim w [
         | inl success ↦ succeeded-alike vc world step reply after sound success
-        | inr memory ↦ untold vc world step reply (starved-untold step reply memory.answer)
+        | inr memory ↦ not_judged vc world step reply (starved-not_judged step reply memory.answer)
       ]
-      | Some refused ↦ λ e w. untold vc world step reply (ap judged_in w.answer ∙ refused-untold world step refused e)
+      | Some refused ↦ λ e w. not_judged vc world step reply (ap judged_in w.answer ∙ refused-not_judged world step refused e)
     ] in
     choice (refusal world step) refl w
 
@@ -204,21 +204,21 @@ module _ (vc : Vc) (shape : Shape) where
       let next : World = run.0 in
       let few : HasJudgedFew world = λ line. omega (arith, counted line, within) in
       let sound = worlds-sound shape so_far world leads in
-      let tells : Tells vc world event.step event.reply next = step-tells vc world event.step event.reply next sound few run.1 in
+      let effect : StepEffect vc world event.step event.reply next = step-effect vc world event.step event.reply next sound few run.1 in
       let noted : notes_after shape.side vc (notes_in vc world) event ≡ notes_in vc next =
-      subst (λ (x : Shape). notes_after x.side vc (notes_in vc world) event ≡ notes_in vc next) is tells.notes in
+      subst (λ (x : Shape). notes_after x.side vc (notes_in vc world) event ≡ notes_in vc next) is effect.notes in
       let own : Option OwnEvent = own_event shape.side vc (notes_in vc world) event.reply event.step in
       let alike : of_event own ≡ in_reply shape vc (judged_in event.reply) =
       subst (λ (x : Shape). of_event (own_event x.side vc (notes_in vc world) event.reply event.step) ≡ in_reply x vc (judged_in event.reply)) is
       (step-alike vc world event.step event.reply next sound run.1) in
       let rest : judged_own (own_events_after shape.side vc (notes_in vc next) log) ≡ judged_on shape vc log =
       own-later (so_far ++ event ∷ []) log next end
-      (log-goes_on (opening_world shape) world next so_far event.step event.reply leads run.1) run.2 (tells.shape ∙ is) (suc taken)
-      (λ line. omega (arith, tells.counts line, counted line)) (omega (arith, within)) in
+      (log-goes_on (opening_world shape) world next so_far event.step event.reply leads run.1) run.2 (effect.shape ∙ is) (suc taken)
+      (λ line. omega (arith, effect.counts line, counted line)) (omega (arith, within)) in
       behind-of own (own_events_after shape.side vc (notes_after shape.side vc (notes_in vc world) event) log)
       ∙ ap (λ (n : Notes). of_event own ++ judged_own (own_events_after shape.side vc n log)) noted
-      ∙ ap (λ (l : List ToldCell). of_event own ++ l) rest
-      ∙ ap (λ (l : List ToldCell). l ++ judged_on shape vc log) alike
+      ∙ ap (λ (l : List OwnAnswer). of_event own ++ l) rest
+      ∙ ap (λ (l : List OwnAnswer). l ++ judged_on shape vc log) alike
       ∙ sym (reply-of shape vc event log)
 
 pub judged-own : JudgedCellsAreOwn

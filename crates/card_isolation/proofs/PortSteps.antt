@@ -16,7 +16,7 @@ use Rattle.card_isolation.specs.OwnEvents.{own_where, notes_after}
 use Rattle.card_isolation.proofs.Basics.{with_at, with_at-same, seen-set}
 use Rattle.card_isolation.proofs.Connections.{found-same}
 use Rattle.card_isolation.proofs.Alone.{Standing, Place, idle, came, looked, Alone, IsNamed, LooksUp, found_alone, is_idle}
-use Rattle.card_isolation.proofs.Views.{event_of, standing_of, is_current, place_of, has_own_in, alone_in, notes_in, Goes, Tells, no-more, same-notes, same-alone, goes-by, tells-at}
+use Rattle.card_isolation.proofs.Views.{event_of, standing_of, is_current, place_of, has_own_in, alone_in, notes_in, Goes, StepEffect, no-more, same-notes, same-alone, goes-by, effect-at}
 
 -- A port has a new state: the connection's part of it, and the reader's state of it.
 
@@ -45,10 +45,10 @@ let_in (Some outside) e = refl
 let_in (Some (entered cell moment)) e = absurd (cc)
 let_in (Some (picked picking)) e = absurd (cc)
 
-pub tells-enters : (vc : Vc) (before : World) (port : ℕ) (cell : List ℕ) (moment : ℕ) (reply : Reply) (after : World)
+pub effect-enters : (vc : Vc) (before : World) (port : ℕ) (cell : List ℕ) (moment : ℕ) (reply : Reply) (after : World)
     → refusal before (Enter port cell moment) ≡ None → Enters before port cell moment reply after
-    → Tells vc before (Enter port cell moment) reply after
-tells-enters vc before port cell moment reply after allowed w =
+    → StepEffect vc before (Enter port cell moment) reply after
+effect-enters vc before port cell moment reply after allowed w =
     let side : Side = before.shape.side in
     let alone : Alone = alone_in vc before in
     let own : Bool = is_same_vc vc (vc_of side cell) in
@@ -60,7 +60,7 @@ tells-enters vc before port cell moment reply after allowed w =
       | true ↦ record { fits = tt; outcome = refl; next = refl }
       | false ↦ ap (λ (p : ℕ → Place). record alone { places = p }) (with_at-same alone.places port idle was_idle)
     ] in
-    tells-at vc before (Enter port cell moment) reply Entered after later w.answer w.world (record {
+    effect-at vc before (Enter port cell moment) reply Entered after later w.answer w.world (record {
       shape = refl;
       notes = same-notes (notes_after side vc (notes_in vc before) (event_of (Enter port cell moment) Entered)) (notes_in vc later) refl
           (λ other. ap (λ (has : ℕ → Bool). has other) (sym (noted-set vc before port outside (entered cell moment) was)));
@@ -77,9 +77,9 @@ looks-up connection standing place cell moment after found at named =
     subst (λ (c : Option Standing). LooksUp c place after) (sym found)
     (subst (λ (p : Place). LooksUp (Some standing) p after) (sym at) named)
 
-pub tells-picks : (vc : Vc) (before : World) (port : ℕ) (reply : Reply) (after : World)
-    → Picks before port reply after → Tells vc before (Pick port) reply after
-tells-picks vc before port reply after w =
+pub effect-picks : (vc : Vc) (before : World) (port : ℕ) (reply : Reply) (after : World)
+    → Picks before port reply after → StepEffect vc before (Pick port) reply after
+effect-picks vc before port reply after w =
     let side : Side = before.shape.side in
     let alone : Alone = alone_in vc before in
     let own : Bool = is_same_vc vc (vc_of side w.cell) in
@@ -117,7 +117,7 @@ tells-picks vc before port reply after w =
           ap (λ (p : ℕ → Place). record alone { places = p })
           (with_at-same alone.places port idle (at ∙ ap (λ b. cond b (came w.cell w.moment) idle) e))
     ] in
-    tells-at vc before (Pick port) reply Picked after later w.answer w.world (record {
+    effect-at vc before (Pick port) reply Picked after later w.answer w.world (record {
       shape = refl;
       notes = same-notes (notes_after side vc (notes_in vc before) (event_of (Pick port) Picked)) (notes_in vc later) refl
           (λ other.

@@ -128,10 +128,10 @@ module _ {kept : Vc → Bool} {world shadow : World} (beside : AreBeside kept wo
   succeeded (Cut other) reply after ws e w = follows-cuts beside other reply after e w
 
   -- A step that changes nothing and is no connection's event.
-  unchanged : (step : Step) (reply told : Reply) (after : World) → WorldStep world step reply after → reply ≡ told → after ≡ world
-      → ((vc : Vc) → own_event world.shape.side vc (notes_in vc world) told step ≡ None) → Follows kept world step reply after shadow
-  unchanged step reply told after ws is same none =
-      stays-shadow beside step reply after ws (unseen-unchanged kept world step reply told after is same none)
+  unchanged : (step : Step) (reply same_reply : Reply) (after : World) → WorldStep world step reply after → reply ≡ same_reply → after ≡ world
+      → ((vc : Vc) → own_event world.shape.side vc (notes_in vc world) same_reply step ≡ None) → Follows kept world step reply after shadow
+  unchanged step reply same_reply after ws is same none =
+      stays-shadow beside step reply after ws (unseen-unchanged kept world step reply same_reply after is same none)
 
   starved : (step : Step) (reply : Reply) (after : World) → WorldStep world step reply after → FindsNoMemory world step reply after
       → Follows kept world step reply after shadow

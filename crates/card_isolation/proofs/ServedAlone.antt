@@ -12,8 +12,8 @@ use Rattle.card_core.specs.Log.{Event, Run, Leads}
 use Rattle.card_core.proofs.Public.{worlds-sound, log-goes_on}
 use Rattle.card_isolation.specs.OwnEvents.{OwnEvent, Notes, notes_after, own_event, behind, own_events_after, opening_notes}
 use Rattle.card_isolation.specs.Restriction.{is_for_no_other_than, LeavesOutSteps, AreServedAlike, KeptConnectionsAreServedAlike, EachIsServedAsAlone}
-use Rattle.card_isolation.proofs.Views.{event_of, notes_in, Tells, same-notes}
-use Rattle.card_isolation.proofs.Steps.{HasJudgedFew, step-tells}
+use Rattle.card_isolation.proofs.Views.{event_of, notes_in, StepEffect, same-notes}
+use Rattle.card_isolation.proofs.Steps.{HasJudgedFew, step-effect}
 use Rattle.card_isolation.proofs.Shadow.{Shadows}
 use Rattle.card_isolation.proofs.Follows.{stays, goes_too, any_vc, AreBeside}
 use Rattle.card_isolation.proofs.Restricted.{step-follows}
@@ -61,13 +61,13 @@ module _ (kept : Vc → Bool) (shape : Shape) where
       let few_too : HasJudgedFew shadow = λ line. omega (arith, counted_too line, within) in
       let sound = worlds-sound shape so_far world leads in
       let sound_too = worlds-sound shape own_so_far shadow leads_too in
-      let tells : (vc : Vc) → Tells vc world event.step event.reply next = λ vc. step-tells vc world event.step event.reply next sound few run.1 in
+      let effect : (vc : Vc) → StepEffect vc world event.step event.reply next = λ vc. step-effect vc world event.step event.reply next sound few run.1 in
       let leads_next : Leads shape (so_far ++ event ∷ []) next =
       log-goes_on (opening_world shape) world next so_far event.step event.reply leads run.1 in
-      let counted_next : (line : ℕ) → length (next.judged line) ≤ suc taken = λ line. omega (arith, (tells (any_vc world)).counts line, counted line) in
-      let is_next : next.shape ≡ shape = (tells (any_vc world)).shape ∙ is in
+      let counted_next : (line : ℕ) → length (next.judged line) ≤ suc taken = λ line. omega (arith, (effect (any_vc world)).counts line, counted line) in
+      let is_next : next.shape ≡ shape = (effect (any_vc world)).shape ∙ is in
       let noted : (vc : Vc) → notes_after shape.side vc (notes_in vc world) event ≡ notes_in vc next = λ vc.
-      subst (λ (x : Shape). notes_after x.side vc (notes_in vc world) event ≡ notes_in vc next) is (tells vc).notes in
+      subst (λ (x : Shape). notes_after x.side vc (notes_in vc world) event ≡ notes_in vc next) is (effect vc).notes in
       let own : Vc → Option OwnEvent = λ vc. own_event shape.side vc (notes_in vc world) event.reply event.step in
       let beside : AreBeside kept world shadow = record {
         shadows = s;
@@ -97,14 +97,14 @@ module _ (kept : Vc → Bool) (shape : Shape) where
             }
         | goes_too answered later stepped only_kept one shadows ↦
             let event_too : Event = event_of event.step answered in
-            let tells_too : (vc : Vc) → Tells vc shadow event.step answered later = λ vc.
-            step-tells vc shadow event.step answered later sound_too few_too stepped in
+            let effect_too : (vc : Vc) → StepEffect vc shadow event.step answered later = λ vc.
+            step-effect vc shadow event.step answered later sound_too few_too stepped in
             let rest = goes-alone (so_far ++ event ∷ []) (own_so_far ++ event_too ∷ []) log next later end leads_next
             (log-goes_on (opening_world shape) shadow later own_so_far event.step answered leads_too stepped) run.2 shadows is_next
-            (suc taken) counted_next (λ line. omega (arith, (tells_too (any_vc world)).counts line, counted_too line)) (omega (arith, within)) in
+            (suc taken) counted_next (λ line. omega (arith, (effect_too (any_vc world)).counts line, counted_too line)) (omega (arith, within)) in
             let is_too : shadow.shape ≡ shape = s.shape ∙ is in
             let noted_too : (vc : Vc) → notes_after shape.side vc (notes_in vc shadow) event_too ≡ notes_in vc later = λ vc.
-            subst (λ (x : Shape). notes_after x.side vc (notes_in vc shadow) event_too ≡ notes_in vc later) is_too (tells_too vc).notes in
+            subst (λ (x : Shape). notes_after x.side vc (notes_in vc shadow) event_too ≡ notes_in vc later) is_too (effect_too vc).notes in
             let one_here : (vc : Vc) → kept vc ≡ true → own_event shape.side vc (notes_in vc shadow) answered event.step ≡ own vc = λ vc is_kept.
             subst (λ (x : Shape). own_event x.side vc (notes_in vc shadow) answered event.step ≡ own vc) is_too
             (subst (λ (x : Shape). own_event shadow.shape.side vc (notes_in vc shadow) answered event.step ≡ own_event x.side vc (notes_in vc world) event.reply event.step) is

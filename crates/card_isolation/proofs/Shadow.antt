@@ -28,7 +28,7 @@ use Rattle.card_isolation.proofs.Basics.{seen-set, with_at}
 use Rattle.card_isolation.proofs.Alone.{Place, idle, came, looked, Alone, Does, Next, outcome_alone, event_with, one-next, is_idle}
 use Rattle.card_core.proofs.StoreSteps.{tested-connection}
 use Rattle.card_isolation.proofs.Connections.{connection-passes}
-use Rattle.card_isolation.proofs.Views.{is_current, place_of, has_own_in, alone_in, notes_in, Goes, Tells}
+use Rattle.card_isolation.proofs.Views.{is_current, place_of, has_own_in, alone_in, notes_in, Goes, StepEffect}
 
 -- A connection's part of the card: its line and its program.
 pub record Holding : Type 0 where
@@ -70,8 +70,8 @@ pub kept-too : (kept : Vc → Bool) (vc other : Vc) → kept vc ≡ true → is_
 kept-too kept vc other is same = subst (λ (v : Vc). kept v ≡ true) (vc_same vc other same) is
 
 -- A kept one differs from one that isn't kept.
-pub tell-apart : (kept : Vc → Bool) (vc other : Vc) (b : Bool) → kept vc ≡ b → kept other ≡ not b → is_same_vc vc other ≡ false
-tell-apart kept vc other b is isnt =
+pub are-apart : (kept : Vc → Bool) (vc other : Vc) (b : Bool) → kept vc ≡ b → kept other ≡ not b → is_same_vc vc other ≡ false
+are-apart kept vc other b is isnt =
     let choice : (same : Bool) → is_same_vc vc other ≡ same → same ≡ false = elim [
       | true ↦ λ e.
           let both : b ≡ not b = sym is ∙ ap kept (vc_same vc other e) ∙ isnt in
@@ -306,16 +306,16 @@ pub record AreOne (vc : Vc) (world shadow : World) (step : Step) (reply answered
 
 pub are-one : (vc : Vc) (world shadow : World) (step : Step) (reply answered : Reply) (after later : World) (one other : OwnEvent)
     → shadow.shape ≡ world.shape → alone_in vc shadow ≡ alone_in vc world
-    → Tells vc world step reply after → Tells vc shadow step answered later
+    → StepEffect vc world step reply after → StepEffect vc shadow step answered later
     → own_event world.shape.side vc (notes_in vc world) reply step ≡ Some one
     → own_event shadow.shape.side vc (notes_in vc shadow) answered step ≡ Some other
     → other.act ≡ one.act
     → AreOne vc world shadow step reply answered after later
-are-one vc world shadow step reply answered after later one other shape alone tells tells_too is is_too act =
+are-one vc world shadow step reply answered after later one other shape alone effect effect_too is is_too act =
     let does : Does world.shape.journal (alone_in vc world) one (alone_in vc after) =
-    subst (λ (o : Option OwnEvent). Goes world.shape.journal o (alone_in vc world) (alone_in vc after)) is tells.own in
+    subst (λ (o : Option OwnEvent). Goes world.shape.journal o (alone_in vc world) (alone_in vc after)) is effect.own in
     let at_shadow : Does shadow.shape.journal (alone_in vc shadow) other (alone_in vc later) =
-    subst (λ (o : Option OwnEvent). Goes shadow.shape.journal o (alone_in vc shadow) (alone_in vc later)) is_too tells_too.own in
+    subst (λ (o : Option OwnEvent). Goes shadow.shape.journal o (alone_in vc shadow) (alone_in vc later)) is_too effect_too.own in
     let at_shape : Does world.shape.journal (alone_in vc shadow) other (alone_in vc later) =
     subst (λ (x : Shape). Does x.journal (alone_in vc shadow) other (alone_in vc later)) shape at_shadow in
     let does_too : Does world.shape.journal (alone_in vc world) other (alone_in vc later) =
@@ -333,13 +333,13 @@ are-one vc world shadow step reply answered after later one other shape alone te
 
 -- A step that is no own event of either has the same effect on both.
 pub are-none : (vc : Vc) (world shadow : World) (step : Step) (reply answered : Reply) (after later : World)
-    → alone_in vc shadow ≡ alone_in vc world → Tells vc world step reply after → Tells vc shadow step answered later
+    → alone_in vc shadow ≡ alone_in vc world → StepEffect vc world step reply after → StepEffect vc shadow step answered later
     → own_event world.shape.side vc (notes_in vc world) reply step ≡ None
     → own_event shadow.shape.side vc (notes_in vc shadow) answered step ≡ None
     → AreOne vc world shadow step reply answered after later
-are-none vc world shadow step reply answered after later alone tells tells_too none none_too =
+are-none vc world shadow step reply answered after later alone effect effect_too none none_too =
     let same : alone_in vc after ≡ alone_in vc world =
-    subst (λ (o : Option OwnEvent). Goes world.shape.journal o (alone_in vc world) (alone_in vc after)) none tells.own in
+    subst (λ (o : Option OwnEvent). Goes world.shape.journal o (alone_in vc world) (alone_in vc after)) none effect.own in
     let same_too : alone_in vc later ≡ alone_in vc shadow =
-    subst (λ (o : Option OwnEvent). Goes shadow.shape.journal o (alone_in vc shadow) (alone_in vc later)) none_too tells_too.own in
+    subst (λ (o : Option OwnEvent). Goes shadow.shape.journal o (alone_in vc shadow) (alone_in vc later)) none_too effect_too.own in
     record { event = none_too ∙ sym none; alone = same_too ∙ alone ∙ sym same }

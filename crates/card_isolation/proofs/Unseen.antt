@@ -17,7 +17,7 @@ use Rattle.card_isolation.specs.Outcome.{done, named_before, outcome_of, outcome
 use Rattle.card_isolation.specs.OwnEvents.{Notes, own_where, own_event}
 use Rattle.card_isolation.proofs.Connections.{with-others, without-others}
 use Rattle.card_isolation.proofs.Views.{notes_in}
-use Rattle.card_isolation.proofs.Shadow.{held, holding_of, has_kept_in, none-kept, tell-apart}
+use Rattle.card_isolation.proofs.Shadow.{held, holding_of, has_kept_in, none-kept, are-apart}
 
 -- The step is no event of a kept connection, and changes neither the programs nor what kept connections hold.
 pub record IsUnseen (kept : Vc → Bool) (before : World) (step : Step) (reply : Reply) (after : World) : Type 0 where
@@ -41,7 +41,7 @@ module _ (kept : Vc → Bool) (before : World) where
       → Enters before port cell moment reply after → IsUnseen kept before (Enter port cell moment) reply after
   unseen-enters port cell moment reply after other w =
       unseen-at kept before (Enter port cell moment) reply Entered after (with_port before port (entered cell moment)) w.answer w.world (record {
-        none = λ vc is. ap (λ b. own_where b (enters port cell moment) done) (tell-apart kept vc (vc_of before.shape.side cell) true is other);
+        none = λ vc is. ap (λ b. own_where b (enters port cell moment) done) (are-apart kept vc (vc_of before.shape.side cell) true is other);
         given = refl;
         live = refl;
         holding = λ vc is. refl;
@@ -55,10 +55,10 @@ module _ (kept : Vc → Bool) (before : World) where
       unseen-at kept before (Setup ask) reply (SetUp (record { vc = ask.vc; incarnation = before.used + 1 })) after
       (record before { connections = with_connection before.connections ask.vc new; used = before.used + 1 }) w.answer w.world (record {
         none = λ vc is.
-            ap (λ b. own_where b (sets_up ask.contracts.items (code_in before.given ask.program)) done) (tell-apart kept vc ask.vc true is other);
+            ap (λ b. own_where b (sets_up ask.contracts.items (code_in before.given ask.program)) done) (are-apart kept vc ask.vc true is other);
         given = refl;
         live = refl;
-        holding = λ vc is. ap (option_map held) (with-others before.connections ask.vc vc new (tell-apart kept vc ask.vc true is other));
+        holding = λ vc is. ap (option_map held) (with-others before.connections ask.vc vc new (are-apart kept vc ask.vc true is other));
         used = omega (arith);
       })
 
@@ -70,10 +70,10 @@ module _ (kept : Vc → Bool) (before : World) where
       (record before { connections = with_connection before.connections other new }) w.answer w.world (record {
         none = λ vc is.
             ap (λ b. own_where b (reloads (code_in before.given program)) (named_before (code_in before.given w.connection.program)))
-            (tell-apart kept vc other true is isnt);
+            (are-apart kept vc other true is isnt);
         given = refl;
         live = refl;
-        holding = λ vc is. ap (option_map held) (with-others before.connections other vc new (tell-apart kept vc other true is isnt));
+        holding = λ vc is. ap (option_map held) (with-others before.connections other vc new (are-apart kept vc other true is isnt));
         used = omega (arith);
       })
 
@@ -83,10 +83,10 @@ module _ (kept : Vc → Bool) (before : World) where
       let new : Connection = record w.connection { handed = length w.connection.history } in
       unseen-at kept before (Cut other) reply (CutOff w.piece) after
       (record before { connections = with_connection before.connections other new }) w.answer w.world (record {
-        none = λ vc is. ap (λ b. own_where b cuts (outcome_of_piece w.piece)) (tell-apart kept vc other true is isnt);
+        none = λ vc is. ap (λ b. own_where b cuts (outcome_of_piece w.piece)) (are-apart kept vc other true is isnt);
         given = refl;
         live = refl;
-        holding = λ vc is. ap (option_map held) (with-others before.connections other vc new (tell-apart kept vc other true is isnt));
+        holding = λ vc is. ap (option_map held) (with-others before.connections other vc new (are-apart kept vc other true is isnt));
         used = omega (arith);
       })
 
@@ -95,10 +95,10 @@ module _ (kept : Vc → Bool) (before : World) where
   unseen-releases other reply after isnt w =
       unseen-at kept before (Release other) reply (Released w.piece) after
       (record before { connections = without_connection before.connections other }) w.answer w.world (record {
-        none = λ vc is. ap (λ b. own_where b releases (outcome_of_piece w.piece)) (tell-apart kept vc other true is isnt);
+        none = λ vc is. ap (λ b. own_where b releases (outcome_of_piece w.piece)) (are-apart kept vc other true is isnt);
         given = refl;
         live = refl;
-        holding = λ vc is. ap (option_map held) (without-others before.connections other vc (tell-apart kept vc other true is isnt));
+        holding = λ vc is. ap (option_map held) (without-others before.connections other vc (are-apart kept vc other true is isnt));
         used = omega (arith);
       })
 
@@ -176,7 +176,7 @@ unseen-judges kept before port reply after none w =
               holding = λ vc is.
                   ap (option_map held)
                   (with-others before.connections success.picking.vc vc (with_cell success.connection (cell_of_picking success.picking))
-                  (tell-apart kept vc success.picking.vc true is isnt));
+                  (are-apart kept vc success.picking.vc true is isnt));
               used = omega (arith);
             })
         | inr memory ↦ let no = memory.answer in absurd (cc)
@@ -188,11 +188,11 @@ unseen-judges kept before port reply after none w =
     choice (refusal before (Judge port)) refl w
 
 -- A step that changes nothing and is no connection's event.
-pub unseen-unchanged : (kept : Vc → Bool) (before : World) (step : Step) (reply told : Reply) (after : World) → reply ≡ told → after ≡ before
-    → ((vc : Vc) → own_event before.shape.side vc (notes_in vc before) told step ≡ None) → IsUnseen kept before step reply after
-unseen-unchanged kept before step reply told after answer leads none =
-    unseen-at kept before step reply told after before answer leads
-    (unseen-here kept before step told before.ports (λ vc is. none vc))
+pub unseen-unchanged : (kept : Vc → Bool) (before : World) (step : Step) (reply same_reply : Reply) (after : World) → reply ≡ same_reply → after ≡ before
+    → ((vc : Vc) → own_event before.shape.side vc (notes_in vc before) same_reply step ≡ None) → IsUnseen kept before step reply after
+unseen-unchanged kept before step reply same_reply after answer leads none =
+    unseen-at kept before step reply same_reply after before answer leads
+    (unseen-here kept before step same_reply before.ports (λ vc is. none vc))
 
 -- A step that doesn't fit the state of its port.
 pub unseen-not_now : (kept : Vc → Bool) (before : World) (step : Step) (reply : Reply) (after : World) → refusal before step ≡ Some NotNow

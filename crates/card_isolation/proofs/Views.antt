@@ -69,7 +69,7 @@ Goes journal None before after = after ≡ before
 Goes journal (Some event) before after = Does journal before event after
 
 -- The effect of a step on a connection.
-pub record Tells (vc : Vc) (before : World) (step : Step) (reply : Reply) (after : World) : Type 0 where
+pub record StepEffect (vc : Vc) (before : World) (step : Step) (reply : Reply) (after : World) : Type 0 where
   pub shape : after.shape ≡ before.shape
   pub notes : notes_after before.shape.side vc (notes_in vc before) (event_of step reply) ≡ notes_in vc after
   pub own : Goes before.shape.journal (own_event before.shape.side vc (notes_in vc before) reply step) (alone_in vc before) (alone_in vc after)
@@ -79,11 +79,11 @@ pub no-more : (given : List Verdict) → length given ≤ suc (length given)
 no-more given = omega arith
 
 -- The reply and the world after a step, replaced by equal ones.
-pub tells-at : (vc : Vc) (before : World) (step : Step) (one other : Reply) (after later : World)
-    → one ≡ other → after ≡ later → Tells vc before step other later → Tells vc before step one after
-tells-at vc before step one other after later same leads tells =
-    subst (λ (r : Reply). Tells vc before step r after) (sym same)
-    (subst (λ (w : World). Tells vc before step other w) (sym leads) tells)
+pub effect-at : (vc : Vc) (before : World) (step : Step) (one other : Reply) (after later : World)
+    → one ≡ other → after ≡ later → StepEffect vc before step other later → StepEffect vc before step one after
+effect-at vc before step one other after later same leads effect =
+    subst (λ (r : Reply). StepEffect vc before step r after) (sym same)
+    (subst (λ (w : World). StepEffect vc before step other w) (sym leads) effect)
 
 -- States of the reader with equal parts are equal.
 pub same-notes : (one other : Notes) → one.codes ≡ other.codes → ((port : ℕ) → one.has_own port ≡ other.has_own port) → one ≡ other

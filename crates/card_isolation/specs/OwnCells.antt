@@ -11,14 +11,14 @@ use Rattle.card_isolation.specs.Outcome.{Outcome, was_judged}
 use Rattle.card_isolation.specs.OwnEvents.{OwnEvent, own_events}
 
 -- The answer to a judged cell, without its line, the count of that line, and the id of its program.
-pub record ToldCell : Type 0 where
+pub record OwnAnswer : Type 0 where
   pub moment : ℕ
   pub value : ℕ
   pub verdict : Verdict
   pub cell : List ℕ
 
 -- The answer without these.
-abbrev pub own_answer : JudgedView → ToldCell
+abbrev pub own_answer : JudgedView → OwnAnswer
 own_answer judged = record {
   moment = judged.moment;
   value = judged.value;
@@ -27,7 +27,7 @@ own_answer judged = record {
 }
 
 -- The judged cell of an outcome, if it has one.
-abbrev pub judged_outcome : Outcome → Option ToldCell
+abbrev pub judged_outcome : Outcome → Option OwnAnswer
 judged_outcome (was_judged moment value code verdict cell) = Some (record {
   moment = moment;
   value = value;
@@ -37,11 +37,11 @@ judged_outcome (was_judged moment value code verdict cell) = Some (record {
 judged_outcome _ = None
 
 -- The judged cells among these events.
-abbrev pub judged_own : List OwnEvent → List ToldCell
+abbrev pub judged_own : List OwnEvent → List OwnAnswer
 judged_own events = filter_map (λ event. judged_outcome event.outcome) events
 
 -- The judged cells of this virtual connection in the log, by the headers of the leaving cells.
-abbrev pub judged_on : Shape → Vc → List Event → List ToldCell
+abbrev pub judged_on : Shape → Vc → List Event → List OwnAnswer
 judged_on shape vc log = map own_answer (filter (λ judged. is_same_vc vc (vc_of shape.side judged.cell)) (judged_cells log))
 
 -- In each log of at most 2^62 events both lists are the same.

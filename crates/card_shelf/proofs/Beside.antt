@@ -17,37 +17,37 @@ use Rattle.card_isolation.specs.Outcome.{outcome_of}
 use Rattle.card_shelf.specs.declared.arrival.Arrival.{Arrival}
 use Rattle.card_shelf.specs.Dealing.{card_of, card_for}
 use Rattle.card_shelf.specs.Logs.{IsWayOf, GoesOnBy}
-use Rattle.card_shelf.specs.Own.{ServesAll, own_arrivals, own_told}
+use Rattle.card_shelf.specs.Own.{ServesAll, own_arrivals, own_decisions}
 use Rattle.card_shelf.specs.Policing.{ServesArrival, Polices, PolicesAll}
-use Rattle.card_shelf.specs.OneCard.{IsBeside, codes_in, AreAlike, IsToldAlike, AreToldAlike, ShelvesTellAsOneCard}
+use Rattle.card_shelf.specs.OneCard.{IsBeside, codes_in, AreAlike, IsDecidedAlike, AreDecidedAlike, ShelvesDecideAsOneCard}
 use Rattle.gen_arena.proofs.Public.{slice_get-set}
 use Rattle.card_shelf.proofs.BesideStep.{steps-beside}
 use Rattle.card_shelf.proofs.BothGo.{both-go}
 use Rattle.card_shelf.proofs.GoingOn.{goes-nowhere, goes-first}
 use Rattle.card_shelf.proofs.Lists.{there}
-use Rattle.card_shelf.proofs.OwnLemmas.{Told, own-here, own-elsewhere, told-here, told-elsewhere}
+use Rattle.card_shelf.proofs.OwnLemmas.{Decision, own-here, own-elsewhere, decisions-here, decisions-elsewhere}
 
 -- The log of the card of this number after an arrival: it goes on by the arrival's steps, if the arrival is the card's.
-abbrev pub GrowsBy : ℕ → ℕ → Arrival → Told → List Event → List Event → Type 0
-GrowsBy mine number arrival told earlier own =
-    ((mine ≡ number) × (way : List Event) × IsWayOf arrival (answer_to arrival.cell told) way × (own ≡ earlier ++ way))
+abbrev pub GrowsBy : ℕ → ℕ → Arrival → Decision → List Event → List Event → Type 0
+GrowsBy mine number arrival decision earlier own =
+    ((mine ≡ number) × (way : List Event) × IsWayOf arrival (answer_to arrival.cell decision) way × (own ≡ earlier ++ way))
     ⊎ ((mine ≢ number) × (own ≡ earlier))
 
 -- The card of this number has gone on by its own arrivals, the first of them and the later ones.
-own-goes : (side : Side) (cards number : ℕ) (x : Arrival) (t : Told) (xs : List Arrival) (ts : List Told) (log between own : List Event)
+own-goes : (side : Side) (cards number : ℕ) (x : Arrival) (t : Decision) (xs : List Arrival) (ts : List Decision) (log between own : List Event)
     → GrowsBy (card_for side cards x) number x t log between
-    → GoesOnBy between (own_arrivals side cards number xs) (own_told side cards number xs ts) own
-    → GoesOnBy log (own_arrivals side cards number (x ∷ xs)) (own_told side cards number (x ∷ xs) (t ∷ ts)) own
+    → GoesOnBy between (own_arrivals side cards number xs) (own_decisions side cards number xs ts) own
+    → GoesOnBy log (own_arrivals side cards number (x ∷ xs)) (own_decisions side cards number (x ∷ xs) (t ∷ ts)) own
 own-goes side cards number x t xs ts log between own (inl mine) goes =
     let own_xs = own_arrivals side cards number xs in
-    let own_ts = own_told side cards number xs ts in
-    subst (λ (us : List Told). GoesOnBy log (own_arrivals side cards number (x ∷ xs)) us own) (sym (told-here side cards number x xs t ts mine.0))
+    let own_ts = own_decisions side cards number xs ts in
+    subst (λ (us : List Decision). GoesOnBy log (own_arrivals side cards number (x ∷ xs)) us own) (sym (decisions-here side cards number x xs t ts mine.0))
     (subst (λ (ys : List Arrival). GoesOnBy log ys (t ∷ own_ts) own) (sym (own-here side cards number x xs mine.0))
     (goes-first log between own x t own_xs own_ts mine.1 mine.2 mine.3 goes))
 own-goes side cards number x t xs ts log between own (inr apart) goes =
-    subst (λ (us : List Told). GoesOnBy log (own_arrivals side cards number (x ∷ xs)) us own) (sym (told-elsewhere side cards number x xs t ts apart.0))
-    (subst (λ (ys : List Arrival). GoesOnBy log ys (own_told side cards number xs ts) own) (sym (own-elsewhere side cards number x xs apart.0))
-    (subst (λ (l : List Event). GoesOnBy l (own_arrivals side cards number xs) (own_told side cards number xs ts) own) apart.1 goes))
+    subst (λ (us : List Decision). GoesOnBy log (own_arrivals side cards number (x ∷ xs)) us own) (sym (decisions-elsewhere side cards number x xs t ts apart.0))
+    (subst (λ (ys : List Arrival). GoesOnBy log ys (own_decisions side cards number xs ts) own) (sym (own-elsewhere side cards number x xs apart.0))
+    (subst (λ (l : List Event). GoesOnBy l (own_arrivals side cards number xs) (own_decisions side cards number xs ts) own) apart.1 goes))
 
 -- Each of the longer logs has loaded the codes of the one that it grew from.
 abbrev pub KeepsCodes : List (List Event) → List (List Event) → Type 0
@@ -60,7 +60,7 @@ module _ (one shape : Shape) (side : one.side ≡ shape.side) (journal : one.jou
   Beside log card logs cards = IsBeside (record { shape = one; log = log; card = card }) (record { shape = shape; logs = logs; cards = cards })
 
   -- One arrival: the shelf and the card are beside each other afterwards.
-  record OneOn (log : List Event) (next : CoreView) (logs : List (List Event)) (between : List CoreView) (arrival : Arrival) (answer told : Told) : Type 0 where
+  record OneOn (log : List Event) (next : CoreView) (logs : List (List Event)) (between : List CoreView) (arrival : Arrival) (answer decision : Decision) : Type 0 where
     way : List Event
     way_is : IsWayOf arrival (answer_to arrival.cell answer) way
     longer : List (List Event)
@@ -69,16 +69,16 @@ module _ (one shape : Shape) (side : one.side ≡ shape.side) (journal : one.jou
     same_length : length longer ≡ length logs
     grown : (number : ℕ) (own : List Event) → slice_get longer number ≡ Some own
         → (earlier : List Event) × (slice_get logs number ≡ Some earlier) × (length own ≤ length earlier + 3) × (codes_in own ≡ codes_in earlier)
-        × GrowsBy (card_for shape.side (length logs) arrival) number arrival told earlier own
+        × GrowsBy (card_for shape.side (length logs) arrival) number arrival decision earlier own
     codes : codes_in (log ++ way) ≡ codes_in log
-    alike : IsToldAlike shape.side log logs arrival answer told
+    alike : IsDecidedAlike shape.side log logs arrival answer decision
 
-  one-on : (log : List Event) (card next : CoreView) (logs : List (List Event)) (cards between : List CoreView) (arrival : Arrival) (answer told : Told)
+  one-on : (log : List Event) (card next : CoreView) (logs : List (List Event)) (cards between : List CoreView) (arrival : Arrival) (answer decision : Decision)
       → Beside log card logs cards → length log + 3 ≤ 2 ^ 62
       → ((number : ℕ) (own : List Event) → slice_get logs number ≡ Some own → length own + 3 ≤ 2 ^ 62)
-      → ServesArrival arrival answer card next → Polices shape.side cards arrival told between
-      → OneOn log next logs between arrival answer told
-  one-on log card next logs cards between arrival answer told beside few each_few serves polices =
+      → ServesArrival arrival answer card next → Polices shape.side cards arrival decision between
+      → OneOn log next logs between arrival answer decision
+  one-on log card next logs cards between arrival answer decision beside few each_few serves polices =
       let mine = vc_of shape.side arrival.cell in
       let number = card_for shape.side (length cards) arrival in
       let in_cards : number < length cards = slice_get_within cards number polices.card polices.there in
@@ -89,7 +89,7 @@ module _ (one shape : Shape) (side : one.side ≡ shape.side) (journal : one.jou
       λ vc is. beside.accounts vc own
       (ap (λ (v : Vc). slice_get logs (card_of v (length logs))) (vc_same vc (vc_of one.side arrival.cell) is ∙ ap (λ (s : Side). vc_of s arrival.cell) side)
       ∙ ap (slice_get logs) same_number ∙ at.1) in
-      let go = both-go one shape side journal log own arrival answer told card next polices.card polices.next few (each_few number own at.1) beside.logged.here
+      let go = both-go one shape side journal log own arrival answer decision card next polices.card polices.next few (each_few number own at.1) beside.logged.here
       (beside.logged.each number own polices.card at.1 polices.there) accounts serves.answers polices.did.answers in
       let longer = slice_set logs number (own ++ go.way_too) in
       let same_length : length longer ≡ length logs = length-set logs number (own ++ go.way_too) in
@@ -119,29 +119,29 @@ module _ (one shape : Shape) (side : one.side ≡ shape.side) (journal : one.jou
         alike = λ other is.
             let here : slice_get logs number ≡ Some other = ap (slice_get logs) (sym same_number) ∙ is in
             let same : own ≡ other = same_Some own other (sym at.1 ∙ here) in
-            subst (λ (l : List Event). AreAlike log l arrival answer told) same go.alike;
+            subst (λ (l : List Event). AreAlike log l arrival answer decision) same go.alike;
       }
 
-  -- What was told alike after some logs is so after longer ones with the same codes.
-  told-later : (log longer : List Event) (logs grown : List (List Event)) (arrival : Arrival) (answer told : Told)
+  -- Decisions that are alike after some logs are alike after longer ones with the same codes.
+  decision-later : (log longer : List Event) (logs grown : List (List Event)) (arrival : Arrival) (answer decision : Decision)
       → codes_in longer ≡ codes_in log → length grown ≡ length logs → KeepsCodes logs grown
-      → IsToldAlike shape.side log logs arrival answer told → IsToldAlike shape.side longer grown arrival answer told
-  told-later log longer logs grown arrival answer told codes sized each alike other is =
+      → IsDecidedAlike shape.side log logs arrival answer decision → IsDecidedAlike shape.side longer grown arrival answer decision
+  decision-later log longer logs grown arrival answer decision codes sized each alike other is =
       let was = each (card_for shape.side (length grown) arrival) other is in
       let at : slice_get logs (card_for shape.side (length logs) arrival) ≡ Some was.0 =
       ap (λ (n : ℕ). slice_get logs (card_for shape.side n arrival)) (sym sized) ∙ was.1 in
       ap (λ (cs : List Loading). outcome_of cs (answer_to arrival.cell answer)) codes
       ∙ alike was.0 at
-      ∙ ap (λ (cs : List Loading). outcome_of cs (answer_to arrival.cell told)) (sym was.2)
+      ∙ ap (λ (cs : List Loading). outcome_of cs (answer_to arrival.cell decision)) (sym was.2)
 
   -- The log of each card goes on by the steps of its own arrivals.
-  abbrev pub EachGoesOn : List (List Event) → List (List Event) → List Arrival → List Told → Type 0
-  EachGoesOn logs grown arrivals told = (number : ℕ) (own : List Event) → slice_get grown number ≡ Some own
+  abbrev pub EachGoesOn : List (List Event) → List (List Event) → List Arrival → List Decision → Type 0
+  EachGoesOn logs grown arrivals decisions = (number : ℕ) (own : List Event) → slice_get grown number ≡ Some own
       → (earlier : List Event) × (slice_get logs number ≡ Some earlier)
-      × GoesOnBy earlier (own_arrivals shape.side (length logs) number arrivals) (own_told shape.side (length logs) number arrivals told) own
+      × GoesOnBy earlier (own_arrivals shape.side (length logs) number arrivals) (own_decisions shape.side (length logs) number arrivals decisions) own
 
   -- All arrivals.
-  pub record AllOn (log : List Event) (next : CoreView) (logs : List (List Event)) (new : List CoreView) (arrivals : List Arrival) (answers told : List Told) : Type 0 where
+  pub record AllOn (log : List Event) (next : CoreView) (logs : List (List Event)) (new : List CoreView) (arrivals : List Arrival) (answers decisions : List Decision) : Type 0 where
     pub longer : List Event
     pub grown : List (List Event)
     pub beside : Beside longer next grown new
@@ -149,14 +149,14 @@ module _ (one shape : Shape) (side : one.side ≡ shape.side) (journal : one.jou
     pub codes : codes_in longer ≡ codes_in log
     pub sized : length grown ≡ length logs
     pub each : KeepsCodes logs grown
-    pub each_goes : EachGoesOn logs grown arrivals told
-    pub alike : AreToldAlike shape.side longer grown arrivals answers told
+    pub each_goes : EachGoesOn logs grown arrivals decisions
+    pub alike : AreDecidedAlike shape.side longer grown arrivals answers decisions
 
-  pub all-on : (log : List Event) (card next : CoreView) (logs : List (List Event)) (cards new : List CoreView) (arrivals : List Arrival) (answers told : List Told)
+  pub all-on : (log : List Event) (card next : CoreView) (logs : List (List Event)) (cards new : List CoreView) (arrivals : List Arrival) (answers decisions : List Decision)
       → Beside log card logs cards → length log + 3 * length arrivals ≤ 2 ^ 62
       → ((number : ℕ) (own : List Event) → slice_get logs number ≡ Some own → length own + 3 * length arrivals ≤ 2 ^ 62)
-      → ServesAll card arrivals answers next → PolicesAll shape.side cards arrivals told new
-      → AllOn log next logs new arrivals answers told
+      → ServesAll card arrivals answers next → PolicesAll shape.side cards arrivals decisions new
+      → AllOn log next logs new arrivals answers decisions
   all-on log card next logs cards new [] [] [] beside few each_few serves polices = record {
     longer = log;
     grown = logs;
@@ -170,8 +170,8 @@ module _ (one shape : Shape) (side : one.side ≡ shape.side) (journal : one.jou
     alike = tt;
   }
   all-on log card next logs cards new [] [] (t ∷ ts) beside few each_few serves polices = absurd polices
-  all-on log card next logs cards new [] (a ∷ answers) told beside few each_few serves polices = absurd serves
-  all-on log card next logs cards new (x ∷ xs) [] told beside few each_few serves polices = absurd serves
+  all-on log card next logs cards new [] (a ∷ answers) decisions beside few each_few serves polices = absurd serves
+  all-on log card next logs cards new (x ∷ xs) [] decisions beside few each_few serves polices = absurd serves
   all-on log card next logs cards new (x ∷ xs) (a ∷ answers) [] beside few each_few serves polices = absurd polices
   all-on log card next logs cards new (x ∷ xs) (a ∷ answers) (t ∷ ts) beside few each_few serves polices =
       let first = one-on log card serves.0 logs cards polices.0 x a t beside (omega (arith, few))
@@ -201,14 +201,14 @@ module _ (one shape : Shape) (side : one.side ≡ shape.side) (journal : one.jou
         each_goes = λ number own is.
             let was = later.each_goes number own is in
             let before = first.grown number was.0 was.1 in
-            let goes = subst (λ (n : ℕ). GoesOnBy was.0 (own_arrivals shape.side n number xs) (own_told shape.side n number xs ts) own) first.same_length was.2 in
+            let goes = subst (λ (n : ℕ). GoesOnBy was.0 (own_arrivals shape.side n number xs) (own_decisions shape.side n number xs ts) own) first.same_length was.2 in
             (before.0, before.1, own-goes shape.side (length logs) number x t xs ts before.0 was.0 own before.4 goes);
-        alike = (told-later log later.longer logs later.grown x a t codes sized each first.alike, later.alike);
+        alike = (decision-later log later.longer logs later.grown x a t codes sized each first.alike, later.alike);
       }
 
-pub tells-as-one : ShelvesTellAsOneCard
-tells-as-one shape old new arrivals told polices one logs next answers beside time serves =
-    let all = all-on one.shape shape beside.logged.side beside.logged.journal one.log one.card next logs old new arrivals answers told beside time.here time.each
+pub decides-as-one : ShelvesDecideAsOneCard
+decides-as-one shape old new arrivals decisions polices one logs next answers beside time serves =
+    let all = all-on one.shape shape beside.logged.side beside.logged.journal one.log one.card next logs old new arrivals answers decisions beside time.here time.each
     serves polices in
     record {
       log = all.longer;
@@ -218,7 +218,7 @@ tells-as-one shape old new arrivals told polices one logs next answers beside ti
       each_goes_on = λ number earlier own was is.
           let goes = all.each_goes number own is in
           let same : goes.0 ≡ earlier = same_Some goes.0 earlier (sym goes.1 ∙ was) in
-          subst (λ (l : List Event). GoesOnBy l (own_arrivals shape.side (length logs) number arrivals) (own_told shape.side (length logs) number arrivals told) own) same goes.2;
+          subst (λ (l : List Event). GoesOnBy l (own_arrivals shape.side (length logs) number arrivals) (own_decisions shape.side (length logs) number arrivals decisions) own) same goes.2;
       beside = all.beside;
       alike = all.alike;
     }

@@ -18,7 +18,7 @@ use Rattle.card_shelf.specs.declared.arrival.Arrival.{Arrival}
 use Rattle.card_shelf.specs.Logs.{IsWayOf}
 use Rattle.card_shelf.specs.OneCard.{IsLogOf, codes_in}
 use Rattle.card_shelf.proofs.GoingOn.{run-append}
-use Rattle.card_shelf.proofs.OwnLemmas.{Told}
+use Rattle.card_shelf.proofs.OwnLemmas.{Decision}
 use Rattle.card_shelf.proofs.WayAlike.{both-missed, both-judged, missed-here-alone, missed-there-alone}
 use Rattle.card_shelf.proofs.Ways.{missed_way, judged_way, missed-foreign, judged-foreign, missed-codes, judged-codes}
 
@@ -64,27 +64,27 @@ picked-log shape log arrival next before answer leads gone =
     )
 
 -- Both cards have answered the cell alike, and the account of its connection is the same afterwards.
-pub record BothGo (one shape : Shape) (log another : List Event) (arrival : Arrival) (answer told : Answer) (next after : CoreView) : Type 0 where
+pub record BothGo (one shape : Shape) (log another : List Event) (arrival : Arrival) (answer decision : Answer) (next after : CoreView) : Type 0 where
   pub way : List Event
   pub way_too : List Event
   pub way_is : IsWayOf arrival answer way
-  pub way_too_is : IsWayOf arrival told way_too
+  pub way_too_is : IsWayOf arrival decision way_too
   pub here : GoesBy one log arrival next way
   pub there : GoesBy shape another arrival after way_too
-  pub alike : outcome_of (codes_in log) answer ≡ outcome_of (codes_in another) told
+  pub alike : outcome_of (codes_in log) answer ≡ outcome_of (codes_in another) decision
   pub own : (vc : Vc) → is_same_vc vc (vc_of one.side arrival.cell) ≡ true → account_of one.side vc (log ++ way) ≡ account_of shape.side vc (another ++ way_too)
 
 module _ (one shape : Shape) (side : one.side ≡ shape.side) (journal : one.journal ≡ shape.journal) where
-  pub both-go : (log another : List Event) (arrival : Arrival) (answer told : Told) (card next core after : CoreView)
+  pub both-go : (log another : List Event) (arrival : Arrival) (answer decision : Decision) (card next core after : CoreView)
       → length log + 3 ≤ 2 ^ 62 → length another + 3 ≤ 2 ^ 62
       → IsLogOf one log card → IsLogOf shape another core
       → ((vc : Vc) → is_same_vc vc (vc_of one.side arrival.cell) ≡ true → account_of one.side vc log ≡ account_of shape.side vc another)
       → AnswersArrival card 0 arrival.cell arrival.moment (answer_to arrival.cell answer) next
-      → AnswersArrival core 0 arrival.cell arrival.moment (answer_to arrival.cell told) after
-      → BothGo one shape log another arrival (answer_to arrival.cell answer) (answer_to arrival.cell told) next after
-  both-go log another arrival answer told card next core after few few_too is is_too accounts (inl here) (inl there) =
+      → AnswersArrival core 0 arrival.cell arrival.moment (answer_to arrival.cell decision) after
+      → BothGo one shape log another arrival (answer_to arrival.cell answer) (answer_to arrival.cell decision) next after
+  both-go log another arrival answer decision card next core after few few_too is is_too accounts (inl here) (inl there) =
       let a = answer_to arrival.cell answer in
-      let t = answer_to arrival.cell told in
+      let t = answer_to arrival.cell decision in
       let gone = here one log is.world is.leads is.agrees in
       let gone_too = there shape another is_too.world is_too.leads is_too.agrees in
       let both = λ (vc : Vc) (own : is_same_vc vc (vc_of one.side arrival.cell) ≡ true). both-missed one shape log another vc arrival.cell arrival.moment side journal few few_too own
@@ -100,9 +100,9 @@ module _ (one shape : Shape) (side : one.side ≡ shape.side) (journal : one.jou
         alike = (both mine (vc_itself mine)).1;
         own = λ vc own. (both vc own).0;
       }
-  both-go log another arrival answer told card next core after few few_too is is_too accounts (inr here) (inr there) =
+  both-go log another arrival answer decision card next core after few few_too is is_too accounts (inr here) (inr there) =
       let a = answer_to arrival.cell answer in
-      let t = answer_to arrival.cell told in
+      let t = answer_to arrival.cell decision in
       let gone = here one log is.world is.leads is.agrees in
       let gone_too = there shape another is_too.world is_too.leads is_too.agrees in
       let both = λ (vc : Vc) (own : is_same_vc vc (vc_of one.side arrival.cell) ≡ true). both-judged one shape log another vc arrival.cell arrival.moment side journal few few_too own
@@ -118,17 +118,17 @@ module _ (one shape : Shape) (side : one.side ≡ shape.side) (journal : one.jou
         alike = (both mine (vc_itself mine)).1;
         own = λ vc own. (both vc own).0;
       }
-  both-go log another arrival answer told card next core after few few_too is is_too accounts (inl here) (inr there) =
+  both-go log another arrival answer decision card next core after few few_too is is_too accounts (inl here) (inr there) =
       let mine = vc_of one.side arrival.cell in
       let gone = here one log is.world is.leads is.agrees in
       let gone_too = there shape another is_too.world is_too.leads is_too.agrees in
       absurd (missed-here-alone one shape log another mine arrival.cell arrival.moment side journal few few_too (vc_itself mine)
       (accounts mine (vc_itself mine)) (answer_to arrival.cell answer) (gone.after, gone.leads)
-      (picked-log shape another arrival after is_too.world (answer_to arrival.cell told) is_too.leads gone_too))
-  both-go log another arrival answer told card next core after few few_too is is_too accounts (inr here) (inl there) =
+      (picked-log shape another arrival after is_too.world (answer_to arrival.cell decision) is_too.leads gone_too))
+  both-go log another arrival answer decision card next core after few few_too is is_too accounts (inr here) (inl there) =
       let mine = vc_of one.side arrival.cell in
       let gone = here one log is.world is.leads is.agrees in
       let gone_too = there shape another is_too.world is_too.leads is_too.agrees in
       absurd (missed-there-alone one shape log another mine arrival.cell arrival.moment side journal few few_too (vc_itself mine)
-      (accounts mine (vc_itself mine)) (answer_to arrival.cell told)
+      (accounts mine (vc_itself mine)) (answer_to arrival.cell decision)
       (picked-log one log arrival next is.world (answer_to arrival.cell answer) is.leads gone) (gone_too.after, gone_too.leads))

@@ -6,8 +6,8 @@ use Rattle.card_shelf.proofs.ProgramsBeside.{load-keeps, retire-keeps}
 use Rattle.card_shelf.proofs.ServiceBeside.{serve-keeps}
 
 pub calls-keep : CallsKeepACardBeside
-calls-keep one shelf (police arrivals) answers told next new beside time here there = police-keeps one shelf arrivals answers told next new beside time here there
-calls-keep one shelf (load code) answers told next new beside time here there = load-keeps one shelf code answers told next new beside here there
-calls-keep one shelf retire answers told next new beside time here there = retire-keeps one shelf answers told next new beside here there
-calls-keep one shelf (serve vc service) answers told next new beside time here there =
-    serve-keeps one shelf vc service answers told next new beside time here there
+calls-keep one shelf (police arrivals) answers decisions next new beside time here there = police-keeps one shelf arrivals answers decisions next new beside time here there
+calls-keep one shelf (load code) answers decisions next new beside time here there = load-keeps one shelf code answers decisions next new beside here there
+calls-keep one shelf retire answers decisions next new beside time here there = retire-keeps one shelf answers decisions next new beside here there
+calls-keep one shelf (serve vc service) answers decisions next new beside time here there =
+    serve-keeps one shelf vc service answers decisions next new beside time here there

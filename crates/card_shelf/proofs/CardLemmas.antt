@@ -5,8 +5,8 @@ use Rattle.std.proofs.lemmas.List.{map-set}
 use Rattle.std.proofs.lemmas.Option.{slice_get-map, same_Some}
 use Rattle.card_core.specs.Agreement.{CoreView}
 use Rattle.card_shelf.specs.declared.card.Card.{Card}
-use Rattle.card_shelf.specs.inner.Cards.{cores_of, tolds_of}
-use Rattle.card_shelf.proofs.OwnLemmas.{Told}
+use Rattle.card_shelf.specs.inner.Cards.{cores_of, decisions_of}
+use Rattle.card_shelf.proofs.OwnLemmas.{Decision}
 
 abbrev pub core_in : Card → CoreView
 core_in card = card.core
@@ -27,18 +27,18 @@ cores-set cards number old new at same =
     map-set core_in cards number new ∙ ap (set (cores_of cards) number) same
     ∙ set-again (cores_of cards) number old.core (core-at cards number old at)
 
-abbrev pub told_in : Card → List Told
-told_in card = card.told.items
+abbrev pub decisions_in : Card → List Decision
+decisions_in card = card.decisions.items
 
 pub mapped : {X Y : Type 0} (f : X → Y) (o : Option X) (y : Y) → option_map f o ≡ Some y → (x : X) × (o ≡ Some x) × (f x ≡ y)
 mapped f None y e = absurd (cc)
 mapped f (Some x) y e = (x, refl, same_Some (f x) y e)
 
--- The card of a core, and of what is told.
+-- The card of a core, and of a list of decisions.
 pub card-of-core : (cards : List Card) (number : ℕ) (core : CoreView) → slice_get (cores_of cards) number ≡ Some core
     → (card : Card) × (slice_get cards number ≡ Some card) × (card.core ≡ core)
 card-of-core cards number core e = mapped core_in (slice_get cards number) core (sym (slice_get-map core_in cards number) ∙ e)
 
-pub card-of-told : (cards : List Card) (number : ℕ) (ts : List Told) → slice_get (tolds_of cards) number ≡ Some ts
-    → (card : Card) × (slice_get cards number ≡ Some card) × (card.told.items ≡ ts)
-card-of-told cards number ts e = mapped told_in (slice_get cards number) ts (sym (slice_get-map told_in cards number) ∙ e)
+pub card-of-decisions : (cards : List Card) (number : ℕ) (ts : List Decision) → slice_get (decisions_of cards) number ≡ Some ts
+    → (card : Card) × (slice_get cards number ≡ Some card) × (card.decisions.items ≡ ts)
+card-of-decisions cards number ts e = mapped decisions_in (slice_get cards number) ts (sym (slice_get-map decisions_in cards number) ∙ e)

@@ -1,4 +1,4 @@
--- What is told of all arrivals, gathered one after another.
+-- The decisions about all arrivals, gathered one after another.
 use Rattle.std.proofs.Common.{◌≡◌, ◌≢◌, ℕ, ◌+◌, ◌<◌, List, [], ◌∷◌, ◌++◌, length, map, take, drop, set, get_or, Some, sym, ap, ◌∙◌, subst, inl, inr, arith, length-append, mod-lt}
 use Rattle.std.specs.Prelude.{slice_get}
 use Rattle.std.proofs.lemmas.Bool.{cases_eq}
@@ -7,12 +7,12 @@ use Rattle.std.proofs.lemmas.List.{append-nil, take_all}
 use Rattle.upc_cell.specs.declared.side.Side.{Side}
 use Rattle.card_shelf.specs.declared.arrival.Arrival.{Arrival}
 use Rattle.card_shelf.specs.Dealing.{card_for}
-use Rattle.card_shelf.specs.Own.{own_arrivals, own_told}
-use Rattle.card_shelf.specs.inner.Gathered.{CountsOwn, IsGathered, TellsOwn, TellEach}
+use Rattle.card_shelf.specs.Own.{own_arrivals, own_decisions}
+use Rattle.card_shelf.specs.inner.Gathered.{CountsOwn, IsGathered, HasOwnDecisions, HaveOneEach}
 use Rattle.card_shelf.proofs.CardLemmas.{mapped}
 use Rattle.gen_arena.proofs.Public.{slice_get-set}
 use Rattle.card_shelf.proofs.Lists.{take-next, around}
-use Rattle.card_shelf.proofs.OwnLemmas.{Told, own-append, own-here, own-elsewhere, told-append, told-here, told-elsewhere}
+use Rattle.card_shelf.proofs.OwnLemmas.{Decision, own-append, own-here, own-elsewhere, decisions-append, decisions-here, decisions-elsewhere}
 
 module _ (side : Side) (cards : ℕ) (arrivals : List Arrival) where
   own-next : (count number : ℕ) (arrival : Arrival) → slice_get arrivals count ≡ Some arrival
@@ -41,11 +41,11 @@ module _ (side : Side) (cards : ℕ) (arrivals : List Arrival) where
             omega (arith, had, none, sum)
       ]
 
-  -- A card has told of more than of its arrivals so far, where there is one more of it.
-  pub told-further : (count number : ℕ) (arrival : Arrival) → slice_get arrivals count ≡ Some arrival
+  -- If the next arrival is of a card, the card has more decisions than were gathered of it so far.
+  pub decisions-further : (count number : ℕ) (arrival : Arrival) → slice_get arrivals count ≡ Some arrival
       → card_for side cards arrival ≡ number
       → length (own_arrivals side cards number (take count arrivals)) < length (own_arrivals side cards number arrivals)
-  told-further count number arrival here is =
+  decisions-further count number arrival here is =
       let own = own_arrivals side cards number in
       let rest = drop (count + 1) arrivals in
       let whole = ap (λ (xs : List Arrival). length (own xs)) (around arrivals count arrival here)
@@ -54,30 +54,30 @@ module _ (side : Side) (cards : ℕ) (arrivals : List Arrival) where
       let one = ap length (own-here side cards number arrival rest is) in
       omega (arith, whole, one)
 
-  -- The next of what a card tells is at the number of its arrivals so far, and it is there.
-  pub place-told : (count number place : ℕ) (arrival : Arrival) (counts : List ℕ) (cards_told : List (List Told)) (from : List Told)
-      → CountsOwn side cards (take count arrivals) counts → TellEach side cards arrivals cards_told
+  -- The next decision of a card is at the number of its arrivals so far, and it is there.
+  pub place-decisions : (count number place : ℕ) (arrival : Arrival) (counts : List ℕ) (cards_decisions : List (List Decision)) (from : List Decision)
+      → CountsOwn side cards (take count arrivals) counts → HaveOneEach side cards arrivals cards_decisions
       → slice_get arrivals count ≡ Some arrival → number ≡ card_for side cards arrival
-      → slice_get counts number ≡ Some place → slice_get cards_told number ≡ Some from
+      → slice_get counts number ≡ Some place → slice_get cards_decisions number ≡ Some from
       → (place ≡ length (own_arrivals side cards number (take count arrivals))) × (place < length from)
-  place-told count number place arrival counts cards_told from so_far each here is at there =
+  place-decisions count number place arrival counts cards_decisions from so_far each here is at there =
       let had = so_far number place at in
-      (had, omega (arith, had, told-further count number arrival here (sym is), each number from there))
+      (had, omega (arith, had, decisions-further count number arrival here (sym is), each number from there))
 
   -- What was gathered, once there is one more.
-  pub gather-next : (count number : ℕ) (arrival : Arrival) (cards_told : List (List Told)) (told : List Told) (from : List Told) (next : Told)
-      → IsGathered side cards (take count arrivals) cards_told told → length told ≡ length (take count arrivals)
+  pub gather-next : (count number : ℕ) (arrival : Arrival) (cards_decisions : List (List Decision)) (decisions : List Decision) (from : List Decision) (next : Decision)
+      → IsGathered side cards (take count arrivals) cards_decisions decisions → length decisions ≡ length (take count arrivals)
       → slice_get arrivals count ≡ Some arrival → number ≡ card_for side cards arrival
-      → slice_get cards_told number ≡ Some from
+      → slice_get cards_decisions number ≡ Some from
       → slice_get from (length (own_arrivals side cards number (take count arrivals))) ≡ Some next
-      → IsGathered side cards (take (count + 1) arrivals) cards_told (told ++ next ∷ [])
-  gather-next count number arrival cards_told told from next so_far sized here is at read other ts e =
+      → IsGathered side cards (take (count + 1) arrivals) cards_decisions (decisions ++ next ∷ [])
+  gather-next count number arrival cards_decisions decisions from next so_far sized here is at read other ts e =
       let own = own_arrivals side cards other in
       let front = take count arrivals in
-      let grows : own_told side cards other (take (count + 1) arrivals) (told ++ next ∷ [])
-      ≡ own_told side cards other front told ++ own_told side cards other (arrival ∷ []) (next ∷ []) =
-      ap (λ (xs : List Arrival). own_told side cards other xs (told ++ next ∷ [])) (take-next arrivals count arrival here)
-      ∙ told-append side cards other front (arrival ∷ []) told (next ∷ []) sized in
+      let grows : own_decisions side cards other (take (count + 1) arrivals) (decisions ++ next ∷ [])
+      ≡ own_decisions side cards other front decisions ++ own_decisions side cards other (arrival ∷ []) (next ∷ []) =
+      ap (λ (xs : List Arrival). own_decisions side cards other xs (decisions ++ next ∷ [])) (take-next arrivals count arrival here)
+      ∙ decisions-append side cards other front (arrival ∷ []) decisions (next ∷ []) sized in
       let sum = ap length (own-next count other arrival here) ∙ length-append (own front) (own (arrival ∷ [])) in
       let had = so_far other ts e in
       elim (cases_eq other number) [
@@ -85,12 +85,12 @@ module _ (side : Side) (cards : ℕ) (arrivals : List Arrival) where
             let mine : card_for side cards arrival ≡ other = sym is ∙ sym same in
             let one : length (own (take (count + 1) arrivals)) ≡ length (own front) + 1 =
             sum ∙ ap (λ (n : ℕ). length (own front) + n) (ap length (own-here side cards other arrival [] mine)) in
-            let from_is : from ≡ ts = same_Some from ts (sym at ∙ ap (slice_get cards_told) (sym same) ∙ e) in
+            let from_is : from ≡ ts = same_Some from ts (sym at ∙ ap (slice_get cards_decisions) (sym same) ∙ e) in
             let there : slice_get ts (length (own front)) ≡ Some next =
             ap (λ (n : ℕ). slice_get ts (length (own_arrivals side cards n front))) same
-            ∙ ap (λ (us : List Told). slice_get us (length (own_arrivals side cards number front))) (sym from_is) ∙ read in
-            grows ∙ ap (λ (us : List Told). own_told side cards other front told ++ us) (told-here side cards other arrival [] next [] mine)
-            ∙ ap (λ (us : List Told). us ++ next ∷ []) had
+            ∙ ap (λ (us : List Decision). slice_get us (length (own_arrivals side cards number front))) (sym from_is) ∙ read in
+            grows ∙ ap (λ (us : List Decision). own_decisions side cards other front decisions ++ us) (decisions-here side cards other arrival [] next [] mine)
+            ∙ ap (λ (us : List Decision). us ++ next ∷ []) had
             ∙ sym (take-next ts (length (own front)) next there)
             ∙ ap (λ (n : ℕ). take n ts) (sym one)
         | inr apart ↦
@@ -98,17 +98,17 @@ module _ (side : Side) (cards : ℕ) (arrivals : List Arrival) where
             let none : length (own (take (count + 1) arrivals)) ≡ length (own front) =
             ap length (own-next count other arrival here
             ∙ ap (λ (xs : List Arrival). own front ++ xs) (own-elsewhere side cards other arrival [] theirs) ∙ append-nil (own front)) in
-            grows ∙ ap (λ (us : List Told). own_told side cards other front told ++ us) (told-elsewhere side cards other arrival [] next [] theirs)
-            ∙ append-nil (own_told side cards other front told) ∙ had ∙ ap (λ (n : ℕ). take n ts) (sym none)
+            grows ∙ ap (λ (us : List Decision). own_decisions side cards other front decisions ++ us) (decisions-elsewhere side cards other arrival [] next [] theirs)
+            ∙ append-nil (own_decisions side cards other front decisions) ∙ had ∙ ap (λ (n : ℕ). take n ts) (sym none)
       ]
 
   -- All is gathered.
-  pub gather-all : (cards_told : List (List Told)) (told : List Told)
-      → TellEach side cards arrivals cards_told → IsGathered side cards (take (length arrivals) arrivals) cards_told told
-      → TellsOwn side cards arrivals told cards_told
-  gather-all cards_told told sized all number ts e =
+  pub gather-all : (cards_decisions : List (List Decision)) (decisions : List Decision)
+      → HaveOneEach side cards arrivals cards_decisions → IsGathered side cards (take (length arrivals) arrivals) cards_decisions decisions
+      → HasOwnDecisions side cards arrivals decisions cards_decisions
+  gather-all cards_decisions decisions sized all number ts e =
       let whole = take_all (length arrivals) arrivals (omega arith) in
-      ap (λ (xs : List Arrival). own_told side cards number xs told) (sym whole) ∙ all number ts e
+      ap (λ (xs : List Arrival). own_decisions side cards number xs decisions) (sym whole) ∙ all number ts e
       ∙ ap (λ (xs : List Arrival). take (length (own_arrivals side cards number xs)) ts) whole
       ∙ take_all (length (own_arrivals side cards number arrivals)) ts (omega (arith, sized number ts e))
 

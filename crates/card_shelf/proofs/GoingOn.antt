@@ -11,7 +11,7 @@ use Rattle.card_core.specs.declared.shape.Shape.{Shape}
 use Rattle.card_core.specs.declared.step.Step.TheVariants.{Enter, Pick, Judge}
 use Rattle.card_shelf.specs.declared.arrival.Arrival.{Arrival}
 use Rattle.card_shelf.specs.Logs.{IsWayOf, GoesOnBy, CardsGoOnByTheirArrivals, WaysAreShort}
-use Rattle.card_shelf.proofs.OwnLemmas.{Told}
+use Rattle.card_shelf.proofs.OwnLemmas.{Decision}
 
 -- Runs join.
 pub run-append : (before middle after : World) (one other : List Event) → Run before one middle → Run middle other after
@@ -42,10 +42,10 @@ goes-on old new [] [] served shape log before leads agrees = (
     agrees = subst (λ (core : CoreView). CoreAgrees core before) (sym served) agrees;
   },
 )
-goes-on old new [] (told ∷ more) served shape log before leads agrees = absurd served
+goes-on old new [] (decision ∷ more) served shape log before leads agrees = absurd served
 goes-on old new (arrival ∷ later) [] served shape log before leads agrees = absurd served
-goes-on old new (arrival ∷ later) (told ∷ more) served shape log before leads agrees =
-    let answer = answer_to arrival.cell told in
+goes-on old new (arrival ∷ later) (decision ∷ more) served shape log before leads agrees =
+    let answer = answer_to arrival.cell decision in
     elim served.1.answers [
       | inl missed ↦
           let first = events_of (Enter 0 arrival.cell arrival.moment ∷ Pick 0 ∷ []) (Entered ∷ Answered answer ∷ []) in
@@ -63,7 +63,7 @@ goes-on old new (arrival ∷ later) (told ∷ more) served shape log before lead
 pub goes-nowhere : (log : List Event) → GoesOnBy log [] [] log
 goes-nowhere log = record { way = []; steps = refl; log = sym (append-nil log) }
 
-pub goes-first : (log between own : List Event) (x : Arrival) (t : Told) (xs : List Arrival) (ts : List Told) (way : List Event)
+pub goes-first : (log between own : List Event) (x : Arrival) (t : Decision) (xs : List Arrival) (ts : List Decision) (way : List Event)
     → IsWayOf x (answer_to x.cell t) way → between ≡ log ++ way → GoesOnBy between xs ts own → GoesOnBy log (x ∷ xs) (t ∷ ts) own
 goes-first log between own x t xs ts way is e goes = record {
   way = way ++ goes.way;

@@ -1,4 +1,4 @@
--- A shelf tells what one card tells, over its whole life.
+-- A shelf decides as one card does, over its whole life.
 use Rattle.std.proofs.Common.{◌≡◌, ℕ, ◌+◌, ◌≤◌, List, [], ◌∷◌, length, map, Some, refl, ap, ◌∙◌, subst, arith}
 use Rattle.std.specs.Prelude.{slice_get}
 use Rattle.std.proofs.lemmas.List.{length-map}
@@ -21,13 +21,13 @@ less-time one shelf few many fewer time = record {
   each = λ number own is. let room = time.each number own is in omega (arith, fewer, room);
 }
 
-live-on : (calls : List Call) (answers told : List (List Outcome)) (one : LoggedCard) (shelf : LoggedShelf)
+live-on : (calls : List Call) (answers decisions : List (List Outcome)) (one : LoggedCard) (shelf : LoggedShelf)
     → IsBeside one shelf → HaveTimeFor (most_events_of calls) one shelf
-    → CardGrantsAll (card_state_of one) calls answers → ShelfGrantsAll shelf.shape.side (shelf_state_of shelf) calls told → told ≡ answers
+    → CardGrantsAll (card_state_of one) calls answers → ShelfGrantsAll shelf.shape.side (shelf_state_of shelf) calls decisions → decisions ≡ answers
 live-on [] [] [] one shelf beside time lives lives_too = refl
 live-on [] [] (t ∷ ts) one shelf beside time lives lives_too = absurd lives_too
-live-on [] (a ∷ answers) told one shelf beside time lives lives_too = absurd lives
-live-on (call ∷ later) [] told one shelf beside time lives lives_too = absurd lives
+live-on [] (a ∷ answers) decisions one shelf beside time lives lives_too = absurd lives
+live-on (call ∷ later) [] decisions one shelf beside time lives lives_too = absurd lives
 live-on (call ∷ later) (a ∷ answers) [] one shelf beside time lives lives_too = absurd lives_too
 live-on (call ∷ later) (a ∷ answers) (t ∷ ts) one shelf beside time lives lives_too =
     let next = lives.0 in
@@ -68,7 +68,7 @@ new-beside one shape card cards side journal here each = record {
 }
 
 pub lives-alike : ShelvesAnswerAsOneCard
-lives-alike calls answers told both =
+lives-alike calls answers decisions both =
     let one : LoggedCard = record { shape = both.card_shape; log = []; card = both.card } in
     let shelf : LoggedShelf = record { shape = both.shelf_shape; logs = no_logs both.cards; cards = both.cards } in
     let beside : IsBeside one shelf = new-beside both.card_shape both.shelf_shape both.card both.cards both.side both.journal
@@ -80,5 +80,5 @@ lives-alike calls answers told both =
           let empty = (map-there (λ (core : CoreView). let none : List Event = [] in none) both.cards number own is).2 in
           omega (arith, both.few, ap length empty);
     } in
-    live-on calls answers told one shelf beside time both.card_grants
-    (subst (λ (codes : List (List Loading)). ShelfGrantsAll both.shelf_shape.side (record { cards = both.cards; codes = codes }) calls told) (no-codes both.cards) both.shelf_grants)
+    live-on calls answers decisions one shelf beside time both.card_grants
+    (subst (λ (codes : List (List Loading)). ShelfGrantsAll both.shelf_shape.side (record { cards = both.cards; codes = codes }) calls decisions) (no-codes both.cards) both.shelf_grants)

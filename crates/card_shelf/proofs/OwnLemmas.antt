@@ -9,11 +9,11 @@ use Rattle.card_core.specs.declared.answer.Unjudged.{Unjudged}
 use Rattle.card_shelf.specs.declared.arrival.Arrival.{Arrival}
 use Rattle.card_shelf.specs.Dealing.{card_for}
 use Rattle.card_shelf.specs.Policing.{ServesArrival}
-use Rattle.card_shelf.specs.Own.{own_arrivals, own_told, ServesAll}
+use Rattle.card_shelf.specs.Own.{own_arrivals, own_decisions, ServesAll}
 use Rattle.card_shelf.specs.inner.Places.{picked, with_arrival}
 
-abbrev pub Told : Type 0
-Told = Result Judgement Unjudged
+abbrev pub Decision : Type 0
+Decision = Result Judgement Unjudged
 
 cond-append : {X : Type 0} (b : Bool) (x : X) (xs ys : List X) → cond b (x ∷ (xs ++ ys)) (xs ++ ys) ≡ cond b (x ∷ xs) xs ++ ys
 cond-append true x xs ys = refl
@@ -36,25 +36,25 @@ module _ (side : Side) (cards number : ℕ) where
       → own_arrivals side cards number (x ∷ later) ≡ own_arrivals side cards number later
   own-elsewhere x later e = ap (λ b. cond b (x ∷ own_arrivals side cards number later) (own_arrivals side cards number later)) (ne_eqb _ _ e)
 
-  pub told-here : (x : Arrival) (later : List Arrival) (t : Told) (more : List Told) → card_for side cards x ≡ number
-      → own_told side cards number (x ∷ later) (t ∷ more) ≡ t ∷ own_told side cards number later more
-  told-here x later t more e =
-      ap (λ b. cond b (t ∷ own_told side cards number later more) (own_told side cards number later more)) (eq-eqb _ _ e)
+  pub decisions-here : (x : Arrival) (later : List Arrival) (t : Decision) (more : List Decision) → card_for side cards x ≡ number
+      → own_decisions side cards number (x ∷ later) (t ∷ more) ≡ t ∷ own_decisions side cards number later more
+  decisions-here x later t more e =
+      ap (λ b. cond b (t ∷ own_decisions side cards number later more) (own_decisions side cards number later more)) (eq-eqb _ _ e)
 
-  pub told-elsewhere : (x : Arrival) (later : List Arrival) (t : Told) (more : List Told) → card_for side cards x ≢ number
-      → own_told side cards number (x ∷ later) (t ∷ more) ≡ own_told side cards number later more
-  told-elsewhere x later t more e =
-      ap (λ b. cond b (t ∷ own_told side cards number later more) (own_told side cards number later more)) (ne_eqb _ _ e)
+  pub decisions-elsewhere : (x : Arrival) (later : List Arrival) (t : Decision) (more : List Decision) → card_for side cards x ≢ number
+      → own_decisions side cards number (x ∷ later) (t ∷ more) ≡ own_decisions side cards number later more
+  decisions-elsewhere x later t more e =
+      ap (λ b. cond b (t ∷ own_decisions side cards number later more) (own_decisions side cards number later more)) (ne_eqb _ _ e)
 
-  pub told-append : (xs ys : List Arrival) (ts more : List Told) → length ts ≡ length xs
-      → own_told side cards number (xs ++ ys) (ts ++ more) ≡ own_told side cards number xs ts ++ own_told side cards number ys more
-  told-append [] ys [] more e = refl
-  told-append [] ys (t ∷ ts) more e = absurd (omega (arith, e))
-  told-append (x ∷ xs) ys [] more e = absurd (omega (arith, e))
-  told-append (x ∷ xs) ys (t ∷ ts) more e =
-      let own = own_told side cards number in
+  pub decisions-append : (xs ys : List Arrival) (ts more : List Decision) → length ts ≡ length xs
+      → own_decisions side cards number (xs ++ ys) (ts ++ more) ≡ own_decisions side cards number xs ts ++ own_decisions side cards number ys more
+  decisions-append [] ys [] more e = refl
+  decisions-append [] ys (t ∷ ts) more e = absurd (omega (arith, e))
+  decisions-append (x ∷ xs) ys [] more e = absurd (omega (arith, e))
+  decisions-append (x ∷ xs) ys (t ∷ ts) more e =
+      let own = own_decisions side cards number in
       let b = card_for side cards x == number in
-      ap (λ (zs : List Told). cond b (t ∷ zs) zs) (told-append xs ys ts more (omega (arith, e))) ∙ cond-append b t (own xs ts) (own ys more)
+      ap (λ (zs : List Decision). cond b (t ∷ zs) zs) (decisions-append xs ys ts more (omega (arith, e))) ∙ cond-append b t (own xs ts) (own ys more)
 
 cond-few : (b : Bool) (x : Arrival) (xs ys : List Arrival) → length xs ≤ length ys → length (cond b (x ∷ xs) xs) ≤ length (x ∷ ys)
 cond-few true x xs ys few = omega (arith, few)
@@ -67,7 +67,7 @@ own-few side cards number (x ∷ xs) =
     cond-few (card_for side cards x == number) x (own_arrivals side cards number xs) xs (own-few side cards number xs)
 
 -- A card that has answered some arrivals answers one more.
-pub serves-next : (old middle new : CoreView) (xs : List Arrival) (ts : List Told) (x : Arrival) (t : Told)
+pub serves-next : (old middle new : CoreView) (xs : List Arrival) (ts : List Decision) (x : Arrival) (t : Decision)
     → ServesAll old xs ts middle → ServesArrival x t middle new → ServesAll old (xs ++ x ∷ []) (ts ++ t ∷ []) new
 serves-next old middle new [] [] x t so_far next =
     (new, subst (λ (core : CoreView). ServesArrival x t core new) so_far next, refl)
@@ -76,8 +76,8 @@ serves-next old middle new (y ∷ xs) [] x t so_far next = absurd so_far
 serves-next old middle new (y ∷ xs) (u ∷ ts) x t so_far next =
     (so_far.0, so_far.1, serves-next so_far.0 middle new xs ts x t so_far.2 next)
 
--- It tells of each arrival once.
-pub serves-length : (old new : CoreView) (xs : List Arrival) (ts : List Told) → ServesAll old xs ts new → length ts ≡ length xs
+-- It has one decision about each arrival.
+pub serves-length : (old new : CoreView) (xs : List Arrival) (ts : List Decision) → ServesAll old xs ts new → length ts ≡ length xs
 serves-length old new [] [] goes = refl
 serves-length old new [] (t ∷ ts) goes = absurd goes
 serves-length old new (x ∷ xs) [] goes = absurd goes

@@ -110,10 +110,10 @@ loaded-codes code (id ∷ ids) (log ∷ later) =
     ap (λ (codes : List Loading). codes ∷ with_code code ids (map codes_in later)) (sym (codes-next log (loading code id)))
     ∙ ap (λ (rest : List (List Loading)). codes_in (log ++ loading code id ∷ []) ∷ rest) (loaded-codes code ids later)
 
-pub load-keeps : (one : LoggedCard) (shelf : LoggedShelf) (code : List Instr) (answers told : List Outcome) (next : CardState) (new : ShelfState)
-    → IsBeside one shelf → CardLoads code (card_state_of one) answers next → ShelfLoads code (shelf_state_of shelf) told new
-    → GoOnBeside one shelf (load code) answers told next new
-load-keeps one shelf code answers told next new beside here there_too =
+pub load-keeps : (one : LoggedCard) (shelf : LoggedShelf) (code : List Instr) (answers decisions : List Outcome) (next : CardState) (new : ShelfState)
+    → IsBeside one shelf → CardLoads code (card_state_of one) answers next → ShelfLoads code (shelf_state_of shelf) decisions new
+    → GoOnBeside one shelf (load code) answers decisions next new
+load-keeps one shelf code answers decisions next new beside here there_too =
     let event = loading code here.id in
     let events = map (loading code) there_too.ids in
     let sized : length events ≡ length shelf.logs = length-map there_too.ids (loading code) ∙ there_too.loads.one_each ∙ sym beside.logged.sized in
@@ -148,10 +148,10 @@ record IsRetiring (shelf : LoggedShelf) (new : List CoreView) (number : ℕ) (ev
   is_event : IsEventOf shelf new number event
   no_code : (codes : List Loading) → codes_after codes event.reply event.step ≡ codes
 
-pub retire-keeps : (one : LoggedCard) (shelf : LoggedShelf) (answers told : List Outcome) (next : CardState) (new : ShelfState)
-    → IsBeside one shelf → CardRetires (card_state_of one) answers next → ShelfRetires (shelf_state_of shelf) told new
-    → GoOnBeside one shelf retire answers told next new
-retire-keeps one shelf answers told next new beside here there_too =
+pub retire-keeps : (one : LoggedCard) (shelf : LoggedShelf) (answers decisions : List Outcome) (next : CardState) (new : ShelfState)
+    → IsBeside one shelf → CardRetires (card_state_of one) answers next → ShelfRetires (shelf_state_of shelf) decisions new
+    → GoOnBeside one shelf retire answers decisions next new
+retire-keeps one shelf answers decisions next new beside here there_too =
     let event : Event = record { step = Retire here.id; reply = Retired here.code } in
     let retires = there_too.retires in
     let all = chosen (length shelf.logs) (IsRetiring shelf new.cards) (λ number below.

@@ -28,11 +28,11 @@ short-set count lists number old new at grown short other places e = elim (slice
 
 -- A card keeps its room for answers, or gets more.
 pub cards-room-set : (most : ℕ) (cards : List Card) (number : ℕ) (old new : Card) → slice_get cards number ≡ Some old
-    → vec_capacity old.told ≤ vec_capacity new.told → CardsRoom most cards → CardsRoom most (set cards number new)
+    → vec_capacity old.decisions ≤ vec_capacity new.decisions → CardsRoom most cards → CardsRoom most (set cards number new)
 cards-room-set most cards number old new at grown room other card e = elim (slice_get-set cards number other new card e) [
   | inl same ↦
       let had = room number old at in
-      subst (λ (x : Card). most ≤ vec_capacity x.told) same.1 (omega (arith, had, grown))
+      subst (λ (x : Card). most ≤ vec_capacity x.decisions) same.1 (omega (arith, had, grown))
   | inr apart ↦ room other card apart.1
 ]
 
@@ -42,5 +42,5 @@ room-for-fewer count most fewer batch below had = record {
   sized = had.sized;
   dealt = λ number places e. (let room = had.dealt number places e in omega (arith, room, below));
   numbers = omega (arith, had.numbers, below);
-  told = omega (arith, had.told, below);
+  decisions = omega (arith, had.decisions, below);
 }

@@ -1,4 +1,4 @@
--- A card stays beside a shelf through what both do for a connection, and both tell the same.
+-- A card stays beside a shelf through what both do for a connection, with the same outcomes.
 use Rattle.std.proofs.Common.{◌≡◌, ℕ, ◌<◌, true, List, [], ◌∷◌, ◌++◌, length, map, Option, Some, None, sym, ap, ◌∙◌, subst, inl, inr, arith, length-set}
 use Rattle.std.specs.Prelude.{slice_get, slice_set, unwrap_or, option_map}
 use Rattle.std.proofs.lemmas.List.{length-append, length-map, map-append}
@@ -63,9 +63,9 @@ own_outcome (event ∷ later) = Some event.outcome
 abbrev act_in : OwnEvent → Act
 act_in event = event.act
 
-module _ (one : LoggedCard) (shelf : LoggedShelf) (vc : Vc) (service : Service) (answers told : List Outcome) (next : CardState) (new : ShelfState)
+module _ (one : LoggedCard) (shelf : LoggedShelf) (vc : Vc) (service : Service) (answers decisions : List Outcome) (next : CardState) (new : ShelfState)
     (beside : IsBeside one shelf) (time : HaveTimeFor 1 one shelf)
-    (here : CardServes vc service (card_state_of one) answers next) (there_too : ShelfServes vc service (shelf_state_of shelf) told new) where
+    (here : CardServes vc service (card_state_of one) answers next) (there_too : ShelfServes vc service (shelf_state_of shelf) decisions new) where
   abbrev Number : ℕ
   Number = card_of vc (length shelf.cards)
 
@@ -144,7 +144,7 @@ module _ (one : LoggedCard) (shelf : LoggedShelf) (vc : Vc) (service : Service) 
       ∙ ap (λ (es : List OwnEvent). es ++ event_here ∷ []) (before vc itself)) in
       same_Some there_too.outcome here.outcome (ap own_outcome tails)
 
-  pub serve-keeps : GoOnBeside one shelf (serve vc service) answers told next new
+  pub serve-keeps : GoOnBeside one shelf (serve vc service) answers decisions next new
   serve-keeps =
       let longer = slice_set shelf.logs Number (own.0 ++ theirs.event ∷ []) in
       let codes_there : codes_in (own.0 ++ theirs.event ∷ []) ≡ codes_in own.0 = codes-next own.0 theirs.event ∙ theirs.no_code (codes_in own.0) in

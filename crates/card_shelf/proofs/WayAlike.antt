@@ -100,27 +100,27 @@ module _ (one shape : Shape) (log another : List Event) (vc : Vc) (cell : List �
   number = ap entered_in before
 
   -- The same becomes of the cell, which way it may go.
-  pub both-missed : (answer told : Answer) → IsLog one (log ++ missed_way cell moment answer) → IsLog shape (another ++ missed_way cell moment told)
-      → (account_of one.side vc (log ++ missed_way cell moment answer) ≡ account_of shape.side vc (another ++ missed_way cell moment told))
-      × (outcome_of (codes_in log) answer ≡ outcome_of (codes_in another) told)
-  both-missed answer told is is_too =
-      let both = extended (missed_way cell moment answer) (missed_way cell moment told)
-      (two (entered_in Account) cell moment (outcome_of (codes_in log) answer)) (two (entered_in Theirs) cell moment (outcome_of (codes_in another) told))
+  pub both-missed : (answer decision : Answer) → IsLog one (log ++ missed_way cell moment answer) → IsLog shape (another ++ missed_way cell moment decision)
+      → (account_of one.side vc (log ++ missed_way cell moment answer) ≡ account_of shape.side vc (another ++ missed_way cell moment decision))
+      × (outcome_of (codes_in log) answer ≡ outcome_of (codes_in another) decision)
+  both-missed answer decision is is_too =
+      let both = extended (missed_way cell moment answer) (missed_way cell moment decision)
+      (two (entered_in Account) cell moment (outcome_of (codes_in log) answer)) (two (entered_in Theirs) cell moment (outcome_of (codes_in another) decision))
       is is_too (omega arith) (omega arith)
-      (missed-here one.side vc log cell moment answer own) (missed-here shape.side vc another cell moment told own_too)
+      (missed-here one.side vc log cell moment answer own) (missed-here shape.side vc another cell moment decision own_too)
       (ap (λ (n : ℕ). acts_of (two n cell moment done)) number) in
-      (both.0, same_Some (outcome_of (codes_in log) answer) (outcome_of (codes_in another) told) (ap second both.1))
+      (both.0, same_Some (outcome_of (codes_in log) answer) (outcome_of (codes_in another) decision) (ap second both.1))
 
-  pub both-judged : (answer told : Answer) → IsLog one (log ++ judged_way cell moment answer) → IsLog shape (another ++ judged_way cell moment told)
-      → (account_of one.side vc (log ++ judged_way cell moment answer) ≡ account_of shape.side vc (another ++ judged_way cell moment told))
-      × (outcome_of (codes_in log) answer ≡ outcome_of (codes_in another) told)
-  both-judged answer told is is_too =
-      let both = extended (judged_way cell moment answer) (judged_way cell moment told)
-      (three (entered_in Account) cell moment (outcome_of (codes_in log) answer)) (three (entered_in Theirs) cell moment (outcome_of (codes_in another) told))
+  pub both-judged : (answer decision : Answer) → IsLog one (log ++ judged_way cell moment answer) → IsLog shape (another ++ judged_way cell moment decision)
+      → (account_of one.side vc (log ++ judged_way cell moment answer) ≡ account_of shape.side vc (another ++ judged_way cell moment decision))
+      × (outcome_of (codes_in log) answer ≡ outcome_of (codes_in another) decision)
+  both-judged answer decision is is_too =
+      let both = extended (judged_way cell moment answer) (judged_way cell moment decision)
+      (three (entered_in Account) cell moment (outcome_of (codes_in log) answer)) (three (entered_in Theirs) cell moment (outcome_of (codes_in another) decision))
       is is_too (omega arith) (omega arith)
-      (judged-here one.side vc log cell moment answer own) (judged-here shape.side vc another cell moment told own_too)
+      (judged-here one.side vc log cell moment answer own) (judged-here shape.side vc another cell moment decision own_too)
       (ap (λ (n : ℕ). acts_of (three n cell moment done)) number) in
-      (both.0, same_Some (outcome_of (codes_in log) answer) (outcome_of (codes_in another) told) (ap third both.1))
+      (both.0, same_Some (outcome_of (codes_in log) answer) (outcome_of (codes_in another) decision) (ap third both.1))
 
   abbrev Picking : List Event
   Picking = events_of (Enter 0 cell moment ∷ Pick 0 ∷ []) (Entered ∷ Picked ∷ [])
@@ -134,11 +134,11 @@ module _ (one shape : Shape) (log another : List Event) (vc : Vc) (cell : List �
       (ap (λ (n : ℕ). acts_of (two n cell moment done)) number) in
       not-done (codes_in log) answer (same_Some (outcome_of (codes_in log) answer) done (ap second both.1))
 
-  pub missed-there-alone : (told : Answer) → IsLog one (log ++ Picking) → IsLog shape (another ++ missed_way cell moment told) → ⊥
-  missed-there-alone told is is_too =
-      let both = extended Picking (missed_way cell moment told)
-      (two (entered_in Account) cell moment done) (two (entered_in Theirs) cell moment (outcome_of (codes_in another) told))
+  pub missed-there-alone : (decision : Answer) → IsLog one (log ++ Picking) → IsLog shape (another ++ missed_way cell moment decision) → ⊥
+  missed-there-alone decision is is_too =
+      let both = extended Picking (missed_way cell moment decision)
+      (two (entered_in Account) cell moment done) (two (entered_in Theirs) cell moment (outcome_of (codes_in another) decision))
       is is_too (omega arith) (omega arith)
-      (picked-here one.side vc log cell moment own) (missed-here shape.side vc another cell moment told own_too)
+      (picked-here one.side vc log cell moment own) (missed-here shape.side vc another cell moment decision own_too)
       (ap (λ (n : ℕ). acts_of (two n cell moment done)) number) in
-      not-done (codes_in another) told (sym (same_Some done (outcome_of (codes_in another) told) (ap second both.1)))
+      not-done (codes_in another) decision (sym (same_Some done (outcome_of (codes_in another) decision) (ap second both.1)))

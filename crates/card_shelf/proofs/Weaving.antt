@@ -7,16 +7,16 @@ use Rattle.card_core.specs.Agreement.{CoreView}
 use Rattle.card_shelf.specs.declared.arrival.Arrival.{Arrival}
 use Rattle.card_shelf.specs.Dealing.{card_for}
 use Rattle.card_shelf.specs.Policing.{PolicesAll}
-use Rattle.card_shelf.specs.Own.{own_arrivals, own_told, ServesAll, EachServes}
+use Rattle.card_shelf.specs.Own.{own_arrivals, own_decisions, ServesAll, EachServes}
 use Rattle.gen_arena.proofs.Public.{slice_get-set}
 use Rattle.card_shelf.proofs.Lists.{there, same-lists}
-use Rattle.card_shelf.proofs.OwnLemmas.{Told, own-here, own-elsewhere, told-here, told-elsewhere}
+use Rattle.card_shelf.proofs.OwnLemmas.{Decision, own-here, own-elsewhere, decisions-here, decisions-elsewhere}
 
 -- Where each card answers its own arrivals, the cards answer all arrivals in their order.
-pub weave : (side : Side) (old new : List CoreView) (arrivals : List Arrival) (told : List Told) → 0 < length old
-    → length new ≡ length old → length told ≡ length arrivals
+pub weave : (side : Side) (old new : List CoreView) (arrivals : List Arrival) (decisions : List Decision) → 0 < length old
+    → length new ≡ length old → length decisions ≡ length arrivals
     → ((arrival : Arrival) → card_for side (length old) arrival < length old)
-    → EachServes side old arrivals told new → PolicesAll side old arrivals told new
+    → EachServes side old arrivals decisions new → PolicesAll side old arrivals decisions new
 weave side old new [] [] some sized e within each =
     same-lists old new (sym sized) (λ number core next here after. each number core next here after)
 weave side old new [] (t ∷ ts) some sized e within each = absurd (omega (arith, e))
@@ -26,24 +26,24 @@ weave side old new (x ∷ xs) (t ∷ ts) some sized e within each =
     let number = card_for side cards x in
     let core = there old number (within x) in
     let next = there new number (omega (arith, within x, sized)) in
-    let mine : ServesAll core.0 (x ∷ own_arrivals side cards number xs) (t ∷ own_told side cards number xs ts) next.0 =
-    subst (λ (us : List Told). ServesAll core.0 (x ∷ own_arrivals side cards number xs) us next.0) (told-here side cards number x xs t ts refl)
-    (subst (λ (ys : List Arrival). ServesAll core.0 ys (own_told side cards number (x ∷ xs) (t ∷ ts)) next.0) (own-here side cards number x xs refl)
+    let mine : ServesAll core.0 (x ∷ own_arrivals side cards number xs) (t ∷ own_decisions side cards number xs ts) next.0 =
+    subst (λ (us : List Decision). ServesAll core.0 (x ∷ own_arrivals side cards number xs) us next.0) (decisions-here side cards number x xs t ts refl)
+    (subst (λ (ys : List Arrival). ServesAll core.0 ys (own_decisions side cards number (x ∷ xs) (t ∷ ts)) next.0) (own-here side cards number x xs refl)
     (each number core.0 next.0 core.1 next.1)) in
     let between = slice_set old number mine.0 in
     let same : length between ≡ cards = length-set old number mine.0 in
     let later : EachServes side between xs ts new = λ other here after was is.
-    subst (λ (n : ℕ). ServesAll here (own_arrivals side n other xs) (own_told side n other xs ts) after) (sym same)
+    subst (λ (n : ℕ). ServesAll here (own_arrivals side n other xs) (own_decisions side n other xs ts) after) (sym same)
     (elim (slice_get-set old number other mine.0 here was) [
       | inl at ↦
           let after_is : next.0 ≡ after = same_Some next.0 after (sym next.1 ∙ ap (slice_get new) (sym at.0) ∙ is) in
-          subst (λ (c : CoreView). ServesAll c (own_arrivals side cards other xs) (own_told side cards other xs ts) after) at.1
-          (subst (λ (c : CoreView). ServesAll mine.0 (own_arrivals side cards other xs) (own_told side cards other xs ts) c) after_is
-          (subst (λ (n : ℕ). ServesAll mine.0 (own_arrivals side cards n xs) (own_told side cards n xs ts) next.0) (sym at.0) mine.2))
+          subst (λ (c : CoreView). ServesAll c (own_arrivals side cards other xs) (own_decisions side cards other xs ts) after) at.1
+          (subst (λ (c : CoreView). ServesAll mine.0 (own_arrivals side cards other xs) (own_decisions side cards other xs ts) c) after_is
+          (subst (λ (n : ℕ). ServesAll mine.0 (own_arrivals side cards n xs) (own_decisions side cards n xs ts) next.0) (sym at.0) mine.2))
       | inr apart ↦
           let theirs : number ≢ other = λ e. apart.0 (sym e) in
-          subst (λ (us : List Told). ServesAll here (own_arrivals side cards other xs) us after) (told-elsewhere side cards other x xs t ts theirs)
-          (subst (λ (ys : List Arrival). ServesAll here ys (own_told side cards other (x ∷ xs) (t ∷ ts)) after) (own-elsewhere side cards other x xs theirs)
+          subst (λ (us : List Decision). ServesAll here (own_arrivals side cards other xs) us after) (decisions-elsewhere side cards other x xs t ts theirs)
+          (subst (λ (ys : List Arrival). ServesAll here ys (own_decisions side cards other (x ∷ xs) (t ∷ ts)) after) (own-elsewhere side cards other x xs theirs)
           (each other here after apart.1 is))
     ]) in (
       between,

@@ -92,15 +92,15 @@ Grants codes vc cut outcome old new = GrantsCut vc outcome old new
 -- The outcomes of these answers of a card to arrivals, where these codes are loaded: for each the moment, the value, the
 -- code of the program that gave it, the verdict and the cell as it leaves, or why the cell was not judged.
 abbrev pub outcomes_of : List Loading → List Arrival → List (Result Judgement Unjudged) → List Outcome
-outcomes_of codes [] told = []
+outcomes_of codes [] decisions = []
 outcomes_of codes (arrival ∷ later) [] = []
-outcomes_of codes (arrival ∷ later) (told ∷ more) = outcome_of codes (answer_to arrival.cell told) ∷ outcomes_of codes later more
+outcomes_of codes (arrival ∷ later) (decision ∷ more) = outcome_of codes (answer_to arrival.cell decision) ∷ outcomes_of codes later more
 
 -- The card polices these arrivals, one after another.
 pub record CardPolices (arrivals : List Arrival) (old : CardState) (outcomes : List Outcome) (new : CardState) : Type 0 where
-  pub told : List (Result Judgement Unjudged)
-  pub answers : ServesAll old.card arrivals told new.card
-  pub returns : outcomes ≡ outcomes_of old.codes arrivals told
+  pub decisions : List (Result Judgement Unjudged)
+  pub answers : ServesAll old.card arrivals decisions new.card
+  pub returns : outcomes ≡ outcomes_of old.codes arrivals decisions
   pub codes : new.codes ≡ old.codes
 
 -- The card loads a program of this code.
@@ -139,10 +139,10 @@ codes_at codes number = unwrap_or (slice_get codes number) []
 -- The outcomes of these answers of a shelf to arrivals, where these codes are loaded on its cards. The code of a program
 -- is that on the card of the arrival.
 abbrev pub outcomes_on : Side → List (List Loading) → List Arrival → List (Result Judgement Unjudged) → List Outcome
-outcomes_on side codes [] told = []
+outcomes_on side codes [] decisions = []
 outcomes_on side codes (arrival ∷ later) [] = []
-outcomes_on side codes (arrival ∷ later) (told ∷ more) =
-    outcome_of (codes_at codes (card_for side (length codes) arrival)) (answer_to arrival.cell told)
+outcomes_on side codes (arrival ∷ later) (decision ∷ more) =
+    outcome_of (codes_at codes (card_for side (length codes) arrival)) (answer_to arrival.cell decision)
     ∷ outcomes_on side codes later more
 
 -- The codes of each card, once a program of this code was loaded on each under these ids.
@@ -153,9 +153,9 @@ with_code code (id ∷ ids) (codes ∷ later) = (record { id = id; code = code }
 
 -- The shelf polices these arrivals, as `Shelf::police` and `Shelf::police_in` do, on any number of threads.
 pub record ShelfPolices (side : Side) (arrivals : List Arrival) (old : ShelfState) (outcomes : List Outcome) (new : ShelfState) : Type 0 where
-  pub told : List (Result Judgement Unjudged)
-  pub answers : PolicesAll side old.cards arrivals told new.cards
-  pub returns : outcomes ≡ outcomes_on side old.codes arrivals told
+  pub decisions : List (Result Judgement Unjudged)
+  pub answers : PolicesAll side old.cards arrivals decisions new.cards
+  pub returns : outcomes ≡ outcomes_on side old.codes arrivals decisions
   pub codes : new.codes ≡ old.codes
 
 -- The shelf loads a program of this code on every card, as `Shelf::load` does.

@@ -23,27 +23,27 @@ IsWayOf arrival answer events =
 -- These are the steps of the arrivals, one arrival after another, with these answers.
 abbrev pub AreWaysOf : List Arrival → List (Result Judgement Unjudged) → List Event → Type 0
 AreWaysOf [] [] events = events ≡ []
-AreWaysOf [] (told ∷ more) events = ⊥
+AreWaysOf [] (decision ∷ more) events = ⊥
 AreWaysOf (arrival ∷ later) [] events = ⊥
-AreWaysOf (arrival ∷ later) (told ∷ more) events =
-    (first : List Event) × (rest : List Event) × IsWayOf arrival (answer_to arrival.cell told) first
+AreWaysOf (arrival ∷ later) (decision ∷ more) events =
+    (first : List Event) × (rest : List Event) × IsWayOf arrival (answer_to arrival.cell decision) first
     × AreWaysOf later more rest × (events ≡ first ++ rest)
 
 -- The steps of arrivals are at most three for each.
 abbrev pub WaysAreShort : Type 0
-WaysAreShort = (arrivals : List Arrival) (told : List (Result Judgement Unjudged)) (events : List Event)
-    → AreWaysOf arrivals told events → length events ≤ 3 * length arrivals
+WaysAreShort = (arrivals : List Arrival) (decisions : List (Result Judgement Unjudged)) (events : List Event)
+    → AreWaysOf arrivals decisions events → length events ≤ 3 * length arrivals
 
 -- The log goes on by the steps of these arrivals, with these answers.
-pub record GoesOnBy (old : List Event) (arrivals : List Arrival) (told : List (Result Judgement Unjudged)) (new : List Event) : Type 0 where
+pub record GoesOnBy (old : List Event) (arrivals : List Arrival) (decisions : List (Result Judgement Unjudged)) (new : List Event) : Type 0 where
   pub way : List Event
-  pub steps : AreWaysOf arrivals told way
+  pub steps : AreWaysOf arrivals decisions way
   pub log : new ≡ old ++ way
 
 -- A card that has answered arrivals has taken their steps. If it agreed with a world to which a log leads, the log with
 -- these steps added leads to a world that the card agrees with now.
 abbrev pub CardsGoOnByTheirArrivals : Type 0
-CardsGoOnByTheirArrivals = (old new : CoreView) (arrivals : List Arrival) (told : List (Result Judgement Unjudged))
-    → ServesAll old arrivals told new → (shape : Shape) (log : List Event) (before : World)
+CardsGoOnByTheirArrivals = (old new : CoreView) (arrivals : List Arrival) (decisions : List (Result Judgement Unjudged))
+    → ServesAll old arrivals decisions new → (shape : Shape) (log : List Event) (before : World)
     → Leads shape log before → CoreAgrees old before
-    → (events : List Event) × AreWaysOf arrivals told events × GoneAll shape log before events new
+    → (events : List Event) × AreWaysOf arrivals decisions events × GoneAll shape log before events new

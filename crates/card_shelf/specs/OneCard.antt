@@ -16,7 +16,7 @@ use Rattle.card_isolation.specs.OwnEvents.{acts_of, codes_after}
 use Rattle.card_shelf.specs.declared.arrival.Arrival.{Arrival}
 use Rattle.card_shelf.specs.Dealing.{card_of, card_for}
 use Rattle.card_shelf.specs.Logs.{GoesOnBy}
-use Rattle.card_shelf.specs.Own.{ServesAll, own_arrivals, own_told}
+use Rattle.card_shelf.specs.Own.{ServesAll, own_arrivals, own_decisions}
 use Rattle.card_shelf.specs.Policing.{PolicesAll}
 
 -- The log is one of this card: it leads to a world that the card agrees with.
@@ -67,25 +67,25 @@ codes_in log = fold (λ codes event. codes_after codes event.reply event.step) [
 -- After these logs two cards have given the same answer to an arrival: the moment, the value, the code of the program
 -- that gave it, the verdict and the cell as it leaves, or why the cell was not judged.
 abbrev pub AreAlike : List Event → List Event → Arrival → Result Judgement Unjudged → Result Judgement Unjudged → Type 0
-AreAlike log another arrival answer told =
-    outcome_of (codes_in log) (answer_to arrival.cell answer) ≡ outcome_of (codes_in another) (answer_to arrival.cell told)
+AreAlike log another arrival answer decision =
+    outcome_of (codes_in log) (answer_to arrival.cell answer) ≡ outcome_of (codes_in another) (answer_to arrival.cell decision)
 
 -- The card of an arrival, which has one of these logs, has given the same answer to it as the card with this log.
-abbrev pub IsToldAlike : Side → List Event → List (List Event) → Arrival → Result Judgement Unjudged → Result Judgement Unjudged → Type 0
-IsToldAlike side log logs arrival answer told = (own : List Event) → slice_get logs (card_for side (length logs) arrival) ≡ Some own
-    → AreAlike log own arrival answer told
+abbrev pub IsDecidedAlike : Side → List Event → List (List Event) → Arrival → Result Judgement Unjudged → Result Judgement Unjudged → Type 0
+IsDecidedAlike side log logs arrival answer decision = (own : List Event) → slice_get logs (card_for side (length logs) arrival) ≡ Some own
+    → AreAlike log own arrival answer decision
 
 -- The same holds for each of these arrivals.
-abbrev pub AreToldAlike : Side → List Event → List (List Event) → List Arrival → List (Result Judgement Unjudged) → List (Result Judgement Unjudged) → Type 0
-AreToldAlike side log logs [] [] [] = ⊤
-AreToldAlike side log logs (arrival ∷ later) (answer ∷ answers) (told ∷ more) =
-    IsToldAlike side log logs arrival answer told × AreToldAlike side log logs later answers more
-AreToldAlike side log logs _ _ _ = ⊥
+abbrev pub AreDecidedAlike : Side → List Event → List (List Event) → List Arrival → List (Result Judgement Unjudged) → List (Result Judgement Unjudged) → Type 0
+AreDecidedAlike side log logs [] [] [] = ⊤
+AreDecidedAlike side log logs (arrival ∷ later) (answer ∷ answers) (decision ∷ more) =
+    IsDecidedAlike side log logs arrival answer decision × AreDecidedAlike side log logs later answers more
+AreDecidedAlike side log logs _ _ _ = ⊥
 
 -- Afterwards both have longer logs: the card's goes on by the steps of these arrivals, and that of each card of the shelf
 -- by the steps of its own arrivals. The card is beside the shelf again, and both have given the same answer to each arrival.
 pub record StaysBeside (one : LoggedCard) (shelf : LoggedShelf) (next : CoreView) (new : List CoreView) (arrivals : List Arrival)
-    (answers told : List (Result Judgement Unjudged)) : Type 0 where
+    (answers decisions : List (Result Judgement Unjudged)) : Type 0 where
   pub log : List Event
   pub logs : List (List Event)
   pub goes_on : GoesOnBy one.log arrivals answers log
@@ -93,24 +93,24 @@ pub record StaysBeside (one : LoggedCard) (shelf : LoggedShelf) (next : CoreView
   pub each_goes_on : (number : ℕ) (earlier own : List Event) → slice_get shelf.logs number ≡ Some earlier
       → slice_get logs number ≡ Some own
       → GoesOnBy earlier (own_arrivals shelf.shape.side (length shelf.logs) number arrivals)
-      (own_told shelf.shape.side (length shelf.logs) number arrivals told) own
+      (own_decisions shelf.shape.side (length shelf.logs) number arrivals decisions) own
   pub beside : IsBeside (record one { log = log; card = next }) (record shelf { logs = logs; cards = new })
-  pub alike : AreToldAlike shelf.shape.side log logs arrivals answers told
+  pub alike : AreDecidedAlike shelf.shape.side log logs arrivals answers decisions
 
 -- The answers of the cards of a shelf to these arrivals are those of one card with all their connections. This holds for
 -- any card beside them, and for any answers of that card to all the arrivals, one after another.
-abbrev pub TellsAsOneCard : Shape → List CoreView → List Arrival → List (Result Judgement Unjudged) → List CoreView → Type 0
-TellsAsOneCard shape old arrivals told new =
+abbrev pub DecidesAsOneCard : Shape → List CoreView → List Arrival → List (Result Judgement Unjudged) → List CoreView → Type 0
+DecidesAsOneCard shape old arrivals decisions new =
     (one : LoggedCard) (logs : List (List Event)) (next : CoreView) (answers : List (Result Judgement Unjudged))
     → IsBeside one (record { shape = shape; logs = logs; cards = old })
     → HaveTimeFor (3 * length arrivals) one (record { shape = shape; logs = logs; cards = old })
     → ServesAll one.card arrivals answers next
-    → StaysBeside one (record { shape = shape; logs = logs; cards = old }) next new arrivals answers told
+    → StaysBeside one (record { shape = shape; logs = logs; cards = old }) next new arrivals answers decisions
 
 -- If each arrival is answered by its own card, one after another, the answers are those of one card with all the connections.
-abbrev pub ShelvesTellAsOneCard : Type 0
-ShelvesTellAsOneCard = (shape : Shape) (old new : List CoreView) (arrivals : List Arrival) (told : List (Result Judgement Unjudged))
-    → PolicesAll shape.side old arrivals told new → TellsAsOneCard shape old arrivals told new
+abbrev pub ShelvesDecideAsOneCard : Type 0
+ShelvesDecideAsOneCard = (shape : Shape) (old new : List CoreView) (arrivals : List Arrival) (decisions : List (Result Judgement Unjudged))
+    → PolicesAll shape.side old arrivals decisions new → DecidesAsOneCard shape old arrivals decisions new
 
 -- A card is beside a shelf if the same was done for each connection, in the same order, on the one card and on the card of
 -- the shelf that serves the connection. The outcomes are then the same.

@@ -9,7 +9,7 @@ use Rattle.card_shelf.specs.declared.fault.NoRoom.TheVariants.{Arrivals, Cards}
 pub record RoomView : Type 0 where
   pub cards : ℕ
   pub most : ℕ
-  pub told : List (Result Judgement Unjudged)
+  pub decisions : List (Result Judgement Unjudged)
 
 -- Why a batch of this number of arrivals does not fit the room on a shelf of this number of cards: the room is for fewer
 -- arrivals; or it is for fewer cards.

@@ -12,4 +12,4 @@ pub struct Arrival {
 }
 
 /// The answer to an arrival: how it was judged, or why it wasn't. The cell itself is the caller's.
-pub type Told = Result<Judgement, Unjudged>;
+pub type Decision = Result<Judgement, Unjudged>;

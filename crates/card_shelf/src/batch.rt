@@ -1,9 +1,9 @@
 //! What is written down while a batch of arrivals is policed.
 
 ghost use Rattle.std.specs.Prelude.{◌≡◌, ◌≤◌, [], IfOk, length, vec_capacity};
-ghost use Rattle.card_shelf.specs.inner.Rooms.{HaveRoom, TellRoom, BatchHasRoom};
+ghost use Rattle.card_shelf.specs.inner.Rooms.{HaveRoom, ListsHaveRoom, BatchHasRoom};
 
-use crate::arrival::Told;
+use crate::arrival::Decision;
 use std::alloc::{AllocError, Global};
 
 /// The lists of a batch: which arrivals are whose, and the answers.
@@ -14,7 +14,7 @@ pub(crate) struct Batch {
     /// For each arrival the number of its card.
     pub(crate) numbers: Vec<u8>,
     /// The answers, in the order of the arrivals.
-    pub(crate) told: Vec<Told>,
+    pub(crate) decisions: Vec<Decision>,
 }
 
 impl Batch {
@@ -22,15 +22,15 @@ impl Batch {
     pub(crate) fn new(alloc: Global, cards: usize, most: usize) -> Result<Batch, AllocError>
         ensures cards { IfOk result (λ batch. length batch.dealt.items ≡ cards) }
         ensures room { IfOk result (λ batch. BatchHasRoom cards most batch) }
-        ensures empty { IfOk result (λ batch. batch.told.items ≡ []) }
+        ensures empty { IfOk result (λ batch. batch.decisions.items ≡ []) }
     {
         let dealt = place_lists(alloc, cards, most)?;
         let numbers = Vec::with_capacity(alloc, most)?;
-        let told = Vec::with_capacity(alloc, most)?;
+        let decisions = Vec::with_capacity(alloc, most)?;
         Ok(Batch {
             dealt,
             numbers,
-            told,
+            decisions,
         })
     }
 }
@@ -52,9 +52,9 @@ pub(crate) fn answer_lists(
     alloc: Global,
     cards: usize,
     most: usize,
-) -> Result<Vec<Vec<Told>>, AllocError>
+) -> Result<Vec<Vec<Decision>>, AllocError>
     ensures cards { IfOk result (λ lists. length lists.items ≡ cards) }
-    ensures room { IfOk result (λ lists. TellRoom 0 most lists.items) }
+    ensures room { IfOk result (λ lists. ListsHaveRoom 0 most lists.items) }
 {
     let mut lists = Vec::with_capacity(alloc, cards)?;
     for _ in 0..cards {

@@ -8,7 +8,7 @@ ghost use Rattle.card_shelf.specs.inner.Cards.{IsReady};
 ghost use Rattle.card_shelf.specs.inner.Places.{picked};
 ghost use Rattle.card_shelf.specs.inner.Rest.{IsAtRest};
 
-use crate::arrival::{Arrival, Told};
+use crate::arrival::{Arrival, Decision};
 use bpf_verify::Program;
 use card_core::Core;
 use gen_arena::Id;
@@ -19,7 +19,7 @@ use std::alloc::AllocError;
 #[derive(Drop)]
 pub(crate) struct Card {
     pub(crate) core: Core,
-    pub(crate) told: Vec<Told>,
+    pub(crate) decisions: Vec<Decision>,
 }
 
 impl Card {
@@ -27,11 +27,11 @@ impl Card {
     pub(crate) fn make_room(&mut self, many: usize) -> Result<(), AllocError>
         ensures core { self.new.core ≡ self.old.core }
         ensures ready { OnOk result (IsReady self.new many) }
-        ensures grown { vec_capacity self.old.told ≤ vec_capacity self.new.told }
-        ensures full { OnErr result (vec_capacity self.old.told < many) }
+        ensures grown { vec_capacity self.old.decisions ≤ vec_capacity self.new.decisions }
+        ensures full { OnErr result (vec_capacity self.old.decisions < many) }
     {
-        self.told.clear();
-        self.told.reserve(many)
+        self.decisions.clear();
+        self.decisions.reserve(many)
     }
 
     /// Polices the arrivals at these places, one after another, and adds the answer to each.
@@ -39,16 +39,16 @@ impl Card {
         requires within { All (λ place. place < length arrivals.now) places.now }
         requires ready { IsReady self.old (length places.now) }
         requires rest { IsAtRest self.old.core }
-        ensures served { ServesAll self.old.core (picked arrivals.now places.now) self.new.told.items self.new.core }
+        ensures served { ServesAll self.old.core (picked arrivals.now places.now) self.new.decisions.items self.new.core }
         ensures rest { IsAtRest self.new.core }
-        ensures capacity { vec_capacity self.new.told ≡ vec_capacity self.old.told }
+        ensures capacity { vec_capacity self.new.decisions ≡ vec_capacity self.old.decisions }
     {
         for place in places {
             let arrival = &arrivals[*place];
-            let Some(told) = self.core.arrive(0, &arrival.cell, arrival.moment) else {
+            let Some(decision) = self.core.arrive(0, &arrival.cell, arrival.moment) else {
                 unreachable!()
             };
-            self.told.push_reserved(told);
+            self.decisions.push_reserved(decision);
         }
     }
 

@@ -2,7 +2,7 @@
 
 ghost use Rattle.card_shelf.specs.Life.{CallsKeepACardBeside, ShelvesAnswerAsOneCard};
 ghost use Rattle.card_shelf.specs.Logs.{CardsGoOnByTheirArrivals, WaysAreShort};
-ghost use Rattle.card_shelf.specs.OneCard.{ShelvesTellAsOneCard, TheSameActsSuffice};
+ghost use Rattle.card_shelf.specs.OneCard.{ShelvesDecideAsOneCard, TheSameActsSuffice};
 
 /// A card that has answered arrivals has taken their steps, and its log has grown by them.
 pub fn cards_go_on_by_their_arrivals()
@@ -16,8 +16,8 @@ pub fn ways_are_short()
 
 /// If each arrival is answered by its own card, one after another, the answers are those of one card with all the
 /// connections.
-pub fn shelves_tell_as_one_card()
-    ensures { ShelvesTellAsOneCard }
+pub fn shelves_decide_as_one_card()
+    ensures { ShelvesDecideAsOneCard }
 {}
 
 /// If the same was done for each connection, in the same order, a card is beside a shelf.

@@ -17,7 +17,7 @@ mod running;
 mod shelf;
 mod sums;
 
-pub use arrival::{Arrival, Told};
+pub use arrival::{Arrival, Decision};
 pub use fault::{NoRoom, ProgramFault, ShelfFault};
 pub use room::Room;
 pub use shelf::{MOST_CARDS, Shelf};

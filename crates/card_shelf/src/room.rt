@@ -2,7 +2,7 @@
 
 ghost use Rattle.std.specs.Prelude.{◌≡◌};
 
-use crate::arrival::{Arrival, Told};
+use crate::arrival::{Arrival, Decision};
 use crate::batch::{Batch, answer_lists};
 use crate::card::Card;
 use crate::running::police_lent;
@@ -17,7 +17,7 @@ use upc_cell::Side;
 pub struct Room {
     most: usize,
     /// For each card the list that its answers go to first.
-    tolds: Vec<Vec<Told>>,
+    decision_lists: Vec<Vec<Decision>>,
     batch: Batch,
 }
 
@@ -28,15 +28,14 @@ impl Model for Room {
 
     ghost Value = { RoomView };
 
-    ghost view = { λ r. record { cards = length r.tolds.items; most = r.most; told = r.batch.told.items } };
+    ghost view = { λ r. record { cards = length r.decision_lists.items; most = r.most; decisions = r.batch.decisions.items } };
 
-    ghost invariant = { λ r. IsRoom r.most r.tolds.items r.batch };
+    ghost invariant = { λ r. IsRoom r.most r.decision_lists.items r.batch };
 }
 
 impl Room {
     ghost use Rattle.std.specs.Prelude.{◌≡◌, ◌<◌, ◌≤◌, [], IfOk, length};
-    ghost use Rattle.card_shelf.specs.Own.{EachServes};
-    ghost use Rattle.card_shelf.specs.Policing.{PolicesAll};
+    ghost use Rattle.card_shelf.specs.Own.{PolicesBatch};
     ghost use Rattle.card_shelf.specs.inner.Cards.{cores_of, AreAtRest};
 
     /// Room for batches of at most `most` arrivals, on a shelf of at most `cards` cards. For each card it takes memory for
@@ -48,11 +47,15 @@ impl Room {
     pub fn new(alloc: Global, cards: usize, most: usize) -> Result<Room, AllocError>
         ensures cards { IfOk result (λ room. room.cards ≡ cards) }
         ensures most { IfOk result (λ room. room.most ≡ most) }
-        ensures told { IfOk result (λ room. room.told ≡ []) }
+        ensures decisions { IfOk result (λ room. room.decisions ≡ []) }
     {
-        let tolds = answer_lists(alloc, cards, most)?;
+        let decision_lists = answer_lists(alloc, cards, most)?;
         let batch = Batch::new(alloc, cards, most)?;
-        Ok(Room { most, tolds, batch })
+        Ok(Room {
+            most,
+            decision_lists,
+            batch,
+        })
     }
 
     /// The largest number of arrivals of a batch.
@@ -66,14 +69,14 @@ impl Room {
     pub fn cards(&self) -> usize
         ensures { result ≡ self.now.cards }
     {
-        self.tolds.len()
+        self.decision_lists.len()
     }
 
     /// The answers to the last batch, in the order of its arrivals. There are none before the first batch.
-    pub fn told(&self) -> &[Told]
-        ensures { result.now ≡ self.now.told }
+    pub fn decisions(&self) -> &[Decision]
+        ensures { result.now ≡ self.now.decisions }
     {
-        self.batch.told.as_slice()
+        self.batch.decisions.as_slice()
     }
 
     /// The cards police these arrivals in this room.
@@ -90,9 +93,7 @@ impl Room {
         requires cards { length cards.old ≤ self.old.cards }
         requires arrivals { length arrivals.now ≤ self.old.most }
         requires rest { AreAtRest (cores_of cards.old) }
-        ensures policed { PolicesAll side (cores_of cards.old) arrivals.now self.new.told (cores_of cards.new) }
-        ensures each { EachServes side (cores_of cards.old) arrivals.now self.new.told (cores_of cards.new) }
-        ensures one_each { length self.new.told ≡ length arrivals.now }
+        ensures batch { PolicesBatch side (cores_of cards.old) arrivals.now self.new.decisions (cores_of cards.new) }
         ensures rest { AreAtRest (cores_of cards.new) }
         ensures cards { self.new.cards ≡ self.old.cards }
         ensures most { self.new.most ≡ self.old.most }
@@ -101,7 +102,7 @@ impl Room {
             rt,
             side,
             cards,
-            self.tolds.as_mut_slice(),
+            self.decision_lists.as_mut_slice(),
             &mut self.batch,
             arrivals,
             threads,

@@ -1,15 +1,14 @@
 //! The cards police their own arrivals, each by itself.
 
 ghost use Rattle.std.specs.Prelude.{◌≡◌, ◌<◌, ◌≤◌, ℕ, All, IfOk, IsOk, OnOk, OnErr, Some, length, slice_get, vec_capacity};
-ghost use Rattle.card_shelf.specs.Own.{ServesAll, EachServes};
-ghost use Rattle.card_shelf.specs.Policing.{PolicesAll};
+ghost use Rattle.card_shelf.specs.Own.{ServesAll, PolicesBatch};
 ghost use Rattle.card_shelf.specs.inner.Cards.{cores_of, AreAtRest, IsReady};
 ghost use Rattle.card_shelf.specs.inner.Places.{picked};
 ghost use Rattle.card_shelf.specs.inner.Rest.{IsAtRest, IsOfDesk};
-ghost use Rattle.card_shelf.specs.inner.Rooms.{AreShort, TellRoom, CardsRoom, BatchHasRoom, IsRoom};
+ghost use Rattle.card_shelf.specs.inner.Rooms.{AreShort, ListsHaveRoom, CardsRoom, BatchHasRoom, IsRoom};
 ghost use Rattle.card_shelf.specs.Shelf.{ChangesCard, TakesStep};
 
-use crate::arrival::{Arrival, Told};
+use crate::arrival::{Arrival, Decision};
 use crate::batch::Batch;
 use crate::card::Card;
 use crate::dealing::deal;
@@ -29,21 +28,18 @@ pub(crate) fn police_all<R: Threads + Sync>(
     cards: &mut [Card],
     arrivals: &[Arrival],
     threads: usize,
-) -> Result<Vec<Told>, AllocError>
+) -> Result<Vec<Decision>, AllocError>
     requires some { 0 < length cards.old }
     requires limit { length cards.old ≤ 64 }
     requires rest { AreAtRest (cores_of cards.old) }
-    ensures policed { IfOk result (λ told.
-        PolicesAll side (cores_of cards.old) arrivals.now told.items (cores_of cards.new)) }
-    ensures each { IfOk result (λ told.
-        EachServes side (cores_of cards.old) arrivals.now told.items (cores_of cards.new)) }
-    ensures one_each { IfOk result (λ told. length told.items ≡ length arrivals.now) }
+    ensures batch { IfOk result (λ decisions.
+        PolicesBatch side (cores_of cards.old) arrivals.now decisions.items (cores_of cards.new)) }
     ensures unchanged { OnErr result (cores_of cards.new ≡ cores_of cards.old) }
     ensures rest { AreAtRest (cores_of cards.new) }
 {
     let mut batch = Batch::new(alloc, cards.len(), 0)?;
     police_batch(rt, side, cards, &mut batch, arrivals, threads)?;
-    Ok(batch.told)
+    Ok(batch.decisions)
 }
 
 /// The same in room that is lent: the lists of the batch, and for each card a list of answers.
@@ -51,25 +47,23 @@ pub(crate) fn police_lent<R: Threads + Sync>(
     rt: &R,
     side: Side,
     cards: &mut [Card],
-    tolds: &mut [Vec<Told>],
+    decision_lists: &mut [Vec<Decision>],
     batch: &mut Batch,
     arrivals: &[Arrival],
     threads: usize,
 )
     requires some { 0 < length cards.old }
     requires limit { length cards.old ≤ 64 }
-    requires sized { length cards.old ≤ length tolds.old }
-    requires room { (most : ℕ) × IsRoom most tolds.old batch.old × (length arrivals.now ≤ most) }
+    requires sized { length cards.old ≤ length decision_lists.old }
+    requires room { (most : ℕ) × IsRoom most decision_lists.old batch.old × (length arrivals.now ≤ most) }
     requires rest { AreAtRest (cores_of cards.old) }
-    ensures policed { PolicesAll side (cores_of cards.old) arrivals.now batch.new.told.items (cores_of cards.new) }
-    ensures each { EachServes side (cores_of cards.old) arrivals.now batch.new.told.items (cores_of cards.new) }
-    ensures one_each { length batch.new.told.items ≡ length arrivals.now }
+    ensures batch { PolicesBatch side (cores_of cards.old) arrivals.now batch.new.decisions.items (cores_of cards.new) }
     ensures rest { AreAtRest (cores_of cards.new) }
-    ensures room { (most : ℕ) → IsRoom most tolds.old batch.old → IsRoom most tolds.new batch.new }
+    ensures room { (most : ℕ) → IsRoom most decision_lists.old batch.old → IsRoom most decision_lists.new batch.new }
 {
-    swap_tolds(cards, tolds);
+    swap_lists(cards, decision_lists);
     let done = police_batch(rt, side, cards, batch, arrivals, threads);
-    swap_tolds(cards, tolds);
+    swap_lists(cards, decision_lists);
     match done {
         Ok(()) => {}
         Err(_) => unreachable!(),
@@ -89,11 +83,8 @@ fn police_batch<R: Threads + Sync>(
     requires limit { length cards.old ≤ 64 }
     requires sized { length cards.old ≤ length batch.old.dealt.items }
     requires rest { AreAtRest (cores_of cards.old) }
-    ensures policed { OnOk result
-        (PolicesAll side (cores_of cards.old) arrivals.now batch.new.told.items (cores_of cards.new)) }
-    ensures each { OnOk result
-        (EachServes side (cores_of cards.old) arrivals.now batch.new.told.items (cores_of cards.new)) }
-    ensures one_each { OnOk result (length batch.new.told.items ≡ length arrivals.now) }
+    ensures batch { OnOk result
+        (PolicesBatch side (cores_of cards.old) arrivals.now batch.new.decisions.items (cores_of cards.new)) }
     ensures unchanged { OnErr result (cores_of cards.new ≡ cores_of cards.old) }
     ensures rest { AreAtRest (cores_of cards.new) }
     ensures succeeds { (count : ℕ) → BatchHasRoom count (length arrivals.now) batch.old
@@ -108,8 +99,8 @@ fn police_batch<R: Threads + Sync>(
         batch.dealt.as_mut_slice(),
         &mut batch.numbers,
     )?;
-    batch.told.clear();
-    batch.told.reserve(arrivals.len())?;
+    batch.decisions.clear();
+    batch.decisions.reserve(arrivals.len())?;
     make_room(cards, batch.dealt.as_slice())?;
     police_each(rt, cards, arrivals, batch.dealt.as_slice(), threads);
     gather(
@@ -117,22 +108,22 @@ fn police_batch<R: Threads + Sync>(
         side,
         arrivals,
         batch.numbers.as_slice(),
-        &mut batch.told,
+        &mut batch.decisions,
     );
     Ok(())
 }
 
 /// Swaps the lists of answers of the cards with the first of these lists.
-fn swap_tolds(cards: &mut [Card], tolds: &mut [Vec<Told>])
-    requires { length cards.old ≤ length tolds.old }
+fn swap_lists(cards: &mut [Card], decision_lists: &mut [Vec<Decision>])
+    requires { length cards.old ≤ length decision_lists.old }
     ensures cores { cores_of cards.new ≡ cores_of cards.old }
-    ensures lent { (most : ℕ) → TellRoom 0 most tolds.old → CardsRoom most cards.new }
-    ensures later { (most : ℕ) → TellRoom (length cards.old) most tolds.old → TellRoom (length cards.old) most tolds.new }
-    ensures back { (most : ℕ) → CardsRoom most cards.old → TellRoom (length cards.old) most tolds.old
-        → TellRoom 0 most tolds.new }
+    ensures lent { (most : ℕ) → ListsHaveRoom 0 most decision_lists.old → CardsRoom most cards.new }
+    ensures later { (most : ℕ) → ListsHaveRoom (length cards.old) most decision_lists.old → ListsHaveRoom (length cards.old) most decision_lists.new }
+    ensures back { (most : ℕ) → CardsRoom most cards.old → ListsHaveRoom (length cards.old) most decision_lists.old
+        → ListsHaveRoom 0 most decision_lists.new }
 {
     for number in 0..cards.len() {
-        mem::swap(&mut cards[number].told, &mut tolds[number]);
+        mem::swap(&mut cards[number].decisions, &mut decision_lists[number]);
     }
 }
 
@@ -167,10 +158,10 @@ fn police_each<R: Threads + Sync>(
     requires rest { (number : ℕ) (card : _) → slice_get cards.old number ≡ Some card → IsAtRest card.core }
     ensures served { (number : ℕ) (card next : _) (places : _) → slice_get cards.old number ≡ Some card
         → slice_get cards.new number ≡ Some next → slice_get dealt.now number ≡ Some places
-        → ServesAll card.core (picked arrivals.now places.items) next.told.items next.core }
+        → ServesAll card.core (picked arrivals.now places.items) next.decisions.items next.core }
     ensures rest { (number : ℕ) (card : _) → slice_get cards.new number ≡ Some card → IsAtRest card.core }
     ensures capacity { (number : ℕ) (card next : _) → slice_get cards.old number ≡ Some card
-        → slice_get cards.new number ≡ Some next → vec_capacity next.told ≡ vec_capacity card.told }
+        → slice_get cards.new number ≡ Some next → vec_capacity next.decisions ≡ vec_capacity card.decisions }
 {
     thread::for_each_mut(
         rt,

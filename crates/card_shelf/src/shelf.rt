@@ -2,7 +2,7 @@
 
 ghost use Rattle.std.specs.Prelude.{◌≡◌, ℕ};
 
-use crate::arrival::{Arrival, Told};
+use crate::arrival::{Arrival, Decision};
 use crate::card::Card;
 use crate::dealing::card_of;
 use crate::fault::{NoRoom, ProgramFault, ShelfFault};
@@ -47,9 +47,8 @@ impl Shelf {
     ghost use Rattle.card_shelf.specs.Dealing.{card_of};
     ghost use Rattle.card_shelf.specs.Shelf.{shelf_fault, ChangesCard, TakesStep};
     ghost use Rattle.card_shelf.specs.inner.Rest.{IsOfDesk};
-    ghost use Rattle.card_shelf.specs.Policing.{PolicesAll};
-    ghost use Rattle.card_shelf.specs.Own.{EachServes};
-    ghost use Rattle.card_shelf.specs.OneCard.{TellsAsOneCard};
+    ghost use Rattle.card_shelf.specs.Own.{PolicesBatch};
+    ghost use Rattle.card_shelf.specs.OneCard.{DecidesAsOneCard};
     ghost use Rattle.card_shelf.specs.Room.{IsNoRoom};
     ghost use Rattle.card_shelf.specs.Programs.{LoadsEach, IsLoadRefusal, RetiresEach, IsRetireRefusal};
     ghost use Rattle.card_shelf.specs.Sums.{totals_of_cards};
@@ -247,14 +246,11 @@ impl Shelf {
         alloc: Global,
         arrivals: &[Arrival],
         threads: usize,
-    ) -> Result<Vec<Told>, AllocError>
-        ensures policed { IfOk result (λ told.
-            PolicesAll self.old.shape.side self.old.cards arrivals.now told.items self.new.cards) }
-        ensures each { IfOk result (λ told.
-            EachServes self.old.shape.side self.old.cards arrivals.now told.items self.new.cards) }
-        ensures as_one { IfOk result (λ told.
-            TellsAsOneCard self.old.shape self.old.cards arrivals.now told.items self.new.cards) }
-        ensures one_each { IfOk result (λ told. length told.items ≡ length arrivals.now) }
+    ) -> Result<Vec<Decision>, AllocError>
+        ensures batch { IfOk result (λ decisions.
+            PolicesBatch self.old.shape.side self.old.cards arrivals.now decisions.items self.new.cards) }
+        ensures as_one { IfOk result (λ decisions.
+            DecidesAsOneCard self.old.shape self.old.cards arrivals.now decisions.items self.new.cards) }
         ensures shape { self.new.shape ≡ self.old.shape }
         ensures unchanged { OnErr result (self.new ≡ self.old) }
     {
@@ -278,13 +274,10 @@ impl Shelf {
     ) -> Result<(), NoRoom>
         ensures fits { IsOk result ↔ ((length arrivals.now ≤ room.old.most) × (length self.old.cards ≤ room.old.cards)) }
         ensures refused { IfErr result (IsNoRoom room.old (length arrivals.now) (length self.old.cards)) }
-        ensures policed { OnOk result
-            (PolicesAll self.old.shape.side self.old.cards arrivals.now room.new.told self.new.cards) }
-        ensures each { OnOk result
-            (EachServes self.old.shape.side self.old.cards arrivals.now room.new.told self.new.cards) }
+        ensures batch { OnOk result
+            (PolicesBatch self.old.shape.side self.old.cards arrivals.now room.new.decisions self.new.cards) }
         ensures as_one { OnOk result
-            (TellsAsOneCard self.old.shape self.old.cards arrivals.now room.new.told self.new.cards) }
-        ensures one_each { OnOk result (length room.new.told ≡ length arrivals.now) }
+            (DecidesAsOneCard self.old.shape self.old.cards arrivals.now room.new.decisions self.new.cards) }
         ensures shape { self.new.shape ≡ self.old.shape }
         ensures most { room.new.most ≡ room.old.most }
         ensures cards { room.new.cards ≡ room.old.cards }
@@ -303,11 +296,8 @@ impl Shelf {
     ) -> Result<(), NoRoom>
         ensures fits { IsOk result ↔ ((length arrivals.now ≤ room.old.most) × (length self.old.cards ≤ room.old.cards)) }
         ensures refused { IfErr result (IsNoRoom room.old (length arrivals.now) (length self.old.cards)) }
-        ensures policed { OnOk result
-            (PolicesAll self.old.shape.side self.old.cards arrivals.now room.new.told self.new.cards) }
-        ensures each { OnOk result
-            (EachServes self.old.shape.side self.old.cards arrivals.now room.new.told self.new.cards) }
-        ensures one_each { OnOk result (length room.new.told ≡ length arrivals.now) }
+        ensures batch { OnOk result
+            (PolicesBatch self.old.shape.side self.old.cards arrivals.now room.new.decisions self.new.cards) }
         ensures shape { self.new.shape ≡ self.old.shape }
         ensures most { room.new.most ≡ room.old.most }
         ensures cards { room.new.cards ≡ room.old.cards }
@@ -331,12 +321,9 @@ impl Shelf {
         alloc: Global,
         arrivals: &[Arrival],
         threads: usize,
-    ) -> Result<Vec<Told>, AllocError>
-        ensures policed { IfOk result (λ told.
-            PolicesAll self.old.shape.side self.old.cards arrivals.now told.items self.new.cards) }
-        ensures each { IfOk result (λ told.
-            EachServes self.old.shape.side self.old.cards arrivals.now told.items self.new.cards) }
-        ensures one_each { IfOk result (λ told. length told.items ≡ length arrivals.now) }
+    ) -> Result<Vec<Decision>, AllocError>
+        ensures batch { IfOk result (λ decisions.
+            PolicesBatch self.old.shape.side self.old.cards arrivals.now decisions.items self.new.cards) }
         ensures shape { self.new.shape ≡ self.old.shape }
         ensures unchanged { OnErr result (self.new ≡ self.old) }
     {
@@ -375,7 +362,7 @@ fn new_cards(alloc: Global, shape: Shape, many: usize) -> Option<Vec<Card>>
         };
         cards.push_reserved(Card {
             core,
-            told: Vec::new(alloc),
+            decisions: Vec::new(alloc),
         });
     }
     Some(cards)

@@ -3,7 +3,7 @@
 mod faults;
 mod sizes;
 
-use crate::{Arrival, NoRoom, ProgramFault, Room, Shelf, ShelfFault, Told};
+use crate::{Arrival, Decision, NoRoom, ProgramFault, Room, Shelf, ShelfFault};
 use arrayvec::ArrayVec;
 use bpf_code::Instr;
 use bpf_verify::{Program, verify};
@@ -140,8 +140,8 @@ fn arrivals(alloc: Global) -> Result<Vec<Arrival>, Fail> {
 }
 
 /// The part of an answer that does not depend on which card has the connection.
-fn seen(told: &Told) -> Result<(Verdict, u64, u64, u32), Unjudged> {
-    match told {
+fn seen(decision: &Decision) -> Result<(Verdict, u64, u64, u32), Unjudged> {
+    match decision {
         Ok(judgement) => Ok((
             judgement.verdict,
             judgement.number,
@@ -153,17 +153,17 @@ fn seen(told: &Told) -> Result<(Verdict, u64, u64, u32), Unjudged> {
 }
 
 #[test]
-fn a_shelf_tells_what_one_card_tells(rt: HostRuntime) -> Result<(), Fail> {
+fn a_shelf_decides_what_one_card_decides(rt: HostRuntime) -> Result<(), Fail> {
     let all = arrivals(rt.alloc())?;
     for cards in [1, 2, 3, 16] {
         let mut alone = one_card(rt.alloc())?;
         let mut shelf = Shelf::new(rt.alloc(), shape(), cards)?;
         open_all(rt.alloc(), &mut shelf)?;
-        let told = shelf.police(&rt, rt.alloc(), all.as_slice(), 4)?;
-        assert_eq!(rt; told.len(), all.len());
-        for (arrival, ours) in all.iter().zip(&told) {
+        let decisions = shelf.police(&rt, rt.alloc(), all.as_slice(), 4)?;
+        assert_eq!(rt; decisions.len(), all.len());
+        for (arrival, ours) in all.iter().zip(&decisions) {
             let theirs = alone.arrive(0, &arrival.cell, arrival.moment);
-            assert_eq!(rt; theirs.map(|told| seen(&told)), Some(seen(ours)));
+            assert_eq!(rt; theirs.map(|decision| seen(&decision)), Some(seen(ours)));
         }
     }
     Ok(())
@@ -231,27 +231,27 @@ fn random_arrivals(alloc: Global, batch: u32) -> Result<Vec<Arrival>, Fail> {
     Ok(all)
 }
 
-/// The part of an answer that one card with all the connections tells too.
-fn alike(told: &Told) -> Result<(Verdict, u64, u32), Unjudged> {
-    match told {
+/// The part of a decision that is the same on one card with all the connections.
+fn alike(decision: &Decision) -> Result<(Verdict, u64, u32), Unjudged> {
+    match decision {
         Ok(judgement) => Ok((judgement.verdict, judgement.moment, judgement.value)),
         Err(reason) => Err(*reason),
     }
 }
 
-/// Whether the card tells this of an arrival.
-fn tells(core: &mut Core, arrival: &Arrival, told: &Told) -> bool {
+/// Whether the card decides so about an arrival.
+fn decides(core: &mut Core, arrival: &Arrival, decision: &Decision) -> bool {
     match core.arrive(0, &arrival.cell, arrival.moment) {
-        Some(theirs) => alike(&theirs) == alike(told),
+        Some(theirs) => alike(&theirs) == alike(decision),
         None => false,
     }
 }
 
-/// Whether the card tells this of the arrivals, and no more.
-fn tells_all(core: &mut Core, arrivals: &[Arrival], told: &[Told]) -> bool {
-    let mut all = arrivals.len() == told.len();
-    for (arrival, one) in arrivals.iter().zip(told) {
-        all = tells(core, arrival, one) && all;
+/// Whether the card decides so about these arrivals, and there are no more decisions.
+fn decides_all(core: &mut Core, arrivals: &[Arrival], decisions: &[Decision]) -> bool {
+    let mut all = arrivals.len() == decisions.len();
+    for (arrival, one) in arrivals.iter().zip(decisions) {
+        all = decides(core, arrival, one) && all;
     }
     all
 }
@@ -323,15 +323,15 @@ fn reply_alike(ours: &mut Ours, theirs: &mut Theirs, call: Call, place: u8) -> R
 }
 
 #[test]
-fn batches_with_desk_calls_between_are_told_as_by_one_card(rt: HostRuntime) -> Result<(), Fail> {
+fn batches_with_desk_calls_between_are_decided_as_by_one_card(rt: HostRuntime) -> Result<(), Fail> {
     for cards in [1, 2, 3, 16] {
         let mut ours = our_shelf(rt.alloc(), cards)?;
         let mut theirs = their_card(rt.alloc())?;
         let mut batch = 0u32;
         for (call, place) in CALLS {
             let all = random_arrivals(rt.alloc(), batch)?;
-            let told = ours.shelf.police(&rt, rt.alloc(), &all, 4)?;
-            let same = tells_all(&mut theirs.core, &all, &told);
+            let decisions = ours.shelf.police(&rt, rt.alloc(), &all, 4)?;
+            let same = decides_all(&mut theirs.core, &all, &decisions);
             let replies = reply_alike(&mut ours, &mut theirs, call, place)?;
             let sums = ours.shelf.totals() == theirs.core.totals();
             assert_eq!(rt;
@@ -349,7 +349,7 @@ fn batches_with_desk_calls_between_are_told_as_by_one_card(rt: HostRuntime) -> R
 #[test]
 fn a_room_takes_batch_after_batch(rt: HostRuntime) -> Result<(), Fail> {
     let mut room = Room::new(rt.alloc(), 16, 24)?;
-    let empty = room.told().is_empty();
+    let empty = room.decisions().is_empty();
     assert_eq!(rt; (room.cards(), room.most(), empty), (16, 24, true));
     for cards in [1, 3, 16] {
         let mut ours = our_shelf(rt.alloc(), cards)?;
@@ -360,11 +360,11 @@ fn a_room_takes_batch_after_batch(rt: HostRuntime) -> Result<(), Fail> {
             let mut all = random_arrivals(rt.alloc(), batch)?;
             all.truncate(size);
             let done = ours.shelf.police_in(&rt, &mut room, &all, 4);
-            let told = twin.shelf.police(&rt, rt.alloc(), &all, 4)?;
-            let same = room.told() == told.as_slice();
-            let right = tells_all(&mut theirs.core, &all, room.told());
+            let decisions = twin.shelf.police(&rt, rt.alloc(), &all, 4)?;
+            let same = room.decisions() == decisions.as_slice();
+            let right = decides_all(&mut theirs.core, &all, room.decisions());
             assert_eq!(rt;
-                (cards, told.len(), done, same, right),
+                (cards, decisions.len(), done, same, right),
                 (cards, size, Ok(()), true, true)
             );
             batch = batch.wrapping_add(1);
@@ -391,7 +391,7 @@ fn a_room_that_is_too_small_changes_nothing(rt: HostRuntime) -> Result<(), Fail>
     );
     let same = ours.shelf.totals() == before;
     assert_eq!(rt;
-        (short.told().len(), narrow.told().len(), same),
+        (short.decisions().len(), narrow.decisions().len(), same),
         (1, 0, true)
     );
     Ok(())
@@ -415,16 +415,16 @@ fn a_connection_comes_and_goes_on_its_card(rt: HostRuntime) -> Result<(), Fail> 
         cell: cell(&[0x00, 0x10, 0x06, 0x40]),
         moment: 7,
     };
-    let told = shelf.police(&rt, rt.alloc(), &[arrival], 0)?;
-    assert_eq!(rt; told.len(), 1);
+    let decisions = shelf.police(&rt, rt.alloc(), &[arrival], 0)?;
+    assert_eq!(rt; decisions.len(), 1);
     let Reply::Cut(piece) = shelf.cut(vc) else {
         return Err(Fail::from("no piece"));
     };
     assert_eq!(rt; piece.entries().len(), 1);
     assert!(rt; matches!(shelf.release(vc), Reply::Released(_)));
     assert!(rt; matches!(shelf.retire_on(card, second), Some(Reply::Retired(_))));
-    let told = shelf.police(&rt, rt.alloc(), &[arrival], 2)?;
-    for one in &told {
+    let decisions = shelf.police(&rt, rt.alloc(), &[arrival], 2)?;
+    for one in &decisions {
         assert_eq!(rt; *one, Err(Unjudged::NoConnection));
     }
     Ok(())

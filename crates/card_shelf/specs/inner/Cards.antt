@@ -11,13 +11,13 @@ abbrev pub cores_of : List Card → List CoreView
 cores_of cards = map (λ card. card.core) cards
 
 -- The answers of each card.
-abbrev pub tolds_of : List Card → List (List (Result Judgement Unjudged))
-tolds_of cards = map (λ card. card.told.items) cards
+abbrev pub decisions_of : List Card → List (List (Result Judgement Unjudged))
+decisions_of cards = map (λ card. card.decisions.items) cards
 
 -- The card has no answer yet, and has room for this number of answers.
 pub record IsReady (card : Card) (many : ℕ) : Type 0 where
-  pub empty : card.told.items ≡ []
-  pub room : many ≤ vec_capacity card.told
+  pub empty : card.decisions.items ≡ []
+  pub room : many ≤ vec_capacity card.decisions
 
 -- Each card is at rest.
 abbrev pub AreAtRest : List CoreView → Type 0

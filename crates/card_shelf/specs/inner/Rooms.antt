@@ -15,22 +15,22 @@ abbrev pub AreShort : ℕ → List (Vec ℕ) → Type 0
 AreShort most lists = (number : ℕ) (places : Vec ℕ) → slice_get lists number ≡ Some places → length places.items ≤ most
 
 -- From this number on each of these lists of answers has room for this number of answers.
-abbrev pub TellRoom : ℕ → ℕ → List (Vec (Result Judgement Unjudged)) → Type 0
-TellRoom from most lists = (number : ℕ) (told : Vec (Result Judgement Unjudged)) → from ≤ number
-    → slice_get lists number ≡ Some told → most ≤ vec_capacity told
+abbrev pub ListsHaveRoom : ℕ → ℕ → List (Vec (Result Judgement Unjudged)) → Type 0
+ListsHaveRoom from most lists = (number : ℕ) (decisions : Vec (Result Judgement Unjudged)) → from ≤ number
+    → slice_get lists number ≡ Some decisions → most ≤ vec_capacity decisions
 
 -- Each card has room for this number of answers.
 abbrev pub CardsRoom : ℕ → List Card → Type 0
-CardsRoom most cards = (number : ℕ) (card : Card) → slice_get cards number ≡ Some card → most ≤ vec_capacity card.told
+CardsRoom most cards = (number : ℕ) (card : Card) → slice_get cards number ≡ Some card → most ≤ vec_capacity card.decisions
 
 -- The lists of a batch have room for this number of arrivals on a shelf of this number of cards.
 pub record BatchHasRoom (cards most : ℕ) (batch : Batch) : Type 0 where
   pub sized : length batch.dealt.items ≡ cards
   pub dealt : HaveRoom most batch.dealt.items
   pub numbers : most ≤ vec_capacity batch.numbers
-  pub told : most ≤ vec_capacity batch.told
+  pub decisions : most ≤ vec_capacity batch.decisions
 
 -- A room for batches of this number of arrivals has its lists for each of its cards.
-pub record IsRoom (most : ℕ) (tolds : List (Vec (Result Judgement Unjudged))) (batch : Batch) : Type 0 where
-  pub tells : TellRoom 0 most tolds
-  pub lists : BatchHasRoom (length tolds) most batch
+pub record IsRoom (most : ℕ) (decision_lists : List (Vec (Result Judgement Unjudged))) (batch : Batch) : Type 0 where
+  pub each_list : ListsHaveRoom 0 most decision_lists
+  pub lists : BatchHasRoom (length decision_lists) most batch

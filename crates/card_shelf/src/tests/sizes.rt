@@ -1,6 +1,6 @@
 //! Shelves, programs, rooms and batches that are larger than those of the other tests.
 
-use super::{HEADERS, ask, cell, id_of, shape, tells_all};
+use super::{HEADERS, ask, cell, decides_all, id_of, shape};
 use crate::{Arrival, Room, Shelf};
 use bpf_code::Instr;
 use bpf_verify::{Program, verify};
@@ -80,7 +80,7 @@ fn large_card(alloc: Global, shape: Shape, instructions: u32) -> Result<Core, Fa
 }
 
 #[test]
-fn large_batches_are_told_as_by_one_card(rt: HostRuntime) -> Result<(), Fail> {
+fn large_batches_are_decided_as_by_one_card(rt: HostRuntime) -> Result<(), Fail> {
     for (cards, lines, instructions, many) in SIZES {
         let shape = large_shape(lines);
         let all = many_arrivals(rt.alloc(), many)?;
@@ -89,9 +89,9 @@ fn large_batches_are_told_as_by_one_card(rt: HostRuntime) -> Result<(), Fail> {
         let mut twin = large_shelf(rt.alloc(), shape, cards, instructions)?;
         let mut theirs = large_card(rt.alloc(), shape, instructions)?;
         let done = ours.police_in(&rt, &mut room, &all, 4);
-        let told = twin.police(&rt, rt.alloc(), &all, 4)?;
-        let same = room.told() == told.as_slice();
-        let right = tells_all(&mut theirs, &all, &told);
+        let decisions = twin.police(&rt, rt.alloc(), &all, 4)?;
+        let same = room.decisions() == decisions.as_slice();
+        let right = decides_all(&mut theirs, &all, &decisions);
         assert_eq!(rt; (cards, done, same, right), (cards, Ok(()), true, true));
         let totals = ours.totals();
         assert!(rt; totals.passed > 0 && totals.discarded == 0 && totals.refused == 0);

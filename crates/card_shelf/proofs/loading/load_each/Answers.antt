@@ -22,7 +22,7 @@ loop-number-preserved c =
     sym (last-or copies c.in-Some.copy c.in-Some.copy)
     ∙ ap (λ (xs : List (List Instr)). get_or xs (length copies) c.in-Some.copy) (sym popped)
     ∙ c.loop-number.invariant.same (length copies) c.in-Some.copy (omega (arith, many)) in
-    let told : length c.loop-number.ids.items ≡ number = c.loop-number.invariant.told in
+    let decisions : length c.loop-number.ids.items ≡ number = c.loop-number.invariant.decisions in
     let below : number < length cards = omega (arith, c.loop-number-test.true, c.loop-number.auto.cards) in
     let here : slice_get c.args.cards.now number ≡ Some c.index-cards-number.result =
     sym (c.loop-number.invariant.rest number (omega arith))
@@ -31,7 +31,7 @@ loop-number-preserved c =
       left = omega (arith, many, c.loop-number.invariant.left, length-set cards number c.load.new.self);
       same = λ k d within. sym (front-or copies (c.in-Some.copy ∷ []) k d within) ∙ ap (λ (xs : List (List Instr)). get_or xs k d) (sym popped)
           ∙ c.loop-number.invariant.same k d (omega (arith, within, many));
-      told = ap length c.push_reserved.ensures.items ∙ length-append ids (c.load.result ∷ []) ∙ ap (λ (n : ℕ). n + 1) told;
+      decisions = ap length c.push_reserved.ensures.items ∙ length-append ids (c.load.result ∷ []) ∙ ap (λ (n : ℕ). n + 1) decisions;
       room = omega (arith, c.loop-number.invariant.room, c.push_reserved.ensures.capacity, length-set cards number c.load.new.self);
       loaded = λ k card next id e after at.
           let at_old : slice_get (ids ++ c.load.result ∷ []) k ≡ Some id =
@@ -41,14 +41,14 @@ loop-number-preserved c =
                 let card_is : c.index-cards-number.result ≡ card = same_Some c.index-cards-number.result card
                 (sym here ∙ ap (slice_get c.args.cards.now) (sym same.0) ∙ e) in
                 let id_is : c.load.result ≡ id = get-last ids c.load.result id
-                (ap (slice_get (ids ++ c.load.result ∷ [])) (told ∙ sym same.0) ∙ at_old) in
+                (ap (slice_get (ids ++ c.load.result ∷ [])) (decisions ∙ sym same.0) ∙ at_old) in
                 subst (λ (x : Card). LoadsOn c.args.code.now id card.core x.core) same.1
                 (subst (λ (x : Id). LoadsOn c.args.code.now x card.core c.load.new.self.core) id_is
                 (subst (λ (x : Card). LoadsOn c.args.code.now c.load.result x.core c.load.new.self.core) (sym c.index-cards-number.is ∙ card_is)
                 (subst (λ (code : List Instr). LoadsOn code c.load.result (get_or cards number c.index-cards-number.result).core c.load.new.self.core) copy_is c.load.ensures.loaded)))
             | inr apart ↦
                 let within : k < length (ids ++ c.load.result ∷ []) = slice_get_within (ids ++ c.load.result ∷ []) k id at_old in
-                let earlier : k < length ids = (let ne = apart.0 in omega (arith, within, length-append ids (c.load.result ∷ []), told, ne)) in
+                let earlier : k < length ids = (let ne = apart.0 in omega (arith, within, length-append ids (c.load.result ∷ []), decisions, ne)) in
                 c.loop-number.invariant.loaded k card next id e apart.1 (sym (get-before ids k c.load.result earlier) ∙ at_old)
           ];
       rest = λ k above.

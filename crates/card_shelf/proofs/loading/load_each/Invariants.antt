@@ -7,7 +7,7 @@ abbrev pub invariant-loop-number : goal.invariant-loop-number
 invariant-loop-number l = record {
   left : length l.copies.items + l.number ≡ length l.cards;
   same : All (λ copy. copy ≡ l.code) l.copies.items;
-  told : length l.ids.items ≡ l.number;
+  decisions : length l.ids.items ≡ l.number;
   room : length l.cards ≤ vec_capacity l.ids;
   loaded : (k : ℕ) (card next : _) (id : _) → slice_get l.fn.cards k ≡ Some card → slice_get l.cards k ≡ Some next
       → slice_get l.ids.items k ≡ Some id → LoadsOn l.code id card.core next.core;

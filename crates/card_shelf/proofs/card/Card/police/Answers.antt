@@ -6,7 +6,7 @@ use Rattle.card_shelf.specs.declared.arrival.Arrival.{Arrival}
 use Rattle.card_shelf.specs.Own.{ServesAll}
 use Rattle.card_shelf.specs.inner.Places.{picked}
 use Rattle.card_shelf.proofs.Lists.{take-next}
-use Rattle.card_shelf.proofs.OwnLemmas.{Told, serves-next, picked-next}
+use Rattle.card_shelf.proofs.OwnLemmas.{Decision, serves-next, picked-next}
 use Rattle.card_shelf.proofs.RestLemmas.{serving-rests}
 use Rattle.card_shelf.proofs.card.Card.police.Goals as goal
 
@@ -26,13 +26,13 @@ loop-place-preserved c =
     let first = c.args.self.now.core in
     let core = c.arrive.new.self in
     record {
-      served = subst (λ (ts : List Told). ServesAll first (picked arrivals (take (k + 1) places)) ts core) (sym c.push_reserved.ensures.items)
-          (subst (λ (xs : List Arrival). ServesAll first xs (c.loop-place.self.told.items ++ c.in-Some.told ∷ []) core) (sym grown)
-          (serves-next first c.loop-place.self.core core (picked arrivals (take k places)) c.loop-place.self.told.items arrival c.in-Some.told
+      served = subst (λ (ts : List Decision). ServesAll first (picked arrivals (take (k + 1) places)) ts core) (sym c.push_reserved.ensures.items)
+          (subst (λ (xs : List Arrival). ServesAll first xs (c.loop-place.self.decisions.items ++ c.in-Some.decision ∷ []) core) (sym grown)
+          (serves-next first c.loop-place.self.core core (picked arrivals (take k places)) c.loop-place.self.decisions.items arrival c.in-Some.decision
           c.loop-place.invariant.served (record { answers = c.in-Some.ensures.answered; refused = c.in-Some.ensures.refused })));
-      rest = serving-rests c.loop-place.self.core core arrival.cell arrival.moment (answer_to arrival.cell c.in-Some.told)
+      rest = serving-rests c.loop-place.self.core core arrival.cell arrival.moment (answer_to arrival.cell c.in-Some.decision)
           c.loop-place.invariant.rest c.in-Some.ensures.answered;
-      told = omega (arith, c.push_reserved.ensures.len, c.loop-place.invariant.told);
+      decisions = omega (arith, c.push_reserved.ensures.len, c.loop-place.invariant.decisions);
       room = omega (arith, c.push_reserved.ensures.capacity, c.loop-place.invariant.room);
       capacity = c.push_reserved.ensures.capacity ∙ c.loop-place.invariant.capacity;
     }

@@ -6,9 +6,9 @@ use Rattle.card_shelf.proofs.card.Card.police.Given as goal
 
 abbrev pub invariant-loop-place : goal.invariant-loop-place
 invariant-loop-place l = record {
-  served : ServesAll l.fn.self.core (picked l.arrivals (take l.place-index l.places)) l.self.told.items l.self.core;
+  served : ServesAll l.fn.self.core (picked l.arrivals (take l.place-index l.places)) l.self.decisions.items l.self.core;
   rest : IsAtRest l.self.core;
-  told : vec_len l.self.told ≡ l.place-index;
-  room : length l.places ≤ vec_capacity l.self.told;
-  capacity : vec_capacity l.self.told ≡ vec_capacity l.fn.self.told;
+  decisions : vec_len l.self.decisions ≡ l.place-index;
+  room : length l.places ≤ vec_capacity l.self.decisions;
+  capacity : vec_capacity l.self.decisions ≡ vec_capacity l.fn.self.decisions;
 }

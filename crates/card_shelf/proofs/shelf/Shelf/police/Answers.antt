@@ -1,5 +1,5 @@
 use Rattle.std.proofs.Common.{Ok, Err, Result, IfOk}
-use Rattle.card_shelf.proofs.Beside.{tells-as-one}
+use Rattle.card_shelf.proofs.Beside.{decides-as-one}
 use Rattle.card_shelf.proofs.shelf.Shelf.police.Goals as goal
 
 -- What follows for each value of a result.
@@ -9,4 +9,4 @@ each-ok P Q (Err fault) follows holds = tt
 
 pub returns-clause-as_one : goal.returns-clause-as_one
 returns-clause-as_one g c =
-    each-ok _ _ c.police_cards.result (λ told polices. tells-as-one _ _ _ _ _ polices) c.police_cards.ensures.policed
+    each-ok _ _ c.police_cards.result (λ decisions batch. decides-as-one _ _ _ _ _ batch.policed) c.police_cards.ensures.batch

@@ -1,5 +1,5 @@
 use Rattle.std.proofs.Common.{Ok, Err, Result, OnOk}
-use Rattle.card_shelf.proofs.Beside.{tells-as-one}
+use Rattle.card_shelf.proofs.Beside.{decides-as-one}
 use Rattle.card_shelf.proofs.shelf.Shelf.police_in.Goals as goal
 
 -- What follows if a result is not an error.
@@ -9,4 +9,4 @@ on-ok P Q (Err fault) follows holds = tt
 
 pub returns-clause-as_one : goal.returns-clause-as_one
 returns-clause-as_one g c =
-    on-ok _ _ c.police_room.result (λ polices. tells-as-one _ _ _ _ _ polices) c.police_room.ensures.policed
+    on-ok _ _ c.police_room.result (λ batch. decides-as-one _ _ _ _ _ batch.policed) c.police_room.ensures.batch
